@@ -1,0 +1,16 @@
+use Rattle.df_label.specs.Privilege.{privilege_cmp}
+use Rattle.df_label.proofs.PlaceFacts.{searched, searched_kept, searched_new, searched_ascending}
+use Rattle.df_label.proofs.PrivilegeFacts.{privilege_cmp_exact}
+use Rattle.df_label.proofs.privileges.place.Goals as goal
+
+pub returns-clause-found : goal.returns-clause-found
+returns-clause-found c = searched privilege_cmp privilege_cmp_exact c.args.p.now c.args.list.now c.requires c.binary_search.result c.binary_search.ensures.bound c.binary_search.ensures.position
+
+pub returns-clause-kept : goal.returns-clause-kept
+returns-clause-kept c = searched_kept privilege_cmp privilege_cmp_exact c.args.p.now c.args.list.now c.requires c.binary_search.result c.binary_search.ensures.bound c.binary_search.ensures.position
+
+pub returns-clause-new : goal.returns-clause-new
+returns-clause-new c = searched_new privilege_cmp privilege_cmp_exact c.args.p.now c.args.list.now c.requires c.binary_search.result c.binary_search.ensures.bound c.binary_search.ensures.position
+
+pub returns-clause-ascending : goal.returns-clause-ascending
+returns-clause-ascending c = searched_ascending privilege_cmp privilege_cmp_exact c.args.p.now c.args.list.now c.requires c.binary_search.result c.binary_search.ensures.bound c.binary_search.ensures.position

@@ -1,0 +1,20 @@
+#![tactic(auto)]
+
+mod label;
+pub mod laws;
+mod no_memory;
+mod privilege;
+mod privileges;
+mod tag;
+mod tag_set;
+mod tags;
+
+pub use label::Label;
+pub use no_memory::NoMemory;
+pub use privilege::{Privilege, Right};
+pub use privileges::Privileges;
+pub use tag::Tag;
+pub use tag_set::TagSet;
+
+#[cfg(test)]
+mod tests;

@@ -1,0 +1,12 @@
+-- The privileges that a unit holds, as an ascending list. Each operation is named as its call.
+use Rattle.std.specs.Prelude.{Bool, List}
+use Rattle.df_label.specs.Privileges.{contains, add}
+use Rattle.df_label.specs.declared.privilege.Privilege.{Privilege}
+
+-- whether the privilege is held
+abbrev pub holds : List Privilege → Privilege → Bool
+holds held p = contains held p
+
+-- what is held once the privilege is granted
+abbrev pub grant : List Privilege → Privilege → List Privilege
+grant held p = add held p
