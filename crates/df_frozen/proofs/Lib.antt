@@ -1,0 +1,8 @@
+pub mod Options
+pub mod Zipped
+pub mod Steps
+pub mod Counts
+pub mod Search
+pub mod Places
+pub mod Contents
+pub mod Nodes

@@ -1,0 +1,15 @@
+pub mod Name
+pub mod NameBytes
+pub mod Plain
+pub mod Code
+pub mod Value
+pub mod Nesting
+pub mod Entries
+pub mod Kept
+pub mod Search
+pub mod Place
+pub mod Change
+pub mod Inner
+pub mod LetGo
+pub mod Counting
+pub mod Limits

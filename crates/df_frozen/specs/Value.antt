@@ -1,0 +1,16 @@
+use Rattle.std.specs.Prelude.{List, map}
+use Rattle.df_frozen.specs.Plain.{Plain, Plains, int, words, bytes, items, entries, from_list, from_pairs}
+use Rattle.df_frozen.specs.declared.value.Value.{Value}
+use Rattle.df_frozen.specs.declared.value.Value.TheVariants.{Int, Words, Bytes, Items, Map}
+
+-- the plain content of a value
+abbrev pub plain : Value → Plain
+plain (Int n) = int n
+plain (Words s) = words s
+plain (Bytes s) = bytes s
+plain (Items ps) = items (from_list ps)
+plain (Map es) = entries (from_pairs es)
+
+-- the plain content of these values, in order
+abbrev pub plain_all : List Value → Plains
+plain_all vs = from_list (map plain vs)

@@ -1,0 +1,32 @@
+//! Names, values, and values that are frozen: shared and never changed again.
+#![tactic(auto)]
+
+mod blob;
+mod change;
+mod count;
+mod entries;
+mod freeze;
+mod frozen;
+mod items;
+mod let_go;
+mod memory;
+mod name;
+mod put;
+mod same;
+mod step;
+#[cfg(test)]
+mod tests;
+mod value;
+mod words;
+
+pub use blob::Blob;
+pub use entries::Entries;
+pub use freeze::{FreezeCause, MOST_BYTES, MOST_DEPTH, MOST_NODES, Unfrozen};
+pub use frozen::Frozen;
+pub use items::Items;
+pub use memory::NoMemory;
+pub use name::{Name, NameRefused};
+pub use put::{NotPut, PutCause};
+pub use step::Step;
+pub use value::Value;
+pub use words::Words;
