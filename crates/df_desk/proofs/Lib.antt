@@ -1,0 +1,5 @@
+pub mod Prefixes
+mod Views
+mod Steps
+mod Moments
+mod Passes

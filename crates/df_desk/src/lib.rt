@@ -1,0 +1,22 @@
+//! A desk hands one value round between threads. The value tells a list, and the list only grows.
+//!
+//! A thread takes the value from the desk with a pass, and gives it back with a list that goes on
+//! from what it was. A pass remembers how much of the list it has seen, so that what one take gives
+//! begins with all that the pass, or any pass that was joined into it, had seen before.
+#![tactic(auto)]
+
+mod desk;
+mod error;
+mod journaled;
+pub mod laws;
+mod pass;
+mod plays;
+mod rule;
+#[cfg(test)]
+mod tests;
+mod view;
+
+pub use desk::Desk;
+pub use error::{NoMemory, NotMade};
+pub use journaled::Journaled;
+pub use pass::Pass;
