@@ -1,0 +1,5 @@
+pub mod Faults
+pub mod Files
+pub mod MemoryShelf
+pub mod MemorySink
+pub mod Pieces
