@@ -1,0 +1,103 @@
+ghost use Rattle.std.specs.Prelude.{◌≡◌, ◌↔◌, IsTrue};
+
+use crate::PartRef;
+use df_frozen::Name;
+use df_label::Label;
+use std::marker::Model;
+
+/// The name and the exact label of parts that are to be deleted.
+#[derive(Drop)]
+pub struct Spot {
+    pub name: Name,
+    pub label: Label,
+}
+
+impl Spot {
+    /// Whether the two have the same name and the same label.
+    pub fn same(&self, other: &Spot) -> bool
+        ensures { IsTrue result ↔ (self.now ≡ other.now) }
+    {
+        self.name == other.name && self.label.same(&other.label)
+    }
+}
+
+/// What one commit does to an event: the deleted spots and the added parts, each in order.
+#[derive(Drop)]
+pub struct Edit {
+    deleted: Vec<Spot>,
+    added: Vec<PartRef>,
+}
+
+impl Model for Edit {
+    ghost use Rattle.std.specs.Prelude.{List};
+    ghost use Rattle.std.specs.Coded.{coded×, coded_list};
+    ghost use Rattle.df_part.specs.declared.edit.Spot.{Spot};
+    ghost use Rattle.df_part.specs.declared.part.Part.{Part};
+    ghost use Rattle.df_part.specs.contracts.edit.Spot as spot;
+    ghost use Rattle.df_part.specs.contracts.part.Part as content;
+
+    ghost Value = { List Spot × List Part };
+
+    ghost coded = { coded× (coded_list spot.the_row.coded) (coded_list content.the_row.coded) };
+
+    ghost view = { λ e. (e.deleted.items, e.added.items) };
+}
+
+impl Edit {
+    /// Takes no memory.
+    pub fn new(deleted: Vec<Spot>, added: Vec<PartRef>) -> Edit
+        ensures { result ≡ (deleted.items, added.items) }
+    {
+        Edit { deleted, added }
+    }
+
+    /// Whether the two delete and add the same, in the same order.
+    pub fn same(&self, other: &Edit) -> bool
+        ensures { IsTrue result ↔ (self.now ≡ other.now) }
+    {
+        same_spots(self.deleted.as_slice(), other.deleted.as_slice())
+            && same_parts(self.added.as_slice(), other.added.as_slice())
+    }
+
+    pub fn deleted(&self) -> &[Spot]
+        ensures { result.now ≡ self.now.0 }
+    {
+        self.deleted.as_slice()
+    }
+
+    pub fn added(&self) -> &[PartRef]
+        ensures { result.now ≡ self.now.1 }
+    {
+        self.added.as_slice()
+    }
+}
+
+fn same_spots(a: &[Spot], b: &[Spot]) -> bool
+    ensures { IsTrue result ↔ (a.now ≡ b.now) }
+{
+    if a.len() != b.len() {
+        return false;
+    }
+    for i in 0..a.len() {
+        let is_same = a[i].same(&b[i]);
+        if !is_same {
+            return false;
+        }
+    }
+    true
+}
+
+fn same_parts(a: &[PartRef], b: &[PartRef]) -> bool
+    ensures { IsTrue result ↔ (a.now ≡ b.now) }
+{
+    if a.len() != b.len() {
+        return false;
+    }
+    for i in 0..a.len() {
+        let is_same = a[i].same(&b[i]);
+        if !is_same {
+            return false;
+        }
+    }
+    true
+}

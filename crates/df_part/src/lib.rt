@@ -1,0 +1,17 @@
+//! Parts of events, edits of an event, and the parts that an event has after its edits.
+#![tactic(auto)]
+
+mod contents;
+mod edit;
+mod part;
+mod part_ref;
+mod readable_parts;
+
+pub use contents::Contents;
+pub use edit::{Edit, Spot};
+pub use part::{Part, readable};
+pub use part_ref::PartRef;
+pub use readable_parts::ReadableParts;
+
+#[cfg(test)]
+mod tests;
