@@ -1,0 +1,10 @@
+pub mod Beginnings
+pub mod Drafts
+pub mod Handles
+pub mod Held
+pub mod Limits
+pub mod Name
+pub mod OwnState
+pub mod Path
+pub mod Rows
+pub mod Served

@@ -1,0 +1,98 @@
+ghost use Rattle.std.specs.Prelude.{◌≡◌};
+
+use crate::{EventName, Parts};
+use df_part::{Part, Spot};
+use std::marker::Model;
+
+/// Spots that a release will delete, in order.
+#[derive(Drop)]
+pub struct Spots {
+    spots: Vec<Spot>,
+}
+
+impl Model for Spots {
+    ghost use Rattle.std.specs.Prelude.{List};
+    ghost use Rattle.std.specs.Coded.{coded_list};
+    ghost use Rattle.df_part.specs.declared.edit.Spot.{Spot};
+    ghost use Rattle.df_part.specs.contracts.edit.Spot as content;
+
+    ghost Value = { List Spot };
+
+    ghost coded = { coded_list content.the_row.coded };
+
+    ghost view = { λ s. s.spots.items };
+}
+
+impl Spots {
+    /// Takes no memory.
+    pub fn new(spots: Vec<Spot>) -> Spots
+        ensures { result ≡ spots.items }
+    {
+        Spots { spots }
+    }
+
+    pub fn as_slice(&self) -> &[Spot]
+        ensures { result.now ≡ self.now }
+    {
+        self.spots.as_slice()
+    }
+}
+
+/// Parts that a publish or a release will add, in order.
+#[derive(Drop)]
+pub struct Drafts {
+    parts: Vec<Part>,
+}
+
+impl Model for Drafts {
+    ghost use Rattle.std.specs.Prelude.{List};
+    ghost use Rattle.std.specs.Coded.{coded_list};
+    ghost use Rattle.df_part.specs.declared.part.Part.{Part};
+    ghost use Rattle.df_part.specs.contracts.part.Part as content;
+
+    ghost Value = { List Part };
+
+    ghost coded = { coded_list content.the_row.coded };
+
+    ghost view = { λ d. d.parts.items };
+}
+
+impl Drafts {
+    ghost use Rattle.std.specs.Prelude.{◌++◌, ◌∷◌, [], OnOk, OnErr};
+
+    /// Takes no memory.
+    pub fn new(parts: Vec<Part>) -> Drafts
+        ensures { result ≡ parts.items }
+    {
+        Drafts { parts }
+    }
+
+    pub fn as_slice(&self) -> &[Part]
+        ensures { result.now ≡ self.now }
+    {
+        self.parts.as_slice()
+    }
+
+    pub(crate) fn push(&mut self, part: Part) -> Result<(), NoMemory>
+        ensures ok { OnOk result (self.new ≡ self.old ++ part ∷ []) }
+        ensures unchanged { OnErr result (self.new ≡ self.old) }
+    {
+        self.parts.push(part)?;
+        Ok(())
+    }
+}
+
+use df_label::NoMemory;
+
+/// An open handle: a draft of an event, or a view of one that was handed to the unit.
+#[derive(Drop)]
+pub struct Handle {
+    pub is_view: bool,
+    pub event: EventName,
+    /// The parts that were handed; a draft has none.
+    pub seen: Parts,
+    /// The deletions that a release will make.
+    pub named: Spots,
+    /// The parts that a publish or a release will add.
+    pub drafted: Drafts,
+}

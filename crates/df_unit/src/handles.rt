@@ -1,0 +1,95 @@
+//! The handles that a unit has open. A handle's number is its place in the list.
+
+ghost use Rattle.std.specs.Prelude.{◌≡◌, ◌≤◌, ◌∷◌, [], ◌++◌, length, option_copied, OnOk, OnErr};
+ghost use Rattle.df_unit.specs.Handles.{changed_at, closed, handle_at, is_full, least_free, open_count, opened};
+
+use crate::Handle;
+use df_label::NoMemory;
+use df_part::Part;
+
+/// How many handles a unit may have open.
+pub const MOST_HANDLES: usize = 64;
+
+fn open_count(handles: &[Option<Handle>]) -> usize
+    ensures { result ≡ open_count handles.now }
+{
+    let mut count = 0;
+    for handle in handles {
+        if handle.is_some() {
+            count += 1;
+        }
+    }
+    count
+}
+
+/// Whether no handle more may be opened.
+pub fn is_full(handles: &[Option<Handle>]) -> bool
+    ensures { result ≡ is_full handles.now }
+{
+    open_count(handles) >= MOST_HANDLES
+}
+
+/// The least number that isn't open.
+pub fn least_free(handles: &[Option<Handle>]) -> usize
+    ensures least { result ≡ least_free handles.now }
+    ensures within { result ≤ length handles.now }
+{
+    for (h, handle) in handles.iter().enumerate() {
+        if handle.is_none() {
+            return h;
+        }
+    }
+    handles.len()
+}
+
+/// The open handle of a number.
+pub fn handle_at(handles: &[Option<Handle>], h: u32) -> Option<&Handle>
+    ensures { option_copied result ≡ handle_at handles.now h }
+{
+    let place = h as usize;
+    if place < handles.len() {
+        handles[place].as_ref()
+    } else {
+        None
+    }
+}
+
+/// Opens a handle at the least number that isn't open.
+pub fn open(handles: &mut Vec<Option<Handle>>, handle: Handle) -> Result<(), NoMemory>
+    ensures ok { OnOk result (handles.new.items ≡ opened handle handles.old.items) }
+    ensures unchanged { OnErr result (handles.new.items ≡ handles.old.items) }
+{
+    let h = least_free(handles.as_slice());
+    if h < handles.len() {
+        handles[h] = Some(handle);
+        return Ok(());
+    }
+    handles.push(Some(handle))?;
+    Ok(())
+}
+
+/// Drafts a part at an open handle.
+pub fn draft(handles: &mut Vec<Option<Handle>>, h: u32, part: Part) -> Result<(), NoMemory>
+    ensures ok { OnOk result (handles.new.items ≡ changed_at handles.old.items h (λ d. record d { drafted = d.drafted ++ part ∷ [] })) }
+    ensures unchanged { OnErr result (handles.new.items ≡ handles.old.items) }
+{
+    let place = h as usize;
+    if place < handles.len() {
+        if let Some(handle) = &mut handles[place] {
+            let Ok(()) = handle.drafted.push(part) else {
+                return Err(NoMemory);
+            };
+        }
+    }
+    Ok(())
+}
+
+/// Closes a handle.
+pub fn close(handles: &mut Vec<Option<Handle>>, h: u32)
+    ensures { handles.new.items ≡ closed handles.old.items h }
+{
+    let place = h as usize;
+    if place < handles.len() {
+        handles[place] = None;
+    }
+}

@@ -1,0 +1,83 @@
+ghost use Rattle.std.specs.Prelude.{◌≡◌, ◌↔◌, IsTrue, IfOk};
+
+use crate::Path;
+use df_label::{NoMemory, TagSet};
+
+/// A unit's name. A plain unit is named by its path. The instance of a managed subscription is
+/// named by its owner's path, the subscription's number, and the confidentiality tags of its
+/// contamination.
+#[derive(Debug, Drop)]
+pub enum UnitName {
+    Root(Path),
+    Managed { owner: Path, sub: u32, s: TagSet },
+}
+
+/// An event's name: the unit that made it, and that unit's number for it.
+#[derive(Debug, Drop)]
+pub struct EventName {
+    pub unit: UnitName,
+    pub number: u32,
+}
+
+impl UnitName {
+    ghost use Rattle.df_unit.specs.Name.{same};
+
+    pub fn copy(&self) -> Result<UnitName, NoMemory>
+        ensures { IfOk result (λ u. u ≡ self.now) }
+    {
+        match self {
+            UnitName::Root(path) => Ok(UnitName::Root(path.copy()?)),
+            UnitName::Managed { owner, sub, s } => {
+                let owner = owner.copy()?;
+                let s = s.copy()?;
+                Ok(UnitName::Managed {
+                    owner,
+                    sub: *sub,
+                    s,
+                })
+            }
+        }
+    }
+
+    /// Whether the two names are one.
+    #[tactic(auto, using(crate::proofs::SameFacts::same_name_decides))]
+    pub fn same(&self, other: &UnitName) -> bool
+        ensures test { result ≡ same self.now other.now }
+        ensures exact { IsTrue result ↔ (self.now ≡ other.now) }
+    {
+        match (self, other) {
+            (UnitName::Root(a), UnitName::Root(b)) => a == b,
+            (
+                UnitName::Managed { owner, sub, s },
+                UnitName::Managed {
+                    owner: other_owner,
+                    sub: other_sub,
+                    s: other_s,
+                },
+            ) => owner == other_owner && *sub == *other_sub && *s == *other_s,
+            _ => false,
+        }
+    }
+}
+
+impl EventName {
+    ghost use Rattle.df_unit.specs.Name.{same_event};
+
+    pub fn copy(&self) -> Result<EventName, NoMemory>
+        ensures { IfOk result (λ e. e ≡ self.now) }
+    {
+        Ok(EventName {
+            unit: self.unit.copy()?,
+            number: self.number,
+        })
+    }
+
+    /// Whether the two names are one.
+    #[tactic(auto, using(crate::proofs::SameFacts::same_event_decides))]
+    pub fn same(&self, other: &EventName) -> bool
+        ensures test { result ≡ same_event self.now other.now }
+        ensures exact { IsTrue result ↔ (self.now ≡ other.now) }
+    {
+        self.number == other.number && self.unit.same(&other.unit)
+    }
+}
