@@ -1,0 +1,198 @@
+-- No event is handed twice to one subscription.
+use Rattle.std.proofs.Common.{◌≡◌, ℕ, ◌+◌, ◌<◌, List, [], ◌∷◌, ◌++◌, Bool, true, false, not, ◌&&◌, ◌||◌, refl, sym, ◌∙◌, ap, subst, cond, Option, Some, None, arith}
+use Rattle.std.specs.Prelude.{⊤, ◌==◌}
+use Rattle.std.specs.List.{list_any, flat_map}
+use Rattle.std.proofs.lemmas.Bool.{eqb-true}
+use Rattle.std.proofs.lemmas.List.{append-nil, append_assoc}
+use Rattle.df_filter.specs.declared.clause.Clause.{Clause}
+use Rattle.df_label.specs.declared.label.Label.{Label}
+use Rattle.df_label.specs.declared.privilege.Privilege.{Privilege}
+use Rattle.df_part.specs.Contents.{apply}
+use Rattle.df_part.specs.Part.{cut}
+use Rattle.df_part.specs.declared.part.Part.{Part}
+use Rattle.df_rules.specs.Choices.{matches}
+use Rattle.df_rules.specs.Commits.{commit_of, contents}
+use Rattle.df_rules.specs.Deliveries.{was_handed, offer, plain_news, instance_news, deliveries, deliveries_plain, deliveries_instance}
+use Rattle.df_rules.specs.Own.{own_plain, fixed, is_given}
+use Rattle.df_rules.specs.Start.{rows, roots, root_of}
+use Rattle.df_rules.proofs.Invariant.{IfThere, plain_holds}
+use Rattle.df_rules.proofs.RowLaws.{roots_are, by_child}
+use Rattle.df_unit.specs.Beginnings.{readable_at, child}
+use Rattle.df_unit.specs.Name.{same_event}
+use Rattle.df_unit.specs.OwnState.{OwnState, Fixed}
+use Rattle.df_unit.specs.Rows.{after, changed, is_accepted, is_nil}
+use Rattle.df_unit.specs.declared.call.Call.{Call}
+use Rattle.df_unit.specs.declared.call.Call.TheVariants.{Subscribe, SubscribeManaged, Get}
+use Rattle.df_unit.specs.declared.commit.Commit.{Commit}
+use Rattle.df_unit.specs.declared.commit.Given.{Given}
+use Rattle.df_unit.specs.declared.entry.Effect.{Effect}
+use Rattle.df_unit.specs.declared.entry.Entry.{Entry}
+use Rattle.df_unit.specs.declared.name.EventName.{EventName}
+use Rattle.df_unit.specs.declared.name.UnitName.{UnitName}
+use Rattle.df_unit.specs.declared.name.UnitName.TheVariants.{Root, Managed}
+use Rattle.df_unit.specs.declared.reply.Reply.{Reply}
+
+-- subscriptions have different numbers
+
+abbrev Differs : ℕ → List (ℕ × List Clause) → Type 0
+Differs n [] = ⊤
+Differs n (x ∷ xs) = ((n == x.0) ≡ false) × Differs n xs
+
+abbrev Numbered : ℕ → List (ℕ × List Clause) → Type 0
+Numbered k [] = ⊤
+Numbered k (x ∷ xs) = (x.0 < k) × Differs x.0 xs × Numbered k xs
+
+below_differs : (n k : ℕ) → n < k → (n == k) ≡ false
+below_differs n k lt = go (n == k) refl
+  where
+    go : (b : Bool) → (n == k) ≡ b → b ≡ false
+    go true e = let same : n ≡ k = eqb-true n k e in absurd (let z : ⊥ = omega arith in z)
+    go false e = refl
+
+differs_push : (n k : ℕ) (filter : List Clause) (xs : List (ℕ × List Clause)) → n < k → Differs n xs → Differs n (xs ++ (k, filter) ∷ [])
+differs_push n k filter [] lt h = (below_differs n k lt, tt)
+differs_push n k filter (x ∷ xs) lt h = (h.0, differs_push n k filter xs lt h.1)
+
+numbered_more : (k : ℕ) (xs : List (ℕ × List Clause)) → Numbered k xs → Numbered (k + 1) xs
+numbered_more k [] h = tt
+numbered_more k (x ∷ xs) h = ((let lt = h.0 in omega arith), h.1, numbered_more k xs h.2)
+
+numbered_push : (k : ℕ) (filter : List Clause) (xs : List (ℕ × List Clause)) → Numbered k xs → Numbered (k + 1) (xs ++ (k, filter) ∷ [])
+numbered_push k filter [] h = (omega arith, tt, tt)
+numbered_push k filter (x ∷ xs) h = ((let lt = h.0 in omega arith), differs_push x.0 k filter xs h.0 h.1, numbered_push k filter xs h.2)
+
+AreNumbered : OwnState → Type 0
+AreNumbered st = Numbered st.subs st.subscriptions
+
+numbered_changed : (u : UnitName) (st : OwnState) (c : Call) (f : Effect) → AreNumbered st → AreNumbered (changed u st c f)
+unfolding AreNumbered
+numbered_changed u st (Subscribe filter) f h = numbered_push st.subs filter st.subscriptions h
+numbered_changed u st (SubscribeManaged filter) f h = numbered_more st.subs st.subscriptions h
+numbered_changed u st Get Effect.Nothing h = h
+numbered_changed u st Get (Effect.Commit k) h = h
+numbered_changed u st Get (Effect.Given d) h = h
+numbered_changed u st _ f h = h
+
+numbered_after : (u : UnitName) (st : OwnState) (c : Call) (r : Reply) (f : Effect) → AreNumbered st → AreNumbered (after u st c r f)
+numbered_after u st c r f h = go (is_accepted r)
+  where
+    go : (b : Bool) → AreNumbered (cond b (changed u st c f) st)
+    go true = numbered_changed u st c f h
+    go false = h
+
+-- deliveries, after those that were made before
+
+abbrev OnceAfter : List Given → List Given → Type 0
+OnceAfter seen [] = ⊤
+OnceAfter seen (d ∷ ds) = (was_handed seen d.event d.sub ≡ false) × OnceAfter (seen ++ d ∷ []) ds
+
+once_append : (seen xs ys : List Given) → OnceAfter seen xs → OnceAfter (seen ++ xs) ys → OnceAfter seen (xs ++ ys)
+once_append seen [] ys h k = subst (λ (zs : List Given). OnceAfter zs ys) (append-nil seen) k
+once_append seen (x ∷ xs) ys h k = (h.0, once_append (seen ++ x ∷ []) xs ys h.1 (subst (λ (zs : List Given). OnceAfter zs ys) (sym (append_assoc seen (x ∷ []) xs)) k))
+
+any-append : {X : Type 0} (f : X → Bool) (xs ys : List X) → list_any f xs ≡ false → list_any f ys ≡ false → list_any f (xs ++ ys) ≡ false
+any-append f [] ys h k = k
+any-append {X} f (x ∷ xs) ys h k = go (f x) h (any-append f xs ys)
+  where
+    go : (b : Bool) → (b || list_any f xs) ≡ false → (list_any f xs ≡ false → list_any f ys ≡ false → list_any f (xs ++ ys) ≡ false) → (b || list_any f (xs ++ ys)) ≡ false
+    go true h ih = h
+    go false h ih = ih h k
+
+-- nothing was handed to these subscriptions
+abbrev Unhanded : List Given → EventName → List (ℕ × List Clause) → Type 0
+Unhanded new event [] = ⊤
+Unhanded new event (x ∷ xs) = (was_handed new event x.0 ≡ false) × Unhanded new event xs
+
+and_with_false : (a b : Bool) → b ≡ false → ((a && b) || false) ≡ false
+and_with_false true true h = h
+and_with_false true false h = refl
+and_with_false false b h = refl
+
+unhanded_push : (new : List Given) (event : EventName) (n : ℕ) (parts : List Part) (xs : List (ℕ × List Clause)) → Differs n xs → Unhanded new event xs → Unhanded (new ++ record { event = event; sub = n; parts = parts } ∷ []) event xs
+unhanded_push new event n parts [] d h = tt
+unhanded_push new event n parts (x ∷ xs) d h = (
+  any-append (λ (g : Given). same_event g.event event && (g.sub == x.0)) new (record { event = event; sub = n; parts = parts } ∷ []) h.0 (and_with_false (same_event event event) (n == x.0) d.0),
+  unhanded_push new event n parts xs d.1 h.1,
+)
+
+unhanded_none : (event : EventName) (xs : List (ℕ × List Clause)) → Unhanded [] event xs
+unhanded_none event [] = tt
+unhanded_none event (x ∷ xs) = (refl, unhanded_none event xs)
+
+offers_once : (ds new : List Given) (event : EventName) (parts : List Part) (k : ℕ) (xs : List (ℕ × List Clause)) → Numbered k xs → Unhanded new event xs → OnceAfter (ds ++ new) (flat_map (λ sub. offer ds event parts sub) xs)
+offers_once ds new event parts k [] numbered h = tt
+offers_once ds new event parts k (x ∷ xs) numbered h = go (matches x.1 parts) (was_handed ds event x.0) refl (offers_once ds new event parts k xs numbered.2 h.1) (offers_once ds (new ++ d ∷ []) event parts k xs numbered.2 (unhanded_push new event x.0 parts xs numbered.1 h.1))
+  where
+    d : Given
+    d = record { event = event; sub = x.0; parts = parts }
+
+    go : (m w : Bool) → was_handed ds event x.0 ≡ w → OnceAfter (ds ++ new) (flat_map (λ sub. offer ds event parts sub) xs) → OnceAfter (ds ++ (new ++ record { event = event; sub = x.0; parts = parts } ∷ [])) (flat_map (λ sub. offer ds event parts sub) xs) →
+        OnceAfter (ds ++ new) (cond (m && not w) (record { event = event; sub = x.0; parts = parts } ∷ []) [] ++ flat_map (λ sub. offer ds event parts sub) xs)
+    go false w e skip taken = skip
+    go true true e skip taken = skip
+    go true false e skip taken = (
+      any-append (λ (g : Given). same_event g.event event && (g.sub == x.0)) ds new e h.0,
+      subst (λ (zs : List Given). OnceAfter zs (flat_map (λ sub. offer ds event parts sub) xs)) (sym (append_assoc ds new (record { event = event; sub = x.0; parts = parts } ∷ []))) taken,
+    )
+
+plain_once : (o : Option OwnState) → IfThere AreNumbered o → (ds : List Given) (past : List Entry) (oc : Option Commit) → OnceAfter ds (plain_news o ds past oc)
+unfolding AreNumbered
+plain_once None numbered ds past oc = tt
+plain_once (Some st) numbered ds past None = tt
+plain_once (Some st) numbered ds past (Some c) = go (is_nil (cut st.input c.edit.1))
+  where
+    go : (b : Bool) → OnceAfter ds (cond b [] (flat_map (λ sub. offer ds c.event (cut st.input (apply c.edit (contents past c.event))) sub) st.subscriptions))
+    go true = tt
+    go false = subst (λ (zs : List Given). OnceAfter zs (flat_map (λ sub. offer ds c.event (cut st.input (apply c.edit (contents past c.event))) sub) st.subscriptions)) (append-nil ds)
+        (offers_once ds [] c.event (cut st.input (apply c.edit (contents past c.event))) st.subs st.subscriptions numbered (unhanded_none c.event st.subscriptions))
+
+instance_once : (fx : Option Fixed) (n : ℕ) (t : List (List ℕ)) (ds : List Given) (past : List Entry) (oc : Option Commit) → OnceAfter ds (instance_news fx n t ds past oc)
+instance_once None n t ds past oc = tt
+instance_once (Some f) n t ds past None = tt
+instance_once (Some f) n t ds past (Some c) = go (is_given (Some f) t past (Some c)) (was_handed ds c.event n) refl
+  where
+    go : (g w : Bool) → was_handed ds c.event n ≡ w → OnceAfter ds (cond (g && not w) (record { event = c.event; sub = n; parts = cut (readable_at f t) (apply c.edit (contents past c.event)) } ∷ []) [])
+    go false w e = tt
+    go true true e = tt
+    go true false e = (e, tt)
+
+module _ (start : List (Label × List Privilege)) where
+  none_numbered : (r : Label × List Privilege) → AreNumbered (root_of r)
+  unfolding AreNumbered
+  none_numbered r = tt
+
+  child_numbered : (st : OwnState) (set : List (List ℕ)) (privileges : List Privilege) → AreNumbered (child st set privileges)
+  unfolding AreNumbered
+  child_numbered st set privileges = tt
+
+  plain_numbered : (past : List Entry) (path : List ℕ) → IfThere AreNumbered (own_plain rows (roots start) past path)
+  plain_numbered past path = plain_holds rows (roots start) AreNumbered (record {
+    first = λ k st e. roots_are AreNumbered none_numbered start k st e;
+    step = numbered_after;
+    child = λ st k c r ch e h. by_child AreNumbered st k c r ch e (λ set privileges. child_numbered st set privileges);
+  }) past path
+
+  deliveries_once : (past : List Entry) (u : UnitName) → OnceAfter [] (deliveries rows (roots start) past u)
+  deliveries_once [] (Root path) = tt
+  deliveries_once [] (Managed o n t) = tt
+  deliveries_once (e ∷ past) (Root path) =
+      once_append [] (deliveries_plain rows (roots start) past path) (plain_news (own_plain rows (roots start) past path) (deliveries_plain rows (roots start) past path) past (commit_of e)) (deliveries_once past (Root path))
+      (plain_once (own_plain rows (roots start) past path) (plain_numbered past path) (deliveries_plain rows (roots start) past path) past (commit_of e))
+  deliveries_once (e ∷ past) (Managed o n t) =
+      once_append [] (deliveries_instance rows (roots start) past o n t) (instance_news (fixed rows (roots start) past o n) n t (deliveries_instance rows (roots start) past o n t) past (commit_of e)) (deliveries_once past (Managed o n t))
+      (instance_once (fixed rows (roots start) past o n) n t (deliveries_instance rows (roots start) past o n t) past (commit_of e))
+
+  at_each : (seen ds before later : List Given) (d : Given) → OnceAfter seen ds → ds ≡ before ++ d ∷ later → was_handed (seen ++ before) d.event d.sub ≡ false
+  at_each seen [] [] later d once same = absurd (let z : ⊥ = cc in z)
+  at_each seen [] (b ∷ before) later d once same = absurd (let z : ⊥ = cc in z)
+  at_each seen (x ∷ ds) [] later d once same =
+      let who : x ≡ d = (let y = same in cc) in
+      subst (λ (zs : List Given). was_handed zs d.event d.sub ≡ false) (sym (append-nil seen)) (subst (λ (g : Given). was_handed seen g.event g.sub ≡ false) who once.0)
+  at_each seen (x ∷ ds) (b ∷ before) later d once same =
+      let who : x ≡ b = (let y = same in cc) in
+      let rest : ds ≡ before ++ d ∷ later = (let y = same in cc) in
+      subst (λ (zs : List Given). was_handed zs d.event d.sub ≡ false) (append_assoc seen (x ∷ []) before ∙ ap (λ (g : Given). seen ++ g ∷ before) who)
+      (at_each (seen ++ x ∷ []) ds before later d once.1 rest)
+
+  pub deliveries_come_once : (past : List Entry) (u : UnitName) (before later : List Given) (d : Given) → deliveries rows (roots start) past u ≡ before ++ d ∷ later → was_handed before d.event d.sub ≡ false
+  deliveries_come_once past u before later d same = at_each [] (deliveries rows (roots start) past u) before later d (deliveries_once past u) same

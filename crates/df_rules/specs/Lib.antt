@@ -1,0 +1,14 @@
+pub mod Commits
+pub mod Choices
+pub mod Rules
+pub mod Own
+pub mod Deliveries
+pub mod Legal
+pub mod Purge
+pub mod Laws
+pub mod Exercised
+pub mod Start
+pub mod Follows
+pub mod Separates
+pub mod Grows
+pub mod Received

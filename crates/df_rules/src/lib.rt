@@ -1,0 +1,121 @@
+//! What a legal journal is, and what a purge keeps. A journal stands with its newest entry first.
+//!
+//! The crate has no code: each function is a law, and its contract is what holds.
+#![tactic(auto)]
+
+ghost use Rattle.std.specs.Prelude.{[], false, ◌≡◌, ◌∷◌, ◌++◌, ℕ, List, None, Some, reverse};
+ghost use Rattle.df_label.specs.declared.label.Label.{Label};
+ghost use Rattle.df_label.specs.Tag.{maker_of};
+ghost use Rattle.df_label.specs.declared.privilege.Privilege.{Privilege};
+ghost use Rattle.df_unit.specs.OwnState.{OwnState};
+ghost use Rattle.df_unit.specs.declared.call.Call.{Call};
+ghost use Rattle.df_unit.specs.declared.commit.Commit.{Commit};
+ghost use Rattle.df_unit.specs.declared.commit.Given.{Given};
+ghost use Rattle.df_unit.specs.declared.entry.Effect.{Effect};
+ghost use Rattle.df_unit.specs.declared.entry.Entry.{Entry};
+ghost use Rattle.df_unit.specs.declared.entry.Entry.TheVariants.{Done};
+ghost use Rattle.df_unit.specs.declared.name.UnitName.{UnitName};
+ghost use Rattle.df_unit.specs.declared.name.UnitName.TheVariants.{Managed, Root};
+ghost use Rattle.df_unit.specs.declared.reply.Reply.{Reply};
+ghost use Rattle.df_rules.specs.Commits.{commit_in};
+ghost use Rattle.df_rules.specs.Deliveries.{deliveries, was_handed};
+ghost use Rattle.df_rules.specs.Exercised.{IsExercised, before_fixed};
+ghost use Rattle.df_rules.specs.Follows.{Follows, Last, Want, brain_of};
+ghost use Rattle.df_rules.specs.Grows.{HasGrown, IsAbove};
+ghost use Rattle.df_rules.specs.Laws.{Laws, ReleaseLaws};
+ghost use Rattle.df_rules.specs.Legal.{IsRight, IsUnaided, Legal, calls_of, run};
+ghost use Rattle.df_rules.specs.Own.{own};
+ghost use Rattle.df_rules.specs.Purge.{Keeps, echo, purge};
+ghost use Rattle.df_rules.specs.Received.{Receives, received};
+ghost use Rattle.df_rules.specs.Rules.{Rules};
+ghost use Rattle.df_rules.specs.Separates.{Separates};
+ghost use Rattle.df_rules.specs.Start.{roots, rows};
+
+/// A purge of a legal journal is legal.
+pub fn purge_is_legal()
+    ensures { (start : List (Label × List Privilege)) (l : Label) (past : List Entry) → Legal rows (roots start) past → Legal rows (roots start) (purge rows (roots start) l past) }
+{}
+
+/// Each unit within the label is in the purge as it was, and is handed what it was, and what the
+/// label shows of each event is the same. This is so of every journal.
+pub fn purge_keeps()
+    ensures { (start : List (Label × List Privilege)) (l : Label) (past : List Entry) → Keeps rows (roots start) l past (purge rows (roots start) l past) }
+{}
+
+/// Where a commit becomes an emitted one, what its actor lacks to be within the label was set
+/// aside by privileges while they were held.
+pub fn purge_exercises()
+    ensures { (start : List (Label × List Privilege)) (l : Label) (past : List Entry) (u : UnitName) (call : Call) (r : Reply) (f : Effect) (c : Commit) → Legal rows (roots start) (Done u call r f ∷ past) → echo l (commit_in f) ≡ Some c → (st : OwnState) × IsExercised rows (roots start) past u l st }
+{}
+
+/// The three laws of a purge in one word.
+pub fn legal_journals_separate()
+    ensures { (start : List (Label × List Privilege)) (past : List Entry) → Legal rows (roots start) past → (l : Label) → Separates rows (roots start) past l }
+{}
+
+/// The same laws, whatever the rules of the calls are, if they keep theirs.
+pub fn purge_for_all_rules()
+    ensures legal { (R : Rules) (s : List OwnState) (l : Label) (past : List Entry) → Laws R s → Legal R s past → Legal R s (purge R s l past) }
+    ensures keeps { (R : Rules) (s : List OwnState) (l : Label) (past : List Entry) → Laws R s → Keeps R s l past (purge R s l past) }
+    ensures exercised { (R : Rules) (s : List OwnState) (l : Label) (past : List Entry) (u : UnitName) (call : Call) (r : Reply) (f : Effect) (c : Commit) → Laws R s → ReleaseLaws R s → Legal R s (Done u call r f ∷ past) → echo l (commit_in f) ≡ Some c → (st : OwnState) × IsExercised R s past u l st }
+{}
+
+/// What a unit does by itself.
+pub trait StepFunction {
+    /// What it wants, and its state afterwards.
+    ghost next: { Self → Last → Want × Self };
+
+    /// The state with which the instances of a subscription begin.
+    ghost instance: { Self → ℕ → Self };
+}
+
+/// A journal that follows step functions follows them after a purge.
+pub fn purge_follows<B: StepFunction>()
+    ensures { (start : List (Label × List Privilege)) (bs : List B) (l : Label) (past : List Entry) → Follows (brain_of B.next B.instance) rows (roots start) bs past → Follows (brain_of B.next B.instance) rows (roots start) bs (purge rows (roots start) l past) }
+{}
+
+/// With the oldest entry first, a journal is legal exactly where each entry is the answer to the
+/// entries before it.
+pub fn legal_by_places()
+    ensures each { (start : List (Label × List Privilege)) (j : List Entry) → Legal rows (roots start) (reverse j) → (before later : List Entry) (e : Entry) → j ≡ before ++ e ∷ later → IsRight rows (roots start) (reverse before) e }
+    ensures all { (start : List (Label × List Privilege)) (j : List Entry) → ((before later : List Entry) (e : Entry) → j ≡ before ++ e ∷ later → IsRight rows (roots start) (reverse before) e) → Legal rows (roots start) (reverse j) }
+{}
+
+/// There is one legal journal with these actors and calls, the newest first, into which nothing
+/// was emitted.
+pub fn runs_are_legal()
+    ensures legal { (start : List (Label × List Privilege)) (calls : List (UnitName × Call)) → Legal rows (roots start) (run rows (roots start) calls) }
+    ensures unaided { (start : List (Label × List Privilege)) (calls : List (UnitName × Call)) → IsUnaided (run rows (roots start) calls) }
+    ensures calls { (start : List (Label × List Privilege)) (calls : List (UnitName × Call)) → calls_of (run rows (roots start) calls) ≡ calls }
+    ensures only { (start : List (Label × List Privilege)) (past : List Entry) → Legal rows (roots start) past → IsUnaided past → past ≡ run rows (roots start) (calls_of past) }
+{}
+
+/// A unit that exists goes on to exist. No privilege is lost, and its contamination and its counts
+/// only grow.
+pub fn units_grow()
+    ensures { (start : List (Label × List Privilege)) (newer past : List Entry) (u : UnitName) (st : OwnState) → own rows (roots start) past u ≡ Some st → (later : OwnState) × (own rows (roots start) (newer ++ past) u ≡ Some later) × HasGrown st later }
+{}
+
+/// Later entries leave each delivery as it was.
+pub fn deliveries_grow()
+    ensures { (start : List (Label × List Privilege)) (newer past : List Entry) (u : UnitName) → (more : List Given) × (deliveries rows (roots start) (newer ++ past) u ≡ deliveries rows (roots start) past u ++ more) }
+{}
+
+/// No event is handed twice to one subscription of a unit.
+pub fn deliveries_come_once()
+    ensures { (start : List (Label × List Privilege)) (past : List Entry) (u : UnitName) (before later : List Given) (d : Given) → deliveries rows (roots start) past u ≡ before ++ d ∷ later → was_handed before d.event d.sub ≡ false }
+{}
+
+/// In a legal journal a unit's gets give it exactly its deliveries, in order: what it received, and
+/// then what is left to it. Who doesn't exist received nothing.
+pub fn gets_give_deliveries()
+    ensures units { (start : List (Label × List Privilege)) (past : List Entry) → Legal rows (roots start) past → (u : UnitName) (st : OwnState) → own rows (roots start) past u ≡ Some st → Receives rows (roots start) past u st }
+    ensures absent { (start : List (Label × List Privilege)) (past : List Entry) → Legal rows (roots start) past → (u : UnitName) → own rows (roots start) past u ≡ None → received u past ≡ [] }
+{}
+
+/// An instance begins with the confidentiality that its owner had before the subscription, and a
+/// child with its maker's.
+pub fn units_begin_above()
+    ensures instances { (start : List (Label × List Privilege)) (past : List Entry) (e : Entry) (o : List ℕ) (n : ℕ) (t : List (List ℕ)) (st : OwnState) → own rows (roots start) past (Managed o n t) ≡ None → own rows (roots start) (e ∷ past) (Managed o n t) ≡ Some st → (owner : OwnState) × (own rows (roots start) (before_fixed rows (roots start) past o n) (Root o) ≡ Some owner) × IsAbove owner st }
+    ensures children { (start : List (Label × List Privilege)) (past : List Entry) (e : Entry) (path : List ℕ) (st : OwnState) → own rows (roots start) past (Root path) ≡ None → own rows (roots start) (e ∷ past) (Root path) ≡ Some st → (maker : OwnState) × (own rows (roots start) past (Root (maker_of path)) ≡ Some maker) × IsAbove maker st }
+{}
