@@ -1,0 +1,28 @@
+-- The journal, seen newest first.
+use Rattle.std.proofs.Common.{◌≡◌, suc, ◌-◌, List, [], ◌∷◌, ◌++◌, length, reverse, slice_get, refl, ap, sym, ◌∙◌, arith, length-append}
+use Rattle.std.proofs.lemmas.List.{reverse-append, reverse-reverse}
+use Rattle.df_unit.specs.declared.call.Call.{Call}
+use Rattle.df_unit.specs.declared.entry.Effect.{Effect}
+use Rattle.df_unit.specs.declared.entry.Entry.{Entry}
+use Rattle.df_unit.specs.declared.entry.Entry.TheVariants.{Done}
+use Rattle.df_unit.specs.declared.name.UnitName.{UnitName}
+use Rattle.df_unit.specs.declared.reply.Reply.{Reply}
+
+-- a journal with one more entry at its end
+pub journal_more : (j k l : List Entry) (n a : UnitName) (c : Call) (r s : Reply) (f : Effect) → k ≡ j → l ≡ k ++ Done n c r f ∷ [] → n ≡ a → s ≡ r → reverse l ≡ Done a c s f ∷ reverse j
+journal_more j k l n a c r s f e g h i =
+    ap reverse (g ∙ ap (λ (x : List Entry). x ++ Done n c r f ∷ []) e ∙ ap (λ (m : UnitName). j ++ Done m c r f ∷ []) h) ∙ reverse-append j (Done a c r f ∷ []) ∙ ap (λ (q : Reply). Done a c q f ∷ reverse j) (sym i)
+
+-- the last of a list is the first of it reversed
+pub last_reverse : (es : List Entry) → slice_get es (length es - 1) ≡ slice_get (reverse es) 0
+last_reverse es = ap (λ l. slice_get l (length l - 1)) (sym (reverse-reverse es)) ∙ by (reverse es)
+  where
+    at_end : (xs : List Entry) (e : Entry) → slice_get (xs ++ e ∷ []) (length (xs ++ e ∷ []) - 1) ≡ slice_get (e ∷ []) 0
+    at_end [] e = refl
+    at_end (x ∷ xs) e =
+        let k : length (x ∷ (xs ++ e ∷ [])) - 1 ≡ suc (length (xs ++ e ∷ []) - 1) = omega (arith, length-append xs (e ∷ [])) in
+        ap (slice_get (x ∷ (xs ++ e ∷ []))) k ∙ at_end xs e
+
+    by : (xs : List Entry) → slice_get (reverse xs) (length (reverse xs) - 1) ≡ slice_get xs 0
+    by [] = refl
+    by (x ∷ xs) = ap (λ l. slice_get l (length l - 1)) (reverse-append (x ∷ []) xs) ∙ at_end (reverse xs) x
