@@ -1,0 +1,7 @@
+use Rattle.std.proofs.Common.{◌≡◌, ◌++◌, take, map}
+use Rattle.df_value_text.specs.Label.{privilege_text}
+use Rattle.df_journal_text.specs.Line.{spaced}
+use Rattle.df_journal_text.proofs.line.append_privilege_words.Given as goal
+
+abbrev pub invariant-loop-privilege : goal.invariant-loop-privilege
+invariant-loop-privilege l = l.to.items ≡ l.fn.to.items ++ spaced (map privilege_text (take l.privilege-index l.privileges))

@@ -1,0 +1,6 @@
+pub mod Call
+pub mod Entry
+pub mod Line
+pub mod Name
+pub mod Reply
+pub mod Start

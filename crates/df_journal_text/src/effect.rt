@@ -1,0 +1,125 @@
+ghost use Rattle.std.specs.Prelude.{◌≡◌, ◌++◌, OnOk, codes};
+ghost use Rattle.std.specs.List.{flat_map};
+ghost use Rattle.df_journal_text.specs.Entry.{edit_text, effect_text, given_text, part_line, read_line, spot_line};
+
+use crate::line::{append_label_word, append_name_word, append_privilege_words, append_value_word};
+use crate::name::append_event_word;
+use df_label::NoMemory;
+use df_part::{Edit, Part, PartRef, Spot};
+use df_unit::{Commit, Effect, Given, PartRead};
+
+/// Appends a part behind a mark.
+fn append_part(mark: &[u8], part: &Part, to: &mut Vec<u8>) -> Result<(), NoMemory>
+    ensures { OnOk result (to.new.items ≡ to.old.items ++ part_line mark.now part.now) }
+{
+    to.extend_from_slice(mark)?;
+    append_label_word(&part.label, to)?;
+    append_name_word(&part.name, to)?;
+    append_value_word(&part.value, to)?;
+    append_privilege_words(part.privileges.as_slice(), to)?;
+    to.push(b'\n')?;
+    Ok(())
+}
+
+/// Appends each part behind a mark.
+fn append_parts(mark: &[u8], parts: &[PartRef], to: &mut Vec<u8>) -> Result<(), NoMemory>
+    ensures { OnOk result (to.new.items ≡ to.old.items ++ flat_map (part_line mark.now) parts.now) }
+{
+    for part in parts {
+        append_part(mark, part.part(), to)?;
+    }
+    Ok(())
+}
+
+fn append_spot(spot: &Spot, to: &mut Vec<u8>) -> Result<(), NoMemory>
+    ensures { OnOk result (to.new.items ≡ to.old.items ++ spot_line spot.now) }
+{
+    to.push(b'-')?;
+    append_label_word(&spot.label, to)?;
+    append_name_word(&spot.name, to)?;
+    to.push(b'\n')?;
+    Ok(())
+}
+
+fn append_spots(spots: &[Spot], to: &mut Vec<u8>) -> Result<(), NoMemory>
+    ensures { OnOk result (to.new.items ≡ to.old.items ++ flat_map spot_line spots.now) }
+{
+    for spot in spots {
+        append_spot(spot, to)?;
+    }
+    Ok(())
+}
+
+/// Appends what a commit deletes and then what it adds.
+pub fn append_edit(edit: &Edit, to: &mut Vec<u8>) -> Result<(), NoMemory>
+    ensures { OnOk result (to.new.items ≡ to.old.items ++ edit_text edit.now) }
+{
+    append_spots(edit.deleted(), to)?;
+    append_parts(b"+", edit.added(), to)?;
+    Ok(())
+}
+
+/// Appends what a read shows of a part.
+fn append_read(part: &PartRead, to: &mut Vec<u8>) -> Result<(), NoMemory>
+    ensures { OnOk result (to.new.items ≡ to.old.items ++ read_line part.now) }
+{
+    to.push(b':')?;
+    append_label_word(&part.label, to)?;
+    append_value_word(&part.value, to)?;
+    append_privilege_words(part.privileges.as_slice(), to)?;
+    to.push(b'\n')?;
+    Ok(())
+}
+
+/// Appends what a read shows.
+pub fn append_reads(parts: &[PartRead], to: &mut Vec<u8>) -> Result<(), NoMemory>
+    ensures { OnOk result (to.new.items ≡ to.old.items ++ flat_map read_line parts.now) }
+{
+    for part in parts {
+        append_read(part, to)?;
+    }
+    Ok(())
+}
+
+/// Appends a mark, an event's name and a line feed.
+pub fn append_event_line(mark: &[u8], event: &EventName, to: &mut Vec<u8>) -> Result<(), NoMemory>
+    ensures { OnOk result (to.new.items ≡ to.old.items ++ line mark.now (event_text event.now ∷ [])) }
+{
+    to.extend_from_slice(mark)?;
+    append_event_word(event, to)?;
+    to.push(b'\n')?;
+    Ok(())
+}
+
+ghost use Rattle.std.specs.Prelude.{◌∷◌, []};
+ghost use Rattle.df_journal_text.specs.Line.{line};
+ghost use Rattle.df_journal_text.specs.Name.{event_text};
+
+use df_unit::EventName;
+
+fn append_commit(commit: &Commit, to: &mut Vec<u8>) -> Result<(), NoMemory>
+    ensures { OnOk result (to.new.items ≡ to.old.items ++ effect_text (Effect.Commit commit.now)) }
+{
+    append_event_line(b"=", &commit.event, to)?;
+    append_edit(&commit.edit, to)?;
+    Ok(())
+}
+
+fn append_given(given: &Given, to: &mut Vec<u8>) -> Result<(), NoMemory>
+    ensures { OnOk result (to.new.items ≡ to.old.items ++ given_text given.now) }
+{
+    append_event_line(b"<", &given.event, to)?;
+    append_parts(b".", given.parts.as_slice(), to)?;
+    Ok(())
+}
+
+/// Appends the lines of an effect.
+pub fn append_effect(effect: &Effect, to: &mut Vec<u8>) -> Result<(), NoMemory>
+    ensures { OnOk result (to.new.items ≡ to.old.items ++ effect_text effect.now) }
+{
+    match effect {
+        Effect::Nothing => Ok(()),
+        Effect::Commit(commit) => append_commit(commit, to),
+        Effect::Given(given) => append_given(given, to),
+    }
+}

@@ -1,0 +1,91 @@
+ghost use Rattle.std.specs.Prelude.{◌≡◌, ◌++◌, ◌∷◌, [], OnOk, codes, option_copied};
+ghost use Rattle.df_journal_text.specs.Entry.{call_line, edit_text, entry_text, note_text, noted_text, reads_text};
+ghost use Rattle.df_journal_text.specs.Line.{line};
+ghost use Rattle.df_journal_text.specs.Name.{event_text};
+
+use crate::call::append_call;
+use crate::effect::{append_edit, append_effect, append_event_line, append_reads};
+use crate::line::{append_label_word, append_word};
+use crate::name::append_unit;
+use crate::reply::append_reply;
+use df_label::{Label, NoMemory};
+use df_unit::{Call, Commit, Entry, Noted, Reply, UnitName};
+
+/// Appends the line of a call and its reply.
+fn append_call_line(
+    actor: &UnitName,
+    call: &Call,
+    reply: &Reply,
+    to: &mut Vec<u8>,
+) -> Result<(), NoMemory>
+    ensures { OnOk result (to.new.items ≡ to.old.items ++ call_line actor.now call.now reply.now) }
+{
+    append_unit(actor, to)?;
+    append_call(call, to)?;
+    append_word(b"->", to)?;
+    append_reply(reply, to)?;
+    to.push(b'\n')?;
+    Ok(())
+}
+
+/// Appends the line of a contamination, where one is noted.
+fn append_note(note: &Option<Label>, to: &mut Vec<u8>) -> Result<(), NoMemory>
+    ensures { OnOk result (to.new.items ≡ to.old.items ++ note_text note.now) }
+{
+    if let Some(label) = note {
+        to.push(b'@')?;
+        append_label_word(label, to)?;
+        to.push(b'\n')?;
+    }
+    Ok(())
+}
+
+/// Appends the lines of what a read shows.
+fn append_reply_reads(reply: &Reply, to: &mut Vec<u8>) -> Result<(), NoMemory>
+    ensures { OnOk result (to.new.items ≡ to.old.items ++ reads_text reply.now) }
+{
+    match reply {
+        Reply::Parts(parts) => append_reads(parts.as_slice(), to),
+        _ => Ok(()),
+    }
+}
+
+fn append_emitted(commit: &Commit, to: &mut Vec<u8>) -> Result<(), NoMemory>
+    ensures { OnOk result (to.new.items ≡ to.old.items ++ (line (codes "emitted") (event_text commit.now.event ∷ []) ++ edit_text commit.now.edit)) }
+{
+    append_event_line(b"emitted", &commit.event, to)?;
+    append_edit(&commit.edit, to)?;
+    Ok(())
+}
+
+/// Appends the lines of an entry, with its actor's contamination where that is noted.
+pub fn append_entry(
+    entry: &Entry,
+    contamination: &Option<Label>,
+    to: &mut Vec<u8>,
+) -> Result<(), NoMemory>
+    ensures { OnOk result (to.new.items ≡ to.old.items ++ entry_text contamination.now entry.now) }
+{
+    match entry {
+        Entry::Done {
+            actor,
+            call,
+            reply,
+            effect,
+        } => {
+            append_call_line(actor, call, reply, to)?;
+            append_note(contamination, to)?;
+            append_reply_reads(reply, to)?;
+            append_effect(effect, to)?;
+            Ok(())
+        }
+        Entry::Emitted(commit) => append_emitted(commit, to),
+    }
+}
+
+/// Appends the lines of a noted entry.
+pub fn append_noted(noted: &Noted, to: &mut Vec<u8>) -> Result<(), NoMemory>
+    ensures { OnOk result (to.new.items ≡ to.old.items ++ noted_text noted.now) }
+{
+    append_entry(&noted.entry, &noted.contamination, to)
+}

@@ -1,0 +1,14 @@
+//! The text of journals: a line for each call, and lines for what it read, committed or was given.
+#![tactic(auto)]
+
+mod call;
+mod effect;
+mod entry;
+mod line;
+mod name;
+mod reply;
+mod start;
+
+pub use entry::{append_entry, append_noted};
+pub use name::{append_event, append_unit};
+pub use start::{append_head, append_start};

@@ -1,0 +1,84 @@
+//! A line is words with one space between them, and a line feed. A word is appended with the space
+//! in front of it.
+
+ghost use Rattle.std.specs.Prelude.{◌≡◌, ◌++◌, OnOk, decimal, map};
+ghost use Rattle.std.specs.List.{flat_map};
+ghost use Rattle.df_frozen.specs.Value.{plain};
+ghost use Rattle.df_value_text.specs.Label.{label_text, privilege_text, tag_text};
+ghost use Rattle.df_value_text.specs.Value.{value_text};
+ghost use Rattle.df_journal_text.specs.Line.{spaced, word};
+
+use df_frozen::{Frozen, Name};
+use df_label::{Label, NoMemory, Privilege, Tag};
+use df_value_text::{append_label, append_number, append_privilege, append_tag, append_value};
+
+/// Appends a word.
+pub fn append_word(text: &[u8], to: &mut Vec<u8>) -> Result<(), NoMemory>
+    ensures { OnOk result (to.new.items ≡ to.old.items ++ word text.now) }
+{
+    to.push(b' ')?;
+    to.extend_from_slice(text)?;
+    Ok(())
+}
+
+/// Appends a number as a word.
+pub fn append_number_word(number: u64, to: &mut Vec<u8>) -> Result<(), NoMemory>
+    ensures { OnOk result (to.new.items ≡ to.old.items ++ word (decimal number)) }
+{
+    to.push(b' ')?;
+    append_number(number, to)?;
+    Ok(())
+}
+
+/// Appends a name as a word.
+pub fn append_name_word(name: &Name, to: &mut Vec<u8>) -> Result<(), NoMemory>
+    ensures { OnOk result (to.new.items ≡ to.old.items ++ word name.now) }
+{
+    append_word(name.as_bytes(), to)
+}
+
+/// Appends a tag as a word.
+pub fn append_tag_word(tag: &Tag, to: &mut Vec<u8>) -> Result<(), NoMemory>
+    ensures { OnOk result (to.new.items ≡ to.old.items ++ word (tag_text tag.now)) }
+{
+    to.push(b' ')?;
+    append_tag(tag, to)?;
+    Ok(())
+}
+
+/// Appends a label as a word.
+pub fn append_label_word(label: &Label, to: &mut Vec<u8>) -> Result<(), NoMemory>
+    ensures { OnOk result (to.new.items ≡ to.old.items ++ word (label_text label.now)) }
+{
+    to.push(b' ')?;
+    append_label(label, to)?;
+    Ok(())
+}
+
+/// Appends a privilege as a word.
+pub fn append_privilege_word(privilege: &Privilege, to: &mut Vec<u8>) -> Result<(), NoMemory>
+    ensures { OnOk result (to.new.items ≡ to.old.items ++ word (privilege_text privilege.now)) }
+{
+    to.push(b' ')?;
+    append_privilege(privilege, to)?;
+    Ok(())
+}
+
+/// Appends a value as a word.
+pub fn append_value_word(value: &Frozen, to: &mut Vec<u8>) -> Result<(), NoMemory>
+    ensures { OnOk result (to.new.items ≡ to.old.items ++ word (value_text value.now)) }
+{
+    to.push(b' ')?;
+    append_value(value.value(), to)?;
+    Ok(())
+}
+
+/// Appends privileges, each as a word.
+pub fn append_privilege_words(privileges: &[Privilege], to: &mut Vec<u8>) -> Result<(), NoMemory>
+    ensures { OnOk result (to.new.items ≡ to.old.items ++ spaced (map privilege_text privileges.now)) }
+{
+    for privilege in privileges {
+        append_privilege_word(privilege, to)?;
+    }
+    Ok(())
+}

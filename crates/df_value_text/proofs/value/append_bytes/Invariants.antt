@@ -1,0 +1,7 @@
+use Rattle.std.proofs.Common.{◌≡◌, ◌++◌, take, codes}
+use Rattle.std.specs.List.{flat_map}
+use Rattle.df_value_text.specs.Value.{hex}
+use Rattle.df_value_text.proofs.value.append_bytes.Given as goal
+
+abbrev pub invariant-loop-byte : goal.invariant-loop-byte
+invariant-loop-byte l = l.to.items ≡ l.fn.to.items ++ (codes "x\"" ++ flat_map hex (take l.byte-index l.bytes))

@@ -1,0 +1,121 @@
+ghost use Rattle.std.specs.Prelude.{◌≡◌, ◌++◌, OnOk, codes, length, map};
+ghost use Rattle.std.specs.List.{flat_map, zip};
+ghost use Rattle.df_frozen.specs.Value.{plain};
+ghost use Rattle.df_value_text.specs.Join.{joined};
+ghost use Rattle.df_value_text.specs.Value.{entry_text, escaped, hex, hex_digit, value_text};
+
+use crate::{append_separator, append_whole};
+use df_frozen::{Name, Value};
+use df_label::NoMemory;
+
+/// Appends a value. It takes a stack as deep as the value.
+#[cycle(append)]
+pub fn append_value(value: &Value, to: &mut Vec<u8>) -> Result<(), NoMemory>
+    ensures { OnOk result (to.new.items ≡ to.old.items ++ value_text (plain value.now)) }
+{
+    match value {
+        Value::Int(number) => append_whole(*number, to),
+        Value::Words(words) => append_words(words.as_str().as_bytes(), to),
+        Value::Bytes(bytes) => append_bytes(bytes.as_slice(), to),
+        Value::Items(items) => {
+            to.push(b'[')?;
+            append_items(items.as_slice(), to)?;
+            to.push(b']')?;
+            Ok(())
+        }
+        Value::Map(entries) => {
+            to.push(b'(')?;
+            append_entries(entries.names(), entries.values(), to)?;
+            to.push(b')')?;
+            Ok(())
+        }
+    }
+}
+
+#[cycle(append)]
+fn append_items(items: &[Value], to: &mut Vec<u8>) -> Result<(), NoMemory>
+    ensures { OnOk result (to.new.items ≡ to.old.items ++ joined 44 value_text (map plain items.now)) }
+{
+    for (i, value) in items.iter().enumerate() {
+        append_separator(b',', i, to)?;
+        append_value(value, to)?;
+    }
+    Ok(())
+}
+
+#[cycle(append)]
+fn append_entries(names: &[Name], values: &[Value], to: &mut Vec<u8>) -> Result<(), NoMemory>
+    requires { length names.now ≡ length values.now }
+    ensures { OnOk result (to.new.items ≡ to.old.items ++ joined 44 entry_text (zip names.now (map plain values.now))) }
+{
+    for (i, value) in values.iter().enumerate() {
+        append_separator(b',', i, to)?;
+        append_entry_name(&names[i], to)?;
+        append_value(value, to)?;
+    }
+    Ok(())
+}
+
+fn append_entry_name(name: &Name, to: &mut Vec<u8>) -> Result<(), NoMemory>
+    ensures { OnOk result (to.new.items ≡ to.old.items ++ (name.now ++ codes "=")) }
+{
+    to.extend_from_slice(name.as_bytes())?;
+    to.push(b'=')?;
+    Ok(())
+}
+
+ghost use Rattle.std.specs.Prelude.{◌<◌};
+
+fn append_words(text: &[u8], to: &mut Vec<u8>) -> Result<(), NoMemory>
+    ensures { OnOk result (to.new.items ≡ to.old.items ++ (codes "\"" ++ flat_map escaped text.now ++ codes "\"")) }
+{
+    to.push(b'"')?;
+    for byte in text {
+        append_escaped(*byte, to)?;
+    }
+    to.push(b'"')?;
+    Ok(())
+}
+
+fn append_bytes(bytes: &[u8], to: &mut Vec<u8>) -> Result<(), NoMemory>
+    ensures { OnOk result (to.new.items ≡ to.old.items ++ (codes "x\"" ++ flat_map hex bytes.now ++ codes "\"")) }
+{
+    to.extend_from_slice(b"x\"")?;
+    for byte in bytes {
+        append_hex(*byte, to)?;
+    }
+    to.push(b'"')?;
+    Ok(())
+}
+
+fn append_escaped(byte: u8, to: &mut Vec<u8>) -> Result<(), NoMemory>
+    ensures { OnOk result (to.new.items ≡ to.old.items ++ escaped byte) }
+{
+    if byte == b'"' || byte == b'\\' {
+        to.push(b'\\')?;
+        to.push(byte)?;
+        return Ok(());
+    }
+    if byte < 32 || byte == 127 {
+        to.push(b'\\')?;
+        append_hex(byte, to)?;
+        return Ok(());
+    }
+    to.push(byte)?;
+    Ok(())
+}
+
+fn append_hex(byte: u8, to: &mut Vec<u8>) -> Result<(), NoMemory>
+    ensures { OnOk result (to.new.items ≡ to.old.items ++ hex byte) }
+{
+    to.push(hex_digit(byte / 16))?;
+    to.push(hex_digit(byte % 16))?;
+    Ok(())
+}
+
+fn hex_digit(digit: u8) -> u8
+    requires { digit < 16 }
+    ensures { result ≡ hex_digit digit }
+{
+    if digit < 10 { 48 + digit } else { 87 + digit }
+}
