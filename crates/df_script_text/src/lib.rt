@@ -1,0 +1,17 @@
+//! The text of scripts: a line for each root, and a line for each call that a unit makes.
+#![tactic(auto)]
+
+mod call;
+mod file;
+mod line;
+mod pieces;
+mod refused;
+mod root;
+mod word;
+
+pub use file::read_script;
+pub use line::ScriptLine;
+pub use refused::FileRefused;
+
+#[cfg(test)]
+mod tests;
