@@ -1,0 +1,4 @@
+pub mod Outcome
+pub mod Status
+pub mod Steps
+pub mod Words
