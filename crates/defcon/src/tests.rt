@@ -132,19 +132,18 @@ fn each_write_may_fail(rt: HostRuntime) -> Result<(), Fail> {
     let mut shelf = MemoryShelf::new(alloc);
     shelf.put("a", FIRST)?;
     // 257 bytes, 16 in a call, are 17 calls
-    let mut written = 0;
-    for call in 1..=18 {
+    for taken in 0..18 {
         let mut sink = MemorySink::new(alloc, 257, 16)?;
-        sink.fail(call)?;
+        sink.fail(taken as u64 + 1)?;
         let status = run_main(alloc, words.as_slice(), &mut shelf, &mut sink);
-        let wanted = if call <= 17 {
+        let wanted = if taken < 17 {
             Status::WriteFault
         } else {
             Status::Done
         };
-        assert_eq!(rt; status, wanted, "{call}");
-        assert_eq!(rt; sink.bytes(), &FIRST_JOURNAL[..written.min(257)], "{call}");
-        written += 16;
+        let written = (16 * taken).min(FIRST_JOURNAL.len());
+        assert_eq!(rt; status, wanted, "{taken}");
+        assert_eq!(rt; sink.bytes(), &FIRST_JOURNAL[..written], "{taken}");
     }
     Ok(())
 }
