@@ -3,12 +3,14 @@ use Rattle.std.proofs.Common.{◌≡◌, ℕ, List, [], ◌++◌, true, false, r
 use Rattle.std.specs.Prelude.{⊤}
 use Rattle.std.specs.Option.{option_or}
 use Rattle.std.proofs.lemmas.List.{append-nil}
+use Rattle.df_filter.specs.declared.clause.Clause.{Clause}
 use Rattle.df_label.specs.Label.{flows_to}
 use Rattle.df_label.specs.declared.label.Label.{Label}
 use Rattle.df_rules.specs.Deliveries.{plain_news, instance_news, deliveries_plain, deliveries_instance}
 use Rattle.df_rules.specs.Own.{own_plain, own_instance, fixed, born}
 use Rattle.df_rules.specs.Purge.{is_within, emitted}
 use Rattle.df_rules.specs.Rules.{Rules}
+use Rattle.df_rules.specs.Subscriptions.{subscriptions}
 use Rattle.df_unit.specs.Beginnings.{readable_at}
 use Rattle.df_unit.specs.Name.{same}
 use Rattle.df_unit.specs.OwnState.{OwnState, Fixed}
@@ -17,6 +19,7 @@ use Rattle.df_unit.specs.declared.commit.Given.{Given}
 use Rattle.df_unit.specs.declared.entry.Entry.{Entry}
 use Rattle.df_unit.specs.declared.entry.Entry.TheVariants.{Done, Emitted}
 use Rattle.df_unit.specs.declared.name.UnitName.{UnitName}
+use Rattle.df_unit.specs.declared.name.UnitName.TheVariants.{Root}
 
 -- what is there and whose label flows to l is there again; what is not there is not there again
 abbrev pub Agrees : {A : Type 0} → (A → Label) → Label → Option A → Option A → Type 0
@@ -67,20 +70,24 @@ pub fixed-emitted : (R : Rules) (s : List OwnState) (oc : Option Commit) (past :
 fixed-emitted R s None past o n = refl
 fixed-emitted R s (Some c) past o n = or_none (fixed R s past o n)
 
+pub subscriptions-emitted : (R : Rules) (s : List OwnState) (oc : Option Commit) (past : List Entry) (u : UnitName) → subscriptions R s (emitted oc ++ past) u ≡ subscriptions R s past u
+subscriptions-emitted R s None past u = refl
+subscriptions-emitted R s (Some c) past u = append-nil (subscriptions R s past u)
+
 pub own_instance-emitted : (R : Rules) (s : List OwnState) (oc : Option Commit) (past : List Entry) (o : List ℕ) (n : ℕ) (t : List (List ℕ)) → own_instance R s (emitted oc ++ past) o n t ≡ option_or (own_instance R s past o n t) (born R (fixed R s past o n) t past oc)
 own_instance-emitted R s None past o n t = sym (ap (option_or (own_instance R s past o n t)) (born_none R (fixed R s past o n) t past) ∙ or_none (own_instance R s past o n t))
 own_instance-emitted R s (Some c) past o n t = refl
 
-nil_plain_news : (st : Option OwnState) (ds : List Given) (past : List Entry) → plain_news st ds past None ≡ []
-nil_plain_news None ds past = refl
-nil_plain_news (Some st) ds past = refl
+nil_plain_news : (st : Option OwnState) (subs : List (ℕ × List Clause)) (ds : List Given) (past : List Entry) → plain_news st subs ds past None ≡ []
+nil_plain_news None subs ds past = refl
+nil_plain_news (Some st) subs ds past = refl
 
 nil_instance_news : (fx : Option Fixed) (n : ℕ) (t : List (List ℕ)) (ds : List Given) (past : List Entry) → instance_news fx n t ds past None ≡ []
 nil_instance_news None n t ds past = refl
 nil_instance_news (Some f) n t ds past = refl
 
-pub deliveries_plain-emitted : (R : Rules) (s : List OwnState) (oc : Option Commit) (past : List Entry) (path : List ℕ) → deliveries_plain R s (emitted oc ++ past) path ≡ deliveries_plain R s past path ++ plain_news (own_plain R s past path) (deliveries_plain R s past path) past oc
-deliveries_plain-emitted R s None past path = sym (ap (λ (ds : List Given). deliveries_plain R s past path ++ ds) (nil_plain_news (own_plain R s past path) (deliveries_plain R s past path) past) ∙ append-nil (deliveries_plain R s past path))
+pub deliveries_plain-emitted : (R : Rules) (s : List OwnState) (oc : Option Commit) (past : List Entry) (path : List ℕ) → deliveries_plain R s (emitted oc ++ past) path ≡ deliveries_plain R s past path ++ plain_news (own_plain R s past path) (subscriptions R s past (Root path)) (deliveries_plain R s past path) past oc
+deliveries_plain-emitted R s None past path = sym (ap (λ (ds : List Given). deliveries_plain R s past path ++ ds) (nil_plain_news (own_plain R s past path) (subscriptions R s past (Root path)) (deliveries_plain R s past path) past) ∙ append-nil (deliveries_plain R s past path))
 deliveries_plain-emitted R s (Some c) past path = refl
 
 pub deliveries_instance-emitted : (R : Rules) (s : List OwnState) (oc : Option Commit) (past : List Entry) (o : List ℕ) (n : ℕ) (t : List (List ℕ)) → deliveries_instance R s (emitted oc ++ past) o n t ≡ deliveries_instance R s past o n t ++ instance_news (fixed R s past o n) n t (deliveries_instance R s past o n t) past oc
@@ -101,10 +108,10 @@ Began t fx (Some st) = (f : Fixed) × (fx ≡ Some f) × (flows_to f.contaminati
 abbrev pub Reads : OwnState → Type 0
 Reads st = flows_to st.input st.contamination ≡ true
 
--- a plain unit's deliveries by its state, and an instance's by its fixed record
-abbrev pub PlainGiven : Label → Option OwnState → List Given → List Given → Type 0
-PlainGiven l None ds ds' = (ds ≡ []) × (ds' ≡ [])
-PlainGiven l (Some st) ds ds' = flows_to st.contamination l ≡ true → ds' ≡ ds
+-- what a plain unit has had by its state, and an instance's deliveries by its fixed record
+abbrev pub PlainGiven : {A : Type 0} → Label → Option OwnState → List A → List A → Type 0
+PlainGiven l None xs xs' = (xs ≡ []) × (xs' ≡ [])
+PlainGiven l (Some st) xs xs' = flows_to st.contamination l ≡ true → xs' ≡ xs
 
 abbrev pub InstanceGiven : Label → List (List ℕ) → Option Fixed → List Given → List Given → Type 0
 InstanceGiven l t None ds ds' = (ds ≡ []) × (ds' ≡ [])

@@ -16,6 +16,7 @@ use Rattle.df_rules.specs.Deliveries.{plain_news, instance_news, deliveries, del
 use Rattle.df_rules.specs.Grows.{HasGrown}
 use Rattle.df_rules.specs.Own.{stepped, made_by, own_plain, own_instance, own, fixed, born}
 use Rattle.df_rules.specs.Rules.{Rules}
+use Rattle.df_rules.specs.Subscriptions.{subscriptions}
 use Rattle.df_rules.proofs.LabelFacts.{or_either, or_left, or_right, subset_all, subset_refl, subset_trans, contains_with_other, flows_refl, flows_trans, flows_join_left}
 use Rattle.df_label.specs.Privilege.{privilege_cmp}
 use Rattle.df_priv.specs.Held.{holds, grant}
@@ -275,7 +276,7 @@ module _ (R : Rules) (s : List OwnState) (grows : (u : UnitName) (st : OwnState)
 -- deliveries
 module _ (R : Rules) (s : List OwnState) where
   delivered : (e : Entry) (past : List Entry) (u : UnitName) → (more : List Given) × (deliveries R s (e ∷ past) u ≡ deliveries R s past u ++ more)
-  delivered e past (Root path) = (plain_news (own_plain R s past path) (deliveries_plain R s past path) past (commit_of e), refl)
+  delivered e past (Root path) = (plain_news (own_plain R s past path) (subscriptions R s past (Root path)) (deliveries_plain R s past path) past (commit_of e), refl)
   delivered e past (Managed o n t) = (instance_news (fixed R s past o n) n t (deliveries_instance R s past o n t) past (commit_of e), refl)
 
   -- later entries leave each delivery as it was

@@ -1,10 +1,12 @@
 -- No event is handed twice to one subscription.
-use Rattle.std.proofs.Common.{◌≡◌, ℕ, ◌+◌, ◌<◌, List, [], ◌∷◌, ◌++◌, Bool, true, false, not, ◌&&◌, ◌||◌, refl, sym, ◌∙◌, ap, subst, cond, Option, Some, None, arith}
-use Rattle.std.specs.Prelude.{⊤, ◌==◌}
+use Rattle.std.proofs.Common.{◌≡◌, ℕ, ◌+◌, ◌≤◌, ◌<◌, List, [], ◌∷◌, ◌++◌, Bool, true, false, not, ◌&&◌, ◌||◌, refl, sym, ◌∙◌, ap, subst, cond, Option, Some, None, arith}
+use Rattle.std.specs.Prelude.{⊤, ◌==◌, option_to_list}
 use Rattle.std.specs.List.{list_any, flat_map}
+use Rattle.std.specs.Option.{option_map, option_and_then, option_or}
 use Rattle.std.proofs.lemmas.Bool.{eqb-true}
 use Rattle.std.proofs.lemmas.List.{append-nil, append_assoc}
 use Rattle.df_filter.specs.declared.clause.Clause.{Clause}
+use Rattle.df_label.specs.Tag.{maker_of}
 use Rattle.df_label.specs.declared.label.Label.{Label}
 use Rattle.df_label.specs.declared.privilege.Privilege.{Privilege}
 use Rattle.df_part.specs.Contents.{apply}
@@ -13,20 +15,21 @@ use Rattle.df_part.specs.declared.part.Part.{Part}
 use Rattle.df_rules.specs.Choices.{matches}
 use Rattle.df_rules.specs.Commits.{commit_of, contents}
 use Rattle.df_rules.specs.Deliveries.{was_handed, offer, plain_news, instance_news, deliveries, deliveries_plain, deliveries_instance}
-use Rattle.df_rules.specs.Own.{own_plain, fixed, is_given}
-use Rattle.df_rules.specs.Start.{rows, roots, root_of}
-use Rattle.df_rules.proofs.Invariant.{IfThere, plain_holds}
-use Rattle.df_rules.proofs.RowLaws.{roots_are, by_child}
-use Rattle.df_unit.specs.Beginnings.{readable_at, child}
-use Rattle.df_unit.specs.Name.{same_event}
+use Rattle.df_rules.specs.Own.{stepped, root_at, made_by, own_plain, fixed, is_given}
+use Rattle.df_rules.specs.Start.{rows, roots}
+use Rattle.df_rules.specs.Subscriptions.{subscribed_by, subscriptions}
+use Rattle.df_rules.proofs.Growth.{grown_after}
+use Rattle.df_unit.specs.Beginnings.{readable_at}
+use Rattle.df_unit.specs.Name.{same, same_event}
 use Rattle.df_unit.specs.OwnState.{OwnState, Fixed}
-use Rattle.df_unit.specs.Rows.{after, changed, is_accepted, is_nil}
+use Rattle.df_unit.specs.Rows.{after, subscribes, is_nil}
 use Rattle.df_unit.specs.declared.call.Call.{Call}
-use Rattle.df_unit.specs.declared.call.Call.TheVariants.{Subscribe, SubscribeManaged, Get}
+use Rattle.df_unit.specs.declared.call.Call.TheVariants.{Subscribe}
 use Rattle.df_unit.specs.declared.commit.Commit.{Commit}
 use Rattle.df_unit.specs.declared.commit.Given.{Given}
 use Rattle.df_unit.specs.declared.entry.Effect.{Effect}
 use Rattle.df_unit.specs.declared.entry.Entry.{Entry}
+use Rattle.df_unit.specs.declared.entry.Entry.TheVariants.{Done, Emitted}
 use Rattle.df_unit.specs.declared.name.EventName.{EventName}
 use Rattle.df_unit.specs.declared.name.UnitName.{UnitName}
 use Rattle.df_unit.specs.declared.name.UnitName.TheVariants.{Root, Managed}
@@ -53,32 +56,50 @@ differs_push : (n k : ℕ) (filter : List Clause) (xs : List (ℕ × List Clause
 differs_push n k filter [] lt h = (below_differs n k lt, tt)
 differs_push n k filter (x ∷ xs) lt h = (h.0, differs_push n k filter xs lt h.1)
 
-numbered_more : (k : ℕ) (xs : List (ℕ × List Clause)) → Numbered k xs → Numbered (k + 1) xs
-numbered_more k [] h = tt
-numbered_more k (x ∷ xs) h = ((let lt = h.0 in omega arith), h.1, numbered_more k xs h.2)
-
 numbered_push : (k : ℕ) (filter : List Clause) (xs : List (ℕ × List Clause)) → Numbered k xs → Numbered (k + 1) (xs ++ (k, filter) ∷ [])
 numbered_push k filter [] h = (omega arith, tt, tt)
 numbered_push k filter (x ∷ xs) h = ((let lt = h.0 in omega arith), differs_push x.0 k filter xs h.0 h.1, numbered_push k filter xs h.2)
 
-AreNumbered : OwnState → Type 0
-AreNumbered st = Numbered st.subs st.subscriptions
+-- a unit's subscriptions have numbers below its next, and who isn't there has none
+abbrev AreNumbered : Option OwnState → List (ℕ × List Clause) → Type 0
+AreNumbered None subs = subs ≡ []
+AreNumbered (Some st) subs = Numbered st.subs subs
 
-numbered_changed : (u : UnitName) (st : OwnState) (c : Call) (f : Effect) → AreNumbered st → AreNumbered (changed u st c f)
-unfolding AreNumbered
-numbered_changed u st (Subscribe filter) f h = numbered_push st.subs filter st.subscriptions h
-numbered_changed u st (SubscribeManaged filter) f h = numbered_more st.subs st.subscriptions h
-numbered_changed u st Get Effect.Nothing h = h
-numbered_changed u st Get (Effect.Commit k) h = h
-numbered_changed u st Get (Effect.Given d) h = h
-numbered_changed u st _ f h = h
+-- where nothing is subscribed
+numbered_same : (k m : ℕ) (subs : List (ℕ × List Clause)) → k ≤ m → Numbered k subs → Numbered m (subs ++ [])
+numbered_same k m [] grown h = tt
+numbered_same k m (x ∷ xs) grown h = ((let lt = h.0 in omega arith), subst (λ (zs : List (ℕ × List Clause)). Differs x.0 zs) (sym (append-nil xs)) h.1, numbered_same k m xs grown h.2)
 
-numbered_after : (u : UnitName) (st : OwnState) (c : Call) (r : Reply) (f : Effect) → AreNumbered st → AreNumbered (after u st c r f)
-numbered_after u st c r f h = go (is_accepted r)
+-- an entry of a unit that is there
+numbered_done : (u : UnitName) (st : OwnState) (c : Call) (r : Reply) (f : Effect) (subs : List (ℕ × List Clause)) → st.subs ≤ (after u st c r f).subs → Numbered st.subs subs → Numbered (after u st c r f).subs (subs ++ option_to_list (subscribes st c r))
+numbered_done u st (Subscribe filter) (Reply.Sub n) f subs grown h = go (n == st.subs) refl
   where
-    go : (b : Bool) → AreNumbered (cond b (changed u st c f) st)
-    go true = numbered_changed u st c f h
-    go false = h
+    go : (b : Bool) → (n == st.subs) ≡ b → Numbered (st.subs + 1) (subs ++ option_to_list (cond b (Some (n, filter)) None))
+    go true e = rw (eqb-true n st.subs e) (numbered_push st.subs filter subs h)
+    go false e = numbered_same st.subs (st.subs + 1) subs grown h
+numbered_done u st (Subscribe filter) r f subs grown h = numbered_same st.subs _ subs grown h
+numbered_done u st _ r f subs grown h = numbered_same st.subs _ subs grown h
+
+-- an entry that isn't the unit's
+numbered_or : (o y : Option OwnState) (subs : List (ℕ × List Clause)) → AreNumbered o subs → AreNumbered (option_or o y) (subs ++ [])
+numbered_or None None subs h = rw h refl
+numbered_or None (Some st) subs h = rw h tt
+numbered_or (Some st) y subs h = numbered_same st.subs st.subs subs (let z : st.subs ≤ st.subs = omega arith in z) h
+
+-- one more entry, whatever the unit is
+numbered_step : (u : UnitName) (e : Entry) (o y : Option OwnState) (subs : List (ℕ × List Clause)) → AreNumbered o subs → AreNumbered (option_or (stepped rows u e o) y) (subs ++ option_to_list (subscribed_by rows e u o))
+numbered_step u (Emitted c) o y subs h = numbered_or o y subs h
+numbered_step u (Done a c r f) o y subs h = go (same a u) o h
+  where
+    go : (b : Bool) (o : Option OwnState) → AreNumbered o subs →
+        AreNumbered (option_or (cond b (option_map (λ st. after u st c r f) o) o) y) (subs ++ option_to_list (cond b (option_and_then (λ st. subscribes st c r) o) None))
+    go true None h = numbered_or None y subs h
+    go true (Some st) h = numbered_done u st c r f subs (grown_after u st c r f).subs h
+    go false o h = numbered_or o y subs h
+
+numbered_first : (o : Option OwnState) → AreNumbered o []
+numbered_first None = refl
+numbered_first (Some st) = tt
 
 -- deliveries, after those that were made before
 
@@ -135,16 +156,15 @@ offers_once ds new event parts k (x ∷ xs) numbered h = go (matches x.1 parts) 
       subst (λ (zs : List Given). OnceAfter zs (flat_map (λ sub. offer ds event parts sub) xs)) (sym (append_assoc ds new (record { event = event; sub = x.0; parts = parts } ∷ []))) taken,
     )
 
-plain_once : (o : Option OwnState) → IfThere AreNumbered o → (ds : List Given) (past : List Entry) (oc : Option Commit) → OnceAfter ds (plain_news o ds past oc)
-unfolding AreNumbered
-plain_once None numbered ds past oc = tt
-plain_once (Some st) numbered ds past None = tt
-plain_once (Some st) numbered ds past (Some c) = go (is_nil (cut st.input c.edit.1))
+plain_once : (o : Option OwnState) (subs : List (ℕ × List Clause)) → AreNumbered o subs → (ds : List Given) (past : List Entry) (oc : Option Commit) → OnceAfter ds (plain_news o subs ds past oc)
+plain_once None subs numbered ds past oc = tt
+plain_once (Some st) subs numbered ds past None = tt
+plain_once (Some st) subs numbered ds past (Some c) = go (is_nil (cut st.input c.edit.1))
   where
-    go : (b : Bool) → OnceAfter ds (cond b [] (flat_map (λ sub. offer ds c.event (cut st.input (apply c.edit (contents past c.event))) sub) st.subscriptions))
+    go : (b : Bool) → OnceAfter ds (cond b [] (flat_map (λ sub. offer ds c.event (cut st.input (apply c.edit (contents past c.event))) sub) subs))
     go true = tt
-    go false = subst (λ (zs : List Given). OnceAfter zs (flat_map (λ sub. offer ds c.event (cut st.input (apply c.edit (contents past c.event))) sub) st.subscriptions)) (append-nil ds)
-        (offers_once ds [] c.event (cut st.input (apply c.edit (contents past c.event))) st.subs st.subscriptions numbered (unhanded_none c.event st.subscriptions))
+    go false = subst (λ (zs : List Given). OnceAfter zs (flat_map (λ sub. offer ds c.event (cut st.input (apply c.edit (contents past c.event))) sub) subs)) (append-nil ds)
+        (offers_once ds [] c.event (cut st.input (apply c.edit (contents past c.event))) st.subs subs numbered (unhanded_none c.event subs))
 
 instance_once : (fx : Option Fixed) (n : ℕ) (t : List (List ℕ)) (ds : List Given) (past : List Entry) (oc : Option Commit) → OnceAfter ds (instance_news fx n t ds past oc)
 instance_once None n t ds past oc = tt
@@ -157,27 +177,18 @@ instance_once (Some f) n t ds past (Some c) = go (is_given (Some f) t past (Some
     go true false e = (e, tt)
 
 module _ (start : List (Label × List Privilege)) where
-  none_numbered : (r : Label × List Privilege) → AreNumbered (root_of r)
-  unfolding AreNumbered
-  none_numbered r = tt
-
-  child_numbered : (st : OwnState) (set : List (List ℕ)) (privileges : List Privilege) → AreNumbered (child st set privileges)
-  unfolding AreNumbered
-  child_numbered st set privileges = tt
-
-  plain_numbered : (past : List Entry) (path : List ℕ) → IfThere AreNumbered (own_plain rows (roots start) past path)
-  plain_numbered past path = plain_holds rows (roots start) AreNumbered (record {
-    first = λ k st e. roots_are AreNumbered none_numbered start k st e;
-    step = numbered_after;
-    child = λ st k c r ch e h. by_child AreNumbered st k c r ch e (λ set privileges. child_numbered st set privileges);
-  }) past path
+  plain_numbered : (past : List Entry) (path : List ℕ) → AreNumbered (own_plain rows (roots start) past path) (subscriptions rows (roots start) past (Root path))
+  plain_numbered [] path = numbered_first (root_at (roots start) path)
+  plain_numbered (e ∷ past) path =
+      numbered_step (Root path) e (own_plain rows (roots start) past path) (made_by rows e path (own_plain rows (roots start) past (maker_of path)))
+      (subscriptions rows (roots start) past (Root path)) (plain_numbered past path)
 
   deliveries_once : (past : List Entry) (u : UnitName) → OnceAfter [] (deliveries rows (roots start) past u)
   deliveries_once [] (Root path) = tt
   deliveries_once [] (Managed o n t) = tt
   deliveries_once (e ∷ past) (Root path) =
-      once_append [] (deliveries_plain rows (roots start) past path) (plain_news (own_plain rows (roots start) past path) (deliveries_plain rows (roots start) past path) past (commit_of e)) (deliveries_once past (Root path))
-      (plain_once (own_plain rows (roots start) past path) (plain_numbered past path) (deliveries_plain rows (roots start) past path) past (commit_of e))
+      once_append [] (deliveries_plain rows (roots start) past path) (plain_news (own_plain rows (roots start) past path) (subscriptions rows (roots start) past (Root path)) (deliveries_plain rows (roots start) past path) past (commit_of e)) (deliveries_once past (Root path))
+      (plain_once (own_plain rows (roots start) past path) (subscriptions rows (roots start) past (Root path)) (plain_numbered past path) (deliveries_plain rows (roots start) past path) past (commit_of e))
   deliveries_once (e ∷ past) (Managed o n t) =
       once_append [] (deliveries_instance rows (roots start) past o n t) (instance_news (fixed rows (roots start) past o n) n t (deliveries_instance rows (roots start) past o n t) past (commit_of e)) (deliveries_once past (Managed o n t))
       (instance_once (fixed rows (roots start) past o n) n t (deliveries_instance rows (roots start) past o n t) past (commit_of e))

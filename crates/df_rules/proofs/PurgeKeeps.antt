@@ -1,6 +1,9 @@
 -- The purge keeps what units within the label are, are given and are answered.
 use Rattle.std.proofs.Common.{◌≡◌, ◌⊎◌, inl, inr, ℕ, List, [], ◌∷◌, ◌++◌, Bool, true, false, refl, sym, ◌∙◌, ap, subst, cond, Option, Some, None}
-use Rattle.std.specs.Option.{option_map, option_or}
+use Rattle.std.specs.Prelude.{option_to_list}
+use Rattle.std.specs.Option.{option_map, option_and_then, option_or}
+use Rattle.std.proofs.lemmas.List.{append-nil}
+use Rattle.df_filter.specs.declared.clause.Clause.{Clause}
 use Rattle.df_label.specs.Label.{flows_to}
 use Rattle.df_label.specs.Tag.{maker_of, number_of}
 use Rattle.df_label.specs.declared.label.Label.{Label}
@@ -12,7 +15,8 @@ use Rattle.df_rules.specs.Legal.{Legal, IsRight, answer, answer_of}
 use Rattle.df_rules.specs.Own.{stepped, root_at, made_by, own_plain, own_instance, own, fixed, fixed_by, is_given, born}
 use Rattle.df_rules.specs.Purge.{Keeps, is_within, echo, emitted, left_of, stays, purge}
 use Rattle.df_rules.specs.Rules.{Rules}
-use Rattle.df_rules.proofs.Agreement.{Agrees, contaminated, recorded, agrees_refl, agrees_eq, agrees_or, or_none, IsOut, IsIn, Reads, Began, InstanceAgrees, InstanceGiven, PlainGiven, own_plain-emitted, fixed-emitted, own_instance-emitted, deliveries_plain-emitted, deliveries_instance-emitted}
+use Rattle.df_rules.specs.Subscriptions.{subscribed_by, subscriptions}
+use Rattle.df_rules.proofs.Agreement.{Agrees, contaminated, recorded, agrees_refl, agrees_eq, agrees_or, or_none, IsOut, IsIn, Reads, Began, InstanceAgrees, InstanceGiven, PlainGiven, own_plain-emitted, fixed-emitted, subscriptions-emitted, own_instance-emitted, deliveries_plain-emitted, deliveries_instance-emitted}
 use Rattle.df_rules.proofs.Invariant.{IfThere, plain_holds}
 use Rattle.df_rules.proofs.LabelFacts.{flows_trans}
 use Rattle.df_rules.proofs.SeenFacts.{Alike, SameSeen, kept_alike, echo_alike, kept_contents, echo_contents, given_alike, plain_news_alike, instance_news_alike}
@@ -170,42 +174,93 @@ module _ (R : Rules) (s : List OwnState) (laws : Laws R s) (l : Label) where
   plain_reads : (past : List Entry) (path : List ℕ) → IfThere Reads (own_plain R s past path)
   plain_reads past path = plain_holds R s Reads (record { first = laws.reads_first; step = laws.reads; child = λ st k c r ch e h. laws.makes_reads st k c r ch e }) past path
 
-  -- deliveries to a plain unit
-  plain_given_step : (o o' so : Option OwnState) (ds ds' : List Given) → IfThere Reads o → Agrees contaminated l o o' → PlainGiven l o ds ds' →
+  -- what a plain unit within the label has more, it has more again
+  plain_more : {A : Type 0} (o so : Option OwnState) (xs xs' more more' : List A) → PlainGiven l o xs xs' → PlainGiven l o more more' →
       ((st' : OwnState) → so ≡ Some st' → flows_to st'.contamination l ≡ true → (o ≡ None) ⊎ ((st : OwnState) × (o ≡ Some st) × (flows_to st.contamination l ≡ true))) → (so ≡ None → o ≡ None) →
-      (past : List Entry) (oc : Option Commit) (past' : List Entry) (oc' : Option Commit) → Alike l past oc past' oc' →
-      PlainGiven l so (ds ++ plain_news o ds past oc) (ds' ++ plain_news o' ds' past' oc')
-  plain_given_step None o' so ds ds' reads agree ih back gone past oc past' oc' a = go so
+      PlainGiven l so (xs ++ more) (xs' ++ more')
+  plain_more None so xs xs' more more' h k back gone = go so
     where
-      go : (so : Option OwnState) → PlainGiven l so (ds ++ plain_news None ds past oc) (ds' ++ plain_news o' ds' past' oc')
-      go None = (rw ih.0 refl, rw (ih.1, agree) refl)
-      go (Some st') = λ h. rw (ih.0, ih.1, agree) refl
-  plain_given_step (Some st) o' None ds ds' reads agree ih back gone past oc past' oc' a = let e = gone refl in absurd (let z : ⊥ = cc in z)
-  plain_given_step (Some st) o' (Some st') ds ds' reads agree ih back gone past oc past' oc' a = λ h. within (inside (back st' refl h))
+      go : (so : Option OwnState) → PlainGiven l so (xs ++ more) (xs' ++ more')
+      go None = (rw (h.0, k.0) refl, rw (h.1, k.1) refl)
+      go (Some st') = λ w. rw (h.0, h.1, k.0, k.1) refl
+  plain_more (Some st) None xs xs' more more' h k back gone = let e = gone refl in absurd (let z : ⊥ = cc in z)
+  plain_more (Some st) (Some st') xs xs' more more' h k back gone = λ w. let v = inside (back st' refl w) in rw (h v, k v) refl
     where
       inside : (Some st ≡ None) ⊎ ((x : OwnState) × (Some st ≡ Some x) × (flows_to x.contamination l ≡ true)) → flows_to st.contamination l ≡ true
       inside (inl e) = absurd (let z : ⊥ = cc in z)
       inside (inr b) = let same : st ≡ b.0 = (let e = b.1 in cc) in subst (λ (z : OwnState). flows_to z.contamination l ≡ true) (sym same) b.2
 
-      within : flows_to st.contamination l ≡ true → ds' ++ plain_news o' ds' past' oc' ≡ ds ++ plain_news (Some st) ds past oc
-      within k = rw (agree k, ih k) (ap (λ (news : List Given). ds ++ news) (plain_news_alike l st ds (flows_trans st.input st.contamination l reads k) past oc past' oc' a))
+  -- the subscriptions of a plain unit
+  subscribed_kept : (u : UnitName) (e : Entry) (o o' : Option OwnState) → Agrees contaminated l o o' → PlainGiven l o (option_to_list (subscribed_by R e u o)) (option_to_list (subscribed_by R e u o'))
+  subscribed_kept u (Emitted c) None o' agree = (refl, refl)
+  subscribed_kept u (Emitted c) (Some st) o' agree = λ h. refl
+  subscribed_kept u (Done a c r f) None o' agree = rw agree (none (same a u), none (same a u))
+    where
+      none : (b : Bool) → option_to_list (cond b (option_and_then (λ st. R.subscribes st c r) None) None) ≡ []
+      none true = refl
+      none false = refl
+  subscribed_kept u (Done a c r f) (Some st) o' agree = λ h. rw (agree h) refl
+
+  subscribed_skipped : (u : UnitName) (e : Entry) (o : Option OwnState) → IsOut l u e o → PlainGiven l o (option_to_list (subscribed_by R e u o)) []
+  subscribed_skipped u (Emitted c) None out = (refl, refl)
+  subscribed_skipped u (Emitted c) (Some st) out = λ h. refl
+  subscribed_skipped u (Done a c r f) o out = go (same a u) o out
+    where
+      go : (b : Bool) (o : Option OwnState) → (b ≡ true → is_within l o ≡ false) → PlainGiven l o (option_to_list (cond b (option_and_then (λ st. R.subscribes st c r) o) None)) []
+      go true None out = (refl, refl)
+      go true (Some st) out = λ h. let not_in = out refl in cc
+      go false None out = (refl, refl)
+      go false (Some st) out = λ h. refl
+
+  subscriptions_agree : (past : List Entry) (path : List ℕ) → PlainGiven l (own_plain R s past path) (subscriptions R s past (Root path)) (subscriptions R s (purge R s l past) (Root path))
+  subscriptions_agree [] path = go (root_at s path)
+    where
+      go : (o : Option OwnState) → PlainGiven {A = ℕ × List Clause} l o [] []
+      go None = (refl, refl)
+      go (Some st) = λ h. refl
+  subscriptions_agree (e ∷ past) path = go (stays R s l past e) refl (subscriptions_agree past path)
+    where
+      step : PlainGiven l (own_plain R s past path) (subscriptions R s past (Root path)) (subscriptions R s (purge R s l past) (Root path)) → (more' : List (ℕ × List Clause)) →
+          PlainGiven l (own_plain R s past path) (option_to_list (subscribed_by R e (Root path) (own_plain R s past path))) more' →
+          PlainGiven l (own_plain R s (e ∷ past) path) (subscriptions R s (e ∷ past) (Root path)) (subscriptions R s (purge R s l past) (Root path) ++ more')
+      step ih more' k = plain_more (own_plain R s past path) (own_plain R s (e ∷ past) path) (subscriptions R s past (Root path)) (subscriptions R s (purge R s l past) (Root path))
+          (option_to_list (subscribed_by R e (Root path) (own_plain R s past path))) more' ih k (own_back R s laws l e past (Root path)) (none_before R s e past (Root path))
+
+      go : (b : Bool) → stays R s l past e ≡ b → PlainGiven l (own_plain R s past path) (subscriptions R s past (Root path)) (subscriptions R s (purge R s l past) (Root path)) →
+          PlainGiven l (own_plain R s (e ∷ past) path) (subscriptions R s (e ∷ past) (Root path)) (subscriptions R s (left_of l b e ++ purge R s l past) (Root path))
+      go true h ih = step ih (option_to_list (subscribed_by R e (Root path) (own_plain R s (purge R s l past) path))) (subscribed_kept (Root path) e (own_plain R s past path) (own_plain R s (purge R s l past) path) (plain_agrees past path))
+      go false h ih = rw (subscriptions-emitted R s (echo l (commit_of e)) (purge R s l past) (Root path))
+          (subst (λ (xs : List (ℕ × List Clause)). PlainGiven l (own_plain R s (e ∷ past) path) (subscriptions R s (e ∷ past) (Root path)) xs) (append-nil (subscriptions R s (purge R s l past) (Root path)))
+          (step ih [] (subscribed_skipped (Root path) e (own_plain R s past path) (is_out R s laws l past e h (Root path)))))
+
+  -- deliveries to a plain unit
+  plain_news_agree : (o o' : Option OwnState) (subs subs' : List (ℕ × List Clause)) (ds ds' : List Given) → IfThere Reads o → Agrees contaminated l o o' → PlainGiven l o subs subs' → PlainGiven l o ds ds' →
+      (past : List Entry) (oc : Option Commit) (past' : List Entry) (oc' : Option Commit) → Alike l past oc past' oc' →
+      PlainGiven l o (plain_news o subs ds past oc) (plain_news o' subs' ds' past' oc')
+  plain_news_agree None o' subs subs' ds ds' reads agree same_subs same_ds past oc past' oc' a = (refl, rw agree refl)
+  plain_news_agree (Some st) o' subs subs' ds ds' reads agree same_subs same_ds past oc past' oc' a = λ k.
+      rw (agree k, same_subs k, same_ds k) (plain_news_alike l st subs ds (flows_trans st.input st.contamination l reads k) past oc past' oc' a)
 
   plain_given : (past : List Entry) (path : List ℕ) → PlainGiven l (own_plain R s past path) (deliveries_plain R s past path) (deliveries_plain R s (purge R s l past) path)
   plain_given [] path = go (root_at s path)
     where
-      go : (o : Option OwnState) → PlainGiven l o [] []
+      go : (o : Option OwnState) → PlainGiven {A = Given} l o [] []
       go None = (refl, refl)
       go (Some st) = λ h. refl
   plain_given (e ∷ past) path = go (stays R s l past e) refl (plain_given past path)
     where
       step : PlainGiven l (own_plain R s past path) (deliveries_plain R s past path) (deliveries_plain R s (purge R s l past) path) → (oc' : Option Commit) → Alike l past (commit_of e) (purge R s l past) oc' →
-          PlainGiven l (own_plain R s (e ∷ past) path) (deliveries_plain R s past path ++ plain_news (own_plain R s past path) (deliveries_plain R s past path) past (commit_of e))
-          (deliveries_plain R s (purge R s l past) path ++ plain_news (own_plain R s (purge R s l past) path) (deliveries_plain R s (purge R s l past) path) (purge R s l past) oc')
-      step ih oc' a = plain_given_step (own_plain R s past path) (own_plain R s (purge R s l past) path) (own_plain R s (e ∷ past) path) (deliveries_plain R s past path) (deliveries_plain R s (purge R s l past) path)
-          (plain_reads past path) (plain_agrees past path) ih (own_back R s laws l e past (Root path)) (none_before R s e past (Root path)) past (commit_of e) (purge R s l past) oc' a
+          PlainGiven l (own_plain R s (e ∷ past) path) (deliveries_plain R s past path ++ plain_news (own_plain R s past path) (subscriptions R s past (Root path)) (deliveries_plain R s past path) past (commit_of e))
+          (deliveries_plain R s (purge R s l past) path ++ plain_news (own_plain R s (purge R s l past) path) (subscriptions R s (purge R s l past) (Root path)) (deliveries_plain R s (purge R s l past) path) (purge R s l past) oc')
+      step ih oc' a = plain_more (own_plain R s past path) (own_plain R s (e ∷ past) path) (deliveries_plain R s past path) (deliveries_plain R s (purge R s l past) path)
+          (plain_news (own_plain R s past path) (subscriptions R s past (Root path)) (deliveries_plain R s past path) past (commit_of e))
+          (plain_news (own_plain R s (purge R s l past) path) (subscriptions R s (purge R s l past) (Root path)) (deliveries_plain R s (purge R s l past) path) (purge R s l past) oc') ih
+          (plain_news_agree (own_plain R s past path) (own_plain R s (purge R s l past) path) (subscriptions R s past (Root path)) (subscriptions R s (purge R s l past) (Root path)) (deliveries_plain R s past path) (deliveries_plain R s (purge R s l past) path)
+          (plain_reads past path) (plain_agrees past path) (subscriptions_agree past path) ih past (commit_of e) (purge R s l past) oc' a)
+          (own_back R s laws l e past (Root path)) (none_before R s e past (Root path))
 
       go : (b : Bool) → stays R s l past e ≡ b → PlainGiven l (own_plain R s past path) (deliveries_plain R s past path) (deliveries_plain R s (purge R s l past) path) →
-          PlainGiven l (own_plain R s (e ∷ past) path) (deliveries_plain R s past path ++ plain_news (own_plain R s past path) (deliveries_plain R s past path) past (commit_of e)) (deliveries_plain R s (left_of l b e ++ purge R s l past) path)
+          PlainGiven l (own_plain R s (e ∷ past) path) (deliveries_plain R s past path ++ plain_news (own_plain R s past path) (subscriptions R s past (Root path)) (deliveries_plain R s past path) past (commit_of e)) (deliveries_plain R s (left_of l b e ++ purge R s l past) path)
       go true h ih = step ih (commit_of e) (kept_alike l past (purge R s l past) (seen_agrees past) (commit_of e))
       go false h ih = rw (deliveries_plain-emitted R s (echo l (commit_of e)) (purge R s l past) path)
           (step ih (echo l (commit_of e)) (echo_alike l past (purge R s l past) (seen_agrees past) (commit_of e)))

@@ -3,6 +3,7 @@ use Rattle.std.proofs.Common.{◌≡◌, ℕ, List, [], ◌∷◌, ◌++◌, Boo
 use Rattle.std.specs.List.{flat_map}
 use Rattle.std.proofs.lemmas.List.{append-nil}
 use Rattle.std.proofs.lemmas.List.Elements.{filter-append}
+use Rattle.df_filter.specs.declared.clause.Clause.{Clause}
 use Rattle.df_label.specs.Label.{flows_to}
 use Rattle.df_label.specs.TagSet.{is_subset}
 use Rattle.df_label.specs.declared.label.Label.{Label}
@@ -149,17 +150,17 @@ seen_after l m h past c past' c' a =
     ∙ ap (λ (ps : List Part). cut l (spared c.edit.0 (contents past c.event)) ++ ps) a.added
     ∙ sym (filter-append (λ p. flows_to p.label l) (spared c.edit.0 (contents past c.event)) c.edit.1))
 
-plain_news_idle : (st : OwnState) (ds : List Given) (past : List Entry) (ev : EventName) (oc : Option Commit) → plain_news (Some st) ds past oc ≡ plain_news (Some st) ds past (Some (or_idle ev oc))
-plain_news_idle st ds past ev None = refl
-plain_news_idle st ds past ev (Some c) = refl
+plain_news_idle : (st : OwnState) (subs : List (ℕ × List Clause)) (ds : List Given) (past : List Entry) (ev : EventName) (oc : Option Commit) → plain_news (Some st) subs ds past oc ≡ plain_news (Some st) subs ds past (Some (or_idle ev oc))
+plain_news_idle st subs ds past ev None = refl
+plain_news_idle st subs ds past ev (Some c) = refl
 
 -- alike commits bring a plain unit within the label the same
-pub plain_news_alike : (l : Label) (st : OwnState) (ds : List Given) → flows_to st.input l ≡ true → (past : List Entry) (oc : Option Commit) (past' : List Entry) (oc' : Option Commit) → Alike l past oc past' oc' → plain_news (Some st) ds past' oc' ≡ plain_news (Some st) ds past oc
-plain_news_alike l st ds h past None past' oc' a = rw a refl
-plain_news_alike l st ds h past (Some c) past' oc' a =
+pub plain_news_alike : (l : Label) (st : OwnState) (subs : List (ℕ × List Clause)) (ds : List Given) → flows_to st.input l ≡ true → (past : List Entry) (oc : Option Commit) (past' : List Entry) (oc' : Option Commit) → Alike l past oc past' oc' → plain_news (Some st) subs ds past' oc' ≡ plain_news (Some st) subs ds past oc
+plain_news_alike l st subs ds h past None past' oc' a = rw a refl
+plain_news_alike l st subs ds h past (Some c) past' oc' a =
     let c' = or_idle c.event oc' in
-    let news = λ (ev : EventName) (added parts : List Part). cond {A = List Given} (is_nil added) [] (flat_map (λ sub. offer ds ev parts sub) st.subscriptions) in
-    plain_news_idle st ds past' c.event oc'
+    let news = λ (ev : EventName) (added parts : List Part). cond {A = List Given} (is_nil added) [] (flat_map (λ sub. offer ds ev parts sub) subs) in
+    plain_news_idle st subs ds past' c.event oc'
     ∙ ap (λ (ev : EventName). news ev (cut st.input c'.edit.1) (cut st.input (apply c'.edit (contents past' c'.event)))) a.event
     ∙ ap (λ (ps : List Part). news c.event ps (cut st.input (apply c'.edit (contents past' c'.event)))) (cut_below st.input l h c'.edit.1 c.edit.1 a.added)
     ∙ ap (λ (ps : List Part). news c.event (cut st.input c.edit.1) ps) (seen_after l st.input h past c past' c' a)

@@ -11,6 +11,7 @@ use Rattle.df_rules.specs.Legal.{Legal, IsRight, left}
 use Rattle.df_rules.specs.Own.{stepped, made_by, own_plain, own, fixed, is_given, born}
 use Rattle.df_rules.specs.Received.{received, Receives}
 use Rattle.df_rules.specs.Rules.{Rules}
+use Rattle.df_rules.specs.Subscriptions.{subscriptions}
 use Rattle.df_rules.proofs.Invariant.{IfThere}
 use Rattle.df_rules.proofs.LabelFacts.{same_name-exact}
 use Rattle.df_unit.specs.Name.{same}
@@ -125,7 +126,7 @@ module _ (R : Rules) (s : List OwnState) (laws : TakingLaws R s) where
   own_taken [] legal (Managed o n t) = refl
   own_taken (e ∷ past) legal (Root path) =
       taken_step (Root path) e past legal.1 (made_by R e path (own_plain R s past (maker_of path))) (made_none e path (own_plain R s past (maker_of path)))
-      (plain_news (own_plain R s past path) (deliveries_plain R s past path) past (commit_of e)) (own_taken past legal.0 (Root path))
+      (plain_news (own_plain R s past path) (subscriptions R s past (Root path)) (deliveries_plain R s past path) past (commit_of e)) (own_taken past legal.0 (Root path))
   own_taken (e ∷ past) legal (Managed o n t) =
       taken_step (Managed o n t) e past legal.1 (born R (fixed R s past o n) t past (commit_of e)) (born_none_taken (fixed R s past o n) t past (commit_of e))
       (instance_news (fixed R s past o n) n t (deliveries_instance R s past o n t) past (commit_of e)) (own_taken past legal.0 (Managed o n t))

@@ -9,6 +9,7 @@ use Rattle.df_rules.specs.Choices.{matches}
 use Rattle.df_rules.specs.Commits.{commit_of, contents}
 use Rattle.df_rules.specs.Own.{own_plain, fixed, is_given}
 use Rattle.df_rules.specs.Rules.{Rules}
+use Rattle.df_rules.specs.Subscriptions.{subscriptions}
 use Rattle.df_unit.specs.Beginnings.{readable_at}
 use Rattle.df_unit.specs.Name.{same_event}
 use Rattle.df_unit.specs.OwnState.{OwnState, Fixed}
@@ -28,13 +29,14 @@ was_handed ds event n = list_any (λ d. same_event d.event event && (d.sub == n)
 abbrev pub offer : List Given → EventName → List Part → (ℕ × List Clause) → List Given
 offer ds event parts sub = if matches sub.1 parts && not (was_handed ds event sub.0) then record { event = event; sub = sub.0; parts = parts } ∷ [] else []
 
--- what a commit brings to a plain unit, which had these deliveries: nothing, unless it adds a part that the unit may read
-abbrev pub plain_news : Option OwnState → List Given → List Entry → Option Commit → List Given
-plain_news None ds past oc = []
-plain_news (Some st) ds past None = []
-plain_news (Some st) ds past (Some c) =
+-- what a commit brings to a plain unit with these subscriptions, which had these deliveries: nothing, unless it adds a part that
+-- the unit may read
+abbrev pub plain_news : Option OwnState → List (ℕ × List Clause) → List Given → List Entry → Option Commit → List Given
+plain_news None subs ds past oc = []
+plain_news (Some st) subs ds past None = []
+plain_news (Some st) subs ds past (Some c) =
     if is_nil (cut st.input c.edit.1) then []
-    else flat_map (λ sub. offer ds c.event (cut st.input (apply c.edit (contents past c.event))) sub) st.subscriptions
+    else flat_map (λ sub. offer ds c.event (cut st.input (apply c.edit (contents past c.event))) sub) subs
 
 -- what a commit brings to the instance of contamination t, which had these deliveries
 abbrev pub instance_news : Option Fixed → ℕ → List (List ℕ) → List Given → List Entry → Option Commit → List Given
@@ -47,7 +49,7 @@ instance_news (Some f) n t ds past (Some c) =
 abbrev pub deliveries_plain : Rules → List OwnState → List Entry → List ℕ → List Given
 deliveries_plain R s [] path = []
 deliveries_plain R s (e ∷ past) path =
-    let ds = deliveries_plain R s past path in ds ++ plain_news (own_plain R s past path) ds past (commit_of e)
+    let ds = deliveries_plain R s past path in ds ++ plain_news (own_plain R s past path) (subscriptions R s past (Root path)) ds past (commit_of e)
 
 abbrev pub deliveries_instance : Rules → List OwnState → List Entry → List ℕ → ℕ → List (List ℕ) → List Given
 deliveries_instance R s [] o n t = []

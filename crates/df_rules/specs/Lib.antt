@@ -2,6 +2,7 @@ pub mod Commits
 pub mod Choices
 pub mod Rules
 pub mod Own
+pub mod Subscriptions
 pub mod Deliveries
 pub mod Legal
 pub mod Purge

@@ -7,12 +7,13 @@ use Rattle.df_unit.specs.Beginnings.{root, fixes, begin, makes}
 use Rattle.df_priv.specs.Held.{holds}
 use Rattle.df_priv.specs.Needed.{needed}
 use Rattle.df_unit.specs.OwnState.{OwnState}
-use Rattle.df_unit.specs.Rows.{reply, effect, after}
+use Rattle.df_unit.specs.Rows.{reply, effect, after, subscribes}
 
 abbrev pub rows : Rules
 rows = record {
   answer = λ u st left call. (reply u st left call, effect u st left call);
   after = after;
+  subscribes = subscribes;
   fixes = fixes;
   begin = begin;
   makes = makes;

@@ -24,7 +24,6 @@ beginning input output contamination dropped endorsed held = record {
   subs = 0;
   units = 0;
   given = 0;
-  subscriptions = [];
   handles = [];
 }
 

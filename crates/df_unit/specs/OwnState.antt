@@ -1,4 +1,4 @@
--- A unit's own state: all that its own entries make of it.
+-- A unit's own state: labels, tags set aside, privileges, counters and handles, as its own entries make them.
 use Rattle.std.specs.Prelude.{ℕ, List, Option}
 use Rattle.df_label.specs.declared.label.Label.{Label}
 use Rattle.df_label.specs.declared.privilege.Privilege.{Privilege}
@@ -23,8 +23,6 @@ pub record OwnState : Type 0 where
   pub units : ℕ
   -- how many deliveries it took
   pub given : ℕ
-  -- its ordinary subscriptions, each a number and a filter, in order of number
-  pub subscriptions : List (ℕ × List Clause)
   -- a handle's number is its place
   pub handles : List (Option Handle)
 

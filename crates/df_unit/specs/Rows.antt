@@ -1,6 +1,6 @@
 -- The call table. For each call: what it answers, in the order of the checks, what it does beyond the unit, and what it
 -- makes of the unit's own state.
-use Rattle.std.specs.Prelude.{ℕ, ◌+◌, Bool, true, false, not, ◌&&◌, ◌||◌, if◌then◌else◌, nat_le, nat_lt, List, [], ◌∷◌, ◌++◌, length, map, Option, Some, None}
+use Rattle.std.specs.Prelude.{ℕ, ◌+◌, ◌==◌, Bool, true, false, not, ◌&&◌, ◌||◌, if◌then◌else◌, nat_le, nat_lt, List, [], ◌∷◌, ◌++◌, length, map, Option, Some, None}
 use Rattle.std.specs.List.{find, flat_map}
 use Rattle.std.specs.Option.{option_map, option_or}
 use Rattle.df_label.specs.Label.{flows_to, join}
@@ -12,6 +12,7 @@ use Rattle.df_priv.specs.declared.need.Act.{Act}
 use Rattle.df_priv.specs.declared.need.Act.TheVariants.{Add, Del}
 use Rattle.df_part.specs.declared.edit.Spot.{Spot}
 use Rattle.df_part.specs.declared.part.Part.{Part}
+use Rattle.df_filter.specs.declared.clause.Clause.{Clause}
 use Rattle.df_unit.specs.declared.name.UnitName.{UnitName}
 use Rattle.df_unit.specs.declared.name.UnitName.TheVariants.{Root, Managed}
 use Rattle.df_unit.specs.declared.name.EventName.{EventName}
@@ -230,7 +231,7 @@ changed unit st (AttachPrivilege h label name p) f = record st { handles = chang
 changed unit st (ChangeOutLabel half act tag) f = out_changed half act tag st
 changed unit st CreateTag f = record st { tags = st.tags + 1; held = grant_all st.held (all_over (next_tag unit st)) }
 changed unit st (DropEvent h) f = record st { handles = closed st.handles h }
-changed unit st (Subscribe filter) f = record st { subs = st.subs + 1; subscriptions = st.subscriptions ++ (st.subs, filter) ∷ [] }
+changed unit st (Subscribe filter) f = record st { subs = st.subs + 1 }
 changed unit st (SubscribeManaged filter) f = record st { subs = st.subs + 1 }
 changed unit st Get f = taken_in f st
 changed unit st (Publish h) f = record st { handles = closed st.handles h }
@@ -243,3 +244,13 @@ changed unit st (Instantiate s privileges) f = record st { units = st.units + 1 
 -- the state after a call with its reply and effect; a refused call changes nothing
 abbrev pub after : UnitName → OwnState → Call → Reply → Effect → OwnState
 after unit st call r f = if is_accepted r then changed unit st call f else st
+
+-- the ordinary subscription with this filter, where the reply is the unit's next number
+abbrev pub subscribes_at : OwnState → List Clause → Reply → Option (ℕ × List Clause)
+subscribes_at st filter (Reply.Sub n) = if n == st.subs then Some (n, filter) else None
+subscribes_at st filter _ = None
+
+-- a unit's ordinary subscription, a number and a filter, where this call and reply make it
+abbrev pub subscribes : OwnState → Call → Reply → Option (ℕ × List Clause)
+subscribes st (Subscribe filter) r = subscribes_at st filter r
+subscribes st _ r = None
