@@ -1,10 +1,8 @@
 -- What the same plain content tells of what has it.
-use Rattle.std.proofs.Common.{◌≡◌, ℕ, zero, suc, ◌<◌, ◌≤◌, max, List, [], ◌∷◌, map, length, get_or, arith, refl, ap, sym, ◌∙◌, true, nat_eq}
-use Rattle.std.specs.Cmp.Lexicographic.{pointwise, pointwise_decides, bytes_decides}
+use Rattle.std.proofs.Common.{◌≡◌, ℕ, zero, suc, ◌<◌, ◌≤◌, List, [], ◌∷◌, map, length, get_or, arith, refl, ap, sym, ◌∙◌}
 use Rattle.std.proofs.lemmas.List.{get_or-map}
-use Rattle.df_frozen.specs.Entries.{names, values}
 use Rattle.df_frozen.specs.Plain.{Plain, Plains, Pairs, items, entries, no_items, item, no_entries, entry, from_list, from_pairs, depth, items_depth, entries_depth}
-use Rattle.df_frozen.specs.Value.{plain, plain_all}
+use Rattle.df_frozen.specs.Value.{plain, plain_all, named}
 use Rattle.df_frozen.specs.declared.value.Value.{Value}
 use Rattle.df_frozen.specs.declared.value.Value.TheVariants.{Int, Words, Bytes, Items, Map}
 
@@ -66,34 +64,9 @@ plain_same (Map xs) (Words t) e = absurd (cc)
 plain_same (Map xs) (Bytes t) e = absurd (cc)
 plain_same (Map xs) (Items ys) e = absurd (cc)
 
--- entries with the same names and the same values are the same
-pub entries_same_parts : (es fs : List (List ℕ × Plain)) → names es ≡ names fs → values es ≡ values fs → es ≡ fs
-entries_same_parts [] [] n v = refl
-entries_same_parts [] (f ∷ fs) n v = absurd (cc)
-entries_same_parts (e ∷ es) [] n v = absurd (cc)
-entries_same_parts (e ∷ es) (f ∷ fs) n v =
-    let first : e.0 ≡ f.0 = cc in
-    let second : e.1 ≡ f.1 = cc in
-    let names_left : names es ≡ names fs = cc in
-    let values_left : values es ≡ values fs = cc in
-    ap (λ k. (k, e.1) ∷ es) first ∙ ap (λ p. (f.0, p) ∷ es) second ∙ ap (λ l. f ∷ l) (entries_same_parts es fs names_left values_left)
-
--- a comparison of names tells that they are the same
-pub names_equal : (ns ms : List (List ℕ)) → pointwise (pointwise nat_eq) ns ms ≡ true → ns ≡ ms
-names_equal ns ms h = (pointwise_decides bytes_decides ns ms).0 h
-
--- names that are the same compare so
-pub names_equal_is : (ns ms : List (List ℕ)) → ns ≡ ms → pointwise (pointwise nat_eq) ns ms ≡ true
-names_equal_is ns ms h = (pointwise_decides bytes_decides ns ms).1 h
-
 -- lists that are seen alike are alike at each index
 pub same_at : {A B : Type 0} (f : A → B) (xs ys : List A) (i : ℕ) (x y : A) → x ≡ get_or xs i x → y ≡ get_or ys i y → i < length xs → i < length ys → map f xs ≡ map f ys → f x ≡ f y
 same_at f xs ys i x y p q h g e = ap f p ∙ sym (get_or-map f xs i x (f x) h) ∙ ap (λ l. get_or l i (f x)) e ∙ get_or-map f ys i y (f x) g ∙ ap f (sym q)
-
--- a map is as deep as its values
-pub entries_depth-from_pairs : (es : List (List ℕ × Plain)) → entries_depth (from_pairs es) ≡ items_depth (from_list (values es))
-entries_depth-from_pairs [] = refl
-entries_depth-from_pairs (e ∷ es) = ap (max (depth e.1)) (entries_depth-from_pairs es)
 
 -- a value of a list is at most as deep as the deepest
 pub depth_at : (vs : List Value) (i : ℕ) (v : Value) → v ≡ get_or vs i v → i < length vs → depth (plain v) ≤ items_depth (plain_all vs)
@@ -103,3 +76,12 @@ depth_at vs i v e h = rw (ap (λ x. depth (plain x)) e) (by vs i v h)
     by [] j d g = absurd (omega (arith, g))
     by (u ∷ us) zero d g = omega arith
     by (u ∷ us) (suc j) d g = omega (arith, by us j d (omega (arith, g)))
+
+-- a value of a map is at most as deep as the deepest
+pub entry_depth_at : (es : List (List ℕ × Value)) (i : ℕ) (e : List ℕ × Value) → e ≡ get_or es i e → i < length es → depth (plain e.1) ≤ entries_depth (from_pairs (map named es))
+entry_depth_at es i e h g = rw (ap (λ (x : List ℕ × Value). depth (plain x.1)) h) (by es i e g)
+  where
+    by : (us : List (List ℕ × Value)) (j : ℕ) (d : List ℕ × Value) → j < length us → depth (plain (get_or us j d).1) ≤ entries_depth (from_pairs (map named us))
+    by [] j d l = absurd (omega (arith, l))
+    by (u ∷ us) zero d l = omega arith
+    by (u ∷ us) (suc j) d l = omega (arith, by us j d (omega (arith, l)))

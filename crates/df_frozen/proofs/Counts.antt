@@ -1,31 +1,30 @@
 -- Counts of what is left, before and after a step.
-use Rattle.std.proofs.Common.{◌≡◌, ℕ, zero, suc, ◌+◌, ◌<◌, List, [], ◌∷◌, ◌++◌, take, get_or, length, max, arith, refl, ap, sym, ◌∙◌}
-use Rattle.std.specs.Borrow.{Bor}
+use Rattle.std.proofs.Common.{◌≡◌, ℕ, zero, suc, ◌+◌, ◌<◌, List, [], ◌∷◌, ◌++◌, map, take, get_or, length, max, arith, refl, ap, sym, ◌∙◌}
 use Rattle.df_frozen.specs.Plain.{Plain, Plains, Pairs, int, words, bytes, items, entries, no_items, item, no_entries, entry, from_pairs, node_count, items_node_count, entries_node_count, byte_count, items_byte_count, entries_byte_count, depth, items_depth, entries_depth}
-use Rattle.df_frozen.specs.Entries.{names}
 use Rattle.df_frozen.specs.Inner.{children, values_of}
-use Rattle.df_frozen.specs.Counting.{name_byte_count, own_byte_count, rows_of, pushed, rows_node_count, rows_byte_count, row_depth, rows_depth, rows_steps}
+use Rattle.df_frozen.specs.Counting.{name_byte_count, own_byte_count, left, rows_of, pushed, rows_node_count, rows_byte_count, row_depth, rows_depth, rows_steps}
 use Rattle.df_frozen.specs.Limits.{counted}
-use Rattle.df_frozen.specs.Value.{plain, plain_all}
+use Rattle.df_frozen.specs.Value.{named}
+use Rattle.df_frozen.specs.declared.row.Row.{Row}
 use Rattle.df_frozen.specs.declared.value.Value.{Value}
 
 -- ---- the bytes of names
 
--- the bytes of these names
-abbrev pub total_length : List (List ℕ) → ℕ
-total_length [] = 0
-total_length (n ∷ ns) = length n + total_length ns
+-- the bytes of the names of these entries
+abbrev pub names_length : List (List ℕ × Value) → ℕ
+names_length [] = 0
+names_length (e ∷ es) = length e.0 + names_length es
 
 -- the bytes of one more name
-pub total_length-take : (ns : List (List ℕ)) (i : ℕ) (d : List ℕ) → i < length ns → total_length (take (suc i) ns) ≡ total_length (take i ns) + length (get_or ns i d)
-total_length-take [] i d h = absurd (omega arith)
-total_length-take (n ∷ ns) zero d h = omega arith
-total_length-take (n ∷ ns) (suc i) d h = omega (arith, total_length-take ns i d (omega arith))
+pub names_length-take : (es : List (List ℕ × Value)) (i : ℕ) (d : List ℕ × Value) → i < length es → names_length (take (suc i) es) ≡ names_length (take i es) + length (get_or es i d).0
+names_length-take [] i d h = absurd (omega arith)
+names_length-take (e ∷ es) zero d h = omega arith
+names_length-take (e ∷ es) (suc i) d h = omega (arith, names_length-take es i d (omega arith))
 
 -- the bytes of the names of a map
-pub name_byte_count-from_pairs : (es : List (List ℕ × Plain)) → name_byte_count (from_pairs es) ≡ total_length (names es)
-name_byte_count-from_pairs [] = refl
-name_byte_count-from_pairs (e ∷ es) = ap (λ n. length e.0 + n) (name_byte_count-from_pairs es)
+pub name_byte_count-named : (es : List (List ℕ × Value)) → name_byte_count (from_pairs (map named es)) ≡ names_length es
+name_byte_count-named [] = refl
+name_byte_count-named (e ∷ es) = ap (λ n. length e.0 + n) (name_byte_count-named es)
 
 -- ---- a node and the values in it
 
@@ -160,22 +159,17 @@ rows_steps-step rows p ps around below =
 -- ---- rows of references
 
 -- one more row of references
-pub rows_of-push : (rows : List (Bor (List Value) × ℕ)) (r : Bor (List Value) × ℕ) → rows_of (rows ++ r ∷ []) ≡ rows_of rows ++ (plain_all r.0.now, r.1) ∷ []
+pub rows_of-push : (rows : List (Row × ℕ)) (r : Row × ℕ) → rows_of (rows ++ r ∷ []) ≡ rows_of rows ++ (left r.0, r.1) ∷ []
 rows_of-push [] r = refl
-rows_of-push (q ∷ rows) r = ap (λ l. (plain_all q.0.now, q.1) ∷ l) (rows_of-push rows r)
+rows_of-push (q ∷ rows) r = ap (λ l. (left q.0, q.1) ∷ l) (rows_of-push rows r)
 
 -- a row that is not empty is added
-pub pushed-some : (rows : List (Plains × ℕ)) (vs : List Value) (around : ℕ) → 0 < length vs → pushed rows (plain_all vs) around ≡ rows ++ (plain_all vs, around) ∷ []
-pushed-some rows [] around h = absurd (omega arith)
-pushed-some rows (v ∷ vs) around h = refl
+pub pushed-item : (rows : List (Plains × ℕ)) (ps : Plains) (around : ℕ) (p : Plain) (rest : Plains) → ps ≡ item p rest → pushed rows ps around ≡ rows ++ (ps, around) ∷ []
+pushed-item rows ps around p rest h = rw h refl
 
--- the last row, at its first node
-pub rows_of-last : (old popped : List (Bor (List Value) × ℕ)) (r : Bor (List Value) × ℕ) (v : Value) (vs : List Value) → old ≡ popped ++ r ∷ [] → r.0.now ≡ v ∷ vs → rows_of old ≡ rows_of popped ++ (item (plain v) (plain_all vs), r.1) ∷ []
-rows_of-last old popped r v vs e f = ap rows_of e ∙ rows_of-push popped r ∙ ap (λ l. rows_of popped ++ (plain_all l, r.1) ∷ []) f
-
--- the last row, where nothing is left of it
-pub rows_of-last_empty : (old popped : List (Bor (List Value) × ℕ)) (r : Bor (List Value) × ℕ) → old ≡ popped ++ r ∷ [] → r.0.now ≡ [] → rows_of old ≡ rows_of popped ++ (no_items, r.1) ∷ []
-rows_of-last_empty old popped r e f = ap rows_of e ∙ rows_of-push popped r ∙ ap (λ l. rows_of popped ++ (plain_all l, r.1) ∷ []) f
+-- the last row
+pub rows_of-last : (old popped : List (Row × ℕ)) (r : Row × ℕ) (ps : Plains) → old ≡ popped ++ r ∷ [] → left r.0 ≡ ps → rows_of old ≡ rows_of popped ++ (ps, r.1) ∷ []
+rows_of-last old popped r ps e f = ap rows_of e ∙ rows_of-push popped r ∙ ap (λ l. rows_of popped ++ (l, r.1) ∷ []) f
 
 -- an empty row has no nodes
 pub rows_node_count-empty : (rows : List (Plains × ℕ)) (around : ℕ) → rows_node_count (rows ++ (no_items, around) ∷ []) ≡ rows_node_count rows

@@ -1,5 +1,5 @@
 pub mod Options
-pub mod Zipped
+pub mod Named
 pub mod Steps
 pub mod Counts
 pub mod Search

@@ -1,10 +1,10 @@
 -- A change of one value of a list or a map, and what it does to the whole.
 use Rattle.std.proofs.Common.{◌≡◌, ℕ, zero, suc, ◌<◌, ◌≤◌, List, [], ◌∷◌, ◌++◌, map, set, length, get_or, arith, refl, ap, sym, subst, ◌∙◌, Option, Some, None}
-use Rattle.std.specs.Prelude.{option_map, Result, Ok, Err, OnOk, OnErr, IfErr, is_ok, true, if◌then◌else◌}
-use Rattle.std.specs.List.{insert, zip}
+use Rattle.std.specs.Prelude.{option_map, Result, Ok, Err, OnOk, OnErr, IfErr}
 use Rattle.std.proofs.lemmas.List.{map-set, set-get_or, get_or-map, length-map}
 use Rattle.df_frozen.specs.Plain.{Plain, items, entries, item, from_list, from_pairs}
-use Rattle.df_frozen.specs.Value.{plain}
+use Rattle.df_frozen.specs.Value.{plain, named}
+use Rattle.df_frozen.specs.Entries.{names}
 use Rattle.df_frozen.specs.Place.{change_item, change_value, push_item}
 use Rattle.df_frozen.specs.Search.{place_of}
 use Rattle.df_frozen.specs.Change.{Changes, IsCause}
@@ -15,6 +15,7 @@ use Rattle.df_frozen.specs.declared.put.NotPut.{NotPut}
 use Rattle.df_frozen.specs.declared.put.PutCause.{PutCause}
 use Rattle.df_frozen.specs.declared.put.PutCause.TheVariants.{NoSuchPlace, NoMemory}
 use Rattle.df_frozen.proofs.Options.{option_map-option_map}
+use Rattle.df_frozen.proofs.Named.{names-named}
 use Rattle.df_frozen.proofs.Contents.{plain_same}
 use Rattle.df_frozen.proofs.Search.{change_value-found}
 
@@ -50,39 +51,36 @@ Changes-above change wrap wanted before after (Err e) h = (h.0, ap wrap h.1, cau
     cause NoMemory None i = absurd (cc)
     cause NoMemory (Some p) i = (refl, i.1)
 
--- a value of a list or a map changes, where `whole` makes the content from the values
-Changes-value : (change : Change) (f : Plain → Option Plain) (whole : List Plain → Plain) (wanted : Option Plain) (vs : List Value) (k : ℕ) (old new : Value) (r : Result (Unit {0}) NotPut) → old ≡ get_or vs k old → k < length vs → wanted ≡ option_map (λ q. whole (set (map plain vs) k q)) (f (get_or (map plain vs) k (plain old))) → Changes change (f (plain old)) (plain old) (plain new) r → Changes change wanted (whole (map plain vs)) (whole (map plain (set vs k new))) r
-Changes-value change f whole wanted vs k old new r e h w below =
-    let ps = map plain vs in
-    let wrap : Plain → Plain = λ q. whole (set ps k q) in
-    let at : get_or ps k (plain old) ≡ plain old = get_or-map plain vs k old (plain old) h ∙ ap plain (sym e) in
-    let before : wrap (plain old) ≡ whole ps = ap wrap (sym at) ∙ ap whole (set-get_or ps k (plain old)) in
-    let after : wrap (plain new) ≡ whole (map plain (set vs k new)) = ap whole (sym (map-set plain vs k new)) in
-    let all : wanted ≡ option_map wrap (f (plain old)) = w ∙ ap (λ x. option_map wrap (f x)) at in
+-- a value in a whole changes, where `wrap` makes the content of the whole from that of the value
+Changes-value : (change : Change) (f : Plain → Option Plain) (wrap : Plain → Plain) (wanted : Option Plain) (old new : Value) (before after : Plain) (r : Result (Unit {0}) NotPut) → wrap (plain old) ≡ before → wrap (plain new) ≡ after → wanted ≡ option_map wrap (f (plain old)) → Changes change (f (plain old)) (plain old) (plain new) r → Changes change wanted before after r
+Changes-value change f wrap wanted old new before after r b a w below =
     let above = Changes-above change wrap (f (plain old)) (plain old) (plain new) r below in
-    rw (all, ← before, ← after) above
+    rw (w, ← b, ← a) above
 
 -- a value of a list changes
 pub Changes-item : (change : Change) (f : Plain → Option Plain) (vs : List Value) (k : ℕ) (old new : Value) (r : Result (Unit {0}) NotPut) → old ≡ get_or vs k old → k < length vs → Changes change (f (plain old)) (plain old) (plain new) r → Changes change (option_map items (change_item f k (from_list (map plain vs)))) (items (from_list (map plain vs))) (items (from_list (map plain (set vs k new)))) r
 Changes-item change f vs k old new r e h below =
     let ps = map plain vs in
+    let wrap : Plain → Plain = λ q. items (from_list (set ps k q)) in
     let lt : k < length ps = simp length-map h in
-    Changes-value change f (λ l. items (from_list l)) _ vs k old new r e h
-    (ap (option_map items) (change_item-found f ps k (plain old) lt) ∙ option_map-option_map items (λ q. from_list (set ps k q)) (f (get_or ps k (plain old)))) below
+    let at : get_or ps k (plain old) ≡ plain old = get_or-map plain vs k old (plain old) h ∙ ap plain (sym e) in
+    let before : wrap (plain old) ≡ items (from_list ps) = ap wrap (sym at) ∙ ap (λ l. items (from_list l)) (set-get_or ps k (plain old)) in
+    let after : wrap (plain new) ≡ items (from_list (map plain (set vs k new))) = ap (λ l. items (from_list l)) (sym (map-set plain vs k new)) in
+    let all = ap (option_map items) (change_item-found f ps k (plain old) lt) ∙ option_map-option_map items (λ q. from_list (set ps k q)) (f (get_or ps k (plain old))) ∙ ap (λ x. option_map wrap (f x)) at in
+    Changes-value change f wrap _ old new _ _ r before after all below
 
 -- a value of a map changes
-pub Changes-entry : (change : Change) (f : Plain → Option Plain) (name : List ℕ) (ns : List (List ℕ)) (vs : List Value) (k : ℕ) (old new : Value) (r : Result (Unit {0}) NotPut) → length ns ≡ length vs → place_of name ns ≡ Ok k → old ≡ get_or vs k old → k < length vs → Changes change (f (plain old)) (plain old) (plain new) r → Changes change (option_map entries (change_value f name (from_pairs (zip ns (map plain vs))))) (entries (from_pairs (zip ns (map plain vs)))) (entries (from_pairs (zip ns (map plain (set vs k new))))) r
-Changes-entry change f name ns vs k old new r n p e h below =
-    let ps = map plain vs in
-    Changes-value change f (λ l. entries (from_pairs (zip ns l))) _ vs k old new r e h
-    (ap (option_map entries) (change_value-found f name ns ps k (plain old) (n ∙ sym (length-map vs plain)) p) ∙ option_map-option_map entries (λ q. from_pairs (zip ns (set ps k q))) (f (get_or ps k (plain old)))) below
-
--- the content of values with one more
-pub map-insert : (vs : List Value) (i : ℕ) (v : Value) → map plain (insert vs i v) ≡ insert (map plain vs) i (plain v)
-map-insert [] zero v = refl
-map-insert [] (suc i) v = refl
-map-insert (u ∷ vs) zero v = refl
-map-insert (u ∷ vs) (suc i) v = ap (λ l. plain u ∷ l) (map-insert vs i v)
+pub Changes-entry : (change : Change) (f : Plain → Option Plain) (name : List ℕ) (es : List (List ℕ × Value)) (k : ℕ) (old : List ℕ × Value) (new : Value) (r : Result (Unit {0}) NotPut) → place_of name (names es) ≡ Ok k → old ≡ get_or es k old → k < length es → Changes change (f (plain old.1)) (plain old.1) (plain new) r → Changes change (option_map entries (change_value f name (from_pairs (map named es)))) (entries (from_pairs (map named es))) (entries (from_pairs (map named (set es k (old.0, new))))) r
+Changes-entry change f name es k old new r p e h below =
+    let ps = map named es in
+    let d = named old in
+    let wrap : Plain → Plain = λ q. entries (from_pairs (set ps k (old.0, q))) in
+    let at : get_or ps k d ≡ d = get_or-map named es k old d h ∙ ap named (sym e) in
+    let found : place_of name (names ps) ≡ Ok k = ap (place_of name) (names-named es) ∙ p in
+    let before : wrap (plain old.1) ≡ entries (from_pairs ps) = ap (λ x. entries (from_pairs (set ps k x))) (sym at) ∙ ap (λ l. entries (from_pairs l)) (set-get_or ps k d) in
+    let after : wrap (plain new) ≡ entries (from_pairs (map named (set es k (old.0, new)))) = ap (λ l. entries (from_pairs l)) (sym (map-set named es k (old.0, new))) in
+    let all = ap (option_map entries) (change_value-found f name ps k d found) ∙ option_map-option_map entries (λ q. from_pairs (set ps k ((get_or ps k d).0, q))) (f (get_or ps k d).1) ∙ ap (λ (x : List ℕ × Plain). option_map (λ q. entries (from_pairs (set ps k (x.0, q)))) (f x.1)) at in
+    Changes-value change f wrap _ old.1 new _ _ r before after all below
 
 -- a push at the place itself
 pub Changes-push : (v : Value) (old new : List Plain) (r : Result (Unit {0}) NotPut) → OnOk r (new ≡ old ++ plain v ∷ []) → OnErr r (new ≡ old) → IfErr r (λ e. e.value ≡ v) → IfErr r (λ e. e.cause ≡ NoMemory) → Changes (Push v) (Some (items (push_item (plain v) (from_list old)))) (items (from_list old)) (items (from_list new)) r
@@ -93,7 +91,3 @@ Changes-push v old new (Err e) pushed unchanged back cause = (back, ap (λ l. it
 pub Changes-refused : (change : Change) (wanted : Option Plain) (old new : Value) (r : Result (Unit {0}) NotPut) → Changes change wanted (plain old) (plain new) r → OnErr r (new ≡ old)
 Changes-refused change wanted old new (Ok _) h = tt
 Changes-refused change wanted old new (Err e) h = plain_same new old h.1
-
--- what an insertion that succeeds leaves
-pub inserted : {X E : Type 0} (r : Result (Unit {0}) E) (old new : List X) (i : ℕ) (x : X) → is_ok r ≡ true → new ≡ (if is_ok r then insert old i x else old) → new ≡ insert old i x
-inserted r old new i x ok e = rw ok at e

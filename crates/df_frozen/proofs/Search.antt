@@ -1,20 +1,24 @@
 -- Where a name stands among ascending names, and what is there.
 use Rattle.std.proofs.Common.{◌≡◌, ℕ, zero, suc, ◌<◌, ◌≤◌, List, [], ◌∷◌, get_or, set, length, arith, refl, ap, sym, subst, ◌∙◌, Option, Some, None, cond}
-use Rattle.std.specs.Prelude.{Result, Ok, Err, IfOk, option_map}
+use Rattle.std.specs.Prelude.{Bool, true, false, if◌then◌else◌, Result, Ok, Err, option_map, pos}
 use Rattle.std.specs.Str.{bytes_eq}
-use Rattle.std.specs.List.{insert, zip, HoldsAt}
-use Rattle.std.specs.List.Sorted.{IsSearchInRange, IsBinarySearchResult}
+use Rattle.std.specs.List.{insert}
+use Rattle.std.specs.List.Sorted.{IsSearchInRange, IsBinarySearchResult, IsNonDecreasingBy}
 use Rattle.std.specs.declared.cmp.Ordering.{Ordering}
 use Rattle.std.specs.declared.cmp.Ordering.TheVariants.{Less, Equal, Greater}
 use Rattle.std.specs.Ordering.{match_ordering, ordering_reverse, ordering_index, is_eq}
 use Rattle.std.specs.FinMap.{slice_cmp-IsAntisymmetric, nat_cmp-IsAntisymmetric}
+use Rattle.std.proofs.lemmas.List.{get_or-map, length-map}
 use Rattle.std.proofs.lemmas.Cmp.{nat_list_cmp_total}
 use Rattle.std.proofs.lemmas.Map.Text.{is_eq-slice_cmp}
-use Rattle.df_frozen.specs.Plain.{Plain, Pairs, entry, from_pairs}
+use Rattle.df_frozen.specs.Plain.{Plain, entry, from_pairs}
 use Rattle.df_frozen.specs.Name.{name_cmp}
-use Rattle.df_frozen.specs.Entries.{get, IsBelow, IsAscending}
+use Rattle.df_frozen.specs.Entries.{names, get, IsBelow, IsAscending}
 use Rattle.df_frozen.specs.Place.{change_value, put_entry}
 use Rattle.df_frozen.specs.Search.{place_of, behind_one}
+use Rattle.df_frozen.specs.declared.value.Value.{Value}
+use Rattle.df_frozen.specs.declared.value.Value.TheVariants.{Int}
+use Rattle.df_frozen.proofs.Named.{map-insert}
 use Rattle.df_frozen.proofs.Options.{option_map-option_map}
 
 -- ---- the order of names
@@ -92,63 +96,81 @@ ascending_index k (n ∷ ns) s zero (suc j) d h g = index_rises k n (get_or ns j
 ascending_index k (n ∷ ns) s (suc i) zero d h g = absurd (omega (arith, h))
 ascending_index k (n ∷ ns) s (suc i) (suc j) d h g = ascending_index k ns s.1 i j d (omega (arith, h)) (omega (arith, g))
 
--- what a binary search answers
-pub place_of-searched : (k : List ℕ) (ns : List (List ℕ)) (r : Result ℕ ℕ) → IsAscending ns → IsSearchInRange r (length ns) → IfOk r (HoldsAt (λ y. name_cmp y k ≡ Equal) ns) → IsBinarySearchResult (λ y. name_cmp y k) ns r → r ≡ place_of k ns
-place_of-searched k ns (Ok i) s bound found position = sym (place_of-found k ns i [] s bound (found []))
-place_of-searched k ns (Err i) s bound found position =
-    let parts = position (ascending_index k ns s) in
-    sym (place_of-missing k ns i bound (λ j d h. parts.0 j d (omega arith) h) (λ j d h g. parts.1 j d h g))
+-- the name of an entry
+name_at : (es : List (List ℕ × Value)) (i : ℕ) (d : List ℕ) (e : List ℕ × Value) → i < length es → get_or (names es) i d ≡ (get_or es i e).0
+name_at es i d e h = get_or-map (λ (x : List ℕ × Value). x.0) es i e d h
+
+-- as many names as entries
+length-names : (es : List (List ℕ × Value)) → length (names es) ≡ length es
+length-names es = length-map es (λ (x : List ℕ × Value). x.0)
+
+-- what a binary search by name answers
+pub place_of-searched : (k : List ℕ) (es : List (List ℕ × Value)) (r : Result ℕ ℕ) → IsAscending (names es) → IsSearchInRange r (length es) → IsBinarySearchResult (λ e. name_cmp e.0 k) es r → r ≡ place_of k (names es)
+place_of-searched k es (Ok i) s bound equal =
+    let d : List ℕ × Value = ([], Int (pos 0)) in
+    sym (place_of-found k (names es) i [] s (omega (arith, bound, length-names es)) (ap (λ n. name_cmp n k) (name_at es i [] d bound) ∙ equal d))
+place_of-searched k es (Err i) s bound position =
+    let n = length-names es in
+    let rising : IsNonDecreasingBy (λ e. ordering_index (name_cmp e.0 k)) es = λ a b d h g. subst (λ m. ordering_index (name_cmp m k) ≤ ordering_index (name_cmp (get_or es b d).0 k)) (name_at es a [] d (omega (arith, h, g))) (subst (λ m. ordering_index (name_cmp (get_or (names es) a []) k) ≤ ordering_index (name_cmp m k)) (name_at es b [] d g) (ascending_index k (names es) s a b [] h (omega (arith, g, n)))) in
+    let parts = position rising in
+    let e : List ℕ × Value = ([], Int (pos 0)) in
+    sym (place_of-missing k (names es) i (omega (arith, bound, n)) (λ j d h. ap (λ m. name_cmp m k) (name_at es j d e (omega (arith, h, bound))) ∙ parts.0 j e (omega arith) h) (λ j d h g. ap (λ m. name_cmp m k) (name_at es j d e (omega (arith, g, n))) ∙ parts.1 j e h (omega (arith, g, n))))
 
 -- ---- a name that is there
 
 -- the value at the place of a name
-pub get-found : (k : List ℕ) (ns : List (List ℕ)) (ps : List Plain) (i : ℕ) (d : Plain) → length ns ≡ length ps → place_of k ns ≡ Ok i → (i < length ps) × (get k (zip ns ps) ≡ Some (get_or ps i d))
-get-found k [] ps i d h e = absurd (cc)
-get-found k (n ∷ ns) [] i d h e = absurd (omega (arith, h))
-get-found k (n ∷ ns) (p ∷ ps) i d h e =
-    rw (bytes_eq-name_cmp k n) (by (name_cmp k n) (place_of k ns) (λ j g. get-found k ns ps j d (omega (arith, h)) g) e)
+pub get-found : (k : List ℕ) (es : List (List ℕ × Plain)) (i : ℕ) (d : List ℕ × Plain) → place_of k (names es) ≡ Ok i → (i < length es) × (get k es ≡ Some (get_or es i d).1)
+get-found k [] i d h = absurd (cc)
+get-found k (e ∷ es) i d h =
+    rw (bytes_eq-name_cmp k e.0) (by (name_cmp k e.0) (place_of k (names es)) (λ j g. get-found k es j d g) h)
   where
-    by : (o : Ordering) (r : Result ℕ ℕ) → ((j : ℕ) → r ≡ Ok j → (j < length ps) × (get k (zip ns ps) ≡ Some (get_or ps j d))) → match_ordering o (Err 0) (Ok 0) (behind_one r) ≡ Ok i → (i < suc (length ps)) × (cond (is_eq o) (Some p) (get k (zip ns ps)) ≡ Some (get_or (p ∷ ps) i d))
+    by : (o : Ordering) (r : Result ℕ ℕ) → ((j : ℕ) → r ≡ Ok j → (j < length es) × (get k es ≡ Some (get_or es j d).1)) → match_ordering o (Err 0) (Ok 0) (behind_one r) ≡ Ok i → (i < suc (length es)) × (cond (is_eq o) (Some e.1) (get k es) ≡ Some (get_or (e ∷ es) i d).1)
     by Less r ih g = absurd (cc)
-    by Equal r ih g = let z : 0 ≡ i = cc in subst (λ j. (j < suc (length ps)) × (Some p ≡ Some (get_or (p ∷ ps) j d))) z (omega arith, refl)
+    by Equal r ih g = let z : 0 ≡ i = cc in subst (λ j. (j < suc (length es)) × (Some e.1 ≡ Some (get_or (e ∷ es) j d).1)) z (omega arith, refl)
     by Greater (Err j) ih g = absurd (cc)
     by Greater (Ok j) ih g =
         let z : suc j ≡ i = cc in
         let b = ih j refl in
-        subst (λ j. (j < suc (length ps)) × (get k (zip ns ps) ≡ Some (get_or (p ∷ ps) j d))) z (omega (arith, b.0), b.1)
+        subst (λ j. (j < suc (length es)) × (get k es ≡ Some (get_or (e ∷ es) j d).1)) z (omega (arith, b.0), b.1)
 
 -- a change at the place of a name
-pub change_value-found : (f : Plain → Option Plain) (k : List ℕ) (ns : List (List ℕ)) (ps : List Plain) (i : ℕ) (d : Plain) → length ns ≡ length ps → place_of k ns ≡ Ok i → change_value f k (from_pairs (zip ns ps)) ≡ option_map (λ q. from_pairs (zip ns (set ps i q))) (f (get_or ps i d))
-change_value-found f k [] ps i d h e = absurd (cc)
-change_value-found f k (n ∷ ns) [] i d h e = absurd (omega (arith, h))
-change_value-found f k (n ∷ ns) (p ∷ ps) i d h e =
-    rw (bytes_eq-name_cmp k n) (by (name_cmp k n) (place_of k ns) (λ j g. change_value-found f k ns ps j d (omega (arith, h)) g) e)
+pub change_value-found : (f : Plain → Option Plain) (k : List ℕ) (es : List (List ℕ × Plain)) (i : ℕ) (d : List ℕ × Plain) → place_of k (names es) ≡ Ok i → change_value f k (from_pairs es) ≡ option_map (λ q. from_pairs (set es i ((get_or es i d).0, q))) (f (get_or es i d).1)
+change_value-found f k [] i d h = absurd (cc)
+change_value-found f k (e ∷ es) i d h =
+    rw (bytes_eq-name_cmp k e.0) (by (name_cmp k e.0) (place_of k (names es)) (λ j g. change_value-found f k es j d g) h)
   where
-    rest : Pairs
-    rest = from_pairs (zip ns ps)
-
-    by : (o : Ordering) (r : Result ℕ ℕ) → ((j : ℕ) → r ≡ Ok j → change_value f k (from_pairs (zip ns ps)) ≡ option_map (λ q. from_pairs (zip ns (set ps j q))) (f (get_or ps j d))) → match_ordering o (Err 0) (Ok 0) (behind_one r) ≡ Ok i → cond (is_eq o) (option_map (λ q. entry n q (from_pairs (zip ns ps))) (f p)) (option_map (entry n p) (change_value f k (from_pairs (zip ns ps)))) ≡ option_map (λ q. from_pairs (zip (n ∷ ns) (set (p ∷ ps) i q))) (f (get_or (p ∷ ps) i d))
+    by : (o : Ordering) (r : Result ℕ ℕ) → ((j : ℕ) → r ≡ Ok j → change_value f k (from_pairs es) ≡ option_map (λ q. from_pairs (set es j ((get_or es j d).0, q))) (f (get_or es j d).1)) → match_ordering o (Err 0) (Ok 0) (behind_one r) ≡ Ok i → cond (is_eq o) (option_map (λ q. entry e.0 q (from_pairs es)) (f e.1)) (option_map (entry e.0 e.1) (change_value f k (from_pairs es))) ≡ option_map (λ q. from_pairs (set (e ∷ es) i ((get_or (e ∷ es) i d).0, q))) (f (get_or (e ∷ es) i d).1)
     by Less r ih g = absurd (cc)
-    by Equal r ih g = let z : 0 ≡ i = cc in subst (λ j. option_map (λ q. entry n q (from_pairs (zip ns ps))) (f p) ≡ option_map (λ q. from_pairs (zip (n ∷ ns) (set (p ∷ ps) j q))) (f (get_or (p ∷ ps) j d))) z refl
+    by Equal r ih g = let z : 0 ≡ i = cc in subst (λ j. option_map (λ q. entry e.0 q (from_pairs es)) (f e.1) ≡ option_map (λ q. from_pairs (set (e ∷ es) j ((get_or (e ∷ es) j d).0, q))) (f (get_or (e ∷ es) j d).1)) z refl
     by Greater (Err j) ih g = absurd (cc)
     by Greater (Ok j) ih g =
         let z : suc j ≡ i = cc in
-        subst (λ j. option_map (entry n p) (change_value f k (from_pairs (zip ns ps))) ≡ option_map (λ q. from_pairs (zip (n ∷ ns) (set (p ∷ ps) j q))) (f (get_or (p ∷ ps) j d))) z
-        (ap (option_map (entry n p)) (ih j refl) ∙ option_map-option_map (entry n p) (λ q. from_pairs (zip ns (set ps j q))) (f (get_or ps j d)))
+        subst (λ j. option_map (entry e.0 e.1) (change_value f k (from_pairs es)) ≡ option_map (λ q. from_pairs (set (e ∷ es) j ((get_or (e ∷ es) j d).0, q))) (f (get_or (e ∷ es) j d).1)) z
+        (ap (option_map (entry e.0 e.1)) (ih j refl) ∙ option_map-option_map (entry e.0 e.1) (λ q. from_pairs (set es j ((get_or es j d).0, q))) (f (get_or es j d).1))
 
 -- a put at the place of a name
-pub put_entry-found : (k : List ℕ) (v : Plain) (ns : List (List ℕ)) (ps : List Plain) (i : ℕ) → length ns ≡ length ps → place_of k ns ≡ Ok i → put_entry k v (from_pairs (zip ns ps)) ≡ from_pairs (zip ns (set ps i v))
-put_entry-found k v [] ps i h e = absurd (cc)
-put_entry-found k v (n ∷ ns) [] i h e = absurd (omega (arith, h))
-put_entry-found k v (n ∷ ns) (p ∷ ps) i h e = by (name_cmp k n) (place_of k ns) (λ j g. put_entry-found k v ns ps j (omega (arith, h)) g) e
+pub put_entry-found : (k : List ℕ) (v : Plain) (es : List (List ℕ × Plain)) (i : ℕ) → place_of k (names es) ≡ Ok i → put_entry k v (from_pairs es) ≡ from_pairs (set es i (k, v))
+put_entry-found k v [] i h = absurd (cc)
+put_entry-found k v (e ∷ es) i h = by (name_cmp k e.0) (place_of k (names es)) refl (λ j g. put_entry-found k v es j g) h
   where
-    by : (o : Ordering) (r : Result ℕ ℕ) → ((j : ℕ) → r ≡ Ok j → put_entry k v (from_pairs (zip ns ps)) ≡ from_pairs (zip ns (set ps j v))) → match_ordering o (Err 0) (Ok 0) (behind_one r) ≡ Ok i → match_ordering o (entry k v (entry n p (from_pairs (zip ns ps)))) (entry n v (from_pairs (zip ns ps))) (entry n p (put_entry k v (from_pairs (zip ns ps)))) ≡ from_pairs (zip (n ∷ ns) (set (p ∷ ps) i v))
-    by Less r ih g = absurd (cc)
-    by Equal r ih g = let z : 0 ≡ i = cc in subst (λ j. entry n v (from_pairs (zip ns ps)) ≡ from_pairs (zip (n ∷ ns) (set (p ∷ ps) j v))) z refl
-    by Greater (Err j) ih g = absurd (cc)
-    by Greater (Ok j) ih g =
+    by : (o : Ordering) (r : Result ℕ ℕ) → name_cmp k e.0 ≡ o → ((j : ℕ) → r ≡ Ok j → put_entry k v (from_pairs es) ≡ from_pairs (set es j (k, v))) → match_ordering o (Err 0) (Ok 0) (behind_one r) ≡ Ok i → match_ordering o (entry k v (entry e.0 e.1 (from_pairs es))) (entry e.0 v (from_pairs es)) (entry e.0 e.1 (put_entry k v (from_pairs es))) ≡ from_pairs (set (e ∷ es) i (k, v))
+    by Less r q ih g = absurd (cc)
+    by Equal r q ih g = let z : 0 ≡ i = cc in subst (λ j. entry e.0 v (from_pairs es) ≡ from_pairs (set (e ∷ es) j (k, v))) z (ap (λ n. entry n v (from_pairs es)) (sym (name_cmp-equal k e.0 q)))
+    by Greater (Err j) q ih g = absurd (cc)
+    by Greater (Ok j) q ih g =
         let z : suc j ≡ i = cc in
-        subst (λ j. entry n p (put_entry k v (from_pairs (zip ns ps))) ≡ from_pairs (zip (n ∷ ns) (set (p ∷ ps) j v))) z (ap (entry n p) (ih j refl))
+        subst (λ j. entry e.0 e.1 (put_entry k v (from_pairs es)) ≡ from_pairs (set (e ∷ es) j (k, v))) z (ap (entry e.0 e.1) (ih j refl))
+
+-- a name put where it stands changes no name
+pub set-found : (k : List ℕ) (ns : List (List ℕ)) (i : ℕ) → place_of k ns ≡ Ok i → set ns i k ≡ ns
+set-found k [] i h = absurd (cc)
+set-found k (n ∷ ns) i h = by (name_cmp k n) (place_of k ns) refl (λ j g. set-found k ns j g) h
+  where
+    by : (o : Ordering) (r : Result ℕ ℕ) → name_cmp k n ≡ o → ((j : ℕ) → r ≡ Ok j → set ns j k ≡ ns) → match_ordering o (Err 0) (Ok 0) (behind_one r) ≡ Ok i → set (n ∷ ns) i k ≡ n ∷ ns
+    by Less r q ih g = absurd (cc)
+    by Equal r q ih g = let z : 0 ≡ i = cc in subst (λ j. set (n ∷ ns) j k ≡ n ∷ ns) z (ap (λ m. m ∷ ns) (name_cmp-equal k n q))
+    by Greater (Err j) q ih g = absurd (cc)
+    by Greater (Ok j) q ih g = let z : suc j ≡ i = cc in subst (λ j. set (n ∷ ns) j k ≡ n ∷ ns) z (ap (λ l. n ∷ l) (ih j refl))
 
 -- ---- a name that is not there
 
@@ -164,19 +186,17 @@ place_of-within k (n ∷ ns) i e = by (name_cmp k n) (place_of k ns) (λ j g. pl
     by Greater (Err j) ih g = let z : suc j ≡ i = cc in omega (arith, z, ih j refl)
 
 -- a put at the place of a new name
-pub put_entry-new : (k : List ℕ) (v : Plain) (ns : List (List ℕ)) (ps : List Plain) (i : ℕ) → length ns ≡ length ps → place_of k ns ≡ Err i → put_entry k v (from_pairs (zip ns ps)) ≡ from_pairs (zip (insert ns i k) (insert ps i v))
-put_entry-new k v [] [] i h e = let z : 0 ≡ i = cc in subst (λ j. entry k v (from_pairs []) ≡ from_pairs (zip (insert [] j k) (insert [] j v))) z refl
-put_entry-new k v [] (p ∷ ps) i h e = absurd (omega (arith, h))
-put_entry-new k v (n ∷ ns) [] i h e = absurd (omega (arith, h))
-put_entry-new k v (n ∷ ns) (p ∷ ps) i h e = by (name_cmp k n) (place_of k ns) (λ j g. put_entry-new k v ns ps j (omega (arith, h)) g) e
+pub put_entry-new : (k : List ℕ) (v : Plain) (es : List (List ℕ × Plain)) (i : ℕ) → place_of k (names es) ≡ Err i → put_entry k v (from_pairs es) ≡ from_pairs (insert es i (k, v))
+put_entry-new k v [] i h = let z : 0 ≡ i = cc in subst (λ j. entry k v (from_pairs []) ≡ from_pairs (insert [] j (k, v))) z refl
+put_entry-new k v (e ∷ es) i h = by (name_cmp k e.0) (place_of k (names es)) (λ j g. put_entry-new k v es j g) h
   where
-    by : (o : Ordering) (r : Result ℕ ℕ) → ((j : ℕ) → r ≡ Err j → put_entry k v (from_pairs (zip ns ps)) ≡ from_pairs (zip (insert ns j k) (insert ps j v))) → match_ordering o (Err 0) (Ok 0) (behind_one r) ≡ Err i → match_ordering o (entry k v (entry n p (from_pairs (zip ns ps)))) (entry n v (from_pairs (zip ns ps))) (entry n p (put_entry k v (from_pairs (zip ns ps)))) ≡ from_pairs (zip (insert (n ∷ ns) i k) (insert (p ∷ ps) i v))
-    by Less r ih g = let z : 0 ≡ i = cc in subst (λ j. entry k v (entry n p (from_pairs (zip ns ps))) ≡ from_pairs (zip (insert (n ∷ ns) j k) (insert (p ∷ ps) j v))) z refl
+    by : (o : Ordering) (r : Result ℕ ℕ) → ((j : ℕ) → r ≡ Err j → put_entry k v (from_pairs es) ≡ from_pairs (insert es j (k, v))) → match_ordering o (Err 0) (Ok 0) (behind_one r) ≡ Err i → match_ordering o (entry k v (entry e.0 e.1 (from_pairs es))) (entry e.0 v (from_pairs es)) (entry e.0 e.1 (put_entry k v (from_pairs es))) ≡ from_pairs (insert (e ∷ es) i (k, v))
+    by Less r ih g = let z : 0 ≡ i = cc in subst (λ j. entry k v (entry e.0 e.1 (from_pairs es)) ≡ from_pairs (insert (e ∷ es) j (k, v))) z refl
     by Equal r ih g = absurd (cc)
     by Greater (Ok j) ih g = absurd (cc)
     by Greater (Err j) ih g =
         let z : suc j ≡ i = cc in
-        subst (λ j. entry n p (put_entry k v (from_pairs (zip ns ps))) ≡ from_pairs (zip (insert (n ∷ ns) j k) (insert (p ∷ ps) j v))) z (ap (entry n p) (ih j refl))
+        subst (λ j. entry e.0 e.1 (put_entry k v (from_pairs es)) ≡ from_pairs (insert (e ∷ es) j (k, v))) z (ap (entry e.0 e.1) (ih j refl))
 
 -- names ascend with a new one at its place
 pub IsAscending-insert : (k : List ℕ) (ns : List (List ℕ)) (i : ℕ) → IsAscending ns → place_of k ns ≡ Err i → IsAscending (insert ns i k)
@@ -189,40 +209,42 @@ IsAscending-insert k (n ∷ ns) i s e = by (name_cmp k n) (place_of k ns) refl (
     by Greater (Ok j) q ih g = absurd (cc)
     by Greater (Err j) q ih g = let z : suc j ≡ i = cc in subst (λ j. IsAscending (insert (n ∷ ns) j k)) z (IsBelow-insert n k ns j (name_cmp-swapped n k Greater q) s.0, ih j refl)
 
+-- names ascend after an insertion at that place that may fail
+pub IsAscending-inserted : (ok : Bool) (k : List ℕ) (v : Value) (es new : List (List ℕ × Value)) (i : ℕ) → new ≡ (if ok then insert es i (k, v) else es) → IsAscending (names es) → place_of k (names es) ≡ Err i → IsAscending (names new)
+IsAscending-inserted true k v es new i e s h =
+    subst IsAscending (sym (ap names e ∙ map-insert (λ (x : List ℕ × Value). x.0) es i (k, v))) (IsAscending-insert k (names es) i s h)
+IsAscending-inserted false k v es new i e s h = subst IsAscending (sym (ap names e)) s
+
 -- nothing is under a name below all
-get-below : (k : List ℕ) (ns : List (List ℕ)) (ps : List Plain) → IsBelow k ns → get k (zip ns ps) ≡ None
-get-below k [] ps b = refl
-get-below k (n ∷ ns) [] b = refl
-get-below k (n ∷ ns) (p ∷ ps) b = rw (bytes_eq-name_cmp k n, b.0) (get-below k ns ps b.1)
+get-below : (k : List ℕ) (es : List (List ℕ × Plain)) → IsBelow k (names es) → get k es ≡ None
+get-below k [] b = refl
+get-below k (e ∷ es) b = rw (bytes_eq-name_cmp k e.0, b.0) (get-below k es b.1)
 
 -- nothing changes under a name below all
-change_value-below : (f : Plain → Option Plain) (k : List ℕ) (ns : List (List ℕ)) (ps : List Plain) → IsBelow k ns → change_value f k (from_pairs (zip ns ps)) ≡ None
-change_value-below f k [] ps b = refl
-change_value-below f k (n ∷ ns) [] b = refl
-change_value-below f k (n ∷ ns) (p ∷ ps) b = rw (bytes_eq-name_cmp k n, b.0) (ap (option_map (entry n p)) (change_value-below f k ns ps b.1))
+change_value-below : (f : Plain → Option Plain) (k : List ℕ) (es : List (List ℕ × Plain)) → IsBelow k (names es) → change_value f k (from_pairs es) ≡ None
+change_value-below f k [] b = refl
+change_value-below f k (e ∷ es) b = rw (bytes_eq-name_cmp k e.0, b.0) (ap (option_map (entry e.0 e.1)) (change_value-below f k es b.1))
 
 -- nothing is under a name that is not there
-pub get-missing : (k : List ℕ) (ns : List (List ℕ)) (ps : List Plain) (i : ℕ) → IsAscending ns → place_of k ns ≡ Err i → get k (zip ns ps) ≡ None
-get-missing k [] ps i s e = refl
-get-missing k (n ∷ ns) [] i s e = refl
-get-missing k (n ∷ ns) (p ∷ ps) i s e =
-    rw (bytes_eq-name_cmp k n) (by (name_cmp k n) (place_of k ns) refl (λ j g. get-missing k ns ps j s.1 g) e)
+pub get-missing : (k : List ℕ) (es : List (List ℕ × Plain)) (i : ℕ) → IsAscending (names es) → place_of k (names es) ≡ Err i → get k es ≡ None
+get-missing k [] i s h = refl
+get-missing k (e ∷ es) i s h =
+    rw (bytes_eq-name_cmp k e.0) (by (name_cmp k e.0) (place_of k (names es)) refl (λ j g. get-missing k es j s.1 g) h)
   where
-    by : (o : Ordering) (r : Result ℕ ℕ) → name_cmp k n ≡ o → ((j : ℕ) → r ≡ Err j → get k (zip ns ps) ≡ None) → match_ordering o (Err 0) (Ok 0) (behind_one r) ≡ Err i → cond (is_eq o) (Some p) (get k (zip ns ps)) ≡ None
-    by Less r q ih g = get-below k ns ps (IsBelow-transitive k n ns q s.0)
+    by : (o : Ordering) (r : Result ℕ ℕ) → name_cmp k e.0 ≡ o → ((j : ℕ) → r ≡ Err j → get k es ≡ None) → match_ordering o (Err 0) (Ok 0) (behind_one r) ≡ Err i → cond (is_eq o) (Some e.1) (get k es) ≡ None
+    by Less r q ih g = get-below k es (IsBelow-transitive k e.0 (names es) q s.0)
     by Equal r q ih g = absurd (cc)
     by Greater (Ok j) q ih g = absurd (cc)
     by Greater (Err j) q ih g = ih j refl
 
 -- nothing changes under a name that is not there
-pub change_value-missing : (f : Plain → Option Plain) (k : List ℕ) (ns : List (List ℕ)) (ps : List Plain) (i : ℕ) → IsAscending ns → place_of k ns ≡ Err i → change_value f k (from_pairs (zip ns ps)) ≡ None
-change_value-missing f k [] ps i s e = refl
-change_value-missing f k (n ∷ ns) [] i s e = refl
-change_value-missing f k (n ∷ ns) (p ∷ ps) i s e =
-    rw (bytes_eq-name_cmp k n) (by (name_cmp k n) (place_of k ns) refl (λ j g. change_value-missing f k ns ps j s.1 g) e)
+pub change_value-missing : (f : Plain → Option Plain) (k : List ℕ) (es : List (List ℕ × Plain)) (i : ℕ) → IsAscending (names es) → place_of k (names es) ≡ Err i → change_value f k (from_pairs es) ≡ None
+change_value-missing f k [] i s h = refl
+change_value-missing f k (e ∷ es) i s h =
+    rw (bytes_eq-name_cmp k e.0) (by (name_cmp k e.0) (place_of k (names es)) refl (λ j g. change_value-missing f k es j s.1 g) h)
   where
-    by : (o : Ordering) (r : Result ℕ ℕ) → name_cmp k n ≡ o → ((j : ℕ) → r ≡ Err j → change_value f k (from_pairs (zip ns ps)) ≡ None) → match_ordering o (Err 0) (Ok 0) (behind_one r) ≡ Err i → cond (is_eq o) (option_map (λ q. entry n q (from_pairs (zip ns ps))) (f p)) (option_map (entry n p) (change_value f k (from_pairs (zip ns ps)))) ≡ None
-    by Less r q ih g = ap (option_map (entry n p)) (change_value-below f k ns ps (IsBelow-transitive k n ns q s.0))
+    by : (o : Ordering) (r : Result ℕ ℕ) → name_cmp k e.0 ≡ o → ((j : ℕ) → r ≡ Err j → change_value f k (from_pairs es) ≡ None) → match_ordering o (Err 0) (Ok 0) (behind_one r) ≡ Err i → cond (is_eq o) (option_map (λ q. entry e.0 q (from_pairs es)) (f e.1)) (option_map (entry e.0 e.1) (change_value f k (from_pairs es))) ≡ None
+    by Less r q ih g = ap (option_map (entry e.0 e.1)) (change_value-below f k es (IsBelow-transitive k e.0 (names es) q s.0))
     by Equal r q ih g = absurd (cc)
     by Greater (Ok j) q ih g = absurd (cc)
-    by Greater (Err j) q ih g = ap (option_map (entry n p)) (ih j refl)
+    by Greater (Err j) q ih g = ap (option_map (entry e.0 e.1)) (ih j refl)

@@ -1,9 +1,10 @@
 -- How values are counted: row by row, where a row holds the values of one list or map that are left.
 use Rattle.std.specs.Prelude.{ℕ, ◌+◌, ◌*◌, max, List, [], ◌∷◌, ◌++◌, length, map}
-use Rattle.std.specs.Borrow.{Bor}
-use Rattle.df_frozen.specs.Plain.{Plain, Plains, Pairs, int, words, bytes, items, entries, no_items, item, no_entries, entry, items_node_count, items_byte_count, items_depth}
-use Rattle.df_frozen.specs.Value.{plain_all}
-use Rattle.df_frozen.specs.declared.value.Value.{Value}
+use Rattle.df_frozen.specs.Plain.{Plain, Plains, Pairs, int, words, bytes, items, entries, no_items, item, no_entries, entry, from_pairs, items_node_count, items_byte_count, items_depth}
+use Rattle.df_frozen.specs.Inner.{values_of}
+use Rattle.df_frozen.specs.Value.{plain_all, named}
+use Rattle.df_frozen.specs.declared.row.Row.{Row}
+use Rattle.df_frozen.specs.declared.row.Row.TheVariants.{Items, Map}
 
 -- the bytes in the names of these entries
 abbrev pub name_byte_count : Pairs → ℕ
@@ -18,9 +19,14 @@ own_byte_count (bytes s) = length s
 own_byte_count (items ps) = 0
 own_byte_count (entries es) = name_byte_count es
 
+-- the values that are left of a list or a map
+abbrev pub left : Row → Plains
+left (Items vs) = plain_all vs.now
+left (Map es) = values_of (from_pairs (map named es.now))
+
 -- the rows that are left, each with how many lists and maps are around it
-abbrev pub rows_of : List (Bor (List Value) × ℕ) → List (Plains × ℕ)
-rows_of rows = map (λ r. (plain_all r.0.now, r.1)) rows
+abbrev pub rows_of : List (Row × ℕ) → List (Plains × ℕ)
+rows_of rows = map (λ r. (left r.0, r.1)) rows
 
 -- the rows and one more, unless it is empty
 abbrev pub pushed : List (Plains × ℕ) → Plains → ℕ → List (Plains × ℕ)

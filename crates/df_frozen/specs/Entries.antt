@@ -5,7 +5,7 @@ use Rattle.df_frozen.specs.Plain.{Plain}
 use Rattle.df_frozen.specs.Name.{name_cmp}
 
 -- the names of these entries
-abbrev pub names : List (List ℕ × Plain) → List (List ℕ)
+abbrev pub names : {X : Type 0} → List (List ℕ × X) → List (List ℕ)
 names es = map (λ e. e.0) es
 
 -- the values of these entries

@@ -1,19 +1,10 @@
 -- What lies in a list or a map.
-use Rattle.std.specs.Prelude.{Option, None, Some}
 use Rattle.df_frozen.specs.Plain.{Plain, Plains, Pairs, int, words, bytes, items, entries, no_items, item, no_entries, entry}
 
 -- the values of these entries, in order
 abbrev pub values_of : Pairs → Plains
 values_of no_entries = no_items
 values_of (entry k p es) = item p (values_of es)
-
--- the values in a list or a map, and nothing for any other node
-abbrev pub inner : Plain → Option Plains
-inner (int n) = None
-inner (words s) = None
-inner (bytes s) = None
-inner (items ps) = Some ps
-inner (entries es) = Some (values_of es)
 
 -- the values in the node, of which a number, words and bytes have none
 abbrev pub children : Plain → Plains

@@ -5,7 +5,6 @@ pub mod Code
 pub mod Value
 pub mod Nesting
 pub mod Entries
-pub mod Kept
 pub mod Search
 pub mod Place
 pub mod Change

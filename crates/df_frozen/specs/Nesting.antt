@@ -1,10 +1,9 @@
 -- What lies in a list or a map is less deep than the list or map.
-use Rattle.std.specs.Prelude.{◌≡◌, ℕ, ◌≤◌, List, [], ◌∷◌, map, length}
-use Rattle.std.specs.List.{zip}
+use Rattle.std.specs.Prelude.{ℕ, ◌≤◌, max, List, [], ◌∷◌, map}
 use Rattle.std.proofs.Common.{arith}
 use denote.Param.Weighed.{most}
 use Rattle.df_frozen.specs.Plain.{depth, deepest_item, deepest_entry}
-use Rattle.df_frozen.specs.Value.{plain}
+use Rattle.df_frozen.specs.Value.{plain, named}
 use Rattle.df_frozen.specs.declared.value.Value.{Value}
 use Rattle.df_frozen.specs.declared.value.Value.TheVariants.{Int, Words, Bytes, Items, Map}
 use Rattle.df_frozen.specs.declared.entries.Entries.TheDeep.{deep-Value}
@@ -22,8 +21,7 @@ pub most_le-deepest_item : (vs : List Value) → most deep-Value vs ≤ deepest_
 most_le-deepest_item [] = omega arith
 most_le-deepest_item (v ∷ vs) = omega (arith, deep_le-depth v, most_le-deepest_item vs)
 
--- the values of a map are at most as deep as its deepest
-pub most_le-deepest_entry : (ns : List (List ℕ)) (vs : List Value) → length ns ≡ length vs → most deep-Value vs ≤ deepest_entry (zip ns (map plain vs))
-most_le-deepest_entry ns [] h = omega arith
-most_le-deepest_entry [] (v ∷ vs) h = absurd (omega (arith, h))
-most_le-deepest_entry (n ∷ ns) (v ∷ vs) h = omega (arith, deep_le-depth v, most_le-deepest_entry ns vs (omega (arith, h)))
+-- the entries of a map are at most as deep as its deepest
+pub most_le-deepest_entry : (es : List (List ℕ × Value)) → most (λ e. max 0 (max (deep-Value e.1) 0)) es ≤ deepest_entry (map named es)
+most_le-deepest_entry [] = omega arith
+most_le-deepest_entry (e ∷ es) = omega (arith, deep_le-depth e.1, most_le-deepest_entry es)

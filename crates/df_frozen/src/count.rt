@@ -2,12 +2,13 @@
 
 ghost use Rattle.std.specs.Prelude.{◌≡◌, ◌+◌, max, IfOk, OnOk};
 ghost use Rattle.df_frozen.specs.Plain.{node_count, byte_count, depth};
-ghost use Rattle.df_frozen.specs.Counting.{own_byte_count, rows_of, pushed, rows_node_count, rows_byte_count, rows_depth};
+ghost use Rattle.df_frozen.specs.Counting.{own_byte_count, left, rows_of, pushed, rows_node_count, rows_byte_count, rows_depth};
 ghost use Rattle.df_frozen.specs.Inner.{children};
 ghost use Rattle.df_frozen.specs.Limits.{counted};
-ghost use Rattle.df_frozen.specs.Value.{plain, plain_all};
+ghost use Rattle.df_frozen.specs.Value.{plain};
 
 use crate::memory::NoMemory;
+use crate::row::Row;
 use crate::value::Value;
 use std::alloc::Global;
 
@@ -31,7 +32,7 @@ impl Counts {
             depth: 0,
         };
         counts.add(value, 0);
-        let mut rows: Vec<(&[Value], u64)> = Vec::new(alloc);
+        let mut rows: Vec<(Row<'_>, u64)> = Vec::new(alloc);
         push_row(&mut rows, value.inner(), 1)?;
         while let Some((values, around)) = rows.pop() {
             let Some((first, rest)) = values.split_first() else {
@@ -56,17 +57,14 @@ impl Counts {
     }
 }
 
-// Adds a row of values, unless it is empty.
-fn push_row<'a>(
-    rows: &mut Vec<(&'a [Value], u64)>,
-    values: &'a [Value],
-    around: u64,
-) -> Result<(), NoMemory>
+// Adds a row, unless it is empty.
+fn push_row<'a>(rows: &mut Vec<(Row<'a>, u64)>, row: Row<'a>, around: u64) -> Result<(), NoMemory>
     ensures { OnOk result
-        (rows_of rows.new.items ≡ pushed (rows_of rows.old.items) (plain_all values.now) around) }
+        (rows_of rows.new.items ≡ pushed (rows_of rows.old.items) (left row.entry) around) }
 {
-    if !values.is_empty() {
-        rows.push((values, around))?;
-    }
+    let Some(_) = row.split_first() else {
+        return Ok(());
+    };
+    rows.push((row, around))?;
     Ok(())
 }

@@ -1,6 +1,6 @@
 //! Maps from names to values.
 
-ghost use Rattle.std.specs.Prelude.{◌≡◌, ◌<◌, ◌≤◌, [], length, map, option_map, MatchResult, OnOk, OnErr, IfErr};
+ghost use Rattle.std.specs.Prelude.{◌≡◌, ◌<◌, ◌≤◌, [], ◌∷◌, ◌++◌, length, map, option_map, get_or, set, MatchResult, OnOk, OnErr, IfErr};
 ghost use Rattle.df_frozen.specs.Change.{changed, Changes};
 ghost use Rattle.df_frozen.specs.Entries.{names, values, get, IsAscending};
 ghost use Rattle.df_frozen.specs.Place.{change_at, change_value, put_entry};
@@ -8,7 +8,7 @@ ghost use Rattle.df_frozen.specs.Plain.{entries, from_pairs};
 ghost use Rattle.df_frozen.specs.Search.{place_of};
 ghost use Rattle.df_frozen.specs.Counting.{name_byte_count};
 ghost use Rattle.df_frozen.specs.Limits.{counted};
-ghost use Rattle.df_frozen.specs.Value.{plain};
+ghost use Rattle.df_frozen.specs.Value.{plain, named};
 
 use crate::change::Change;
 use crate::name::Name;
@@ -17,39 +17,38 @@ use crate::step::Step;
 use crate::value::Value;
 use std::alloc::Global;
 use std::marker::Model;
+use std::mem;
 
 /// Values by name, in the order of their names.
 #[derive(Drop)]
 #[cycle(value)]
 pub struct Entries {
-    names: Vec<Name>,
-    values: Vec<Value>,
+    entries: Vec<(Name, Value)>,
 }
 
 impl Model for Entries {
     ghost use Rattle.std.specs.Prelude.{ℕ, List, map};
-    ghost use Rattle.std.specs.List.{zip};
     ghost use Rattle.std.specs.Coded.{coded_list, coded×, coded_ℕ};
     ghost use Rattle.df_frozen.specs.Plain.{Plain, deepest_entry};
     ghost use Rattle.df_frozen.specs.Code.{plain_code};
-    ghost use Rattle.df_frozen.specs.Kept.{IsInStep};
+    ghost use Rattle.df_frozen.specs.Entries.{names, IsAscending};
 
     ghost Value = { List (List ℕ × Plain) };
 
     ghost coded = { coded_list (coded× (coded_list coded_ℕ) plain_code) };
 
-    ghost use Rattle.df_frozen.specs.Value.{plain};
+    ghost use Rattle.df_frozen.specs.Value.{named};
 
-    ghost view = { λ a. zip a.names.items (map plain a.values.items) };
+    ghost view = { λ a. map named a.entries.items };
 
-    ghost invariant = { λ a. IsInStep a.names.items a.values.items };
+    ghost invariant = { λ a. IsAscending (names a.entries.items) };
 
     ghost size = { deepest_entry };
 
     ghost use Rattle.df_frozen.specs.Nesting.{most_le-deepest_entry};
     ghost use Rattle.std.proofs.Common.{arith};
 
-    ghost size_decreases = { λ a h. omega (arith, most_le-deepest_entry a.names.items a.values.items h.same_length) };
+    ghost size_decreases = { λ a h. omega (arith, most_le-deepest_entry a.entries.items) };
 }
 
 impl Entries {
@@ -58,32 +57,24 @@ impl Entries {
         ensures { result ≡ [] }
     {
         Entries {
-            names: Vec::new(alloc),
-            values: Vec::new(alloc),
+            entries: Vec::new(alloc),
         }
     }
 
-    /// The names, each before those after it.
-    pub fn names(&self) -> &[Name]
-        ensures value { result.now ≡ names self.now }
-        ensures ascending { IsAscending result.now }
+    /// The entries, each name before those after it.
+    pub fn as_slice(&self) -> &[(Name, Value)]
+        ensures value { map named result.now ≡ self.now }
+        ensures ascending { IsAscending (names self.now) }
     {
-        self.names.as_slice()
-    }
-
-    /// The values, in the order of their names.
-    pub fn values(&self) -> &[Value]
-        ensures { map plain result.now ≡ values self.now }
-    {
-        self.values.as_slice()
+        self.entries.as_slice()
     }
 
     /// The value under the name.
     pub fn get(&self, name: &Name) -> Option<&Value>
         ensures { option_map (λ v. plain v.now) result ≡ get name.now self.now }
     {
-        match place(self.names.as_slice(), name) {
-            Ok(k) => Some(&self.values[k]),
+        match place(self.entries.as_slice(), name) {
+            Ok(k) => Some(&self.entries[k].1),
             Err(_) => None,
         }
     }
@@ -94,21 +85,19 @@ impl Entries {
         ensures back { IfErr result (λ e. e.value ≡ value) }
         ensures cause { IfErr result (λ e. e.cause ≡ PutCause.NoMemory) }
     {
-        let k = match place(self.names.as_slice(), &name) {
+        match place(self.entries.as_slice(), &name) {
             Ok(k) => {
-                self.values[k] = value;
-                return Ok(());
+                self.entries[k] = (name, value);
+                Ok(())
             }
-            Err(k) => k,
-        };
-        if self.values.reserve(1).is_err() || self.names.insert(k, name).is_err() {
-            return Err(NotPut {
-                value,
-                cause: PutCause::NoMemory,
-            });
+            Err(k) => match self.entries.insert(k, (name, value)) {
+                Ok(()) => Ok(()),
+                Err(refused) => Err(NotPut {
+                    value: refused.value.1,
+                    cause: PutCause::NoMemory,
+                }),
+            },
         }
-        self.values.insert(k, value).unwrap();
-        Ok(())
     }
 
     // Changes the node that lies at the path from the value under the name.
@@ -126,10 +115,10 @@ impl Entries {
             (entries (from_pairs self.new))
             result }
     {
-        let Ok(k) = place(self.names.as_slice(), name) else {
+        let Ok(k) = place(self.entries.as_slice(), name) else {
             return Err(change.misplaced());
         };
-        let child = &mut self.values[k];
+        let child = &mut self.entries[k].1;
         child.change_at(path, change)
     }
 
@@ -138,25 +127,43 @@ impl Entries {
         ensures { result ≡ counted (name_byte_count (from_pairs self.now)) }
     {
         let mut count: u64 = 0;
-        for name in self.names() {
-            count = count.saturating_add(name.as_bytes().len() as u64);
+        for entry in self.as_slice() {
+            count = count.saturating_add(entry.0.as_bytes().len() as u64);
         }
         count
     }
 
-    pub(crate) fn into_values(self) -> Vec<Value>
-        ensures { map plain result.items ≡ values self }
+    // Puts a value in the place of another, which it gives.
+    pub(crate) fn replace(&mut self, k: usize, by: Value) -> Value
+        requires { k < length self.now }
+        ensures values { values self.new ≡ set (values self.old) k (plain by) }
+        ensures value { plain result ≡ get_or (values self.old) k (plain by) }
     {
-        let Entries { names: _, values } = self;
-        values
+        mem::replace(&mut self.entries[k].1, by)
+    }
+
+    // Takes off the last value.
+    pub(crate) fn pop(&mut self) -> Value
+        requires { 0 < length self.now }
+        ensures { values self.old ≡ values self.new ++ plain result ∷ [] }
+    {
+        self.entries.pop().unwrap().1
+    }
+
+    // Lets go of no entries.
+    pub(crate) fn destroy_empty(self)
+        requires { length self ≡ 0 }
+    {
+        let Entries { entries } = self;
+        entries.destroy_empty();
     }
 }
 
 // Where the name stands, or before which it would.
-fn place(names: &[Name], name: &Name) -> Result<usize, usize>
-    requires { IsAscending names.now }
-    ensures place { result ≡ place_of name.now names.now }
-    ensures within { MatchResult result (λ k. k < length names.now) (λ k. k ≤ length names.now) }
+fn place(entries: &[(Name, Value)], name: &Name) -> Result<usize, usize>
+    requires { IsAscending (names entries.now) }
+    ensures place { result ≡ place_of name.now (names entries.now) }
+    ensures within { MatchResult result (λ k. k < length entries.now) (λ k. k ≤ length entries.now) }
 {
-    names.binary_search(name)
+    entries.binary_search_by_key(name, |entry| entry.0)
 }

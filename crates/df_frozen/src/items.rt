@@ -1,6 +1,6 @@
 //! Lists of values.
 
-ghost use Rattle.std.specs.Prelude.{◌≡◌, [], ◌∷◌, ◌++◌, map, option_map, OnOk, OnErr, IfErr};
+ghost use Rattle.std.specs.Prelude.{◌≡◌, ◌<◌, [], ◌∷◌, ◌++◌, length, map, option_map, get_or, set, OnOk, OnErr, IfErr};
 ghost use Rattle.df_frozen.specs.Change.{changed, Changes};
 ghost use Rattle.df_frozen.specs.Place.{change_at, change_item};
 ghost use Rattle.df_frozen.specs.Plain.{items, from_list};
@@ -12,6 +12,7 @@ use crate::step::Step;
 use crate::value::Value;
 use std::alloc::Global;
 use std::marker::Model;
+use std::mem;
 
 /// Values in order.
 #[derive(Drop)]
@@ -93,16 +94,28 @@ impl Items {
         child.change_at(path, change)
     }
 
-    pub(crate) fn from_values(values: Vec<Value>) -> Items
-        ensures { result ≡ map plain values.items }
+    // Puts a value in the place of another, which it gives.
+    pub(crate) fn replace(&mut self, k: usize, by: Value) -> Value
+        requires { k < length self.now }
+        ensures values { self.new ≡ set self.old k (plain by) }
+        ensures value { plain result ≡ get_or self.old k (plain by) }
     {
-        Items { values }
+        mem::replace(&mut self.values[k], by)
     }
 
-    pub(crate) fn into_values(self) -> Vec<Value>
-        ensures { map plain result.items ≡ self }
+    // Takes off the last value.
+    pub(crate) fn pop(&mut self) -> Value
+        requires { 0 < length self.now }
+        ensures { self.old ≡ self.new ++ plain result ∷ [] }
+    {
+        self.values.pop().unwrap()
+    }
+
+    // Lets go of no values.
+    pub(crate) fn destroy_empty(self)
+        requires { length self ≡ 0 }
     {
         let Items { values } = self;
-        values
+        values.destroy_empty();
     }
 }

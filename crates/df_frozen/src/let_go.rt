@@ -1,54 +1,62 @@
 //! Letting values go at any depth, without recursion and without memory.
 //!
-//! The values that wait lie in one list. A list or map that comes off its end is opened, and the
-//! list of what else waits is hung first among its values, in the room that its last value left.
+//! One list or map waits, and its last value is taken out of it. Where that is a list or map with
+//! values of its own, what waits is put first among those. Its first value goes last, and its last
+//! goes to the place that was left in what waits, so each place of the two is filled again.
 
-ghost use Rattle.std.specs.Prelude.{◌≡◌, ◌<◌, ◌∷◌, [], ◌++◌, vec_len};
-ghost use Rattle.std.specs.Vec.{vec_capacity};
-ghost use Rattle.df_frozen.specs.LetGo.{cost, hung};
-ghost use Rattle.df_frozen.specs.Value.{plain_all};
+ghost use Rattle.std.specs.Prelude.{◌≡◌, ◌<◌, ◌+◌, length, get_or, pos};
+ghost use Rattle.df_frozen.specs.Plain.{int};
+ghost use Rattle.df_frozen.specs.LetGo.{listed, cost, full_cost};
 
-use crate::items::Items;
 use crate::value::Value;
-use std::mem;
 
-pub(crate) fn let_go(mut waiting: Vec<Value>) {
-    while let Some(value) = waiting.pop() {
-        waiting = open(waiting, value);
+pub(crate) fn let_go(mut waiting: Value) {
+    while waiting.inner_len() > 0 {
+        waiting = step(waiting);
     }
-    waiting.destroy_empty();
+    waiting.end();
 }
 
-// One step, for a value that came off the end.
-fn open(mut waiting: Vec<Value>, value: Value) -> Vec<Value>
-    requires { vec_len waiting < vec_capacity waiting }
-    ensures { cost (plain_all result.items) < cost (plain_all (waiting.items ++ value ∷ [])) }
+// Lets go of one value, or opens one.
+fn step(mut waiting: Value) -> Value
+    requires { 0 < length (listed waiting) }
+    ensures { cost (listed result) < cost (listed waiting) }
 {
-    let Some(mut values) = value.into_inner() else {
-        return waiting;
-    };
-    if waiting.is_empty() {
-        waiting.destroy_empty();
-        return values;
+    let last = waiting.inner_len() - 1;
+    if last == 0 {
+        let value = waiting.pop_inner();
+        waiting.end();
+        return value;
     }
-    let Some(last) = values.pop() else {
-        values.destroy_empty();
-        return waiting;
-    };
-    waiting.push_reserved(last);
-    hang(values, Value::Items(Items::from_values(waiting)))
+    let mut value = waiting.replace_inner(last, Value::Int(0));
+    match value.inner_len() {
+        0 => {
+            waiting.pop_inner().end();
+            value.end();
+            waiting
+        }
+        1 => {
+            let only = value.pop_inner();
+            waiting.replace_inner(last, only).end();
+            value.end();
+            waiting
+        }
+        _ => hang(waiting, last, value),
+    }
 }
 
-// Puts the parent first, and what was first last.
-fn hang(mut values: Vec<Value>, parent: Value) -> Vec<Value>
-    requires { vec_len values < vec_capacity values }
-    ensures { result.items ≡ hung values.items parent }
+// Puts what waits first in the value. A 0 stands in the value's place.
+fn hang(mut waiting: Value, place: usize, mut value: Value) -> Value
+    requires later { 0 < place }
+    requires within { place < length (listed waiting) }
+    requires free { get_or (listed waiting) place (int (pos 0)) ≡ int (pos 0) }
+    requires more { 1 < length (listed value) }
+    ensures { cost (listed result) ≡ cost (listed waiting) + full_cost (listed value) }
 {
-    if values.is_empty() {
-        values.push_reserved(parent);
-    } else {
-        let first = mem::replace(&mut values[0], parent);
-        values.push_reserved(first);
-    }
-    values
+    let end = value.inner_len() - 1;
+    let last = value.replace_inner(end, Value::Int(0));
+    waiting.replace_inner(place, last).end();
+    let first = value.replace_inner(0, waiting);
+    value.replace_inner(end, first).end();
+    value
 }

@@ -12,6 +12,7 @@ mod let_go;
 mod memory;
 mod name;
 mod put;
+mod row;
 mod same;
 mod step;
 #[cfg(test)]

@@ -1,9 +1,9 @@
 //! Equality of plain content.
 
 ghost use Rattle.std.specs.Prelude.{◌≡◌, ◌↔◌, IsTrue, map};
-ghost use Rattle.df_frozen.specs.Value.{plain};
+ghost use Rattle.df_frozen.specs.Value.{plain, named};
 
-use crate::entries::Entries;
+use crate::name::Name;
 use crate::value::Value;
 
 impl Value {
@@ -17,18 +17,9 @@ impl Value {
             (Value::Words(a), Value::Words(b)) => a.as_str().as_bytes() == b.as_str().as_bytes(),
             (Value::Bytes(a), Value::Bytes(b)) => a.as_slice() == b.as_slice(),
             (Value::Items(a), Value::Items(b)) => same_values(a.as_slice(), b.as_slice()),
-            (Value::Map(a), Value::Map(b)) => a.same(b),
+            (Value::Map(a), Value::Map(b)) => same_entries(a.as_slice(), b.as_slice()),
             _ => false,
         }
-    }
-}
-
-impl Entries {
-    #[cycle(same)]
-    fn same(&self, other: &Entries) -> bool
-        ensures { IsTrue result ↔ (self.now ≡ other.now) }
-    {
-        self.names() == other.names() && same_values(self.values(), other.values())
     }
 }
 
@@ -46,4 +37,27 @@ fn same_values(a: &[Value], b: &[Value]) -> bool
         }
     }
     true
+}
+
+#[cycle(same)]
+fn same_entries(a: &[(Name, Value)], b: &[(Name, Value)]) -> bool
+    ensures { IsTrue result ↔ (map named a.now ≡ map named b.now) }
+{
+    if a.len() != b.len() {
+        return false;
+    }
+    for i in 0..a.len() {
+        let is_same = same_entry(&a[i], &b[i]);
+        if !is_same {
+            return false;
+        }
+    }
+    true
+}
+
+#[cycle(same)]
+fn same_entry(a: &(Name, Value), b: &(Name, Value)) -> bool
+    ensures { IsTrue result ↔ (named a.now ≡ named b.now) }
+{
+    a.0 == b.0 && a.1.same(&b.1)
 }

@@ -149,7 +149,7 @@ fn reads_and_shares(rt: HostRuntime) -> Result<(), Fail> {
     let Value::Map(map) = frozen.value() else {
         panic!(rt; "no map");
     };
-    assert_eq!(rt; map.names().len(), map.values().len());
+    assert!(rt; map.as_slice().iter().map(|e| e.0).eq([k, Name::new("z")?]));
     let Some(Value::Bytes(blob)) = map.get(&Name::new("z")?) else {
         panic!(rt; "no bytes");
     };

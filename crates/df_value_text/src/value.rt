@@ -1,6 +1,6 @@
-ghost use Rattle.std.specs.Prelude.{◌≡◌, ◌++◌, OnOk, codes, length, map};
-ghost use Rattle.std.specs.List.{flat_map, zip};
-ghost use Rattle.df_frozen.specs.Value.{plain};
+ghost use Rattle.std.specs.Prelude.{◌≡◌, ◌++◌, OnOk, codes, map};
+ghost use Rattle.std.specs.List.{flat_map};
+ghost use Rattle.df_frozen.specs.Value.{plain, named};
 ghost use Rattle.df_value_text.specs.Join.{joined};
 ghost use Rattle.df_value_text.specs.Value.{entry_text, escaped, hex, hex_digit, value_text};
 
@@ -25,7 +25,7 @@ pub fn append_value(value: &Value, to: &mut Vec<u8>) -> Result<(), NoMemory>
         }
         Value::Map(entries) => {
             to.push(b'(')?;
-            append_entries(entries.names(), entries.values(), to)?;
+            append_entries(entries.as_slice(), to)?;
             to.push(b')')?;
             Ok(())
         }
@@ -44,14 +44,13 @@ fn append_items(items: &[Value], to: &mut Vec<u8>) -> Result<(), NoMemory>
 }
 
 #[cycle(append)]
-fn append_entries(names: &[Name], values: &[Value], to: &mut Vec<u8>) -> Result<(), NoMemory>
-    requires { length names.now ≡ length values.now }
-    ensures { OnOk result (to.new.items ≡ to.old.items ++ joined 44 entry_text (zip names.now (map plain values.now))) }
+fn append_entries(entries: &[(Name, Value)], to: &mut Vec<u8>) -> Result<(), NoMemory>
+    ensures { OnOk result (to.new.items ≡ to.old.items ++ joined 44 entry_text (map named entries.now)) }
 {
-    for (i, value) in values.iter().enumerate() {
+    for (i, entry) in entries.iter().enumerate() {
         append_separator(b',', i, to)?;
-        append_entry_name(&names[i], to)?;
-        append_value(value, to)?;
+        append_entry_name(&entry.0, to)?;
+        append_value(&entry.1, to)?;
     }
     Ok(())
 }

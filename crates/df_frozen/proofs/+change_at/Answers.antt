@@ -1,11 +1,13 @@
-use Rattle.std.proofs.Common.{◌≡◌, ◌<◌, ◌≤◌, ◌∙◌, ap, sym, map, length, arith, refl, Ok, Err}
+use Rattle.std.proofs.Common.{◌≡◌, ◌<◌, ◌≤◌, ◌∙◌, ap, sym, subst, map, length, arith, refl, Ok, Err}
 use Rattle.std.specs.Prelude.{option_map}
 use Rattle.std.proofs.lemmas.List.{length-map}
 use Rattle.df_frozen.specs.Plain.{items, entries, from_list}
 use Rattle.df_frozen.specs.Place.{change_at}
 use Rattle.df_frozen.specs.Search.{place_of}
 use Rattle.df_frozen.specs.Change.{changed}
-use Rattle.df_frozen.specs.Value.{plain}
+use Rattle.df_frozen.specs.Entries.{names, IsAscending}
+use Rattle.df_frozen.specs.Value.{plain, named}
+use Rattle.df_frozen.proofs.Named.{names-named, names-set}
 use Rattle.df_frozen.proofs.Search.{change_value-missing}
 use Rattle.df_frozen.proofs.Places.{change_item-missing, Changes-item, Changes-entry}
 use Rattle.df_frozen.proofs.+change_at.Goals as goal
@@ -13,18 +15,25 @@ use Rattle.df_frozen.proofs.+change_at.Goals as goal
 pub entries::Entries::change_at-returns-in_default : goal.entries::Entries::change_at-returns-in_default
 entries::Entries::change_at-returns-in_default t c =
     let name = c.args.name.now in
-    let at : place_of name c.self.inside.names.items ≡ Err c.in_default.field-0 = ap (place_of name) (sym c.as_slice.ensures.value) ∙ sym c.in_default.ensures.place in
-    let none = change_value-missing (change_at (changed c.args.change) c.args.path.now) name c.self.inside.names.items (map plain c.self.inside.values.items) c.in_default.field-0 c.self.invariant.ascending at in
+    let es = c.self.inside.entries.items in
+    let at : place_of name (names (map named es)) ≡ Err c.in_default.field-0 = ap (place_of name) (names-named es ∙ ap names (sym c.as_slice.ensures.value)) ∙ sym c.in_default.ensures.place in
+    let none = change_value-missing (change_at (changed c.args.change) c.args.path.now) name (map named es) c.in_default.field-0 (rw (names-named es) c.self.invariant) at in
     (c.misplaced.ensures.value, refl, rw (c.misplaced.ensures.cause, ← c.self.view_is) (ap (option_map entries) none))
+
+pub entries::Entries::change_at-invariant_of-self : goal.entries::Entries::change_at-invariant_of-self
+entries::Entries::change_at-invariant_of-self t c =
+    let es = c.self.inside.entries.items in
+    let e = c.index_mut.result.now in
+    let within : c.in-Ok.k < length es = omega (arith, c.in-Ok.ensures.within, ap length c.as_slice.ensures.value) in
+    subst IsAscending (sym (names-set es c.in-Ok.k (e.0, c.change_at.new.self) e within (ap (λ x. x.0) c.index_mut.ensures.value))) c.self.invariant
 
 pub entries::Entries::change_at-returns : goal.entries::Entries::change_at-returns
 entries::Entries::change_at-returns t c =
     let name = c.args.name.now in
-    let ns = c.self.inside.names.items in
-    let vs = c.self.inside.values.items in
-    let at : place_of name ns ≡ Ok c.in-Ok.k = ap (place_of name) (sym c.as_slice.ensures.value) ∙ sym c.in-Ok.ensures.place in
-    let within : c.in-Ok.k < length vs = omega (arith, c.in-Ok.ensures.within, ap length c.as_slice.ensures.value, c.self.invariant.same_length) in
-    rw (← c.self.view_is) (Changes-entry c.args.change (change_at (changed c.args.change) c.args.path.now) name ns vs c.in-Ok.k c.index_mut-child.result.now c.change_at.new.self c.change_at.result c.self.invariant.same_length at c.index_mut-child.ensures.value within c.change_at.ensures)
+    let es = c.self.inside.entries.items in
+    let at : place_of name (names es) ≡ Ok c.in-Ok.k = ap (λ l. place_of name (names l)) (sym c.as_slice.ensures.value) ∙ sym c.in-Ok.ensures.place in
+    let within : c.in-Ok.k < length es = omega (arith, c.in-Ok.ensures.within, ap length c.as_slice.ensures.value) in
+    rw (← c.self.view_is) (Changes-entry c.args.change (change_at (changed c.args.change) c.args.path.now) name es c.in-Ok.k c.index_mut.result.now c.change_at.new.self c.change_at.result at c.index_mut.ensures.value within c.change_at.ensures)
 
 pub items::Items::change_at-returns-in_default : goal.items::Items::change_at-returns-in_default
 items::Items::change_at-returns-in_default t c =

@@ -1,6 +1,5 @@
-use Rattle.df_frozen.specs.Value.{plain_all}
-use Rattle.df_frozen.specs.LetGo.{cost}
+use Rattle.df_frozen.specs.LetGo.{listed, cost}
 use Rattle.df_frozen.proofs.let_go.let_go.Given as goal
 
-abbrev pub decreases-loop-value : goal.decreases-loop-value
-decreases-loop-value l = cost (plain_all l.waiting.items)
+abbrev pub decreases-loop-waiting : goal.decreases-loop-waiting
+decreases-loop-waiting l = cost (listed l.waiting)

@@ -1,7 +1,6 @@
 use Rattle.std.proofs.Common.{◌≡◌, ◌+◌, ◌*◌, ◌++◌, map, take}
-use Rattle.std.specs.List.{zip}
-use Rattle.df_frozen.specs.Plain.{depth, items_depth}
-use Rattle.df_frozen.specs.Value.{plain, plain_all}
+use Rattle.df_frozen.specs.Plain.{depth, items_depth, entries_depth, from_pairs}
+use Rattle.df_frozen.specs.Value.{plain, plain_all, named}
 use Rattle.df_value_text.specs.Join.{joined}
 use Rattle.df_value_text.specs.Value.{value_text, entry_text}
 use Rattle.df_value_text.proofs.value.+append.Given as goal
@@ -13,10 +12,10 @@ abbrev pub decreases-append_items : goal.decreases-append_items
 decreases-append_items a = 2 * items_depth (plain_all a.items.now) + 1
 
 abbrev pub decreases-append_entries : goal.decreases-append_entries
-decreases-append_entries a = 2 * items_depth (plain_all a.values.now) + 1
+decreases-append_entries a = 2 * entries_depth (from_pairs (map named a.entries.now)) + 1
 
 abbrev pub invariant-append_items-loop-i : goal.invariant-append_items-loop-i
 invariant-append_items-loop-i l = l.to.items ≡ l.fn.to.items ++ joined 44 value_text (take l.i (map plain l.items))
 
 abbrev pub invariant-append_entries-loop-i : goal.invariant-append_entries-loop-i
-invariant-append_entries-loop-i l = l.to.items ≡ l.fn.to.items ++ joined 44 entry_text (take l.i (zip l.names (map plain l.values)))
+invariant-append_entries-loop-i l = l.to.items ≡ l.fn.to.items ++ joined 44 entry_text (take l.i (map named l.entries))

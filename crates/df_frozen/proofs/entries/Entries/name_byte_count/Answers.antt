@@ -1,15 +1,18 @@
 use Rattle.std.proofs.Common.{◌≡◌, ◌∙◌, ap, arith, add-one, sym, take, take_all}
+use Rattle.df_frozen.specs.Plain.{from_pairs}
+use Rattle.df_frozen.specs.Counting.{name_byte_count}
 use Rattle.df_frozen.specs.Limits.{counted}
-use Rattle.df_frozen.proofs.Counts.{total_length, total_length-take, name_byte_count-from_pairs}
+use Rattle.df_frozen.proofs.Counts.{names_length, names_length-take, name_byte_count-named}
 use Rattle.df_frozen.proofs.entries.Entries.name_byte_count.Goals as goal
 
-pub loop-name-preserved : goal.loop-name-preserved
-loop-name-preserved c =
-    let more = total_length-take c.names-name-items.result.now c.loop-name.name-index c.name-item.result c.loop-name-test.true in
-    let here = rw (← c.name-item.is, ← c.as_bytes.ensures.value) at more in
-    rw (add-one, here) (omega (arith, c.loop-name.invariant, c.saturating_add-count.ensures))
+pub loop-entry-preserved : goal.loop-entry-preserved
+loop-entry-preserved c =
+    let more = names_length-take c.as_slice-entry-items.result.now c.loop-entry.entry-index c.entry-item.result c.loop-entry-test.true in
+    let here = rw (← c.entry-item.is, ← c.as_bytes.ensures.value) at more in
+    rw (add-one, here) (omega (arith, c.loop-entry.invariant, c.saturating_add-count.ensures))
 
 pub returns : goal.returns
 returns c =
-    let whole : take c.loop-name.name-index c.names-name-items.result.now ≡ c.names-name-items.result.now = take_all c.loop-name.name-index c.names-name-items.result.now c.loop-name-test.false in
-    c.loop-name.invariant ∙ ap (λ l. counted (total_length l)) (whole ∙ c.names-name-items.ensures.value) ∙ ap counted (sym (name_byte_count-from_pairs c.args.self.now))
+    let es = c.as_slice-entry-items.result.now in
+    let whole : take c.loop-entry.entry-index es ≡ es = take_all c.loop-entry.entry-index es c.loop-entry-test.false in
+    c.loop-entry.invariant ∙ ap (λ l. counted (names_length l)) whole ∙ ap counted (sym (name_byte_count-named es)) ∙ ap (λ l. counted (name_byte_count (from_pairs l))) c.as_slice-entry-items.ensures.value

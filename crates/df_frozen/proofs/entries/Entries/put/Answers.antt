@@ -1,57 +1,48 @@
-use Rattle.std.proofs.Common.{◌≡◌, ◌≤◌, ◌∙◌, ap, sym, map, length, arith, Ok, Err, true}
-use Rattle.std.specs.Prelude.{is_ok}
-use Rattle.std.specs.List.{insert, zip}
+use Rattle.std.proofs.Common.{◌≡◌, ◌∙◌, ap, sym, subst, map, Ok, Err}
 use Rattle.std.proofs.lemmas.List.{map-set}
-use Rattle.std.proofs.lemmas.List.Edits.{length-insert}
+use Rattle.std.specs.List.{insert}
 use Rattle.df_frozen.specs.Plain.{from_pairs}
+use Rattle.df_frozen.specs.Entries.{names, IsAscending}
 use Rattle.df_frozen.specs.Place.{put_entry}
 use Rattle.df_frozen.specs.Search.{place_of}
-use Rattle.df_frozen.specs.Value.{plain}
-use Rattle.df_frozen.proofs.Search.{put_entry-found, put_entry-new, place_of-within, IsAscending-insert}
-use Rattle.df_frozen.proofs.Places.{map-insert, inserted}
-use Rattle.df_frozen.proofs.Zipped.{length-map_plain}
+use Rattle.df_frozen.specs.Value.{plain, named}
+use Rattle.df_frozen.proofs.Named.{names-named, map-insert}
+use Rattle.df_frozen.proofs.Search.{put_entry-found, put_entry-new, set-found, IsAscending-inserted}
 use Rattle.df_frozen.proofs.entries.Entries.put.Goals as goal
+use Rattle.df_frozen.proofs.entries.Entries.put.Goals.{in-Ok-insert, in-Err-insert}
+
+-- where the name stands
+found : (c : goal.After-drop-index_mut) → place_of c.args.name (names c.self.inside.entries.items) ≡ Ok c.in-Ok.k
+found c = ap (λ l. place_of c.args.name (names l)) (sym c.as_slice.ensures.value) ∙ sym c.in-Ok.ensures.place
+
+-- where the new name goes
+placed : (c : goal.Joined-insert) → place_of c.args.name (names c.self.inside.entries.items) ≡ Err c.in-Err.k
+placed c = ap (λ l. place_of c.args.name (names l)) (sym c.as_slice.ensures.value) ∙ sym c.in-Err.ensures.place
+
+pub invariant_of-self : goal.invariant_of-self
+invariant_of-self c =
+    let es = c.self.inside.entries.items in
+    subst IsAscending (sym (map-set (λ x. x.0) es c.in-Ok.k (c.args.name, c.args.value) ∙ set-found c.args.name (names es) c.in-Ok.k (found c))) c.self.invariant
+
+pub invariant_of-self-in-Err : goal.invariant_of-self-in-Err
+invariant_of-self-in-Err c =
+    IsAscending-inserted _ c.args.name c.args.value c.self.inside.entries.items _ c.in-Err.k c.insert.ensures.items c.self.invariant (placed c)
 
 pub returns-in-Ok-clause-put : goal.returns-in-Ok-clause-put
 returns-in-Ok-clause-put c =
+    let es = c.self.inside.entries.items in
     let name = c.args.name in
     let v = c.args.value in
-    let ns = c.self.inside.names.items in
-    let vs = c.self.inside.values.items in
-    let at : place_of name ns ≡ Ok c.in-Ok.k = ap (place_of name) (sym c.as_slice.ensures.value) ∙ sym c.in-Ok.ensures.place in
-    ap (λ l. from_pairs (zip ns l)) (map-set plain vs c.in-Ok.k v) ∙ sym (put_entry-found name (plain v) ns (map plain vs) c.in-Ok.k (length-map_plain ns vs c.self.invariant.same_length) at) ∙ ap (λ es. put_entry name (plain v) (from_pairs es)) c.self.view_is
+    ap from_pairs (map-set named es c.in-Ok.k (name, v)) ∙ sym (put_entry-found name (plain v) (map named es) c.in-Ok.k (ap (place_of name) (names-named es) ∙ found c)) ∙ ap (λ l. put_entry name (plain v) (from_pairs l)) c.self.view_is
 
--- the names after an insertion
-names_inserted : (c : goal.After-unwrap) → c.insert.new.self.items ≡ insert c.self.inside.names.items c.in-Err.k c.args.name
-names_inserted c =
-    let ok : is_ok c.insert.result ≡ true = grind (arith, c.is_err-else-is_err.ensures.negation, c.if-is_err-2.false) in
-    inserted c.insert.result _ _ _ _ ok c.insert.ensures.items
-
--- the values after an insertion
-values_inserted : (c : goal.After-unwrap) → c.insert-2.new.self.items ≡ insert c.self.inside.values.items c.in-Err.k c.args.value
-values_inserted c =
-    let ok : is_ok c.insert-2.result ≡ true = ap is_ok c.unwrap.ensures in
-    inserted c.insert-2.result _ _ _ _ ok c.insert-2.ensures.items ∙ ap (λ l. insert l c.in-Err.k c.args.value) c.reserve.ensures.items
-
--- where the new name goes
-placed : (c : goal.After-unwrap) → place_of c.args.name c.self.inside.names.items ≡ Err c.in-Err.k
-placed c = ap (place_of c.args.name) (sym c.as_slice.ensures.value) ∙ sym c.in-Err.ensures.place
-
-pub invariant_of-self-2 : goal.invariant_of-self-2
-invariant_of-self-2 c =
-    let ns = c.self.inside.names.items in
-    let vs = c.self.inside.values.items in
-    let within : c.in-Err.k ≤ length ns = place_of-within c.args.name ns c.in-Err.k (placed c) in
-    rw (names_inserted c, values_inserted c) (record {
-      same_length = omega (arith, c.self.invariant.same_length, within, length-insert ns c.in-Err.k c.args.name within, length-insert vs c.in-Err.k c.args.value (omega (arith, within, c.self.invariant.same_length)));
-      ascending = IsAscending-insert c.args.name ns c.in-Err.k c.self.invariant.ascending (placed c);
-    })
-
-pub returns-clause-put : goal.returns-clause-put
-returns-clause-put c =
+pub returns-after-insert-clause-put : goal.returns-after-insert-clause-put
+returns-after-insert-clause-put c =
+    let es = c.self.inside.entries.items in
     let name = c.args.name in
     let v = c.args.value in
-    let ns = c.self.inside.names.items in
-    let vs = c.self.inside.values.items in
-    let seen : map plain c.insert-2.new.self.items ≡ insert (map plain vs) c.in-Err.k (plain v) = ap (map plain) (values_inserted c) ∙ map-insert vs c.in-Err.k v in
-    ap (λ l. from_pairs (zip l (map plain c.insert-2.new.self.items))) (names_inserted c) ∙ ap (λ l. from_pairs (zip (insert ns c.in-Err.k name) l)) seen ∙ sym (put_entry-new name (plain v) ns (map plain vs) c.in-Err.k (length-map_plain ns vs c.self.invariant.same_length) (placed c)) ∙ ap (λ es. put_entry name (plain v) (from_pairs es)) c.self.view_is
+    elim c.match-insert.branch [
+      | in-Ok-insert w ↦
+          let items : c.insert.new.self.items ≡ insert es c.in-Err.k (name, v) = rw w.in-Ok-insert.is at c.insert.ensures.items in
+          rw w.result-is (ap (λ l. from_pairs (map named l)) items ∙ ap from_pairs (map-insert named es c.in-Err.k (name, v)) ∙ sym (put_entry-new name (plain v) (map named es) c.in-Err.k (ap (place_of name) (names-named es) ∙ placed c)) ∙ ap (λ l. put_entry name (plain v) (from_pairs l)) c.self.view_is)
+      | in-Err-insert w ↦ rw w.result-is tt
+    ]
