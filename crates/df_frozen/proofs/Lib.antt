@@ -6,3 +6,4 @@ pub mod Search
 pub mod Places
 pub mod Contents
 pub mod Nodes
+pub mod Copies

@@ -12,3 +12,4 @@ pub mod Inner
 pub mod LetGo
 pub mod Counting
 pub mod Limits
+pub mod Copying

@@ -1,7 +1,8 @@
 //! Maps from names to values.
 
-ghost use Rattle.std.specs.Prelude.{◌≡◌, ◌<◌, ◌≤◌, [], ◌∷◌, ◌++◌, length, map, option_map, get_or, set, MatchResult, OnOk, OnErr, IfErr};
+ghost use Rattle.std.specs.Prelude.{◌≡◌, ◌<◌, ◌≤◌, [], ◌∷◌, ◌++◌, length, map, option_map, get_or, set, MatchResult, IfOk, OnOk, OnErr, IfErr};
 ghost use Rattle.df_frozen.specs.Change.{changed, Changes};
+ghost use Rattle.df_frozen.specs.Copying.{content, IsFresh};
 ghost use Rattle.df_frozen.specs.Entries.{names, values, get, IsAscending};
 ghost use Rattle.df_frozen.specs.Place.{change_at, change_value, put_entry};
 ghost use Rattle.df_frozen.specs.Plain.{entries, from_pairs};
@@ -11,6 +12,8 @@ ghost use Rattle.df_frozen.specs.Limits.{counted};
 ghost use Rattle.df_frozen.specs.Value.{plain, named};
 
 use crate::change::Change;
+use crate::copy::{Layer, complete};
+use crate::memory::NoMemory;
 use crate::name::Name;
 use crate::put::{NotPut, PutCause};
 use crate::step::Step;
@@ -79,6 +82,24 @@ impl Entries {
         }
     }
 
+    /// An equal map. Its values may be of any depth: they are copied by a loop.
+    pub fn copy(&self) -> Result<Entries, NoMemory>
+        ensures { IfOk result (λ entries. entries ≡ self.now) }
+    {
+        Ok(Entries::from_ascending(complete(self.layer())?.into_entries()))
+    }
+
+    // This map, with nothing copied yet.
+    pub(crate) fn layer(&self) -> Layer<'_>
+        ensures content { content result ≡ entries (from_pairs self.now) }
+        ensures fresh { IsFresh result }
+    {
+        Layer::Map {
+            from: self,
+            made: Vec::new(*self.entries.allocator()),
+        }
+    }
+
     pub(crate) fn put(&mut self, name: Name, value: Value) -> Result<(), NotPut>
         ensures put { OnOk result (from_pairs self.new ≡ put_entry name (plain value) (from_pairs self.old)) }
         ensures unchanged { OnErr result (self.new ≡ self.old) }
@@ -131,6 +152,13 @@ impl Entries {
             count = count.saturating_add(entry.0.as_bytes().len() as u64);
         }
         count
+    }
+
+    pub(crate) fn from_ascending(entries: Vec<(Name, Value)>) -> Entries
+        requires { IsAscending (names entries.items) }
+        ensures { result ≡ map named entries.items }
+    {
+        Entries { entries }
     }
 
     // Puts a value in the place of another, which it gives.

@@ -1,12 +1,15 @@
 //! Lists of values.
 
-ghost use Rattle.std.specs.Prelude.{◌≡◌, ◌<◌, [], ◌∷◌, ◌++◌, length, map, option_map, get_or, set, OnOk, OnErr, IfErr};
+ghost use Rattle.std.specs.Prelude.{◌≡◌, ◌<◌, [], ◌∷◌, ◌++◌, length, map, option_map, get_or, set, IfOk, OnOk, OnErr, IfErr};
 ghost use Rattle.df_frozen.specs.Change.{changed, Changes};
+ghost use Rattle.df_frozen.specs.Copying.{content, IsFresh};
 ghost use Rattle.df_frozen.specs.Place.{change_at, change_item};
 ghost use Rattle.df_frozen.specs.Plain.{items, from_list};
 ghost use Rattle.df_frozen.specs.Value.{plain};
 
 use crate::change::Change;
+use crate::copy::{Layer, complete};
+use crate::memory::NoMemory;
 use crate::put::{NotPut, PutCause};
 use crate::step::Step;
 use crate::value::Value;
@@ -59,6 +62,26 @@ impl Items {
         self.values.as_slice()
     }
 
+    /// An equal list. Its values may be of any depth: they are copied by a loop.
+    pub fn copy(&self) -> Result<Items, NoMemory>
+        ensures { IfOk result (λ items. items ≡ self.now) }
+    {
+        Ok(Items {
+            values: complete(self.layer())?.into_values(),
+        })
+    }
+
+    // This list, with nothing copied yet.
+    pub(crate) fn layer(&self) -> Layer<'_>
+        ensures content { content result ≡ items (from_list self.now) }
+        ensures fresh { IsFresh result }
+    {
+        Layer::Items {
+            from: self,
+            made: Vec::new(*self.values.allocator()),
+        }
+    }
+
     pub(crate) fn push(&mut self, value: Value) -> Result<(), NotPut>
         ensures pushed { OnOk result (self.new ≡ self.old ++ plain value ∷ []) }
         ensures unchanged { OnErr result (self.new ≡ self.old) }
@@ -92,6 +115,12 @@ impl Items {
             return Err(change.misplaced());
         };
         child.change_at(path, change)
+    }
+
+    pub(crate) fn from_values(values: Vec<Value>) -> Items
+        ensures { result ≡ map plain values.items }
+    {
+        Items { values }
     }
 
     // Puts a value in the place of another, which it gives.

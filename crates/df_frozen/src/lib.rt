@@ -3,6 +3,7 @@
 
 mod blob;
 mod change;
+mod copy;
 mod count;
 mod entries;
 mod freeze;

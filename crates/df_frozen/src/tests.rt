@@ -157,6 +157,53 @@ fn reads_and_shares(rt: HostRuntime) -> Result<(), Fail> {
     Ok(())
 }
 
+// A number in as many layers, in turn a list between two numbers and a map of three names.
+fn layered(alloc: Global, layers: u32) -> Result<Value, Fail> {
+    let [a, b, c] = [Name::new("a")?, Name::new("b")?, Name::new("c")?];
+    let mut value = Value::Int(0);
+    for n in 0..layers {
+        let mut outer = Value::Map(Entries::new(alloc));
+        if n % 2 == 0 {
+            outer = Value::Items(Items::new(alloc));
+            outer.push_at(&[], Value::Int(1))?;
+            outer.push_at(&[], value)?;
+            outer.push_at(&[], Value::Int(2))?;
+        } else {
+            outer.put_at(&[], c, Value::Int(1))?;
+            outer.put_at(&[], b, value)?;
+            outer.put_at(&[], a, Value::Int(2))?;
+        }
+        value = outer;
+    }
+    Ok(value)
+}
+
+#[test]
+fn copies(rt: HostRuntime) -> Result<(), Fail> {
+    let alloc = rt.alloc();
+    for value in [
+        Value::Int(7),
+        words(alloc, "two")?,
+        Value::Bytes(Blob::new(alloc, &[0, 255])?),
+        Value::Items(Items::new(alloc)),
+        Value::Map(Entries::new(alloc)),
+        sample(alloc)?,
+        layered(alloc, 31)?,
+    ] {
+        let copy = value.copy()?.freeze(alloc)?;
+        assert!(rt; copy.plain_eq(&value.freeze(alloc)?));
+    }
+    let Value::Map(map) = &sample(alloc)? else {
+        panic!(rt; "no map");
+    };
+    assert_eq!(rt; map.copy()?.as_slice().len(), 2);
+    let Some(Value::Items(list)) = map.get(&Name::new("k")?) else {
+        panic!(rt; "no list");
+    };
+    assert_eq!(rt; list.copy()?.as_slice().len(), 2);
+    Ok(())
+}
+
 #[test]
 fn takes_any_depth(rt: HostRuntime) -> Result<(), Fail> {
     let alloc = rt.alloc();
@@ -167,6 +214,15 @@ fn takes_any_depth(rt: HostRuntime) -> Result<(), Fail> {
         nodes: 1_000_000,
         bytes: 0,
         depth: 1_000_000,
+    };
+    assert_eq!(rt; refused.cause, cause);
+    let Err(refused) = layered(alloc, 200_000)?.copy()?.freeze(alloc) else {
+        panic!(rt; "frozen");
+    };
+    let cause = FreezeCause::TooLarge {
+        nodes: 600_001,
+        bytes: 300_000,
+        depth: 200_001,
     };
     assert_eq!(rt; refused.cause, cause);
     Ok(())
