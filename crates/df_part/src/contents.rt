@@ -97,7 +97,7 @@ fn kept(alloc: Global, parts: &[PartRef], deleted: &[Spot]) -> Result<Vec<PartRe
 }
 
 /// Appends a share of each part.
-fn share_all(parts: &[PartRef], to: &mut Vec<PartRef>) -> Result<(), NoMemory>
+pub(crate) fn share_all(parts: &[PartRef], to: &mut Vec<PartRef>) -> Result<(), NoMemory>
     ensures { OnOk result (to.new.items ≡ to.old.items ++ parts.now) }
 {
     for part in parts {

@@ -1,8 +1,10 @@
-ghost use Rattle.std.specs.Prelude.{◌≡◌, ◌↔◌, IsTrue};
+ghost use Rattle.std.specs.Prelude.{◌≡◌, ◌↔◌, IsTrue, IfOk};
 
 use crate::PartRef;
+use crate::contents::share_all;
 use df_frozen::Name;
-use df_label::Label;
+use df_label::{Label, NoMemory};
+use std::alloc::Global;
 use std::marker::Model;
 
 /// The name and the exact label of parts that are to be deleted.
@@ -18,6 +20,15 @@ impl Spot {
         ensures { IsTrue result ↔ (self.now ≡ other.now) }
     {
         self.name == other.name && self.label.same(&other.label)
+    }
+
+    pub fn copy(&self) -> Result<Spot, NoMemory>
+        ensures { IfOk result (λ s. s ≡ self.now) }
+    {
+        Ok(Spot {
+            name: self.name,
+            label: self.label.copy()?,
+        })
     }
 }
 
@@ -59,6 +70,16 @@ impl Edit {
             && same_parts(self.added.as_slice(), other.added.as_slice())
     }
 
+    /// An equal edit, which shares the added parts.
+    pub fn copy(&self) -> Result<Edit, NoMemory>
+        ensures { IfOk result (λ e. e ≡ self.now) }
+    {
+        let deleted = copies(*self.deleted.allocator(), self.deleted.as_slice())?;
+        let mut added = Vec::new(*self.added.allocator());
+        share_all(self.added.as_slice(), &mut added)?;
+        Ok(Edit { deleted, added })
+    }
+
     pub fn deleted(&self) -> &[Spot]
         ensures { result.now ≡ self.now.0 }
     {
@@ -70,6 +91,16 @@ impl Edit {
     {
         self.added.as_slice()
     }
+}
+
+fn copies(alloc: Global, spots: &[Spot]) -> Result<Vec<Spot>, NoMemory>
+    ensures { IfOk result (λ v. v.items ≡ spots.now) }
+{
+    let mut copies = Vec::new(alloc);
+    for spot in spots {
+        copies.push(spot.copy()?)?;
+    }
+    Ok(copies)
 }
 
 fn same_spots(a: &[Spot], b: &[Spot]) -> bool

@@ -1,7 +1,7 @@
-ghost use Rattle.std.specs.Prelude.{◌≡◌, ◌↔◌, IsTrue};
+ghost use Rattle.std.specs.Prelude.{◌≡◌, ◌↔◌, IsTrue, IfOk};
 
 use df_frozen::{Frozen, Name};
-use df_label::{Label, Privileges};
+use df_label::{Label, NoMemory, Privileges};
 
 /// A part of an event: a name, a label, a value, and the privileges that its readers get.
 #[derive(Drop)]
@@ -21,6 +21,21 @@ impl Part {
             && self.label.same(&other.label)
             && self.value.plain_eq(&other.value)
             && self.privileges.same(&other.privileges)
+    }
+
+    /// An equal part, which shares the value.
+    pub fn copy(&self) -> Result<Part, NoMemory>
+        ensures { IfOk result (λ p. p ≡ self.now) }
+    {
+        let Ok(value) = self.value.share() else {
+            return Err(NoMemory);
+        };
+        Ok(Part {
+            name: self.name,
+            label: self.label.copy()?,
+            value,
+            privileges: self.privileges.copy()?,
+        })
     }
 }
 

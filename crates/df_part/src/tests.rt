@@ -71,7 +71,7 @@ fn deletes_by_name_and_exact_label_before_it_adds(rt: HostRuntime) -> Result<(),
         let mut parts = Vec::new(alloc);
         parts.push(part(alloc, "a", label(alloc, false, false)?, 9)?)?;
         let mut after = before.copy()?;
-        after.apply(&Edit::new(deleted, parts))?;
+        after.apply(&Edit::new(deleted, parts).copy()?)?;
         assert!(rt; are_numbered(after.parts(), numbers), "deleting {name}");
     }
     Ok(())
@@ -116,6 +116,7 @@ fn compares_by_plain_content(rt: HostRuntime) -> Result<(), Fail> {
         ("a", true, 1, false),
     ] {
         let other = part(alloc, name, label(alloc, secret, false)?, number)?;
+        assert!(rt; other.part().same(&other.part().copy()?));
         assert_eq!(rt; first.same(&other), is_same, "{name} {number}");
     }
     Ok(())
