@@ -1,4 +1,7 @@
 //! Copying values at any depth, without recursion.
+//!
+//! One list or map is copied value by value. Where the next value is a list or map of its own, the
+//! one around it waits, and takes the copy once that is whole.
 
 ghost use Rattle.std.specs.Prelude.{◌≡◌, Some, [], ◌∷◌, map, option_map, IfOk, OnOk};
 ghost use Rattle.df_frozen.specs.Copying.{content, rest, first, IsCopied, IsBegun, IsList, IsMap};
