@@ -19,11 +19,15 @@ escaped byte =
     else if nat_lt byte 32 || (byte == 127) then 92 ∷ hex byte
     else byte ∷ []
 
+-- words: in quotes, each byte escaped
+abbrev pub words_text : List ℕ → List ℕ
+words_text text = codes "\"" ++ flat_map escaped text ++ codes "\""
+
 -- a value's plain content
 abbrev mutual
   pub value_text : Plain → List ℕ
   value_text (int number) = signed_decimal number
-  value_text (words text) = codes "\"" ++ flat_map escaped text ++ codes "\""
+  value_text (words text) = words_text text
   value_text (bytes text) = codes "x\"" ++ flat_map hex text ++ codes "\""
   value_text (items values) = codes "[" ++ items_text values ++ codes "]"
   value_text (entries values) = codes "(" ++ entries_text values ++ codes ")"

@@ -13,4 +13,4 @@ pub use label::append_label;
 pub use number::{append_number, append_whole};
 pub use privilege::append_privilege;
 pub use tag::{append_path, append_tag, append_tags};
-pub use value::append_value;
+pub use value::{append_value, append_words};

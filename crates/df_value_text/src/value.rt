@@ -2,7 +2,7 @@ ghost use Rattle.std.specs.Prelude.{◌≡◌, ◌++◌, OnOk, codes, map};
 ghost use Rattle.std.specs.List.{flat_map};
 ghost use Rattle.df_frozen.specs.Value.{plain, named};
 ghost use Rattle.df_value_text.specs.Join.{joined};
-ghost use Rattle.df_value_text.specs.Value.{entry_text, escaped, hex, hex_digit, value_text};
+ghost use Rattle.df_value_text.specs.Value.{entry_text, escaped, hex, hex_digit, value_text, words_text};
 
 use crate::{append_separator, append_whole};
 use df_frozen::{Name, Value};
@@ -15,7 +15,7 @@ pub fn append_value(value: &Value, to: &mut Vec<u8>) -> Result<(), NoMemory>
 {
     match value {
         Value::Int(number) => append_whole(*number, to),
-        Value::Words(words) => append_words(words.as_str().as_bytes(), to),
+        Value::Words(words) => append_words(words.as_str(), to),
         Value::Bytes(bytes) => append_bytes(bytes.as_slice(), to),
         Value::Items(items) => {
             to.push(b'[')?;
@@ -65,11 +65,12 @@ fn append_entry_name(name: &Name, to: &mut Vec<u8>) -> Result<(), NoMemory>
 
 ghost use Rattle.std.specs.Prelude.{◌<◌};
 
-fn append_words(text: &[u8], to: &mut Vec<u8>) -> Result<(), NoMemory>
-    ensures { OnOk result (to.new.items ≡ to.old.items ++ (codes "\"" ++ flat_map escaped text.now ++ codes "\"")) }
+/// Appends words: in quotes, each byte as it is escaped.
+pub fn append_words(text: &str, to: &mut Vec<u8>) -> Result<(), NoMemory>
+    ensures { OnOk result (to.new.items ≡ to.old.items ++ words_text text.now) }
 {
     to.push(b'"')?;
-    for byte in text {
+    for byte in text.as_bytes() {
         append_escaped(*byte, to)?;
     }
     to.push(b'"')?;
