@@ -1,2 +1,4 @@
+pub mod Asked
+pub mod FieldTest
 pub mod Clause
 pub mod Filter

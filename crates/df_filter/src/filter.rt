@@ -1,25 +1,9 @@
 ghost use Rattle.std.specs.Prelude.{IsTrue, ◌≡◌, ◌<◌, ◌≤◌, ◌↔◌, [], length, IfOk, OnErr, Err, Ok};
 ghost use Rattle.df_filter.specs.Filter.{filter_of};
 
-use crate::Clause;
-use std::alloc::{AllocError, AllocFailed};
+use crate::{Clause, NoMemory};
+use std::alloc::Global;
 use std::marker::Model;
-
-/// Memory ran out.
-#[derive(Clone, Copy, Debug, PartialEq, Eq)]
-pub struct NoMemory;
-
-impl From<AllocError> for NoMemory {
-    fn from(_error: AllocError) -> NoMemory {
-        NoMemory
-    }
-}
-
-impl<T: Drop> From<AllocFailed<T>> for NoMemory {
-    fn from(_error: AllocFailed<T>) -> NoMemory {
-        NoMemory
-    }
-}
 
 /// How many clauses a filter may have.
 pub const MOST_CLAUSES: usize = 4;
@@ -81,8 +65,9 @@ impl Filter {
     pub fn copy(&self) -> Result<Filter, NoMemory>
         ensures { IfOk result (λ f. f ≡ self.now) }
     {
+        let alloc = *self.clauses.allocator();
         Ok(Filter {
-            clauses: Vec::from_slice(*self.clauses.allocator(), self.clauses.as_slice())?,
+            clauses: copy_all(alloc, self.clauses.as_slice())?,
         })
     }
 }
@@ -100,4 +85,14 @@ fn all_same(a: &[Clause], b: &[Clause]) -> bool
         }
     }
     true
+}
+
+fn copy_all(alloc: Global, clauses: &[Clause]) -> Result<Vec<Clause>, NoMemory>
+    ensures { IfOk result (λ copies. copies.items ≡ clauses.now) }
+{
+    let mut copies = Vec::with_capacity(alloc, clauses.len())?;
+    for clause in clauses {
+        copies.push(clause.copy()?)?;
+    }
+    Ok(copies)
 }

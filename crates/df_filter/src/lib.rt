@@ -1,11 +1,16 @@
 //! Clauses on a part's name and value, and filters made of them.
 #![tactic(auto)]
 
+mod asked;
 mod clause;
+mod field_test;
 mod filter;
+mod memory;
 
 pub use clause::{Clause, Test};
-pub use filter::{Filter, FilterRefused, NoMemory};
+pub use field_test::FieldTest;
+pub use filter::{Filter, FilterRefused};
+pub use memory::NoMemory;
 
 #[cfg(test)]
 mod tests;

@@ -1,1 +1,2 @@
+pub mod FieldTest
 pub mod Filter

@@ -1,5 +1,5 @@
 -- Numbers, names and filters from their words.
-use Rattle.std.proofs.Common.{◌≡◌, ℕ, ◌<◌, ◌^◌, Bool, true, false, nat_eq, ℤ, Option, Some, Result, Ok, List, [], ◌∷◌, ◌++◌, codes, decimal, sym, ap, subst, ◌∙◌, arith, SFits, w64, IsUtf8}
+use Rattle.std.proofs.Common.{◌≡◌, ℕ, ◌<◌, ◌^◌, Bool, true, false, nat_eq, ℤ, Option, Some, Result, Ok, List, [], ◌∷◌, ◌++◌, codes, decimal, refl, sym, ap, subst, ◌∙◌, arith, SFits, w64, IsUtf8}
 use Rattle.std.specs.Result.{result_ok}
 use Rattle.std.specs.Cmp.Lexicographic.{pointwise}
 use Rattle.std.specs.Fmt.{signed_decimal}
@@ -40,4 +40,4 @@ pointwise-differ a b r e f same = let t : pointwise nat_eq a b ≡ true = (bytes
 pub Reads-filter : (text front name : List ℕ) → text ≡ front ++ codes "?" → (is_name name ≡ true) × (front ≡ name) → (clauses : List Clause) → clauses ≡ record { name = name; test = Present } ∷ [] → (made : Result (List Clause) FilterRefused) → made ≡ filter_of clauses → (o : Option (List Clause)) → o ≡ result_ok made → Reads filter_text IsReadFilter text o
 Reads-filter text front name is fits clauses are made makes o gives =
     let some : o ≡ Some (record { name = name; test = Present } ∷ []) = gives ∙ ap result_ok (makes ∙ ap filter_of are) in
-    rw some (fits.0, is ∙ ap (λ (l : List ℕ). l ++ codes "?") fits.1)
+    rw some ((fits.0, refl), is ∙ ap (λ (l : List ℕ). l ++ codes "?") fits.1)

@@ -12,8 +12,6 @@ use Rattle.df_frozen.specs.Name.{is_name, is_name_byte, is_letter}
 use Rattle.df_frozen.specs.Plain.{Plain, int, words, bytes, items, entries}
 use Rattle.df_label.specs.declared.label.Label.{Label}
 use Rattle.df_filter.specs.declared.clause.Clause.{Clause}
-use Rattle.df_filter.specs.declared.clause.Test.{Test}
-use Rattle.df_filter.specs.declared.clause.Test.TheVariants.{Present}
 use Rattle.df_unit.specs.declared.name.UnitName.{UnitName}
 use Rattle.df_unit.specs.declared.name.UnitName.TheVariants.{Root, Managed}
 use Rattle.df_unit.specs.declared.call.Call.{Call}
@@ -101,10 +99,6 @@ pub label_text-none : (l : Label) → IsReadLabel l → label_text l ≡ codes "
 label_text-none l h =
     ap (λ s. codes "{" ++ tags_text s ++ codes "|" ++ tags_text l.i ++ codes "}") h.0 ∙ ap (λ i. codes "{" ++ tags_text [] ++ codes "|" ++ tags_text i ++ codes "}") h.1
 
--- the one test
-pub test_text-present : (t : Test) → test_text t ≡ codes "?"
-test_text-present Present = refl
-
 -- the label without tags is a word
 is_word-label : (l : Label) → IsReadLabel l → is_word (label_text l) ≡ true
 is_word-label l h = ap is_word (label_text-none l h)
@@ -120,7 +114,7 @@ is_word-value (entries es) h = absurd h
 -- a filter of one clause is a word
 is_word-filter : (cs : List Clause) → IsReadFilter cs → is_word (filter_text cs) ≡ true
 is_word-filter [] h = absurd h
-is_word-filter (c ∷ []) h = is_word-append c.name (test_text c.test) (is_word-name c.name h) (ap is_word (test_text-present c.test))
+is_word-filter (c ∷ []) h = is_word-append c.name (test_text c.test) (is_word-name c.name h.0) (ap (λ test. is_word (test_text test)) h.1)
 is_word-filter (c ∷ d ∷ cs) h = absurd h
 
 -- who makes a call is a word

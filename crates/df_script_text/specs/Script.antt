@@ -7,6 +7,7 @@ use Rattle.df_label.specs.declared.label.Label.{Label}
 use Rattle.df_frozen.specs.Name.{is_name}
 use Rattle.df_frozen.specs.Plain.{Plain, int, words, bytes, items, entries}
 use Rattle.df_filter.specs.declared.clause.Clause.{Clause}
+use Rattle.df_filter.specs.declared.clause.Test.TheVariants.{Present}
 use Rattle.df_unit.specs.declared.name.UnitName.{UnitName}
 use Rattle.df_unit.specs.declared.name.UnitName.TheVariants.{Root, Managed}
 use Rattle.df_unit.specs.declared.call.Call.{Call}
@@ -47,10 +48,10 @@ IsReadValue (bytes text) = ⊥
 IsReadValue (items values) = ⊥
 IsReadValue (entries values) = ⊥
 
--- a filter: one clause
+-- a filter: one clause, which asks that there is a part of its name
 abbrev pub IsReadFilter : List Clause → Type 0
 IsReadFilter [] = ⊥
-IsReadFilter (clause ∷ []) = is_name clause.name ≡ true
+IsReadFilter (clause ∷ []) = (is_name clause.name ≡ true) × (clause.test ≡ Present)
 IsReadFilter (clause ∷ next ∷ clauses) = ⊥
 
 -- a call that scripts have so far
