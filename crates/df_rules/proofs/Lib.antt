@@ -15,6 +15,7 @@ pub mod Above
 pub mod Runs
 pub mod ExampleWords
 pub mod ExampleDeliveries
+pub mod ExampleFilters
 pub mod ExampleLabels
 pub mod ExamplePrivileges
 pub mod ExampleInstances
