@@ -1,4 +1,4 @@
-ghost use Rattle.std.specs.Prelude.{◌≡◌, ◌∷◌, ◌++◌, OnOk, codes};
+ghost use Rattle.std.specs.Prelude.{◌≡◌, ◌∷◌, ◌++◌, OnOk, OnErr, codes};
 ghost use Rattle.std.specs.Fmt.{signed_decimal};
 ghost use Rattle.df_filter_text.specs.FieldTest.{field_test_text, range_text};
 ghost use Rattle.df_filter_text.specs.Filter.{clause_text, filter_text, test_text};
@@ -8,6 +8,18 @@ use df_filter::{Clause, FieldTest, Filter, Test};
 use df_frozen::{Name, Words};
 use df_label::NoMemory;
 use df_value_text::{append_separator, append_whole, append_words};
+use std::alloc::Global;
+
+/// Appends a filter as `append_filter` does, but where memory is wanting it appends nothing.
+pub fn write_filter(alloc: Global, filter: &Filter, to: &mut Vec<u8>) -> Result<(), NoMemory>
+    ensures ok { OnOk result (to.new.items ≡ to.old.items ++ filter_text filter.now) }
+    ensures unchanged { OnErr result (to.new.items ≡ to.old.items) }
+{
+    let mut text = Vec::new(alloc);
+    append_filter(filter, &mut text)?;
+    to.extend_from_slice(text.as_slice())?;
+    Ok(())
+}
 
 /// Appends a filter: its clauses with `&` between them.
 pub fn append_filter(filter: &Filter, to: &mut Vec<u8>) -> Result<(), NoMemory>
