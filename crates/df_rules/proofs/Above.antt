@@ -11,7 +11,7 @@ use Rattle.df_rules.specs.Grows.{IsAbove}
 use Rattle.df_rules.specs.Own.{stepped, made_by, own_plain, own_instance, fixed, is_given, born}
 use Rattle.df_rules.specs.Start.{rows}
 use Rattle.df_rules.proofs.Invariant.{FixedFrom, fixed_from, base_within}
-use Rattle.df_rules.proofs.LabelFacts.{subset_trans, subset_of_union_left, subset_of_union_right}
+use Rattle.df_label.proofs.TagSetFacts.{is_subset-trans, is_subset-union_left, is_subset-union_right}
 use Rattle.df_rules.proofs.RowLaws.{by_fixed, by_child}
 use Rattle.df_rules.proofs.Steps.{or_is, step_none}
 use Rattle.df_unit.specs.Beginnings.{fixed_of, begin, child, child_secrets}
@@ -24,14 +24,14 @@ use Rattle.df_unit.specs.declared.name.UnitName.TheVariants.{Root, Managed}
 
 begin_above : (st : OwnState) (filter : List Clause) (t : List (List ℕ)) → is_subset (fixed_of st filter).base t ≡ true → IsAbove st (begin (fixed_of st filter) t)
 begin_above st filter t base =
-    let input = subset_trans st.input.s (union st.input.s st.output.s) t (subset_of_union_left st.input.s st.output.s) base in
-    let output = subset_trans st.output.s (union st.input.s st.output.s) t (subset_of_union_right st.input.s st.output.s) base in
+    let input = is_subset-trans st.input.s (union st.input.s st.output.s) t (is_subset-union_left st.input.s st.output.s) base in
+    let output = is_subset-trans st.output.s (union st.input.s st.output.s) t (is_subset-union_right st.input.s st.output.s) base in
     record { reads_input = input; reads_output = output; writes_input = input; writes_output = output }
 
 child_above : (st : OwnState) (s : List (List ℕ)) (privileges : List Privilege) → IsAbove st (child st s privileges)
 child_above st s privileges =
-    let input = subset_trans st.input.s (union s st.input.s) (child_secrets st s) (subset_of_union_right s st.input.s) (subset_of_union_left (union s st.input.s) st.output.s) in
-    let output = subset_of_union_right (union s st.input.s) st.output.s in
+    let input = is_subset-trans st.input.s (union s st.input.s) (child_secrets st s) (is_subset-union_right s st.input.s) (is_subset-union_left (union s st.input.s) st.output.s) in
+    let output = is_subset-union_right (union s st.input.s) st.output.s in
     record { reads_input = input; reads_output = output; writes_input = input; writes_output = output }
 
 -- where there was none, the newer one's is the state

@@ -13,8 +13,9 @@ use Rattle.df_part.specs.declared.edit.Spot.{Spot}
 use Rattle.df_part.specs.declared.part.Part.{Part}
 use Rattle.df_rules.specs.Choices.{serves, fits, gives}
 use Rattle.df_rules.specs.Commits.{cut_spots}
-use Rattle.df_label.proofs.LabelFacts.{label_eq-Decides}
-use Rattle.df_rules.proofs.LabelFacts.{or_either, and_left, and_right, and_both, flows_trans, subset_union_left, subset_union_right, subset_same, subset_trans}
+use Rattle.df_label.proofs.LabelFacts.{flows_to-from_parts, flows_to-trans, label_eq-Decides}
+use Rattle.df_label.proofs.TagSetFacts.{tag_set_eq-Decides, is_subset-refl, is_subset-trans, is_subset-union_left, is_subset-union_right}
+use Rattle.std.proofs.lemmas.Bool.{and_parts, and_right, or_cases}
 
 -- a stronger test after a weaker one
 pub filter_filter : {X : Type 0} (p q : X → Bool) → ((x : X) → p x ≡ true → q x ≡ true) → (xs : List X) → filter p (filter q xs) ≡ filter p xs
@@ -28,7 +29,7 @@ filter_filter {X} p q h (x ∷ xs) = go (p x) refl (q x) refl (filter_filter p q
     go false e false f ih = ih
 
 pub cut_cut : (a l : Label) → flows_to a l ≡ true → (parts : List Part) → cut a (cut l parts) ≡ cut a parts
-cut_cut a l h = filter_filter (λ p. flows_to p.label a) (λ p. flows_to p.label l) (λ p k. flows_trans p.label a l k h)
+cut_cut a l h = filter_filter (λ p. flows_to p.label a) (λ p. flows_to p.label l) (λ p k. flows_to-trans p.label a l k h)
 
 pub cut_again : (l : Label) (parts : List Part) → cut l (cut l parts) ≡ cut l parts
 cut_again l = filter_filter (λ p. flows_to p.label l) (λ p. flows_to p.label l) (λ p k. k)
@@ -49,7 +50,7 @@ deleted_cut l p h (d ∷ ds) = go (flows_to d.label l) refl (is_at p d) refl (de
     go true e true f ih = rw f refl
     go true e false f ih = rw f ih
     go false e true f ih =
-        let g = (label_eq-Decides p.label d.label).0 (and_right (bytes_eq p.name d.name) (label_eq p.label d.label) f) in
+        let g = (label_eq-Decides p.label d.label).0 (and_parts (bytes_eq p.name d.name) (label_eq p.label d.label) f).1 in
         let k : flows_to d.label l ≡ true = subst (λ (x : Label). flows_to x l ≡ true) g h in cc
     go false e false f ih = ih
 
@@ -86,7 +87,7 @@ any_false f none (x ∷ xs) = rw (none x) (any_false f none xs)
 
 any_found : {X : Type 0} (f : X → Bool) (P : Type 0) → ((x : X) → f x ≡ true → P) → (xs : List X) → list_any f xs ≡ true → P
 any_found f P each [] h = absurd (let k : ⊥ = cc in k)
-any_found f P each (x ∷ xs) h = elim (or_either (f x) (list_any f xs) h) [ inl e ↦ each x e | inr e ↦ any_found f P each xs e ]
+any_found f P each (x ∷ xs) h = elim (or_cases (f x) (list_any f xs) h) [ inl e ↦ each x e | inr e ↦ any_found f P each xs e ]
 
 -- whether a part is picked for a clause on the way to t
 abbrev picks : Clause → List Clause → List (List ℕ) → List (List ℕ) → List (List ℕ) → Bool → List Part → List Part → Part → Bool
@@ -94,16 +95,12 @@ picks c cs i t so_far fresh old added p = fits i c p && gives cs i t (union so_f
 
 -- a choice that gives t has all its tags in t
 pub gives_within : (cs : List Clause) (i t so_far : List (List ℕ)) (fresh : Bool) (old added : List Part) → gives cs i t so_far fresh old added ≡ true → is_subset so_far t ≡ true
-gives_within [] i t so_far fresh old added h = subset_same so_far t (and_right fresh (tag_set_eq so_far t) h)
+gives_within [] i t so_far fresh old added h = subst (λ (set : List (List ℕ)). is_subset so_far set ≡ true) ((tag_set_eq-Decides so_far t).0 (and_parts fresh (tag_set_eq so_far t) h).1) (is_subset-refl so_far)
 gives_within (c ∷ cs) i t so_far fresh old added h =
-    elim (or_either (list_any (picks c cs i t so_far fresh old added) old) (list_any (picks c cs i t so_far true old added) added) h) [
-      | inl e ↦ any_found (picks c cs i t so_far fresh old added) (is_subset so_far t ≡ true) (λ p k. subset_union_left so_far p.label.s t (gives_within cs i t (union so_far p.label.s) fresh old added (and_right (fits i c p) (gives cs i t (union so_far p.label.s) fresh old added) k))) old e
-      | inr e ↦ any_found (picks c cs i t so_far true old added) (is_subset so_far t ≡ true) (λ p k. subset_union_left so_far p.label.s t (gives_within cs i t (union so_far p.label.s) true old added (and_right (fits i c p) (gives cs i t (union so_far p.label.s) true old added) k))) added e
+    elim (or_cases (list_any (picks c cs i t so_far fresh old added) old) (list_any (picks c cs i t so_far true old added) added) h) [
+      | inl e ↦ any_found (picks c cs i t so_far fresh old added) (is_subset so_far t ≡ true) (λ p k. is_subset-trans so_far (union so_far p.label.s) t (is_subset-union_left so_far p.label.s) (gives_within cs i t (union so_far p.label.s) fresh old added (and_parts (fits i c p) (gives cs i t (union so_far p.label.s) fresh old added) k).1)) old e
+      | inr e ↦ any_found (picks c cs i t so_far true old added) (is_subset so_far t ≡ true) (λ p k. is_subset-trans so_far (union so_far p.label.s) t (is_subset-union_left so_far p.label.s) (gives_within cs i t (union so_far p.label.s) true old added (and_parts (fits i c p) (gives cs i t (union so_far p.label.s) true old added) k).1)) added e
     ]
-
-and_false : (a b : Bool) → b ≡ false → (a && b) ≡ false
-and_false true b h = h
-and_false false b h = refl
 
 true_or_false : (b : Bool) → (b ≡ true → b ≡ false) → b ≡ false
 true_or_false true h = h refl
@@ -114,9 +111,10 @@ picks_readable : (l : Label) (i t : List (List ℕ)) → is_subset t l.s ≡ tru
 picks_readable l i t h k c cs so_far fresh old added p e =
     let a = fits i c p in
     let g = gives cs i t (union so_far p.label.s) fresh old added in
-    and_both (is_subset p.label.s l.s) (is_subset l.i p.label.i)
-    (subset_trans p.label.s t l.s (subset_union_right so_far p.label.s t (gives_within cs i t (union so_far p.label.s) fresh old added (and_right a g e))) h)
-    (subset_trans l.i i p.label.i k (and_right (serves c p) (is_subset i p.label.i) (and_left a g e)))
+    let both = and_parts a g e in
+    let set = union so_far p.label.s in
+    let within = is_subset-trans p.label.s set t (is_subset-union_right so_far p.label.s) (gives_within cs i t set fresh old added both.1) in
+    flows_to-from_parts p.label l (is_subset-trans p.label.s t l.s within h) (is_subset-trans l.i i p.label.i k (and_parts (serves c p) (is_subset i p.label.i) both.0).1)
 
 -- a choice that gives t looks only at parts that are readable where t is
 pub gives_cut : (l : Label) (i t : List (List ℕ)) → is_subset t l.s ≡ true → is_subset l.i i ≡ true → (cs : List Clause) (so_far : List (List ℕ)) (fresh : Bool) (old added : List Part) → gives cs i t so_far fresh old added ≡ gives cs i t so_far fresh (cut l old) (cut l added)
@@ -135,7 +133,7 @@ gives_cut l i t h k (c ∷ cs) so_far fresh old added =
 pub gives_none : (cs : List Clause) (i t so_far : List (List ℕ)) (old : List Part) → gives cs i t so_far false old [] ≡ false
 gives_none [] i t so_far old = refl
 gives_none (c ∷ cs) i t so_far old =
-    rw (any_false (picks c cs i t so_far false old []) (λ p. and_false (fits i c p) (gives cs i t (union so_far p.label.s) false old []) (gives_none cs i t (union so_far p.label.s) old)) old) refl
+    rw (any_false (picks c cs i t so_far false old []) (λ p. and_right (fits i c p) (gives cs i t (union so_far p.label.s) false old []) (gives_none cs i t (union so_far p.label.s) old)) old) refl
 
 pub spared_nil : (parts : List Part) → spared [] parts ≡ parts
 spared_nil [] = refl

@@ -5,7 +5,7 @@ use Rattle.std.specs.Option.{option_map, option_and_then}
 use Rattle.std.specs.List.{list_all, filter}
 use Rattle.df_label.specs.Label.{flows_to}
 use Rattle.df_label.specs.Tag.{maker_of, number_of}
-use Rattle.df_label.specs.TagSet.{contains, is_subset}
+use Rattle.df_label.specs.TagSet.{contains}
 use Rattle.df_label.specs.declared.label.Label.{Label}
 use Rattle.df_part.specs.Part.{cut}
 use Rattle.df_part.specs.declared.edit.Spot.{Spot}
@@ -22,7 +22,10 @@ use Rattle.df_rules.specs.Own.{stepped, made_by, own_plain, own_instance, own, f
 use Rattle.df_rules.specs.Purge.{echo}
 use Rattle.df_rules.specs.Rules.{Rules}
 use Rattle.df_rules.proofs.Invariant.{FixedFrom, fixed_from, own_holds}
-use Rattle.df_rules.proofs.LabelFacts.{and_left, and_right, or_either, subset_contains, flows_trans, same_name-exact}
+use Rattle.df_label.proofs.LabelFacts.{flows_to-parts, flows_to-trans}
+use Rattle.df_label.proofs.TagSetFacts.{contains-included}
+use Rattle.df_unit.proofs.SameFacts.{same_name-exact}
+use Rattle.std.proofs.lemmas.Bool.{and_parts, or_cases}
 use Rattle.df_rules.proofs.PurgeKeeps.{began}
 use Rattle.df_rules.proofs.Steps.{or_is, none_step}
 use Rattle.df_unit.specs.Name.{same}
@@ -41,11 +44,11 @@ use Rattle.df_unit.specs.declared.reply.Reply.{Reply}
 -- where something of a list is readable at l, and out flows to all of it, out flows to l
 all_to_one : {X : Type 0} (label : X → Label) (out l : Label) (xs : List X) → list_all (λ x. flows_to out (label x)) xs ≡ true → is_nil (filter (λ x. flows_to (label x) l) xs) ≡ false → flows_to out l ≡ true
 all_to_one label out l [] all h = cc
-all_to_one {X} label out l (x ∷ xs) all h = go (flows_to (label x) l) refl h (all_to_one label out l xs (and_right (flows_to out (label x)) (list_all (λ x. flows_to out (label x)) xs) all))
+all_to_one {X} label out l (x ∷ xs) all h = go (flows_to (label x) l) refl h (all_to_one label out l xs (and_parts (flows_to out (label x)) (list_all (λ x. flows_to out (label x)) xs) all).1)
   where
     go : (b : Bool) → flows_to (label x) l ≡ b → is_nil (cond b (x ∷ filter (λ x. flows_to (label x) l) xs) (filter (λ x. flows_to (label x) l) xs)) ≡ false →
         (is_nil (filter (λ x. flows_to (label x) l) xs) ≡ false → flows_to out l ≡ true) → flows_to out l ≡ true
-    go true e h ih = flows_trans out (label x) l (and_left (flows_to out (label x)) (list_all (λ x. flows_to out (label x)) xs) all) e
+    go true e h ih = flows_to-trans out (label x) l (and_parts (flows_to out (label x)) (list_all (λ x. flows_to out (label x)) xs) all).0 e
     go false e h ih = ih h
 
 -- where a commit is not all cut, the output label flows to the label
@@ -185,14 +188,14 @@ module _ (R : Rules) (s : List OwnState) (laws : Laws R s) (release : ReleaseLaw
       set_aside st mine out = record {
         own = mine;
         dropped = λ x m not_in.
-            let gone : contains st.dropped x ≡ true = elim (or_either (contains st.output.s x) (contains st.dropped x) ((own_kept past u st mine).secret x m)) [
-              | inl y ↦ (let z = subset_contains st.output.s l.s x (and_left (is_subset st.output.s l.s) (is_subset l.i st.output.i) out) y in cc)
+            let gone : contains st.dropped x ≡ true = elim (or_cases (contains st.output.s x) (contains st.dropped x) ((own_kept past u st mine).secret x m)) [
+              | inl y ↦ (let z = contains-included st.output.s l.s x (flows_to-parts st.output l out).0 y in cc)
               | inr y ↦ y
             ] in
             (gone, own_changes Half.S Del (λ st. st.dropped) release.dropped_after (λ k st h. (release.none_first k st h).0) release.fixes_dropped release.makes_dropped past u legal.0 st mine x gone);
         endorsed = λ x m not_in.
-            let y = subset_contains l.i st.output.i x (and_right (is_subset st.output.s l.s) (is_subset l.i st.output.i) out) m in
-            let there : contains st.endorsed x ≡ true = elim (or_either (contains st.contamination.i x) (contains st.endorsed x) ((own_kept past u st mine).sound x y)) [
+            let y = contains-included l.i st.output.i x (flows_to-parts st.output l out).1 m in
+            let there : contains st.endorsed x ≡ true = elim (or_cases (contains st.contamination.i x) (contains st.endorsed x) ((own_kept past u st mine).sound x y)) [
               | inl z ↦ cc
               | inr z ↦ z
             ] in

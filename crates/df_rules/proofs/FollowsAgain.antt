@@ -13,7 +13,8 @@ use Rattle.df_rules.specs.Own.{own, own_plain, fixed, fixed_by}
 use Rattle.df_rules.specs.Purge.{is_within, echo, emitted, left_of, stays, purge}
 use Rattle.df_rules.specs.Rules.{Rules}
 use Rattle.df_rules.proofs.Invariant.{fixed_from}
-use Rattle.df_rules.proofs.LabelFacts.{flows_trans, same_name-exact}
+use Rattle.df_label.proofs.LabelFacts.{flows_to-trans}
+use Rattle.df_unit.proofs.SameFacts.{same_name-exact}
 use Rattle.df_rules.proofs.PurgeKeeps.{same_own, same_deliveries, fixed_agrees, fixed_by_skipped, began}
 use Rattle.df_rules.proofs.Steps.{none_before, own_back, is_out}
 use Rattle.df_unit.specs.Name.{same}
@@ -124,9 +125,9 @@ module _ {B : Type 0} (brain : Brain B) (R : Rules) (s : List OwnState) (bs : Li
   same_began past (Root path) st follows h w = refl
   same_began past (Managed o n t) st follows h w =
       let b = rw h at (began R s laws l past o n t) in
-      let recorded : flows_to b.0.contamination l ≡ true = flows_trans b.0.contamination st.contamination l b.2 w in
+      let recorded : flows_to b.0.contamination l ≡ true = flows_to-trans b.0.contamination st.contamination l b.2 w in
       let from = rw b.1 at (fixed_from R s past o n) in
-      let owner : flows_to from.0.contamination l ≡ true = flows_trans from.0.contamination b.0.contamination l (laws.fixes_contamination from.0 n from.1 from.2 b.0 from.4) recorded in
+      let owner : flows_to from.0.contamination l ≡ true = flows_to-trans from.0.contamination b.0.contamination l (laws.fixes_contamination from.0 n from.1 from.2 b.0 from.4) recorded in
       let e : replies_of (Root o) (before_fixed R s (purge R s l past) o n) ≡ replies_of (Root o) (before_fixed R s past o n) =
       ap (replies_of (Root o)) (before_agrees past o n b.0 b.1 recorded)
       ∙ same_replies (before_fixed R s past o n) (Root o) from.0 (follows_before past o n follows) from.3 owner in

@@ -1,9 +1,6 @@
 -- What only grows: privileges, contamination, counts and deliveries.
-use Rattle.std.proofs.Common.{◌≡◌, ◌⊎◌, inl, inr, ℕ, ◌+◌, ◌≤◌, List, [], ◌∷◌, ◌++◌, Bool, true, false, refl, sym, ◌∙◌, ap, subst, cond, Option, Some, None, arith}
+use Rattle.std.proofs.Common.{◌≡◌, ℕ, ◌+◌, ◌≤◌, List, [], ◌∷◌, ◌++◌, Bool, true, false, refl, sym, ◌∙◌, ap, subst, cond, Option, Some, None, arith}
 use Rattle.std.specs.Option.{option_map, option_or}
-use Rattle.std.specs.Ordering.{match_ordering, is_eq}
-use Rattle.std.specs.declared.cmp.Ordering.{Ordering}
-use Rattle.std.specs.declared.cmp.Ordering.TheVariants.{Less, Equal, Greater}
 use Rattle.std.proofs.lemmas.List.{append-nil, append_assoc}
 use Rattle.df_label.specs.Tag.{maker_of}
 use Rattle.df_label.specs.TagSet.{is_subset, contains, with}
@@ -17,8 +14,9 @@ use Rattle.df_rules.specs.Grows.{HasGrown}
 use Rattle.df_rules.specs.Own.{stepped, made_by, own_plain, own_instance, own, fixed, born}
 use Rattle.df_rules.specs.Rules.{Rules}
 use Rattle.df_rules.specs.Subscriptions.{subscriptions}
-use Rattle.df_rules.proofs.LabelFacts.{or_either, or_left, or_right, subset_all, subset_refl, subset_trans, contains_with_other, flows_refl, flows_trans, flows_join_left}
-use Rattle.df_label.specs.Privilege.{privilege_cmp}
+use Rattle.df_label.proofs.LabelFacts.{flows_to-refl, flows_to-trans, flows_to-join_left}
+use Rattle.df_label.proofs.TagSetFacts.{is_subset-refl, is_subset-trans, is_subset-with}
+use Rattle.df_priv.proofs.HeldFacts.{holds-grant_kept}
 use Rattle.df_priv.specs.Held.{holds, grant}
 use Rattle.df_unit.specs.Held.{grant_all, all_over}
 use Rattle.df_unit.specs.Name.{same}
@@ -37,19 +35,9 @@ use Rattle.df_unit.specs.declared.reply.Reply.{Reply}
 
 -- privileges
 
-holds-grant : (held : List Privilege) (q p : Privilege) → holds held p ≡ true → holds (grant held q) p ≡ true
-holds-grant [] q p h = absurd (let z : ⊥ = cc in z)
-holds-grant (x ∷ xs) q p h = go (privilege_cmp q x) (or_either (is_eq (privilege_cmp x p)) (holds xs p) h) (holds-grant xs q p)
-  where
-    go : (r : Ordering) → (is_eq (privilege_cmp x p) ≡ true) ⊎ (holds xs p ≡ true) → (holds xs p ≡ true → holds (grant xs q) p ≡ true) → holds (match_ordering r (q ∷ x ∷ xs) (x ∷ xs) (x ∷ grant xs q)) p ≡ true
-    go Less k ih = or_right (is_eq (privilege_cmp q p)) (holds (x ∷ xs) p) h
-    go Equal k ih = h
-    go Greater (inl e) ih = or_left (is_eq (privilege_cmp x p)) (holds (grant xs q) p) e
-    go Greater (inr e) ih = or_right (is_eq (privilege_cmp x p)) (holds (grant xs q) p) (ih e)
-
 holds-grant_all : (held qs : List Privilege) (p : Privilege) → holds held p ≡ true → holds (grant_all held qs) p ≡ true
 holds-grant_all held [] p h = h
-holds-grant_all held (q ∷ qs) p h = holds-grant_all (grant held q) qs p (holds-grant held q p h)
+holds-grant_all held (q ∷ qs) p h = holds-grant_all (grant held q) qs p (holds-grant_kept held q p h)
 
 -- counts
 
@@ -67,9 +55,9 @@ le_trans a b c h k = omega arith
 pub grown_refl : (st : OwnState) → HasGrown st st
 grown_refl st = record {
   held = λ p h. h;
-  contamination = flows_refl st.contamination;
-  dropped = subset_refl st.dropped;
-  endorsed = subset_refl st.endorsed;
+  contamination = flows_to-refl st.contamination;
+  dropped = is_subset-refl st.dropped;
+  endorsed = is_subset-refl st.endorsed;
   events = le_refl st.events;
   tags = le_refl st.tags;
   subs = le_refl st.subs;
@@ -80,9 +68,9 @@ grown_refl st = record {
 pub grown_trans : (a b c : OwnState) → HasGrown a b → HasGrown b c → HasGrown a c
 grown_trans a b c h k = record {
   held = λ p m. k.held p (h.held p m);
-  contamination = flows_trans a.contamination b.contamination c.contamination h.contamination k.contamination;
-  dropped = subset_trans a.dropped b.dropped c.dropped h.dropped k.dropped;
-  endorsed = subset_trans a.endorsed b.endorsed c.endorsed h.endorsed k.endorsed;
+  contamination = flows_to-trans a.contamination b.contamination c.contamination h.contamination k.contamination;
+  dropped = is_subset-trans a.dropped b.dropped c.dropped h.dropped k.dropped;
+  endorsed = is_subset-trans a.endorsed b.endorsed c.endorsed h.endorsed k.endorsed;
   events = le_trans a.events b.events c.events h.events k.events;
   tags = le_trans a.tags b.tags c.tags h.tags k.tags;
   subs = le_trans a.subs b.subs c.subs h.subs k.subs;
@@ -90,36 +78,33 @@ grown_trans a b c h k = record {
   given = le_trans a.given b.given c.given h.given k.given;
 }
 
-subset_with : (ts : List (List ℕ)) (t : List ℕ) → is_subset ts (with ts t) ≡ true
-subset_with ts t = subset_all ts (with ts t) (λ u h. contains_with_other ts t u h)
-
 grown_dropped : (half : Half) (act : Act) (t : List ℕ) (st : OwnState) → is_subset st.dropped (now_dropped half act t st) ≡ true
 grown_dropped Half.S Del t st = go (contains st.output.s t)
   where
     go : (b : Bool) → is_subset st.dropped (cond b (with st.dropped t) st.dropped) ≡ true
-    go true = subset_with st.dropped t
-    go false = subset_refl st.dropped
-grown_dropped Half.S Add t st = subset_refl st.dropped
-grown_dropped Half.I Add t st = subset_refl st.dropped
-grown_dropped Half.I Del t st = subset_refl st.dropped
+    go true = is_subset-with st.dropped t
+    go false = is_subset-refl st.dropped
+grown_dropped Half.S Add t st = is_subset-refl st.dropped
+grown_dropped Half.I Add t st = is_subset-refl st.dropped
+grown_dropped Half.I Del t st = is_subset-refl st.dropped
 
 grown_endorsed : (half : Half) (act : Act) (t : List ℕ) (st : OwnState) → is_subset st.endorsed (now_endorsed half act t st) ≡ true
 grown_endorsed Half.I Add t st = go (contains st.output.i t)
   where
     go : (b : Bool) → is_subset st.endorsed (cond b st.endorsed (with st.endorsed t)) ≡ true
-    go true = subset_refl st.endorsed
-    go false = subset_with st.endorsed t
-grown_endorsed Half.I Del t st = subset_refl st.endorsed
-grown_endorsed Half.S Add t st = subset_refl st.endorsed
-grown_endorsed Half.S Del t st = subset_refl st.endorsed
+    go true = is_subset-refl st.endorsed
+    go false = is_subset-with st.endorsed t
+grown_endorsed Half.I Del t st = is_subset-refl st.endorsed
+grown_endorsed Half.S Add t st = is_subset-refl st.endorsed
+grown_endorsed Half.S Del t st = is_subset-refl st.endorsed
 
 -- a row at a time
 grown_changed : (u : UnitName) (st : OwnState) (c : Call) (f : Effect) → HasGrown st (changed u st c f)
 grown_changed u st CreateEvent f = record {
   held = λ p h. h;
-  contamination = flows_refl st.contamination;
-  dropped = subset_refl st.dropped;
-  endorsed = subset_refl st.endorsed;
+  contamination = flows_to-refl st.contamination;
+  dropped = is_subset-refl st.dropped;
+  endorsed = is_subset-refl st.endorsed;
   events = le_next st.events;
   tags = le_refl st.tags;
   subs = le_refl st.subs;
@@ -128,9 +113,9 @@ grown_changed u st CreateEvent f = record {
 }
 grown_changed u st (CloneEvent h label) f = record {
   held = λ p h. h;
-  contamination = flows_refl st.contamination;
-  dropped = subset_refl st.dropped;
-  endorsed = subset_refl st.endorsed;
+  contamination = flows_to-refl st.contamination;
+  dropped = is_subset-refl st.dropped;
+  endorsed = is_subset-refl st.endorsed;
   events = le_next st.events;
   tags = le_refl st.tags;
   subs = le_refl st.subs;
@@ -139,9 +124,9 @@ grown_changed u st (CloneEvent h label) f = record {
 }
 grown_changed u st (ReadPart h name) f = record {
   held = λ p k. holds-grant_all st.held (found st.input name (handle_at st.handles h)) p k;
-  contamination = flows_refl st.contamination;
-  dropped = subset_refl st.dropped;
-  endorsed = subset_refl st.endorsed;
+  contamination = flows_to-refl st.contamination;
+  dropped = is_subset-refl st.dropped;
+  endorsed = is_subset-refl st.endorsed;
   events = le_refl st.events;
   tags = le_refl st.tags;
   subs = le_refl st.subs;
@@ -150,9 +135,9 @@ grown_changed u st (ReadPart h name) f = record {
 }
 grown_changed u st CreateTag f = record {
   held = λ p k. holds-grant_all st.held (all_over (next_tag u st)) p k;
-  contamination = flows_refl st.contamination;
-  dropped = subset_refl st.dropped;
-  endorsed = subset_refl st.endorsed;
+  contamination = flows_to-refl st.contamination;
+  dropped = is_subset-refl st.dropped;
+  endorsed = is_subset-refl st.endorsed;
   events = le_refl st.events;
   tags = le_next st.tags;
   subs = le_refl st.subs;
@@ -161,9 +146,9 @@ grown_changed u st CreateTag f = record {
 }
 grown_changed u st (Subscribe filter) f = record {
   held = λ p h. h;
-  contamination = flows_refl st.contamination;
-  dropped = subset_refl st.dropped;
-  endorsed = subset_refl st.endorsed;
+  contamination = flows_to-refl st.contamination;
+  dropped = is_subset-refl st.dropped;
+  endorsed = is_subset-refl st.endorsed;
   events = le_refl st.events;
   tags = le_refl st.tags;
   subs = le_next st.subs;
@@ -172,9 +157,9 @@ grown_changed u st (Subscribe filter) f = record {
 }
 grown_changed u st (SubscribeManaged filter) f = record {
   held = λ p h. h;
-  contamination = flows_refl st.contamination;
-  dropped = subset_refl st.dropped;
-  endorsed = subset_refl st.endorsed;
+  contamination = flows_to-refl st.contamination;
+  dropped = is_subset-refl st.dropped;
+  endorsed = is_subset-refl st.endorsed;
   events = le_refl st.events;
   tags = le_refl st.tags;
   subs = le_next st.subs;
@@ -183,9 +168,9 @@ grown_changed u st (SubscribeManaged filter) f = record {
 }
 grown_changed u st (Instantiate s privileges) f = record {
   held = λ p h. h;
-  contamination = flows_refl st.contamination;
-  dropped = subset_refl st.dropped;
-  endorsed = subset_refl st.endorsed;
+  contamination = flows_to-refl st.contamination;
+  dropped = is_subset-refl st.dropped;
+  endorsed = is_subset-refl st.endorsed;
   events = le_refl st.events;
   tags = le_refl st.tags;
   subs = le_refl st.subs;
@@ -194,7 +179,7 @@ grown_changed u st (Instantiate s privileges) f = record {
 }
 grown_changed u st (ChangeOutLabel half act t) f = record {
   held = λ p h. h;
-  contamination = flows_refl st.contamination;
+  contamination = flows_to-refl st.contamination;
   dropped = grown_dropped half act t st;
   endorsed = grown_endorsed half act t st;
   events = le_refl st.events;
@@ -205,7 +190,7 @@ grown_changed u st (ChangeOutLabel half act t) f = record {
 }
 grown_changed u st (ChangeInOut half act t) f = record {
   held = λ p h. h;
-  contamination = flows_join_left st.contamination (half_changed half act t st.input);
+  contamination = flows_to-join_left st.contamination (half_changed half act t st.input);
   dropped = grown_dropped half act t st;
   endorsed = grown_endorsed half act t st;
   events = le_refl st.events;
@@ -216,9 +201,9 @@ grown_changed u st (ChangeInOut half act t) f = record {
 }
 grown_changed u st Get (Effect.Given d) = record {
   held = λ p h. h;
-  contamination = flows_refl st.contamination;
-  dropped = subset_refl st.dropped;
-  endorsed = subset_refl st.endorsed;
+  contamination = flows_to-refl st.contamination;
+  dropped = is_subset-refl st.dropped;
+  endorsed = is_subset-refl st.endorsed;
   events = le_refl st.events;
   tags = le_refl st.tags;
   subs = le_refl st.subs;
@@ -229,9 +214,9 @@ grown_changed u st Get Effect.Nothing = grown_refl st
 grown_changed u st Get (Effect.Commit k) = grown_refl st
 grown_changed u st _ f = record {
   held = λ p h. h;
-  contamination = flows_refl st.contamination;
-  dropped = subset_refl st.dropped;
-  endorsed = subset_refl st.endorsed;
+  contamination = flows_to-refl st.contamination;
+  dropped = is_subset-refl st.dropped;
+  endorsed = is_subset-refl st.endorsed;
   events = le_refl st.events;
   tags = le_refl st.tags;
   subs = le_refl st.subs;

@@ -1,4 +1,3 @@
-pub mod LabelFacts
 pub mod CutFacts
 pub mod SeenFacts
 pub mod Agreement

@@ -18,7 +18,7 @@ use Rattle.df_rules.specs.Rules.{Rules}
 use Rattle.df_rules.specs.Subscriptions.{subscribed_by, subscriptions}
 use Rattle.df_rules.proofs.Agreement.{Agrees, contaminated, recorded, agrees_refl, agrees_eq, agrees_or, or_none, IsOut, IsIn, Reads, Began, InstanceAgrees, InstanceGiven, PlainGiven, own_plain-emitted, fixed-emitted, subscriptions-emitted, own_instance-emitted, deliveries_plain-emitted, deliveries_instance-emitted}
 use Rattle.df_rules.proofs.Invariant.{IfThere, plain_holds}
-use Rattle.df_rules.proofs.LabelFacts.{flows_trans}
+use Rattle.df_label.proofs.LabelFacts.{flows_to-trans}
 use Rattle.df_rules.proofs.SeenFacts.{Alike, SameSeen, kept_alike, echo_alike, kept_contents, echo_contents, given_alike, plain_news_alike, instance_news_alike}
 use Rattle.df_rules.proofs.Steps.{step_none, none_before, step_agrees, skip_agrees, is_out, is_in, made_agrees, made_skipped, own_back}
 use Rattle.df_unit.specs.Beginnings.{readable_at}
@@ -154,7 +154,7 @@ module _ (R : Rules) (s : List OwnState) (laws : Laws R s) (l : Label) where
     where
       go : (b : Bool) (o : Option OwnState) → Began t fx o → Began t fx (cond b (option_map (λ st. R.after u st c r f) o) o)
       go true None h = tt
-      go true (Some st) h = (h.0, h.1, flows_trans h.0.contamination st.contamination (R.after u st c r f).contamination h.2 (laws.grows u st c r f), flows_trans (readable_at h.0 t) st.contamination (R.after u st c r f).contamination h.3 (laws.grows u st c r f))
+      go true (Some st) h = (h.0, h.1, flows_to-trans h.0.contamination st.contamination (R.after u st c r f).contamination h.2 (laws.grows u st c r f), flows_to-trans (readable_at h.0 t) st.contamination (R.after u st c r f).contamination h.3 (laws.grows u st c r f))
       go false o h = h
 
   began_or : (t : List (List ℕ)) (fx y : Option Fixed) (so : Option OwnState) → Began t fx so → (past : List Entry) (oc : Option Commit) → Began t (option_or fx y) (option_or so (born R fx t past oc))
@@ -239,7 +239,7 @@ module _ (R : Rules) (s : List OwnState) (laws : Laws R s) (l : Label) where
       PlainGiven l o (plain_news o subs ds past oc) (plain_news o' subs' ds' past' oc')
   plain_news_agree None o' subs subs' ds ds' reads agree same_subs same_ds past oc past' oc' a = (refl, rw agree refl)
   plain_news_agree (Some st) o' subs subs' ds ds' reads agree same_subs same_ds past oc past' oc' a = λ k.
-      rw (agree k, same_subs k, same_ds k) (plain_news_alike l st subs ds (flows_trans st.input st.contamination l reads k) past oc past' oc' a)
+      rw (agree k, same_subs k, same_ds k) (plain_news_alike l st subs ds (flows_to-trans st.input st.contamination l reads k) past oc past' oc' a)
 
   plain_given : (past : List Entry) (path : List ℕ) → PlainGiven l (own_plain R s past path) (deliveries_plain R s past path) (deliveries_plain R s (purge R s l past) path)
   plain_given [] path = go (root_at s path)
@@ -295,7 +295,7 @@ module _ (R : Rules) (s : List OwnState) (laws : Laws R s) (l : Label) where
   same_own past (Managed o n t) st h w =
       let b = rw h at (began past o n t) in
       let a = rw b.1 at (instance_agrees past o n t) in
-      let c = a (flows_trans b.0.contamination st.contamination l b.2 w) (flows_trans (readable_at b.0 t) st.contamination l b.3 w) in
+      let c = a (flows_to-trans b.0.contamination st.contamination l b.2 w) (flows_to-trans (readable_at b.0 t) st.contamination l b.3 w) in
       rw h at c w
 
   pub same_deliveries : (past : List Entry) (u : UnitName) (st : OwnState) → own R s past u ≡ Some st → flows_to st.contamination l ≡ true → deliveries R s (purge R s l past) u ≡ deliveries R s past u
@@ -303,7 +303,7 @@ module _ (R : Rules) (s : List OwnState) (laws : Laws R s) (l : Label) where
   same_deliveries past (Managed o n t) st h w =
       let b = rw h at (began past o n t) in
       let a = rw b.1 at (instance_given past o n t) in
-      a (flows_trans b.0.contamination st.contamination l b.2 w) (flows_trans (readable_at b.0 t) st.contamination l b.3 w)
+      a (flows_to-trans b.0.contamination st.contamination l b.2 w) (flows_to-trans (readable_at b.0 t) st.contamination l b.3 w)
 
   pub purge_keeps : (past : List Entry) → Keeps R s l past (purge R s l past)
   purge_keeps past = record { same_own = same_own past; same_deliveries = same_deliveries past; same_contents = seen_agrees past }

@@ -1,5 +1,5 @@
 -- The rows of the call table keep what is promised of emitted commits.
-use Rattle.std.proofs.Common.{inl, inr, ◌≡◌, ◌⊎◌, ℕ, List, [], ◌∷◌, Bool, true, false, not, ◌&&◌, ◌||◌, refl, sym, ap, subst, cond, Option, Some, None}
+use Rattle.std.proofs.Common.{inl, inr, ◌≡◌, ◌⊎◌, ℕ, List, [], ◌∷◌, Bool, true, false, not, ◌&&◌, ◌||◌, refl, sym, ◌∙◌, subst, cond, Option, Some, None}
 use Rattle.std.specs.Prelude.{⊤}
 use Rattle.std.specs.List.{list_all, filter}
 use Rattle.df_filter.specs.declared.clause.Clause.{Clause}
@@ -15,8 +15,10 @@ use Rattle.df_priv.specs.declared.need.Act.TheVariants.{Add, Del}
 use Rattle.df_priv.specs.declared.need.Half.{Half}
 use Rattle.df_rules.specs.Laws.{ReleaseLaws, IsKept, IsChange}
 use Rattle.df_rules.specs.Start.{rows, roots, root_of}
-use Rattle.df_rules.proofs.LabelFacts.{and_left, and_right, and_both, or_either, or_left, or_right, tag_cases, subset_contains, subset_trans, flows_refl, contains_with, contains_with_other, with_contains, union_contains, filter_contains, contains_filter, subset_of_union_right, flows_join_right}
-use Rattle.df_rules.proofs.RowLaws.{roots_are, by_fixed, by_child, reads_changed}
+use Rattle.std.proofs.lemmas.Bool.{and_parts, and_from, or_cases, or_left, or_right}
+use Rattle.df_label.proofs.LabelFacts.{flows_to-parts, flows_to-refl, flows_to-join_right}
+use Rattle.df_label.proofs.TagSetFacts.{tag_eq-exact, tag_eq-itself, contains-with, contains-union, contains-meet, contains-without, contains-included, is_subset-trans, is_subset-union_right, is_subset-with}
+use Rattle.df_rules.proofs.RowLaws.{first_is, second_is, roots_are, by_fixed, by_child, reads_changed}
 use Rattle.df_unit.specs.Beginnings.{fixed_of, begin, child, child_input, child_secrets}
 use Rattle.df_unit.specs.Drafts.{raised, relabelled}
 use Rattle.df_unit.specs.declared.handle.Handle.{Handle}
@@ -33,6 +35,40 @@ use Rattle.df_unit.specs.declared.entry.Effect.{Effect}
 use Rattle.df_unit.specs.declared.name.UnitName.{UnitName}
 use Rattle.df_unit.specs.declared.reply.Reply.{Reply}
 
+-- members of sets
+
+-- a set with a tag more has the tag
+has_added : (ts : List (List ℕ)) (t : List ℕ) → contains (with ts t) t ≡ true
+has_added ts t = contains-with ts t t ∙ or_left (tag_eq t t) (contains ts t) (tag_eq-itself t)
+
+-- and what it had
+has_still : (ts : List (List ℕ)) (t y : List ℕ) → contains ts y ≡ true → contains (with ts t) y ≡ true
+has_still ts t y h = contains-included ts (with ts t) y (is_subset-with ts t) h
+
+-- and nothing else
+added_or_had : (ts : List (List ℕ)) (t y : List ℕ) → contains (with ts t) y ≡ true → (t ≡ y) ⊎ (contains ts y ≡ true)
+added_or_had ts t y h = elim (or_cases (tag_eq t y) (contains ts y) (sym (contains-with ts t y) ∙ h)) [ inl e ↦ inl (tag_eq-exact t y e) | inr m ↦ inr m ]
+
+in_either : (ts us : List (List ℕ)) (y : List ℕ) → contains (union ts us) y ≡ true → (contains ts y ≡ true) ⊎ (contains us y ≡ true)
+in_either ts us y h = or_cases (contains ts y) (contains us y) (sym (contains-union ts us y) ∙ h)
+
+in_both : (ts us : List (List ℕ)) (y : List ℕ) → contains ts y ≡ true → contains us y ≡ true → contains (meet ts us) y ≡ true
+in_both ts us y h k = contains-meet ts us y ∙ and_from (contains ts y) (contains us y) h k
+
+others_stay : (ts : List (List ℕ)) (t y : List ℕ) → contains ts y ≡ true → not (tag_eq y t) ≡ true → contains (without ts t) y ≡ true
+others_stay ts t y h k = contains-without ts t y ∙ and_from (contains ts y) (not (tag_eq y t)) h k
+
+stayed : (ts : List (List ℕ)) (t y : List ℕ) → contains (without ts t) y ≡ true → (contains ts y ≡ true) × (not (tag_eq y t) ≡ true)
+stayed ts t y h = and_parts (contains ts y) (not (tag_eq y t)) (sym (contains-without ts t y) ∙ h)
+
+-- a tag is another or isn't
+same_or_not : (t u : List ℕ) → (t ≡ u) ⊎ (not (tag_eq t u) ≡ true)
+same_or_not t u = go (tag_eq t u) refl
+  where
+    go : (b : Bool) → tag_eq t u ≡ b → (t ≡ u) ⊎ (not b ≡ true)
+    go true e = inl (tag_eq-exact t u e)
+    go false e = inr refl
+
 -- the kept fact over changes of the output label
 
 or_mono_right : (a b c : Bool) → (b ≡ true → c ≡ true) → (a || b) ≡ true → (a || c) ≡ true
@@ -41,26 +77,26 @@ or_mono_right false b c f h = f h
 
 out_secret : (st : OwnState) (half : Half) (act : Act) (t : List ℕ) → IsKept st → (y : List ℕ) → contains st.contamination.s y ≡ true → (contains (half_changed half act t st.output).s y || contains (now_dropped half act t st) y) ≡ true
 out_secret st Half.S Add t k y h =
-    elim (or_either (contains st.output.s y) (contains st.dropped y) (k.secret y h)) [
-      | inl m ↦ or_left (contains (with st.output.s t) y) (contains st.dropped y) (contains_with_other st.output.s t y m)
+    elim (or_cases (contains st.output.s y) (contains st.dropped y) (k.secret y h)) [
+      | inl m ↦ or_left (contains (with st.output.s t) y) (contains st.dropped y) (has_still st.output.s t y m)
       | inr m ↦ or_right (contains (with st.output.s t) y) (contains st.dropped y) m
     ]
 out_secret st Half.S Del t k y h = go (contains st.output.s t) refl
   where
     kept : (b : Bool) → contains st.dropped y ≡ true → contains (cond b (with st.dropped t) st.dropped) y ≡ true
-    kept true m = contains_with_other st.dropped t y m
+    kept true m = has_still st.dropped t y m
     kept false m = m
 
     here : (b : Bool) → contains st.output.s t ≡ b → y ≡ t → contains st.output.s y ≡ true → contains (cond b (with st.dropped t) st.dropped) y ≡ true
-    here true e same m = subst (λ (z : List ℕ). contains (with st.dropped t) z ≡ true) (sym same) (contains_with st.dropped t)
+    here true e same m = subst (λ (z : List ℕ). contains (with st.dropped t) z ≡ true) (sym same) (has_added st.dropped t)
     here false e same m = let z : contains st.output.s y ≡ false = subst (λ (z : List ℕ). contains st.output.s z ≡ false) (sym same) e in cc
 
     go : (b : Bool) → contains st.output.s t ≡ b → (contains (without st.output.s t) y || contains (cond b (with st.dropped t) st.dropped) y) ≡ true
     go b e =
-        elim (or_either (contains st.output.s y) (contains st.dropped y) (k.secret y h)) [
-          | inl m ↦ elim (tag_cases y t) [
+        elim (or_cases (contains st.output.s y) (contains st.dropped y) (k.secret y h)) [
+          | inl m ↦ elim (same_or_not y t) [
             | inl same ↦ or_right (contains (without st.output.s t) y) (contains (cond b (with st.dropped t) st.dropped) y) (here b e same m)
-            | inr other ↦ or_left (contains (without st.output.s t) y) (contains (cond b (with st.dropped t) st.dropped) y) (contains_filter (λ z. not (tag_eq z t)) st.output.s y m other)
+            | inr other ↦ or_left (contains (without st.output.s t) y) (contains (cond b (with st.dropped t) st.dropped) y) (others_stay st.output.s t y m other)
           ]
           | inr m ↦ or_right (contains (without st.output.s t) y) (contains (cond b (with st.dropped t) st.dropped) y) (kept b m)
         ]
@@ -72,18 +108,18 @@ out_sound st Half.I Add t k y h = go (contains st.output.i t) refl
   where
     kept : (b : Bool) → contains st.endorsed y ≡ true → contains (cond b st.endorsed (with st.endorsed t)) y ≡ true
     kept true m = m
-    kept false m = contains_with_other st.endorsed t y m
+    kept false m = has_still st.endorsed t y m
 
     old : (b : Bool) → contains st.output.i y ≡ true → (contains st.contamination.i y || contains (cond b st.endorsed (with st.endorsed t)) y) ≡ true
     old b m = or_mono_right (contains st.contamination.i y) (contains st.endorsed y) (contains (cond b st.endorsed (with st.endorsed t)) y) (kept b) (k.sound y m)
 
     here : (b : Bool) → contains st.output.i t ≡ b → t ≡ y → (contains st.contamination.i y || contains (cond b st.endorsed (with st.endorsed t)) y) ≡ true
     here true e same = old true (subst (λ (z : List ℕ). contains st.output.i z ≡ true) same e)
-    here false e same = or_right (contains st.contamination.i y) (contains (with st.endorsed t) y) (subst (λ (z : List ℕ). contains (with st.endorsed t) z ≡ true) same (contains_with st.endorsed t))
+    here false e same = or_right (contains st.contamination.i y) (contains (with st.endorsed t) y) (subst (λ (z : List ℕ). contains (with st.endorsed t) z ≡ true) same (has_added st.endorsed t))
 
     go : (b : Bool) → contains st.output.i t ≡ b → (contains st.contamination.i y || contains (cond b st.endorsed (with st.endorsed t)) y) ≡ true
-    go b e = elim (with_contains st.output.i t y h) [ inl same ↦ here b e same | inr m ↦ old b m ]
-out_sound st Half.I Del t k y h = k.sound y (filter_contains (λ z. not (tag_eq z t)) st.output.i y h).0
+    go b e = elim (added_or_had st.output.i t y h) [ inl same ↦ here b e same | inr m ↦ old b m ]
+out_sound st Half.I Del t k y h = k.sound y (stayed st.output.i t y h).0
 out_sound st Half.S Add t k y h = k.sound y h
 out_sound st Half.S Del t k y h = k.sound y h
 
@@ -92,28 +128,28 @@ in_secret : (st : OwnState) (half : Half) (act : Act) (t : List ℕ) → IsKept 
 in_secret st half act t k y = go half act
   where
     read : contains st.input.s y ≡ true → contains st.contamination.s y ≡ true
-    read m = subset_contains st.input.s st.contamination.s y (and_left (is_subset st.input.s st.contamination.s) (is_subset st.contamination.i st.input.i) k.reads) m
+    read m = contains-included st.input.s st.contamination.s y (flows_to-parts st.input st.contamination k.reads).0 m
 
     go : (half : Half) (act : Act) → contains (half_changed half act t st.input).s y ≡ true → (contains st.contamination.s y ≡ true) ⊎ (contains (half_changed half act t st.output).s y ≡ true)
-    go Half.S Add h = elim (with_contains st.input.s t y h) [
-      | inl same ↦ inr (subst (λ (z : List ℕ). contains (with st.output.s t) z ≡ true) same (contains_with st.output.s t))
+    go Half.S Add h = elim (added_or_had st.input.s t y h) [
+      | inl same ↦ inr (subst (λ (z : List ℕ). contains (with st.output.s t) z ≡ true) same (has_added st.output.s t))
       | inr m ↦ inl (read m)
     ]
-    go Half.S Del h = inl (read (filter_contains (λ z. not (tag_eq z t)) st.input.s y h).0)
+    go Half.S Del h = inl (read (stayed st.input.s t y h).0)
     go Half.I Add h = inl (read h)
     go Half.I Del h = inl (read h)
 
 in_sound : (st : OwnState) (half : Half) (act : Act) (t : List ℕ) → IsKept st → (y : List ℕ) → contains (half_changed half act t st.output).i y ≡ true → contains st.contamination.i y ≡ true → contains (meet st.contamination.i (half_changed half act t st.input).i) y ≡ true
-in_sound st half act t k y h m = contains_filter (contains (half_changed half act t st.input).i) st.contamination.i y m (go half act h)
+in_sound st half act t k y h m = in_both st.contamination.i (half_changed half act t st.input).i y m (go half act h)
   where
     read : contains st.input.i y ≡ true
-    read = subset_contains st.contamination.i st.input.i y (and_right (is_subset st.input.s st.contamination.s) (is_subset st.contamination.i st.input.i) k.reads) m
+    read = contains-included st.contamination.i st.input.i y (flows_to-parts st.input st.contamination k.reads).1 m
 
     go : (half : Half) (act : Act) → contains (half_changed half act t st.output).i y ≡ true → contains (half_changed half act t st.input).i y ≡ true
     go Half.S Add h = read
     go Half.S Del h = read
-    go Half.I Add h = contains_with_other st.input.i t y read
-    go Half.I Del h = contains_filter (λ z. not (tag_eq z t)) st.input.i y read (filter_contains (λ z. not (tag_eq z t)) st.output.i y h).1
+    go Half.I Add h = has_still st.input.i t y read
+    go Half.I Del h = others_stay st.input.i t y read (stayed st.output.i t y h).1
 
 kept_changed : (u : UnitName) (st : OwnState) (c : Call) (f : Effect) → IsKept st → IsKept (changed u st c f)
 kept_changed u st (ChangeOutLabel half act t) f k = record {
@@ -123,14 +159,14 @@ kept_changed u st (ChangeOutLabel half act t) f k = record {
 }
 kept_changed u st (ChangeInOut half act t) f k = record {
   reads = reads_changed u st (ChangeInOut half act t) f k.reads;
-  secret = λ y h. elim (union_contains st.contamination.s (half_changed half act t st.input).s y h) [
+  secret = λ y h. elim (in_either st.contamination.s (half_changed half act t st.input).s y h) [
     | inl m ↦ out_secret st half act t k y m
     | inr m ↦ elim (in_secret st half act t k y m) [
       | inl n ↦ out_secret st half act t k y n
       | inr n ↦ or_left (contains (half_changed half act t st.output).s y) (contains (now_dropped half act t st) y) n
     ]
   ];
-  sound = λ y h. elim (or_either (contains st.contamination.i y) (contains (now_endorsed half act t st) y) (out_sound st half act t k y h)) [
+  sound = λ y h. elim (or_cases (contains st.contamination.i y) (contains (now_endorsed half act t st) y) (out_sound st half act t k y h)) [
     | inl m ↦ or_left (contains (meet st.contamination.i (half_changed half act t st.input).i) y) (contains (now_endorsed half act t st) y) (in_sound st half act t k y h m)
     | inr m ↦ or_right (contains (meet st.contamination.i (half_changed half act t st.input).i) y) (contains (now_endorsed half act t st) y) m
   ];
@@ -149,7 +185,7 @@ kept_after u st c r f k = go (is_accepted r)
 
 kept_root : (r : Label × List Privilege) → IsKept (root_of r)
 kept_root r = record {
-  reads = flows_refl r.0;
+  reads = flows_to-refl r.0;
   secret = λ y h. or_left (contains r.0.s y) false h;
   sound = λ y h. or_left (contains r.0.i y) false h;
 }
@@ -157,9 +193,9 @@ kept_root r = record {
 -- what begins with the owner's or maker's secrets, and integrity that both its labels have, keeps the fact
 kept_passed : (st : OwnState) (t : List (List ℕ)) → IsKept st → is_subset st.output.s t ≡ true → (y : List ℕ) → contains (union st.contamination.s t) y ≡ true → (contains t y || contains st.dropped y) ≡ true
 kept_passed st t k base y h =
-    elim (union_contains st.contamination.s t y h) [
-      | inl m ↦ elim (or_either (contains st.output.s y) (contains st.dropped y) (k.secret y m)) [
-        | inl z ↦ or_left (contains t y) (contains st.dropped y) (subset_contains st.output.s t y base z)
+    elim (in_either st.contamination.s t y h) [
+      | inl m ↦ elim (or_cases (contains st.output.s y) (contains st.dropped y) (k.secret y m)) [
+        | inl z ↦ or_left (contains t y) (contains st.dropped y) (contains-included st.output.s t y base z)
         | inr z ↦ or_right (contains t y) (contains st.dropped y) z
       ]
       | inr m ↦ or_left (contains t y) (contains st.dropped y) m
@@ -167,23 +203,23 @@ kept_passed st t k base y h =
 
 sound_passed : (st : OwnState) → IsKept st → (y : List ℕ) → contains (meet st.input.i st.output.i) y ≡ true → (contains (meet st.contamination.i st.input.i) y || contains st.endorsed y) ≡ true
 sound_passed st k y h =
-    let both = filter_contains (contains st.output.i) st.input.i y h in
-    elim (or_either (contains st.contamination.i y) (contains st.endorsed y) (k.sound y both.1)) [
-      | inl m ↦ or_left (contains (meet st.contamination.i st.input.i) y) (contains st.endorsed y) (contains_filter (contains st.input.i) st.contamination.i y m both.0)
+    let both = and_parts (contains st.input.i y) (contains st.output.i y) (sym (contains-meet st.input.i st.output.i y) ∙ h) in
+    elim (or_cases (contains st.contamination.i y) (contains st.endorsed y) (k.sound y both.1)) [
+      | inl m ↦ or_left (contains (meet st.contamination.i st.input.i) y) (contains st.endorsed y) (in_both st.contamination.i st.input.i y m both.0)
       | inr m ↦ or_right (contains (meet st.contamination.i st.input.i) y) (contains st.endorsed y) m
     ]
 
 kept_begin : (st : OwnState) (filter : List Clause) (t : List (List ℕ)) → IsKept st → is_subset (fixed_of st filter).base t ≡ true → IsKept (begin (fixed_of st filter) t)
 kept_begin st filter t k base = record {
-  reads = flows_join_right st.contamination (record { s = t; i = st.input.i });
-  secret = kept_passed st t k (subset_trans st.output.s (union st.input.s st.output.s) t (subset_of_union_right st.input.s st.output.s) base);
+  reads = flows_to-join_right st.contamination (record { s = t; i = st.input.i });
+  secret = kept_passed st t k (is_subset-trans st.output.s (union st.input.s st.output.s) t (is_subset-union_right st.input.s st.output.s) base);
   sound = sound_passed st k;
 }
 
 kept_child : (st : OwnState) (s : List (List ℕ)) (privileges : List Privilege) → IsKept st → IsKept (child st s privileges)
 kept_child st s privileges k = record {
-  reads = flows_join_right st.contamination (child_input st s);
-  secret = kept_passed st (child_secrets st s) k (subset_of_union_right (union s st.input.s) st.output.s);
+  reads = flows_to-join_right st.contamination (child_input st s);
+  secret = kept_passed st (child_secrets st s) k (is_subset-union_right (union s st.input.s) st.output.s);
   sound = sound_passed st k;
 }
 
@@ -207,12 +243,6 @@ accepted_or : (P : OwnState → Type 0) (b : Bool) (a st : OwnState) → P (cond
 accepted_or P true a st h = inl (refl, h)
 accepted_or P false a st h = inr h
 
-first_is : {A B : Type 0} (p q : A) (x y : B) → (let z : A × B = (p, x) in z) ≡ (q, y) → p ≡ q
-first_is {A} {B} p q x y e = ap (λ (z : A × B). z.0) e
-
-second_is : {A B : Type 0} (p q : A) (x y : B) → (let z : A × B = (p, x) in z) ≡ (q, y) → x ≡ y
-second_is {A} {B} p q x y e = ap (λ (z : A × B). z.1) e
-
 -- a call that leaves a set as it was has put nothing into it
 side_same : (side : OwnState → List (List ℕ)) (b : Bool) (a st : OwnState) (y : List ℕ) → side a ≡ side st → contains (side (cond b a st)) y ≡ true → contains (side st) y ≡ true
 side_same side true a st y e h = subst (λ (xs : List (List ℕ)). contains xs y ≡ true) e h
@@ -220,12 +250,12 @@ side_same side false a st y e h = h
 
 -- a tag that is newly set aside is the one of the change
 newly_dropped : (xs : List (List ℕ)) (b : Bool) (t y : List ℕ) → contains (cond b (with xs t) xs) y ≡ true → (contains xs y ≡ true) ⊎ (t ≡ y)
-newly_dropped xs true t y h = elim (with_contains xs t y h) [ inl e ↦ inr e | inr m ↦ inl m ]
+newly_dropped xs true t y h = elim (added_or_had xs t y h) [ inl e ↦ inr e | inr m ↦ inl m ]
 newly_dropped xs false t y h = inl h
 
 newly_endorsed : (xs : List (List ℕ)) (b : Bool) (t y : List ℕ) → contains (cond b xs (with xs t)) y ≡ true → (contains xs y ≡ true) ⊎ (t ≡ y)
 newly_endorsed xs true t y h = inl h
-newly_endorsed xs false t y h = elim (with_contains xs t y h) [ inl e ↦ inr e | inr m ↦ inl m ]
+newly_endorsed xs false t y h = elim (added_or_had xs t y h) [ inl e ↦ inr e | inr m ↦ inl m ]
 
 dropped_after : (u : UnitName) (st : OwnState) (ds : List Given) (c : Call) (r : Reply) (f : Effect) (y : List ℕ) → rows.answer u st ds c ≡ (r, f) → contains (after u st c r f).dropped y ≡ true → (contains st.dropped y ≡ true) ⊎ IsChange rows st Half.S Del y c r
 dropped_after u st ds (ChangeOutLabel Half.S Del t) r f y e h =
@@ -278,18 +308,18 @@ endorsed_after u st ds c r f y e h = inl (side_same (λ st. st.endorsed) (is_acc
 -- what a commit writes
 
 flows_raised : (out l : Label) → flows_to out (raised out l) ≡ true
-flows_raised out l = flows_join_right l out
+flows_raised out l = flows_to-join_right l out
 
 relabelled_flows : (out : Label) (parts : List Part) → list_all (λ part. flows_to out part.label) (relabelled out parts) ≡ true
 relabelled_flows out [] = refl
-relabelled_flows out (p ∷ ps) = and_both (flows_to out (raised out p.label)) (list_all (λ part. flows_to out part.label) (relabelled out ps)) (flows_raised out p.label) (relabelled_flows out ps)
+relabelled_flows out (p ∷ ps) = and_from (flows_to out (raised out p.label)) (list_all (λ part. flows_to out part.label) (relabelled out ps)) (flows_raised out p.label) (relabelled_flows out ps)
 
 writable_flows : (out : Label) (ds : List Spot) → unwritable out ds ≡ None → list_all (λ d. flows_to out d.label) ds ≡ true
 writable_flows out [] h = refl
 writable_flows out (d ∷ ds) h = go (flows_to out d.label) refl h (writable_flows out ds)
   where
     go : (b : Bool) → flows_to out d.label ≡ b → cond (not b) (Some d) (unwritable out ds) ≡ None → (unwritable out ds ≡ None → list_all (λ d. flows_to out d.label) ds ≡ true) → (flows_to out d.label && list_all (λ d. flows_to out d.label) ds) ≡ true
-    go true e h ih = and_both (flows_to out d.label) (list_all (λ d. flows_to out d.label) ds) e (ih h)
+    go true e h ih = and_from (flows_to out d.label) (list_all (λ d. flows_to out d.label) ds) e (ih h)
     go false e h ih = absurd (let z : ⊥ = cc in z)
 
 -- both facts of a commit

@@ -1,5 +1,5 @@
 -- The rows of the call table keep the laws.
-use Rattle.std.proofs.Common.{◌≡◌, ℕ, zero, suc, List, [], ◌∷◌, Bool, true, false, subst, cond, Some, None}
+use Rattle.std.proofs.Common.{◌≡◌, ℕ, zero, suc, List, [], ◌∷◌, Bool, true, false, ap, subst, cond, Some, None}
 use Rattle.std.specs.Prelude.{◌==◌, slice_get}
 use Rattle.std.specs.List.{filter}
 use Rattle.df_filter.specs.declared.clause.Clause.{Clause}
@@ -8,7 +8,7 @@ use Rattle.df_label.specs.declared.label.Label.{Label}
 use Rattle.df_label.specs.declared.privilege.Privilege.{Privilege}
 use Rattle.df_rules.specs.Laws.{Laws}
 use Rattle.df_rules.specs.Start.{rows, roots, root_of}
-use Rattle.df_rules.proofs.LabelFacts.{flows_refl, flows_join_left, flows_join_right}
+use Rattle.df_label.proofs.LabelFacts.{flows_to-refl, flows_to-join_left, flows_to-join_right}
 use Rattle.df_unit.specs.Beginnings.{fixes, fixed_of, readable_at, makes, child, child_input}
 use Rattle.df_unit.specs.OwnState.{OwnState, Fixed}
 use Rattle.df_unit.specs.Rows.{after, changed, half_changed, is_accepted}
@@ -18,24 +18,32 @@ use Rattle.df_unit.specs.declared.entry.Effect.{Effect}
 use Rattle.df_unit.specs.declared.name.UnitName.{UnitName}
 use Rattle.df_unit.specs.declared.reply.Reply.{Reply}
 
+-- the reply and the effect of an answer
+
+pub first_is : {A B : Type 0} (p q : A) (x y : B) → (let z : A × B = (p, x) in z) ≡ (q, y) → p ≡ q
+first_is {A} {B} p q x y e = ap (λ (z : A × B). z.0) e
+
+pub second_is : {A B : Type 0} (p q : A) (x y : B) → (let z : A × B = (p, x) in z) ≡ (q, y) → x ≡ y
+second_is {A} {B} p q x y e = ap (λ (z : A × B). z.1) e
+
 -- contamination
 
 grows_changed : (u : UnitName) (st : OwnState) (c : Call) (f : Effect) → flows_to st.contamination (changed u st c f).contamination ≡ true
-grows_changed u st (ChangeInOut half act t) f = flows_join_left st.contamination (half_changed half act t st.input)
-grows_changed u st Get Effect.Nothing = flows_refl st.contamination
-grows_changed u st Get (Effect.Commit k) = flows_refl st.contamination
-grows_changed u st Get (Effect.Given d) = flows_refl st.contamination
-grows_changed u st _ f = flows_refl st.contamination
+grows_changed u st (ChangeInOut half act t) f = flows_to-join_left st.contamination (half_changed half act t st.input)
+grows_changed u st Get Effect.Nothing = flows_to-refl st.contamination
+grows_changed u st Get (Effect.Commit k) = flows_to-refl st.contamination
+grows_changed u st Get (Effect.Given d) = flows_to-refl st.contamination
+grows_changed u st _ f = flows_to-refl st.contamination
 
 pub grows_after : (u : UnitName) (st : OwnState) (c : Call) (r : Reply) (f : Effect) → flows_to st.contamination (after u st c r f).contamination ≡ true
 grows_after u st c r f = go (is_accepted r)
   where
     go : (b : Bool) → flows_to st.contamination (cond b (changed u st c f) st).contamination ≡ true
     go true = grows_changed u st c f
-    go false = flows_refl st.contamination
+    go false = flows_to-refl st.contamination
 
 pub reads_changed : (u : UnitName) (st : OwnState) (c : Call) (f : Effect) → flows_to st.input st.contamination ≡ true → flows_to (changed u st c f).input (changed u st c f).contamination ≡ true
-reads_changed u st (ChangeInOut half act t) f h = flows_join_right st.contamination (half_changed half act t st.input)
+reads_changed u st (ChangeInOut half act t) f h = flows_to-join_right st.contamination (half_changed half act t st.input)
 reads_changed u st Get Effect.Nothing h = h
 reads_changed u st Get (Effect.Commit k) h = h
 reads_changed u st Get (Effect.Given d) h = h
@@ -84,10 +92,10 @@ pub row_laws : (start : List (Label × List Privilege)) → Laws rows (roots sta
 row_laws start = record {
   grows = grows_after;
   reads = reads_after;
-  reads_first = λ k st e. roots_are (λ st. flows_to st.input st.contamination ≡ true) (λ r. flows_refl r.0) start k st e;
-  fixes_contamination = λ st n c r f h. by_fixed (λ f. flows_to st.contamination f.contamination ≡ true) st n c r f h (λ filter. flows_refl st.contamination);
-  begin_contamination = λ f t. flows_join_left f.contamination (readable_at f t);
-  begin_readable = λ f t. flows_join_right f.contamination (readable_at f t);
-  makes_contamination = λ st k c r ch h. by_child (λ ch. flows_to st.contamination ch.contamination ≡ true) st k c r ch h (λ s privileges. flows_join_left st.contamination (child_input st s));
-  makes_reads = λ st k c r ch h. by_child (λ ch. flows_to ch.input ch.contamination ≡ true) st k c r ch h (λ s privileges. flows_join_right st.contamination (child_input st s));
+  reads_first = λ k st e. roots_are (λ st. flows_to st.input st.contamination ≡ true) (λ r. flows_to-refl r.0) start k st e;
+  fixes_contamination = λ st n c r f h. by_fixed (λ f. flows_to st.contamination f.contamination ≡ true) st n c r f h (λ filter. flows_to-refl st.contamination);
+  begin_contamination = λ f t. flows_to-join_left f.contamination (readable_at f t);
+  begin_readable = λ f t. flows_to-join_right f.contamination (readable_at f t);
+  makes_contamination = λ st k c r ch h. by_child (λ ch. flows_to st.contamination ch.contamination ≡ true) st k c r ch h (λ s privileges. flows_to-join_left st.contamination (child_input st s));
+  makes_reads = λ st k c r ch h. by_child (λ ch. flows_to ch.input ch.contamination ≡ true) st k c r ch h (λ s privileges. flows_to-join_right st.contamination (child_input st s));
 }

@@ -5,7 +5,6 @@ use Rattle.std.proofs.lemmas.List.{append-nil}
 use Rattle.std.proofs.lemmas.List.Elements.{filter-append}
 use Rattle.df_filter.specs.declared.clause.Clause.{Clause}
 use Rattle.df_label.specs.Label.{flows_to}
-use Rattle.df_label.specs.TagSet.{is_subset}
 use Rattle.df_label.specs.declared.label.Label.{Label}
 use Rattle.df_part.specs.Contents.{apply, spared}
 use Rattle.df_part.specs.Part.{cut}
@@ -17,7 +16,8 @@ use Rattle.df_rules.specs.Deliveries.{plain_news, instance_news, offer, was_hand
 use Rattle.df_rules.specs.Own.{is_given}
 use Rattle.df_rules.specs.Purge.{echo, emitted}
 use Rattle.df_rules.proofs.CutFacts.{cut_again, cut_spots_again, cut_below, cut-spared, cut-apply, gives_cut, gives_none, spared_nil}
-use Rattle.df_rules.proofs.LabelFacts.{and_left, and_right}
+use Rattle.df_label.proofs.LabelFacts.{flows_to-parts}
+use Rattle.std.proofs.lemmas.Bool.{and_parts}
 use Rattle.df_unit.specs.Beginnings.{readable_at}
 use Rattle.df_unit.specs.Name.{same_event}
 use Rattle.df_unit.specs.OwnState.{OwnState, Fixed}
@@ -67,8 +67,8 @@ echo_alike l past past' same (Some c) = go (is_nil (cut_spots l c.edit.0) && is_
   where
     go : (b : Bool) → (is_nil (cut_spots l c.edit.0) && is_nil (cut l c.edit.1)) ≡ b → SeenAlike l past c past' (or_idle c.event (cond b None (Some (cut_commit l c))))
     go true e =
-        let d = nil_is (cut_spots l c.edit.0) (and_left (is_nil (cut_spots l c.edit.0)) (is_nil (cut l c.edit.1)) e) in
-        let a = nil_is (cut l c.edit.1) (and_right (is_nil (cut_spots l c.edit.0)) (is_nil (cut l c.edit.1)) e) in
+        let d = nil_is (cut_spots l c.edit.0) (and_parts (is_nil (cut_spots l c.edit.0)) (is_nil (cut l c.edit.1)) e).0 in
+        let a = nil_is (cut l c.edit.1) (and_parts (is_nil (cut_spots l c.edit.0)) (is_nil (cut l c.edit.1)) e).1 in
         record {
           event = refl;
           added = sym a;
@@ -118,20 +118,19 @@ echo_contents l past past' same (Some c) ev = go (is_nil (cut_spots l c.edit.0) 
     seen false = same ev
 
     go : (b : Bool) → (is_nil (cut_spots l c.edit.0) && is_nil (cut l c.edit.1)) ≡ b → cut l (contents (emitted (cond b None (Some (cut_commit l c))) ++ past') ev) ≡ cut l (committed ev (Some c) (contents past ev))
-    go true e = gone (nil_is (cut_spots l c.edit.0) (and_left (is_nil (cut_spots l c.edit.0)) (is_nil (cut l c.edit.1)) e))
-        (nil_is (cut l c.edit.1) (and_right (is_nil (cut_spots l c.edit.0)) (is_nil (cut l c.edit.1)) e)) (same_event c.event ev)
+    go true e = gone (nil_is (cut_spots l c.edit.0) (and_parts (is_nil (cut_spots l c.edit.0)) (is_nil (cut l c.edit.1)) e).0)
+        (nil_is (cut l c.edit.1) (and_parts (is_nil (cut_spots l c.edit.0)) (is_nil (cut l c.edit.1)) e).1) (same_event c.event ev)
     go false e = seen (same_event c.event ev)
 
 -- alike commits have the same choices within the label
 given_some : (l : Label) (f : Fixed) (t : List (List ℕ)) → flows_to (readable_at f t) l ≡ true → (past : List Entry) (c : Commit) (past' : List Entry) (c' : Commit) → SeenAlike l past c past' c' → is_given (Some f) t past' (Some c') ≡ is_given (Some f) t past (Some c)
 given_some l f t h past c past' c' a =
-    let in_s = and_left (is_subset t l.s) (is_subset l.i f.input_integrity) h in
-    let in_i = and_right (is_subset t l.s) (is_subset l.i f.input_integrity) h in
+    let inside = flows_to-parts (readable_at f t) l h in
     let g = gives f.filter f.input_integrity t f.base false in
-    gives_cut l f.input_integrity t in_s in_i f.filter f.base false (spared c'.edit.0 (contents past' c'.event)) c'.edit.1
+    gives_cut l f.input_integrity t inside.0 inside.1 f.filter f.base false (spared c'.edit.0 (contents past' c'.event)) c'.edit.1
     ∙ ap (λ (ps : List Part). g ps (cut l c'.edit.1)) a.spared
     ∙ ap (λ (ps : List Part). g (cut l (spared c.edit.0 (contents past c.event))) ps) a.added
-    ∙ sym (gives_cut l f.input_integrity t in_s in_i f.filter f.base false (spared c.edit.0 (contents past c.event)) c.edit.1)
+    ∙ sym (gives_cut l f.input_integrity t inside.0 inside.1 f.filter f.base false (spared c.edit.0 (contents past c.event)) c.edit.1)
 
 given_idle : (f : Fixed) (t : List (List ℕ)) (past : List Entry) (ev : EventName) (oc : Option Commit) → is_given (Some f) t past oc ≡ is_given (Some f) t past (Some (or_idle ev oc))
 given_idle f t past ev None = sym (gives_none f.filter f.input_integrity t f.base (spared [] (contents past ev)))

@@ -9,8 +9,9 @@ use Rattle.df_rules.specs.Laws.{Laws}
 use Rattle.df_rules.specs.Own.{stepped, made_by, own_plain, own_instance, own, fixed, born}
 use Rattle.df_rules.specs.Purge.{is_within, stays}
 use Rattle.df_rules.specs.Rules.{Rules}
-use Rattle.df_rules.proofs.Agreement.{Agrees, contaminated, IsOut, IsIn}
-use Rattle.df_rules.proofs.LabelFacts.{flows_trans, same_name-exact}
+use Rattle.df_rules.proofs.Agreement.{Agrees, contaminated, agrees_refl, IsOut, IsIn}
+use Rattle.df_label.proofs.LabelFacts.{flows_to-trans}
+use Rattle.df_unit.proofs.SameFacts.{same_name-exact}
 use Rattle.df_unit.specs.Name.{same}
 use Rattle.df_unit.specs.OwnState.{OwnState}
 use Rattle.df_unit.specs.declared.entry.Entry.{Entry}
@@ -61,7 +62,7 @@ module _ (R : Rules) (s : List OwnState) (laws : Laws R s) (l : Label) where
     where
       go : (b : Bool) (o : Option OwnState) → Agrees contaminated l o o' → Agrees contaminated l (cond b (option_map (λ st. R.after u st c r f) o) o) (cond b (option_map (λ st. R.after u st c r f) o') o')
       go true None h = ap (option_map (λ st. R.after u st c r f)) h
-      go true (Some st) h = λ k. ap (option_map (λ st. R.after u st c r f)) (h (flows_trans st.contamination (R.after u st c r f).contamination l (laws.grows u st c r f) k))
+      go true (Some st) h = λ k. ap (option_map (λ st. R.after u st c r f)) (h (flows_to-trans st.contamination (R.after u st c r f).contamination l (laws.grows u st c r f) k))
       go false o h = h
 
   -- an entry that goes does nothing to a unit within the label
@@ -72,7 +73,7 @@ module _ (R : Rules) (s : List OwnState) (laws : Laws R s) (l : Label) where
       go : (b : Bool) (o : Option OwnState) → (b ≡ true → is_within l o ≡ false) → Agrees contaminated l o o' → Agrees contaminated l (cond b (option_map (λ st. R.after u st c r f) o) o) o'
       go true None out h = h
       go true (Some st) out h = λ k.
-          let is_in = flows_trans st.contamination (R.after u st c r f).contamination l (laws.grows u st c r f) k in
+          let is_in = flows_to-trans st.contamination (R.after u st c r f).contamination l (laws.grows u st c r f) k in
           let not_in = out refl in cc
       go false o out h = h
 
@@ -88,11 +89,7 @@ module _ (R : Rules) (s : List OwnState) (laws : Laws R s) (l : Label) where
   pub made_agrees : {A : Type 0} (label : A → Label) (makes : OwnState → Option A) (b : Bool) (st st' : Option OwnState) → (b ≡ true → is_within l st ≡ true) → Agrees contaminated l st st' →
       Agrees label l (cond b (option_and_then makes st) None) (cond b (option_and_then makes st') None)
   made_agrees label makes true None st' inside h = let k = inside refl in cc
-  made_agrees {A} label makes true (Some st) st' inside h = rw (h (inside refl)) (itself (makes st))
-    where
-      itself : (x : Option A) → Agrees label l x x
-      itself None = refl
-      itself (Some x) = λ h. refl
+  made_agrees {A} label makes true (Some st) st' inside h = rw (h (inside refl)) (agrees_refl label l (makes st))
   made_agrees label makes false st st' inside h = refl
 
   -- and where it is not
@@ -103,7 +100,7 @@ module _ (R : Rules) (s : List OwnState) (laws : Laws R s) (l : Label) where
     where
       go : (x : Option A) → makes st ≡ x → Agrees label l x None
       go None e = refl
-      go (Some x) e = λ k. let is_in = flows_trans st.contamination (label x) l (law st x e) k in let not_in = out refl in cc
+      go (Some x) e = λ k. let is_in = flows_to-trans st.contamination (label x) l (law st x e) k in let not_in = out refl in cc
   made_skipped label makes law false st out = refl
 
   -- a unit within the label was within it before the entry
@@ -115,7 +112,7 @@ module _ (R : Rules) (s : List OwnState) (laws : Laws R s) (l : Label) where
       go true None h = absurd (let z : ⊥ = cc in z)
       go true (Some st) h =
           let e : R.after u st c r f ≡ st' = cc in
-          (st, refl, flows_trans st.contamination (R.after u st c r f).contamination l (laws.grows u st c r f) (subst (λ (z : OwnState). flows_to z.contamination l ≡ true) (sym e) k))
+          (st, refl, flows_to-trans st.contamination (R.after u st c r f).contamination l (laws.grows u st c r f) (subst (λ (z : OwnState). flows_to z.contamination l ≡ true) (sym e) k))
       go false o h = (st', h, k)
 
   or_back : (u : UnitName) (e : Entry) (o y : Option OwnState) (st' : OwnState) → option_or (stepped R u e o) y ≡ Some st' → flows_to st'.contamination l ≡ true → (o ≡ None) ⊎ ((st : OwnState) × (o ≡ Some st) × (flows_to st.contamination l ≡ true))

@@ -13,7 +13,7 @@ use Rattle.df_rules.specs.Received.{received, Receives}
 use Rattle.df_rules.specs.Rules.{Rules}
 use Rattle.df_rules.specs.Subscriptions.{subscriptions}
 use Rattle.df_rules.proofs.Invariant.{IfThere}
-use Rattle.df_rules.proofs.LabelFacts.{same_name-exact}
+use Rattle.df_unit.proofs.SameFacts.{same_name-exact}
 use Rattle.df_unit.specs.Name.{same}
 use Rattle.df_unit.specs.OwnState.{OwnState, Fixed}
 use Rattle.df_unit.specs.declared.call.Call.{Call}

@@ -5,7 +5,7 @@ use Rattle.df_label.specs.declared.privilege.Privilege.{Privilege}
 use Rattle.df_rules.specs.Commits.{given_in}
 use Rattle.df_rules.specs.Laws.{TakingLaws}
 use Rattle.df_rules.specs.Start.{rows, roots}
-use Rattle.df_rules.proofs.RowLaws.{roots_are, by_child}
+use Rattle.df_rules.proofs.RowLaws.{first_is, second_is, roots_are, by_child}
 use Rattle.df_unit.specs.declared.handle.Handle.{Handle}
 use Rattle.df_unit.specs.Handles.{handle_at}
 use Rattle.df_unit.specs.OwnState.{OwnState}
@@ -17,12 +17,6 @@ use Rattle.df_unit.specs.declared.commit.Given.{Given}
 use Rattle.df_unit.specs.declared.entry.Effect.{Effect}
 use Rattle.df_unit.specs.declared.name.UnitName.{UnitName}
 use Rattle.df_unit.specs.declared.reply.Reply.{Reply}
-
-first_is : {A B : Type 0} (p q : A) (x y : B) → (let z : A × B = (p, x) in z) ≡ (q, y) → p ≡ q
-first_is {A} {B} p q x y e = ap (λ (z : A × B). z.0) e
-
-second_is : {A B : Type 0} (p q : A) (x y : B) → (let z : A × B = (p, x) in z) ≡ (q, y) → x ≡ y
-second_is {A} {B} p q x y e = ap (λ (z : A × B). z.1) e
 
 -- whether an effect hands something over
 abbrev is_gift : Effect → Bool
