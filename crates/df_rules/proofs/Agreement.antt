@@ -19,7 +19,7 @@ use Rattle.df_unit.specs.declared.commit.Given.{Given}
 use Rattle.df_unit.specs.declared.entry.Entry.{Entry}
 use Rattle.df_unit.specs.declared.entry.Entry.TheVariants.{Done, Emitted}
 use Rattle.df_unit.specs.declared.name.UnitName.{UnitName}
-use Rattle.df_unit.specs.declared.name.UnitName.TheVariants.{Root}
+use Rattle.df_unit.specs.declared.name.UnitName.TheVariants.{Root, Managed}
 
 -- what is there and whose label flows to l is there again; what is not there is not there again
 abbrev pub Agrees : {A : Type 0} → (A → Label) → Label → Option A → Option A → Type 0
@@ -104,14 +104,24 @@ abbrev pub Began : List (List ℕ) → Option Fixed → Option OwnState → Type
 Began t fx None = ⊤
 Began t fx (Some st) = (f : Fixed) × (fx ≡ Some f) × (flows_to f.contamination st.contamination ≡ true) × (flows_to (readable_at f t) st.contamination ≡ true)
 
+-- what an instance's subscription keeps flows to l, if there is anything, and so does the label at which the instance reads
+abbrev pub KeptWithin : Label → List (List ℕ) → Option Fixed → Type 0
+KeptWithin l t None = ⊤
+KeptWithin l t (Some f) = (flows_to f.contamination l ≡ true) × (flows_to (readable_at f t) l ≡ true)
+
+-- nothing from before its beginning keeps the unit from l
+abbrev pub MayBeWithin : Rules → List OwnState → Label → List Entry → UnitName → Type 0
+MayBeWithin R s l past (Root path) = ⊤
+MayBeWithin R s l past (Managed o n t) = KeptWithin l t (fixed R s past o n)
+
 -- all that the unit may read is in its contamination
 abbrev pub Reads : OwnState → Type 0
 Reads st = flows_to st.input st.contamination ≡ true
 
--- what a plain unit has had by its state, and an instance's deliveries by its fixed record
-abbrev pub PlainGiven : {A : Type 0} → Label → Option OwnState → List A → List A → Type 0
-PlainGiven l None xs xs' = (xs ≡ []) × (xs' ≡ [])
-PlainGiven l (Some st) xs xs' = flows_to st.contamination l ≡ true → xs' ≡ xs
+-- what a unit has had by its state, and an instance's deliveries by its fixed record
+abbrev pub GivenByState : {A : Type 0} → Label → Option OwnState → List A → List A → Type 0
+GivenByState l None xs xs' = (xs ≡ []) × (xs' ≡ [])
+GivenByState l (Some st) xs xs' = flows_to st.contamination l ≡ true → xs' ≡ xs
 
 abbrev pub InstanceGiven : Label → List (List ℕ) → Option Fixed → List Given → List Given → Type 0
 InstanceGiven l t None ds ds' = (ds ≡ []) × (ds' ≡ [])

@@ -16,7 +16,7 @@ use Rattle.df_rules.specs.Own.{stepped, root_at, made_by, own_plain, own_instanc
 use Rattle.df_rules.specs.Purge.{Keeps, is_within, echo, emitted, left_of, stays, purge}
 use Rattle.df_rules.specs.Rules.{Rules}
 use Rattle.df_rules.specs.Subscriptions.{subscribed_by, subscriptions}
-use Rattle.df_rules.proofs.Agreement.{Agrees, contaminated, recorded, agrees_refl, agrees_eq, agrees_or, or_none, IsOut, IsIn, Reads, Began, InstanceAgrees, InstanceGiven, PlainGiven, own_plain-emitted, fixed-emitted, subscriptions-emitted, own_instance-emitted, deliveries_plain-emitted, deliveries_instance-emitted}
+use Rattle.df_rules.proofs.Agreement.{Agrees, contaminated, recorded, agrees_refl, agrees_eq, agrees_or, or_none, IsOut, IsIn, Reads, Began, KeptWithin, MayBeWithin, InstanceAgrees, InstanceGiven, GivenByState, own_plain-emitted, fixed-emitted, subscriptions-emitted, own_instance-emitted, deliveries_plain-emitted, deliveries_instance-emitted}
 use Rattle.df_rules.proofs.Invariant.{IfThere, plain_holds}
 use Rattle.df_label.proofs.LabelFacts.{flows_to-trans}
 use Rattle.df_rules.proofs.SeenFacts.{Alike, SameSeen, kept_alike, echo_alike, kept_contents, echo_contents, given_alike, plain_news_alike, instance_news_alike}
@@ -170,28 +170,50 @@ module _ (R : Rules) (s : List OwnState) (laws : Laws R s) (l : Label) where
   began [] o n t = tt
   began (e ∷ past) o n t = began_or t (fixed R s past o n) (fixed_by R e o n (own_plain R s past o)) (stepped R (Managed o n t) e (own_instance R s past o n t)) (stepped_began t (fixed R s past o n) (Managed o n t) e (own_instance R s past o n t) (began past o n t)) past (commit_of e)
 
+  within_before : (e : Entry) (past : List Entry) (u : UnitName) → MayBeWithin R s l (e ∷ past) u → MayBeWithin R s l past u
+  within_before e past (Root path) k = tt
+  within_before e past (Managed o n t) k = go (fixed R s past o n) k
+    where
+      go : (fx : Option Fixed) → KeptWithin l t (option_or fx (fixed_by R e o n (own_plain R s past o))) → KeptWithin l t fx
+      go None k = tt
+      go (Some f) k = k
+
+  may_be_within : (past : List Entry) (u : UnitName) (st : OwnState) → own R s past u ≡ Some st → flows_to st.contamination l ≡ true → MayBeWithin R s l past u
+  may_be_within past (Root path) st h w = tt
+  may_be_within past (Managed o n t) st h w =
+      let b = rw h at (began past o n t) in
+      subst (KeptWithin l t) (sym b.1) (flows_to-trans b.0.contamination st.contamination l b.2 w, flows_to-trans (readable_at b.0 t) st.contamination l b.3 w)
+
+  own_agrees : (past : List Entry) (u : UnitName) → MayBeWithin R s l past u → Agrees contaminated l (own R s past u) (own R s (purge R s l past) u)
+  own_agrees past (Root path) k = plain_agrees past path
+  own_agrees past (Managed o n t) k = go (fixed R s past o n) (instance_agrees past o n t) k
+    where
+      go : (fx : Option Fixed) → InstanceAgrees l t fx (own_instance R s past o n t) (own_instance R s (purge R s l past) o n t) → KeptWithin l t fx → Agrees contaminated l (own_instance R s past o n t) (own_instance R s (purge R s l past) o n t)
+      go None a k = both_none (own_instance R s past o n t) (own_instance R s (purge R s l past) o n t) a.0 a.1
+      go (Some f) a k = a k.0 k.1
+
   -- a plain unit's input label flows to its contamination, in any journal
   plain_reads : (past : List Entry) (path : List ℕ) → IfThere Reads (own_plain R s past path)
   plain_reads past path = plain_holds R s Reads (record { first = laws.reads_first; step = laws.reads; child = λ st k c r ch e h. laws.makes_reads st k c r ch e }) past path
 
-  -- what a plain unit within the label has more, it has more again
-  plain_more : {A : Type 0} (o so : Option OwnState) (xs xs' more more' : List A) → PlainGiven l o xs xs' → PlainGiven l o more more' →
+  -- what a unit within the label has more, it has more again
+  more_by_state : {A : Type 0} (o so : Option OwnState) (xs xs' more more' : List A) → GivenByState l o xs xs' → GivenByState l o more more' →
       ((st' : OwnState) → so ≡ Some st' → flows_to st'.contamination l ≡ true → (o ≡ None) ⊎ ((st : OwnState) × (o ≡ Some st) × (flows_to st.contamination l ≡ true))) → (so ≡ None → o ≡ None) →
-      PlainGiven l so (xs ++ more) (xs' ++ more')
-  plain_more None so xs xs' more more' h k back gone = go so
+      GivenByState l so (xs ++ more) (xs' ++ more')
+  more_by_state None so xs xs' more more' h k back gone = go so
     where
-      go : (so : Option OwnState) → PlainGiven l so (xs ++ more) (xs' ++ more')
+      go : (so : Option OwnState) → GivenByState l so (xs ++ more) (xs' ++ more')
       go None = (rw (h.0, k.0) refl, rw (h.1, k.1) refl)
       go (Some st') = λ w. rw (h.0, h.1, k.0, k.1) refl
-  plain_more (Some st) None xs xs' more more' h k back gone = let e = gone refl in absurd (let z : ⊥ = cc in z)
-  plain_more (Some st) (Some st') xs xs' more more' h k back gone = λ w. let v = inside (back st' refl w) in rw (h v, k v) refl
+  more_by_state (Some st) None xs xs' more more' h k back gone = let e = gone refl in absurd (let z : ⊥ = cc in z)
+  more_by_state (Some st) (Some st') xs xs' more more' h k back gone = λ w. let v = inside (back st' refl w) in rw (h v, k v) refl
     where
       inside : (Some st ≡ None) ⊎ ((x : OwnState) × (Some st ≡ Some x) × (flows_to x.contamination l ≡ true)) → flows_to st.contamination l ≡ true
       inside (inl e) = absurd (let z : ⊥ = cc in z)
       inside (inr b) = let same : st ≡ b.0 = (let e = b.1 in cc) in subst (λ (z : OwnState). flows_to z.contamination l ≡ true) (sym same) b.2
 
-  -- the subscriptions of a plain unit
-  subscribed_kept : (u : UnitName) (e : Entry) (o o' : Option OwnState) → Agrees contaminated l o o' → PlainGiven l o (option_to_list (subscribed_by R e u o)) (option_to_list (subscribed_by R e u o'))
+  -- the subscriptions of a unit
+  subscribed_kept : (u : UnitName) (e : Entry) (o o' : Option OwnState) → Agrees contaminated l o o' → GivenByState l o (option_to_list (subscribed_by R e u o)) (option_to_list (subscribed_by R e u o'))
   subscribed_kept u (Emitted c) None o' agree = (refl, refl)
   subscribed_kept u (Emitted c) (Some st) o' agree = λ h. refl
   subscribed_kept u (Done a c r f) None o' agree = rw agree (none (same a u), none (same a u))
@@ -201,66 +223,66 @@ module _ (R : Rules) (s : List OwnState) (laws : Laws R s) (l : Label) where
       none false = refl
   subscribed_kept u (Done a c r f) (Some st) o' agree = λ h. rw (agree h) refl
 
-  subscribed_skipped : (u : UnitName) (e : Entry) (o : Option OwnState) → IsOut l u e o → PlainGiven l o (option_to_list (subscribed_by R e u o)) []
+  subscribed_skipped : (u : UnitName) (e : Entry) (o : Option OwnState) → IsOut l u e o → GivenByState l o (option_to_list (subscribed_by R e u o)) []
   subscribed_skipped u (Emitted c) None out = (refl, refl)
   subscribed_skipped u (Emitted c) (Some st) out = λ h. refl
   subscribed_skipped u (Done a c r f) o out = go (same a u) o out
     where
-      go : (b : Bool) (o : Option OwnState) → (b ≡ true → is_within l o ≡ false) → PlainGiven l o (option_to_list (cond b (option_and_then (λ st. R.subscribes st c r) o) None)) []
+      go : (b : Bool) (o : Option OwnState) → (b ≡ true → is_within l o ≡ false) → GivenByState l o (option_to_list (cond b (option_and_then (λ st. R.subscribes st c r) o) None)) []
       go true None out = (refl, refl)
       go true (Some st) out = λ h. let not_in = out refl in cc
       go false None out = (refl, refl)
       go false (Some st) out = λ h. refl
 
-  subscriptions_agree : (past : List Entry) (path : List ℕ) → PlainGiven l (own_plain R s past path) (subscriptions R s past (Root path)) (subscriptions R s (purge R s l past) (Root path))
-  subscriptions_agree [] path = go (root_at s path)
+  subscriptions_agree : (past : List Entry) (u : UnitName) → MayBeWithin R s l past u → GivenByState l (own R s past u) (subscriptions R s past u) (subscriptions R s (purge R s l past) u)
+  subscriptions_agree [] u k = go (own R s [] u)
     where
-      go : (o : Option OwnState) → PlainGiven {A = ℕ × List Clause} l o [] []
+      go : (o : Option OwnState) → GivenByState {A = ℕ × List Clause} l o [] []
       go None = (refl, refl)
       go (Some st) = λ h. refl
-  subscriptions_agree (e ∷ past) path = go (stays R s l past e) refl (subscriptions_agree past path)
+  subscriptions_agree (e ∷ past) u k = go (stays R s l past e) refl (subscriptions_agree past u (within_before e past u k))
     where
-      step : PlainGiven l (own_plain R s past path) (subscriptions R s past (Root path)) (subscriptions R s (purge R s l past) (Root path)) → (more' : List (ℕ × List Clause)) →
-          PlainGiven l (own_plain R s past path) (option_to_list (subscribed_by R e (Root path) (own_plain R s past path))) more' →
-          PlainGiven l (own_plain R s (e ∷ past) path) (subscriptions R s (e ∷ past) (Root path)) (subscriptions R s (purge R s l past) (Root path) ++ more')
-      step ih more' k = plain_more (own_plain R s past path) (own_plain R s (e ∷ past) path) (subscriptions R s past (Root path)) (subscriptions R s (purge R s l past) (Root path))
-          (option_to_list (subscribed_by R e (Root path) (own_plain R s past path))) more' ih k (own_back R s laws l e past (Root path)) (none_before R s e past (Root path))
+      step : GivenByState l (own R s past u) (subscriptions R s past u) (subscriptions R s (purge R s l past) u) → (more' : List (ℕ × List Clause)) →
+          GivenByState l (own R s past u) (option_to_list (subscribed_by R e u (own R s past u))) more' →
+          GivenByState l (own R s (e ∷ past) u) (subscriptions R s (e ∷ past) u) (subscriptions R s (purge R s l past) u ++ more')
+      step ih more' k = more_by_state (own R s past u) (own R s (e ∷ past) u) (subscriptions R s past u) (subscriptions R s (purge R s l past) u)
+          (option_to_list (subscribed_by R e u (own R s past u))) more' ih k (own_back R s laws l e past u) (none_before R s e past u)
 
-      go : (b : Bool) → stays R s l past e ≡ b → PlainGiven l (own_plain R s past path) (subscriptions R s past (Root path)) (subscriptions R s (purge R s l past) (Root path)) →
-          PlainGiven l (own_plain R s (e ∷ past) path) (subscriptions R s (e ∷ past) (Root path)) (subscriptions R s (left_of l b e ++ purge R s l past) (Root path))
-      go true h ih = step ih (option_to_list (subscribed_by R e (Root path) (own_plain R s (purge R s l past) path))) (subscribed_kept (Root path) e (own_plain R s past path) (own_plain R s (purge R s l past) path) (plain_agrees past path))
-      go false h ih = rw (subscriptions-emitted R s (echo l (commit_of e)) (purge R s l past) (Root path))
-          (subst (λ (xs : List (ℕ × List Clause)). PlainGiven l (own_plain R s (e ∷ past) path) (subscriptions R s (e ∷ past) (Root path)) xs) (append-nil (subscriptions R s (purge R s l past) (Root path)))
-          (step ih [] (subscribed_skipped (Root path) e (own_plain R s past path) (is_out R s laws l past e h (Root path)))))
+      go : (b : Bool) → stays R s l past e ≡ b → GivenByState l (own R s past u) (subscriptions R s past u) (subscriptions R s (purge R s l past) u) →
+          GivenByState l (own R s (e ∷ past) u) (subscriptions R s (e ∷ past) u) (subscriptions R s (left_of l b e ++ purge R s l past) u)
+      go true h ih = step ih (option_to_list (subscribed_by R e u (own R s (purge R s l past) u))) (subscribed_kept u e (own R s past u) (own R s (purge R s l past) u) (own_agrees past u (within_before e past u k)))
+      go false h ih = rw (subscriptions-emitted R s (echo l (commit_of e)) (purge R s l past) u)
+          (subst (λ (xs : List (ℕ × List Clause)). GivenByState l (own R s (e ∷ past) u) (subscriptions R s (e ∷ past) u) xs) (append-nil (subscriptions R s (purge R s l past) u))
+          (step ih [] (subscribed_skipped u e (own R s past u) (is_out R s laws l past e h u))))
 
   -- deliveries to a plain unit
-  plain_news_agree : (o o' : Option OwnState) (subs subs' : List (ℕ × List Clause)) (ds ds' : List Given) → IfThere Reads o → Agrees contaminated l o o' → PlainGiven l o subs subs' → PlainGiven l o ds ds' →
+  plain_news_agree : (o o' : Option OwnState) (subs subs' : List (ℕ × List Clause)) (ds ds' : List Given) → IfThere Reads o → Agrees contaminated l o o' → GivenByState l o subs subs' → GivenByState l o ds ds' →
       (past : List Entry) (oc : Option Commit) (past' : List Entry) (oc' : Option Commit) → Alike l past oc past' oc' →
-      PlainGiven l o (plain_news o subs ds past oc) (plain_news o' subs' ds' past' oc')
+      GivenByState l o (plain_news o subs ds past oc) (plain_news o' subs' ds' past' oc')
   plain_news_agree None o' subs subs' ds ds' reads agree same_subs same_ds past oc past' oc' a = (refl, rw agree refl)
   plain_news_agree (Some st) o' subs subs' ds ds' reads agree same_subs same_ds past oc past' oc' a = λ k.
       rw (agree k, same_subs k, same_ds k) (plain_news_alike l st subs ds (flows_to-trans st.input st.contamination l reads k) past oc past' oc' a)
 
-  plain_given : (past : List Entry) (path : List ℕ) → PlainGiven l (own_plain R s past path) (deliveries_plain R s past path) (deliveries_plain R s (purge R s l past) path)
+  plain_given : (past : List Entry) (path : List ℕ) → GivenByState l (own_plain R s past path) (deliveries_plain R s past path) (deliveries_plain R s (purge R s l past) path)
   plain_given [] path = go (root_at s path)
     where
-      go : (o : Option OwnState) → PlainGiven {A = Given} l o [] []
+      go : (o : Option OwnState) → GivenByState {A = Given} l o [] []
       go None = (refl, refl)
       go (Some st) = λ h. refl
   plain_given (e ∷ past) path = go (stays R s l past e) refl (plain_given past path)
     where
-      step : PlainGiven l (own_plain R s past path) (deliveries_plain R s past path) (deliveries_plain R s (purge R s l past) path) → (oc' : Option Commit) → Alike l past (commit_of e) (purge R s l past) oc' →
-          PlainGiven l (own_plain R s (e ∷ past) path) (deliveries_plain R s past path ++ plain_news (own_plain R s past path) (subscriptions R s past (Root path)) (deliveries_plain R s past path) past (commit_of e))
+      step : GivenByState l (own_plain R s past path) (deliveries_plain R s past path) (deliveries_plain R s (purge R s l past) path) → (oc' : Option Commit) → Alike l past (commit_of e) (purge R s l past) oc' →
+          GivenByState l (own_plain R s (e ∷ past) path) (deliveries_plain R s past path ++ plain_news (own_plain R s past path) (subscriptions R s past (Root path)) (deliveries_plain R s past path) past (commit_of e))
           (deliveries_plain R s (purge R s l past) path ++ plain_news (own_plain R s (purge R s l past) path) (subscriptions R s (purge R s l past) (Root path)) (deliveries_plain R s (purge R s l past) path) (purge R s l past) oc')
-      step ih oc' a = plain_more (own_plain R s past path) (own_plain R s (e ∷ past) path) (deliveries_plain R s past path) (deliveries_plain R s (purge R s l past) path)
+      step ih oc' a = more_by_state (own_plain R s past path) (own_plain R s (e ∷ past) path) (deliveries_plain R s past path) (deliveries_plain R s (purge R s l past) path)
           (plain_news (own_plain R s past path) (subscriptions R s past (Root path)) (deliveries_plain R s past path) past (commit_of e))
           (plain_news (own_plain R s (purge R s l past) path) (subscriptions R s (purge R s l past) (Root path)) (deliveries_plain R s (purge R s l past) path) (purge R s l past) oc') ih
           (plain_news_agree (own_plain R s past path) (own_plain R s (purge R s l past) path) (subscriptions R s past (Root path)) (subscriptions R s (purge R s l past) (Root path)) (deliveries_plain R s past path) (deliveries_plain R s (purge R s l past) path)
-          (plain_reads past path) (plain_agrees past path) (subscriptions_agree past path) ih past (commit_of e) (purge R s l past) oc' a)
+          (plain_reads past path) (plain_agrees past path) (subscriptions_agree past (Root path) tt) ih past (commit_of e) (purge R s l past) oc' a)
           (own_back R s laws l e past (Root path)) (none_before R s e past (Root path))
 
-      go : (b : Bool) → stays R s l past e ≡ b → PlainGiven l (own_plain R s past path) (deliveries_plain R s past path) (deliveries_plain R s (purge R s l past) path) →
-          PlainGiven l (own_plain R s (e ∷ past) path) (deliveries_plain R s past path ++ plain_news (own_plain R s past path) (subscriptions R s past (Root path)) (deliveries_plain R s past path) past (commit_of e)) (deliveries_plain R s (left_of l b e ++ purge R s l past) path)
+      go : (b : Bool) → stays R s l past e ≡ b → GivenByState l (own_plain R s past path) (deliveries_plain R s past path) (deliveries_plain R s (purge R s l past) path) →
+          GivenByState l (own_plain R s (e ∷ past) path) (deliveries_plain R s past path ++ plain_news (own_plain R s past path) (subscriptions R s past (Root path)) (deliveries_plain R s past path) past (commit_of e)) (deliveries_plain R s (left_of l b e ++ purge R s l past) path)
       go true h ih = step ih (commit_of e) (kept_alike l past (purge R s l past) (seen_agrees past) (commit_of e))
       go false h ih = rw (deliveries_plain-emitted R s (echo l (commit_of e)) (purge R s l past) path)
           (step ih (echo l (commit_of e)) (echo_alike l past (purge R s l past) (seen_agrees past) (commit_of e)))
@@ -291,22 +313,21 @@ module _ (R : Rules) (s : List OwnState) (laws : Laws R s) (l : Label) where
 
   -- together
   pub same_own : (past : List Entry) (u : UnitName) (st : OwnState) → own R s past u ≡ Some st → flows_to st.contamination l ≡ true → own R s (purge R s l past) u ≡ Some st
-  same_own past (Root path) st h w = rw h at (plain_agrees past path) w
-  same_own past (Managed o n t) st h w =
-      let b = rw h at (began past o n t) in
-      let a = rw b.1 at (instance_agrees past o n t) in
-      let c = a (flows_to-trans b.0.contamination st.contamination l b.2 w) (flows_to-trans (readable_at b.0 t) st.contamination l b.3 w) in
-      rw h at c w
+  same_own past u st h w = rw h at (own_agrees past u (may_be_within past u st h w)) w
+
+  same_subscriptions : (past : List Entry) (u : UnitName) (st : OwnState) → own R s past u ≡ Some st → flows_to st.contamination l ≡ true → subscriptions R s (purge R s l past) u ≡ subscriptions R s past u
+  same_subscriptions past u st h w = rw h at (subscriptions_agree past u (may_be_within past u st h w)) w
 
   pub same_deliveries : (past : List Entry) (u : UnitName) (st : OwnState) → own R s past u ≡ Some st → flows_to st.contamination l ≡ true → deliveries R s (purge R s l past) u ≡ deliveries R s past u
   same_deliveries past (Root path) st h w = rw h at (plain_given past path) w
-  same_deliveries past (Managed o n t) st h w =
-      let b = rw h at (began past o n t) in
-      let a = rw b.1 at (instance_given past o n t) in
-      a (flows_to-trans b.0.contamination st.contamination l b.2 w) (flows_to-trans (readable_at b.0 t) st.contamination l b.3 w)
+  same_deliveries past (Managed o n t) st h w = go (fixed R s past o n) (instance_given past o n t) (may_be_within past (Managed o n t) st h w)
+    where
+      go : (fx : Option Fixed) → InstanceGiven l t fx (deliveries_instance R s past o n t) (deliveries_instance R s (purge R s l past) o n t) → KeptWithin l t fx → deliveries_instance R s (purge R s l past) o n t ≡ deliveries_instance R s past o n t
+      go None a k = a.1 ∙ sym a.0
+      go (Some f) a k = a k.0 k.1
 
   pub purge_keeps : (past : List Entry) → Keeps R s l past (purge R s l past)
-  purge_keeps past = record { same_own = same_own past; same_deliveries = same_deliveries past; same_contents = seen_agrees past }
+  purge_keeps past = record { same_own = same_own past; same_subscriptions = same_subscriptions past; same_deliveries = same_deliveries past; same_contents = seen_agrees past }
 
   -- an entry that stays is still the answer
   right_again : (past : List Entry) (e : Entry) → stays R s l past e ≡ true → IsRight R s past e → IsRight R s (purge R s l past) e

@@ -7,6 +7,7 @@ use Rattle.df_rules.specs.Commits.{commit_of, contents, cut_spots, cut_commit}
 use Rattle.df_rules.specs.Deliveries.{deliveries}
 use Rattle.df_rules.specs.Own.{own}
 use Rattle.df_rules.specs.Rules.{Rules}
+use Rattle.df_rules.specs.Subscriptions.{subscriptions}
 use Rattle.df_unit.specs.OwnState.{OwnState}
 use Rattle.df_unit.specs.Rows.{is_nil}
 use Rattle.df_unit.specs.declared.commit.Commit.{Commit}
@@ -42,8 +43,10 @@ abbrev pub purge : Rules → List OwnState → Label → List Entry → List Ent
 purge R s l [] = []
 purge R s l (e ∷ past) = left_of l (stays R s l past e) e ++ purge R s l past
 
--- units within the label are as they were and are handed what they were, and what the label shows of each event is the same
+-- units within the label are as they were, have the ordinary subscriptions that they had and are handed what they were, and what
+-- the label shows of each event is the same
 pub record Keeps (R : Rules) (s : List OwnState) (l : Label) (past kept : List Entry) : Type 0 where
   pub same_own : (u : UnitName) (st : OwnState) → own R s past u ≡ Some st → flows_to st.contamination l ≡ true → own R s kept u ≡ Some st
+  pub same_subscriptions : (u : UnitName) (st : OwnState) → own R s past u ≡ Some st → flows_to st.contamination l ≡ true → subscriptions R s kept u ≡ subscriptions R s past u
   pub same_deliveries : (u : UnitName) (st : OwnState) → own R s past u ≡ Some st → flows_to st.contamination l ≡ true → deliveries R s kept u ≡ deliveries R s past u
   pub same_contents : (event : EventName) → cut l (contents kept event) ≡ cut l (contents past event)

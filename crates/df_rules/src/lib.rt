@@ -36,8 +36,9 @@ pub fn purge_is_legal()
     ensures { (start : List (Label × List Privilege)) (l : Label) (past : List Entry) → Legal rows (roots start) past → Legal rows (roots start) (purge rows (roots start) l past) }
 {}
 
-/// Each unit within the label is in the purge as it was, and is handed what it was, and what the
-/// label shows of each event is the same. This is so of every journal.
+/// Each unit within the label is in the purge as it was, has the ordinary subscriptions that it had
+/// and is handed what it was, and what the label shows of each event is the same. This is so of
+/// every journal.
 pub fn purge_keeps()
     ensures { (start : List (Label × List Privilege)) (l : Label) (past : List Entry) → Keeps rows (roots start) l past (purge rows (roots start) l past) }
 {}
