@@ -1,16 +1,16 @@
 -- Worked examples of units that make units.
-use Rattle.std.proofs.Common.{◌≡◌, List, [], ◌∷◌, refl}
+use Rattle.std.proofs.Common.{◌≡◌, ℕ, zero, suc, List, [], ◌∷◌, refl}
 use Rattle.std.specs.Prelude.{reverse, replicate}
 use Rattle.df_label.specs.declared.label.Label.{Label}
 use Rattle.df_label.specs.declared.privilege.Privilege.{Privilege}
 use Rattle.df_priv.specs.declared.need.Act.TheVariants.{Del}
 use Rattle.df_priv.specs.declared.need.Half.{Half}
-use Rattle.df_rules.specs.Legal.{Legal, answer, run}
+use Rattle.df_rules.specs.Legal.{Legal, run}
 use Rattle.df_rules.specs.Purge.{purge}
 use Rattle.df_rules.specs.Start.{rows, roots}
 use Rattle.df_rules.proofs.ExampleWords.{a, unit, event, tag, public, secret, plus, minus, plus_auth, minus_auth, whole, part, commit, says, commits}
+use Rattle.df_unit.specs.declared.call.Call.{Call}
 use Rattle.df_unit.specs.declared.call.Call.TheVariants.{CreateEvent, AddPart, ChangeOutLabel, CreateTag, Get, Publish, ChangeInOut, Instantiate}
-use Rattle.df_unit.specs.declared.entry.Effect.{Effect}
 use Rattle.df_unit.specs.declared.entry.Entry.{Entry}
 use Rattle.df_unit.specs.declared.entry.Entry.TheVariants.{Emitted}
 use Rattle.df_unit.specs.declared.name.UnitName.TheVariants.{Root}
@@ -94,5 +94,14 @@ a_path_has_at_most_eight_numbers : Legal rows (roots a_path_has_at_most_eight_nu
 a_path_has_at_most_eight_numbers = ((((((((tt, refl), refl), refl), refl), refl), refl), refl), refl)
 
 -- a unit makes 64 units and no more
-a_unit_makes_sixty_four_units : answer rows (roots ((public, []) ∷ [])) (run rows (roots ((public, []) ∷ [])) (replicate 64 (unit 0, Instantiate [] []))) (unit 0) (Instantiate [] []) ≡ (Reply.TooManyUnits, Effect.Nothing)
+
+abbrev spawn : Call
+spawn = Instantiate [] []
+
+-- the units of these numbers and less, the newest first
+abbrev spawned : ℕ → List Entry
+spawned zero = []
+spawned (suc k) = says (unit 0) spawn (Reply.Unit k) ∷ spawned k
+
+a_unit_makes_sixty_four_units : run rows (roots ((public, []) ∷ [])) (replicate 65 (unit 0, spawn)) ≡ says (unit 0) spawn Reply.TooManyUnits ∷ spawned 64
 a_unit_makes_sixty_four_units = refl
