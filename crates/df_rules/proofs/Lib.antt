@@ -22,3 +22,4 @@ pub mod ExampleChildren
 pub mod Taking
 pub mod TakingRows
 pub mod Once
+pub mod BuiltCalls
