@@ -77,7 +77,7 @@ module _ (R : Rules) (s : List OwnState) where
       go false ih = h.0
 
 module _ (R : Rules) (s : List OwnState) (laws : Laws R s) (release : ReleaseLaws R s) where
-  own_kept : (past : List Entry) (u : UnitName) (st : OwnState) → own R s past u ≡ Some st → IsKept st
+  pub own_kept : (past : List Entry) (u : UnitName) (st : OwnState) → own R s past u ≡ Some st → IsKept st
   own_kept past u st h = own_holds R s IsKept (record { first = release.kept_first; step = release.kept_after; child = release.kept_makes }) (λ st n c r f t e w k. release.kept_begin st n c r f t e k w) past u st h
 
   -- once the record is there, what stood before it stays the same

@@ -1,20 +1,28 @@
 -- The rows of the call table take deliveries one by one.
-use Rattle.std.proofs.Common.{◌≡◌, ◌+◌, List, [], ◌∷◌, Bool, true, false, ◌&&◌, refl, sym, ap, subst, cond, Option, Some, None}
+use Rattle.std.proofs.Common.{◌≡◌, ◌+◌, List, [], ◌∷◌, ◌++◌, Bool, true, false, ◌&&◌, refl, sym, ◌∙◌, ap, subst, cond, Option, Some, None}
+use Rattle.std.proofs.lemmas.List.{append-nil}
 use Rattle.df_label.specs.declared.label.Label.{Label}
 use Rattle.df_label.specs.declared.privilege.Privilege.{Privilege}
 use Rattle.df_rules.specs.Commits.{given_in}
+use Rattle.df_rules.specs.Deliveries.{deliveries}
 use Rattle.df_rules.specs.Laws.{TakingLaws}
+use Rattle.df_rules.specs.Legal.{Legal, answer_of, left}
+use Rattle.df_rules.specs.Own.{own}
+use Rattle.df_rules.specs.Received.{received}
 use Rattle.df_rules.specs.Start.{rows, roots}
+use Rattle.df_rules.proofs.Taking.{gets_give_deliveries}
 use Rattle.df_rules.proofs.RowLaws.{first_is, second_is, roots_are, by_child}
 use Rattle.df_unit.specs.declared.handle.Handle.{Handle}
-use Rattle.df_unit.specs.Handles.{handle_at}
+use Rattle.df_unit.specs.Handles.{handle_at, is_full, least_free}
 use Rattle.df_unit.specs.OwnState.{OwnState}
-use Rattle.df_unit.specs.Rows.{reply, effect, after, changed, is_accepted, published, released, is_nil}
+use Rattle.df_unit.specs.Rows.{reply, effect, after, changed, is_accepted, published, released, is_nil, handed}
 use Rattle.df_unit.specs.Drafts.{relabelled}
 use Rattle.df_unit.specs.declared.call.Call.{Call}
 use Rattle.df_unit.specs.declared.call.Call.TheVariants.{Get, Publish, Release}
 use Rattle.df_unit.specs.declared.commit.Given.{Given}
 use Rattle.df_unit.specs.declared.entry.Effect.{Effect}
+use Rattle.df_unit.specs.declared.entry.Entry.{Entry}
+use Rattle.df_unit.specs.declared.entry.Entry.TheVariants.{Done}
 use Rattle.df_unit.specs.declared.name.UnitName.{UnitName}
 use Rattle.df_unit.specs.declared.reply.Reply.{Reply}
 
@@ -92,3 +100,27 @@ row_taking_laws start = record {
   takes = takes;
   leaves = leaves;
 }
+
+-- nothing is answered only where nothing is left
+
+none_left : (st : OwnState) (ds : List Given) → handed st ds ≡ Reply.Nothing → ds ≡ []
+none_left st [] h = refl
+none_left st (d ∷ ds) h = go (is_full st.handles) h
+  where
+    go : (b : Bool) → cond b Reply.TooManyHandles (Reply.Event (least_free st.handles) d.sub) ≡ Reply.Nothing → d ∷ ds ≡ []
+    go true h = absurd (let z : ⊥ = cc in z)
+    go false h = absurd (let z : ⊥ = cc in z)
+
+pub nothing_after_all : (start : List (Label × List Privilege)) (past : List Entry) (u : UnitName) (f : Effect) → Legal rows (roots start) (Done u Get Reply.Nothing f ∷ past) → received u past ≡ deliveries rows (roots start) past u
+nothing_after_all start past u f legal = go (own rows (roots start) past u) refl legal.1
+  where
+    ds : List Given
+    ds = deliveries rows (roots start) past u
+
+    go : (o : Option OwnState) → own rows (roots start) past u ≡ o → answer_of rows u o ds Get ≡ (Reply.Nothing, f) → received u past ≡ ds
+    go None mine right =
+        let no_unit = first_is Reply.NoSuchUnit Reply.Nothing Effect.Nothing f right in absurd (let z : ⊥ = cc in z)
+    go (Some st) mine right =
+        let none : left st ds ≡ [] = none_left st (left st ds) (first_is (reply u st (left st ds) Get) Reply.Nothing (effect u st (left st ds) Get) f right) in
+        let all = (gets_give_deliveries rows (roots start) (row_taking_laws start) past legal.0 u st mine).all in
+        sym (append-nil (received u past)) ∙ ap (λ (ds : List Given). received u past ++ ds) (sym none) ∙ all

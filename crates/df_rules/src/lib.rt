@@ -9,6 +9,7 @@ ghost use Rattle.df_label.specs.Tag.{maker_of};
 ghost use Rattle.df_label.specs.declared.privilege.Privilege.{Privilege};
 ghost use Rattle.df_unit.specs.OwnState.{OwnState};
 ghost use Rattle.df_unit.specs.declared.call.Call.{Call};
+ghost use Rattle.df_unit.specs.declared.call.Call.TheVariants.{Get};
 ghost use Rattle.df_unit.specs.declared.commit.Commit.{Commit};
 ghost use Rattle.df_unit.specs.declared.commit.Given.{Given};
 ghost use Rattle.df_unit.specs.declared.entry.Effect.{Effect};
@@ -22,7 +23,7 @@ ghost use Rattle.df_rules.specs.Deliveries.{deliveries, was_handed};
 ghost use Rattle.df_rules.specs.Exercised.{IsExercised, before_fixed};
 ghost use Rattle.df_rules.specs.Follows.{Follows, Last, Want, brain_of};
 ghost use Rattle.df_rules.specs.Grows.{HasGrown, IsAbove};
-ghost use Rattle.df_rules.specs.Laws.{Laws, ReleaseLaws};
+ghost use Rattle.df_rules.specs.Laws.{IsKept, Laws, ReleaseLaws};
 ghost use Rattle.df_rules.specs.Legal.{IsRight, IsUnaided, Legal, calls_of, run};
 ghost use Rattle.df_rules.specs.Own.{own};
 ghost use Rattle.df_rules.specs.Purge.{Keeps, echo, purge};
@@ -97,6 +98,13 @@ pub fn units_grow()
     ensures { (start : List (Label × List Privilege)) (newer past : List Entry) (u : UnitName) (st : OwnState) → own rows (roots start) past u ≡ Some st → (later : OwnState) × (own rows (roots start) (newer ++ past) u ≡ Some later) × HasGrown st later }
 {}
 
+/// A unit's contamination takes in all that it may read. Each of its confidentiality tags is in the
+/// unit's output label or was dropped, and each integrity tag of the output label is in the
+/// contamination or was endorsed.
+pub fn tags_are_accounted_for()
+    ensures { (start : List (Label × List Privilege)) (past : List Entry) (u : UnitName) (st : OwnState) → own rows (roots start) past u ≡ Some st → IsKept st }
+{}
+
 /// Later entries leave each delivery as it was.
 pub fn deliveries_grow()
     ensures { (start : List (Label × List Privilege)) (newer past : List Entry) (u : UnitName) → (more : List Given) × (deliveries rows (roots start) (newer ++ past) u ≡ deliveries rows (roots start) past u ++ more) }
@@ -108,9 +116,11 @@ pub fn deliveries_come_once()
 {}
 
 /// In a legal journal a unit's gets give it exactly its deliveries, in order: what it received, and
-/// then what is left to it. Who doesn't exist received nothing.
+/// then what is left to it. A get is answered nothing only where the unit has received them all.
+/// Who doesn't exist received nothing.
 pub fn gets_give_deliveries()
     ensures units { (start : List (Label × List Privilege)) (past : List Entry) → Legal rows (roots start) past → (u : UnitName) (st : OwnState) → own rows (roots start) past u ≡ Some st → Receives rows (roots start) past u st }
+    ensures nothing { (start : List (Label × List Privilege)) (past : List Entry) (u : UnitName) (f : Effect) → Legal rows (roots start) (Done u Get Reply.Nothing f ∷ past) → received u past ≡ deliveries rows (roots start) past u }
     ensures absent { (start : List (Label × List Privilege)) (past : List Entry) → Legal rows (roots start) past → (u : UnitName) → own rows (roots start) past u ≡ None → received u past ≡ [] }
 {}
 
