@@ -21,5 +21,6 @@ pub mod ExampleInstances
 pub mod ExampleChildren
 pub mod Taking
 pub mod TakingRows
+pub mod Numbers
 pub mod Once
 pub mod BuiltCalls

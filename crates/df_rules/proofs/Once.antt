@@ -1,12 +1,11 @@
 -- No event is handed twice to one subscription.
-use Rattle.std.proofs.Common.{◌≡◌, ℕ, ◌+◌, ◌≤◌, ◌<◌, List, [], ◌∷◌, ◌++◌, Bool, true, false, not, ◌&&◌, ◌||◌, refl, sym, ◌∙◌, ap, subst, cond, Option, Some, None, arith}
-use Rattle.std.specs.Prelude.{⊤, ◌==◌, option_to_list}
+use Rattle.std.proofs.Common.{◌≡◌, ℕ, ◌<◌, List, [], ◌∷◌, ◌++◌, Bool, true, false, not, ◌&&◌, ◌||◌, refl, sym, ◌∙◌, ap, subst, cond, Option, Some, None, arith}
+use Rattle.std.specs.Prelude.{⊤, ◌==◌}
 use Rattle.std.specs.List.{list_any, flat_map}
-use Rattle.std.specs.Option.{option_map, option_and_then, option_or}
-use Rattle.std.proofs.lemmas.Bool.{eqb-true}
+use Rattle.std.proofs.lemmas.Bool.{eqb-true, or_from}
+use Rattle.std.proofs.lemmas.List.Folds.{list_any-append}
 use Rattle.std.proofs.lemmas.List.{append-nil, append_assoc}
 use Rattle.df_filter.specs.declared.clause.Clause.{Clause}
-use Rattle.df_label.specs.Tag.{maker_of}
 use Rattle.df_label.specs.declared.label.Label.{Label}
 use Rattle.df_label.specs.declared.privilege.Privilege.{Privilege}
 use Rattle.df_part.specs.Contents.{apply}
@@ -15,35 +14,20 @@ use Rattle.df_part.specs.declared.part.Part.{Part}
 use Rattle.df_rules.specs.Choices.{matches}
 use Rattle.df_rules.specs.Commits.{commit_of, contents}
 use Rattle.df_rules.specs.Deliveries.{was_handed, offer, plain_news, instance_news, deliveries, deliveries_plain, deliveries_instance}
-use Rattle.df_rules.specs.Own.{stepped, root_at, made_by, own_plain, fixed, is_given}
+use Rattle.df_rules.specs.Own.{own_plain, fixed, is_given}
 use Rattle.df_rules.specs.Start.{rows, roots}
-use Rattle.df_rules.specs.Subscriptions.{subscribed_by, subscriptions}
-use Rattle.df_rules.proofs.Growth.{grown_after}
+use Rattle.df_rules.specs.Subscriptions.{subscriptions}
+use Rattle.df_rules.proofs.Numbers.{Above, Numbered, AreNumbered, numbered}
 use Rattle.df_unit.specs.Beginnings.{readable_at}
 use Rattle.df_unit.specs.Name.{same, same_event}
 use Rattle.df_unit.specs.OwnState.{OwnState, Fixed}
-use Rattle.df_unit.specs.Rows.{after, subscribes, is_nil}
-use Rattle.df_unit.specs.declared.call.Call.{Call}
-use Rattle.df_unit.specs.declared.call.Call.TheVariants.{Subscribe}
+use Rattle.df_unit.specs.Rows.{is_nil}
 use Rattle.df_unit.specs.declared.commit.Commit.{Commit}
 use Rattle.df_unit.specs.declared.commit.Given.{Given}
-use Rattle.df_unit.specs.declared.entry.Effect.{Effect}
 use Rattle.df_unit.specs.declared.entry.Entry.{Entry}
-use Rattle.df_unit.specs.declared.entry.Entry.TheVariants.{Done, Emitted}
 use Rattle.df_unit.specs.declared.name.EventName.{EventName}
 use Rattle.df_unit.specs.declared.name.UnitName.{UnitName}
 use Rattle.df_unit.specs.declared.name.UnitName.TheVariants.{Root, Managed}
-use Rattle.df_unit.specs.declared.reply.Reply.{Reply}
-
--- subscriptions have different numbers
-
-abbrev Differs : ℕ → List (ℕ × List Clause) → Type 0
-Differs n [] = ⊤
-Differs n (x ∷ xs) = ((n == x.0) ≡ false) × Differs n xs
-
-abbrev Numbered : ℕ → List (ℕ × List Clause) → Type 0
-Numbered k [] = ⊤
-Numbered k (x ∷ xs) = (x.0 < k) × Differs x.0 xs × Numbered k xs
 
 below_differs : (n k : ℕ) → n < k → (n == k) ≡ false
 below_differs n k lt = go (n == k) refl
@@ -51,55 +35,6 @@ below_differs n k lt = go (n == k) refl
     go : (b : Bool) → (n == k) ≡ b → b ≡ false
     go true e = let same : n ≡ k = eqb-true n k e in absurd (let z : ⊥ = omega arith in z)
     go false e = refl
-
-differs_push : (n k : ℕ) (filter : List Clause) (xs : List (ℕ × List Clause)) → n < k → Differs n xs → Differs n (xs ++ (k, filter) ∷ [])
-differs_push n k filter [] lt h = (below_differs n k lt, tt)
-differs_push n k filter (x ∷ xs) lt h = (h.0, differs_push n k filter xs lt h.1)
-
-numbered_push : (k : ℕ) (filter : List Clause) (xs : List (ℕ × List Clause)) → Numbered k xs → Numbered (k + 1) (xs ++ (k, filter) ∷ [])
-numbered_push k filter [] h = (omega arith, tt, tt)
-numbered_push k filter (x ∷ xs) h = ((let lt = h.0 in omega arith), differs_push x.0 k filter xs h.0 h.1, numbered_push k filter xs h.2)
-
--- a unit's subscriptions have numbers below its next, and who isn't there has none
-abbrev AreNumbered : Option OwnState → List (ℕ × List Clause) → Type 0
-AreNumbered None subs = subs ≡ []
-AreNumbered (Some st) subs = Numbered st.subs subs
-
--- where nothing is subscribed
-numbered_same : (k m : ℕ) (subs : List (ℕ × List Clause)) → k ≤ m → Numbered k subs → Numbered m (subs ++ [])
-numbered_same k m [] grown h = tt
-numbered_same k m (x ∷ xs) grown h = ((let lt = h.0 in omega arith), subst (λ (zs : List (ℕ × List Clause)). Differs x.0 zs) (sym (append-nil xs)) h.1, numbered_same k m xs grown h.2)
-
--- an entry of a unit that is there
-numbered_done : (u : UnitName) (st : OwnState) (c : Call) (r : Reply) (f : Effect) (subs : List (ℕ × List Clause)) → st.subs ≤ (after u st c r f).subs → Numbered st.subs subs → Numbered (after u st c r f).subs (subs ++ option_to_list (subscribes st c r))
-numbered_done u st (Subscribe filter) (Reply.Sub n) f subs grown h = go (n == st.subs) refl
-  where
-    go : (b : Bool) → (n == st.subs) ≡ b → Numbered (st.subs + 1) (subs ++ option_to_list (cond b (Some (n, filter)) None))
-    go true e = rw (eqb-true n st.subs e) (numbered_push st.subs filter subs h)
-    go false e = numbered_same st.subs (st.subs + 1) subs grown h
-numbered_done u st (Subscribe filter) r f subs grown h = numbered_same st.subs _ subs grown h
-numbered_done u st _ r f subs grown h = numbered_same st.subs _ subs grown h
-
--- an entry that isn't the unit's
-numbered_or : (o y : Option OwnState) (subs : List (ℕ × List Clause)) → AreNumbered o subs → AreNumbered (option_or o y) (subs ++ [])
-numbered_or None None subs h = rw h refl
-numbered_or None (Some st) subs h = rw h tt
-numbered_or (Some st) y subs h = numbered_same st.subs st.subs subs (let z : st.subs ≤ st.subs = omega arith in z) h
-
--- one more entry, whatever the unit is
-numbered_step : (u : UnitName) (e : Entry) (o y : Option OwnState) (subs : List (ℕ × List Clause)) → AreNumbered o subs → AreNumbered (option_or (stepped rows u e o) y) (subs ++ option_to_list (subscribed_by rows e u o))
-numbered_step u (Emitted c) o y subs h = numbered_or o y subs h
-numbered_step u (Done a c r f) o y subs h = go (same a u) o h
-  where
-    go : (b : Bool) (o : Option OwnState) → AreNumbered o subs →
-        AreNumbered (option_or (cond b (option_map (λ st. after u st c r f) o) o) y) (subs ++ option_to_list (cond b (option_and_then (λ st. subscribes st c r) o) None))
-    go true None h = numbered_or None y subs h
-    go true (Some st) h = numbered_done u st c r f subs (grown_after u st c r f).subs h
-    go false o h = numbered_or o y subs h
-
-numbered_first : (o : Option OwnState) → AreNumbered o []
-numbered_first None = refl
-numbered_first (Some st) = tt
 
 -- deliveries, after those that were made before
 
@@ -111,13 +46,8 @@ once_append : (seen xs ys : List Given) → OnceAfter seen xs → OnceAfter (see
 once_append seen [] ys h k = subst (λ (zs : List Given). OnceAfter zs ys) (append-nil seen) k
 once_append seen (x ∷ xs) ys h k = (h.0, once_append (seen ++ x ∷ []) xs ys h.1 (subst (λ (zs : List Given). OnceAfter zs ys) (sym (append_assoc seen (x ∷ []) xs)) k))
 
-any-append : {X : Type 0} (f : X → Bool) (xs ys : List X) → list_any f xs ≡ false → list_any f ys ≡ false → list_any f (xs ++ ys) ≡ false
-any-append f [] ys h k = k
-any-append {X} f (x ∷ xs) ys h k = go (f x) h (any-append f xs ys)
-  where
-    go : (b : Bool) → (b || list_any f xs) ≡ false → (list_any f xs ≡ false → list_any f ys ≡ false → list_any f (xs ++ ys) ≡ false) → (b || list_any f (xs ++ ys)) ≡ false
-    go true h ih = h
-    go false h ih = ih h k
+neither_any : {X : Type 0} (f : X → Bool) (xs ys : List X) → list_any f xs ≡ false → list_any f ys ≡ false → list_any f (xs ++ ys) ≡ false
+neither_any f xs ys h k = list_any-append f xs ys ∙ or_from (list_any f xs) (list_any f ys) h k
 
 -- nothing was handed to these subscriptions
 abbrev Unhanded : List Given → EventName → List (ℕ × List Clause) → Type 0
@@ -129,10 +59,10 @@ and_with_false true true h = h
 and_with_false true false h = refl
 and_with_false false b h = refl
 
-unhanded_push : (new : List Given) (event : EventName) (n : ℕ) (parts : List Part) (xs : List (ℕ × List Clause)) → Differs n xs → Unhanded new event xs → Unhanded (new ++ record { event = event; sub = n; parts = parts } ∷ []) event xs
+unhanded_push : (new : List Given) (event : EventName) (n : ℕ) (parts : List Part) (xs : List (ℕ × List Clause)) → Above n xs → Unhanded new event xs → Unhanded (new ++ record { event = event; sub = n; parts = parts } ∷ []) event xs
 unhanded_push new event n parts [] d h = tt
 unhanded_push new event n parts (x ∷ xs) d h = (
-  any-append (λ (g : Given). same_event g.event event && (g.sub == x.0)) new (record { event = event; sub = n; parts = parts } ∷ []) h.0 (and_with_false (same_event event event) (n == x.0) d.0),
+  neither_any (λ (g : Given). same_event g.event event && (g.sub == x.0)) new (record { event = event; sub = n; parts = parts } ∷ []) h.0 (and_with_false (same_event event event) (n == x.0) (below_differs n x.0 d.0)),
   unhanded_push new event n parts xs d.1 h.1,
 )
 
@@ -152,7 +82,7 @@ offers_once ds new event parts k (x ∷ xs) numbered h = go (matches x.1 parts) 
     go false w e skip taken = skip
     go true true e skip taken = skip
     go true false e skip taken = (
-      any-append (λ (g : Given). same_event g.event event && (g.sub == x.0)) ds new e h.0,
+      neither_any (λ (g : Given). same_event g.event event && (g.sub == x.0)) ds new e h.0,
       subst (λ (zs : List Given). OnceAfter zs (flat_map (λ sub. offer ds event parts sub) xs)) (sym (append_assoc ds new (record { event = event; sub = x.0; parts = parts } ∷ []))) taken,
     )
 
@@ -177,18 +107,12 @@ instance_once (Some f) n t ds past (Some c) = go (is_given (Some f) t past (Some
     go true false e = (e, tt)
 
 module _ (start : List (Label × List Privilege)) where
-  plain_numbered : (past : List Entry) (path : List ℕ) → AreNumbered (own_plain rows (roots start) past path) (subscriptions rows (roots start) past (Root path))
-  plain_numbered [] path = numbered_first (root_at (roots start) path)
-  plain_numbered (e ∷ past) path =
-      numbered_step (Root path) e (own_plain rows (roots start) past path) (made_by rows e path (own_plain rows (roots start) past (maker_of path)))
-      (subscriptions rows (roots start) past (Root path)) (plain_numbered past path)
-
   deliveries_once : (past : List Entry) (u : UnitName) → OnceAfter [] (deliveries rows (roots start) past u)
   deliveries_once [] (Root path) = tt
   deliveries_once [] (Managed o n t) = tt
   deliveries_once (e ∷ past) (Root path) =
       once_append [] (deliveries_plain rows (roots start) past path) (plain_news (own_plain rows (roots start) past path) (subscriptions rows (roots start) past (Root path)) (deliveries_plain rows (roots start) past path) past (commit_of e)) (deliveries_once past (Root path))
-      (plain_once (own_plain rows (roots start) past path) (subscriptions rows (roots start) past (Root path)) (plain_numbered past path) (deliveries_plain rows (roots start) past path) past (commit_of e))
+      (plain_once (own_plain rows (roots start) past path) (subscriptions rows (roots start) past (Root path)) (numbered (roots start) past (Root path)) (deliveries_plain rows (roots start) past path) past (commit_of e))
   deliveries_once (e ∷ past) (Managed o n t) =
       once_append [] (deliveries_instance rows (roots start) past o n t) (instance_news (fixed rows (roots start) past o n) n t (deliveries_instance rows (roots start) past o n t) past (commit_of e)) (deliveries_once past (Managed o n t))
       (instance_once (fixed rows (roots start) past o n) n t (deliveries_instance rows (roots start) past o n t) past (commit_of e))

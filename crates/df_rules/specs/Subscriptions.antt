@@ -1,5 +1,5 @@
 -- The ordinary subscriptions of units. The newest entry of a journal stands first.
-use Rattle.std.specs.Prelude.{ℕ, if◌then◌else◌, List, [], ◌∷◌, ◌++◌, Option, None, option_to_list}
+use Rattle.std.specs.Prelude.{ℕ, ◌<◌, if◌then◌else◌, List, [], ◌∷◌, ◌++◌, Option, None, option_to_list}
 use Rattle.std.specs.Option.{option_and_then}
 use Rattle.df_filter.specs.declared.clause.Clause.{Clause}
 use Rattle.df_rules.specs.Own.{own}
@@ -19,3 +19,7 @@ subscribed_by R (Emitted c) u o = None
 abbrev pub subscriptions : Rules → List OwnState → List Entry → UnitName → List (ℕ × List Clause)
 subscriptions R s [] u = []
 subscriptions R s (e ∷ past) u = subscriptions R s past u ++ option_to_list (subscribed_by R e u (own R s past u))
+
+-- the first has the lower number
+abbrev pub ComesBefore : ℕ × List Clause → ℕ × List Clause → Type 0
+ComesBefore x y = x.0 < y.0

@@ -3,7 +3,9 @@
 //! The crate has no code: each function is a law, and its contract is what holds.
 #![tactic(auto)]
 
-ghost use Rattle.std.specs.Prelude.{[], false, ◌≡◌, ◌∷◌, ◌++◌, ℕ, List, None, Some, reverse};
+ghost use Rattle.std.specs.Prelude.{[], false, ◌≡◌, ◌∷◌, ◌++◌, ◌<◌, ℕ, List, None, Some, reverse};
+ghost use Rattle.std.specs.List.{All, AllPairs};
+ghost use Rattle.df_filter.specs.declared.clause.Clause.{Clause};
 ghost use Rattle.df_label.specs.declared.label.Label.{Label};
 ghost use Rattle.df_label.specs.Tag.{maker_of};
 ghost use Rattle.df_label.specs.declared.privilege.Privilege.{Privilege};
@@ -31,6 +33,7 @@ ghost use Rattle.df_rules.specs.Received.{Receives, received};
 ghost use Rattle.df_rules.specs.Rules.{Rules};
 ghost use Rattle.df_rules.specs.Separates.{Separates};
 ghost use Rattle.df_rules.specs.Start.{roots, rows};
+ghost use Rattle.df_rules.specs.Subscriptions.{ComesBefore, subscriptions};
 
 /// A purge of a legal journal is legal.
 pub fn purge_is_legal()
@@ -103,6 +106,13 @@ pub fn units_grow()
 /// contamination or was endorsed.
 pub fn tags_are_accounted_for()
     ensures { (start : List (Label × List Privilege)) (past : List Entry) (u : UnitName) (st : OwnState) → own rows (roots start) past u ≡ Some st → IsKept st }
+{}
+
+/// A unit's ordinary subscriptions stand in the order of their numbers, and each number is below the
+/// count of all subscriptions that the unit made.
+pub fn subscriptions_are_numbered()
+    ensures order { (start : List (Label × List Privilege)) (past : List Entry) (u : UnitName) → AllPairs ComesBefore (subscriptions rows (roots start) past u) }
+    ensures count { (start : List (Label × List Privilege)) (past : List Entry) (u : UnitName) (st : OwnState) → own rows (roots start) past u ≡ Some st → All (λ (sub : ℕ × List Clause). sub.0 < st.subs) (subscriptions rows (roots start) past u) }
 {}
 
 /// Later entries leave each delivery as it was.
