@@ -23,4 +23,5 @@ pub mod Taking
 pub mod TakingRows
 pub mod Numbers
 pub mod Once
+pub mod Instances
 pub mod BuiltCalls

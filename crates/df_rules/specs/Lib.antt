@@ -3,6 +3,7 @@ pub mod Choices
 pub mod Rules
 pub mod Own
 pub mod Subscriptions
+pub mod Instances
 pub mod Deliveries
 pub mod Legal
 pub mod Purge

@@ -9,7 +9,7 @@ ghost use Rattle.df_filter.specs.declared.clause.Clause.{Clause};
 ghost use Rattle.df_label.specs.declared.label.Label.{Label};
 ghost use Rattle.df_label.specs.Tag.{maker_of};
 ghost use Rattle.df_label.specs.declared.privilege.Privilege.{Privilege};
-ghost use Rattle.df_unit.specs.OwnState.{OwnState};
+ghost use Rattle.df_unit.specs.OwnState.{OwnState, Fixed};
 ghost use Rattle.df_unit.specs.declared.call.Call.{Call};
 ghost use Rattle.df_unit.specs.declared.call.Call.TheVariants.{Get};
 ghost use Rattle.df_unit.specs.declared.commit.Commit.{Commit};
@@ -25,9 +25,10 @@ ghost use Rattle.df_rules.specs.Deliveries.{deliveries, was_handed};
 ghost use Rattle.df_rules.specs.Exercised.{IsExercised, before_fixed};
 ghost use Rattle.df_rules.specs.Follows.{Follows, Last, Want, brain_of};
 ghost use Rattle.df_rules.specs.Grows.{HasGrown, IsAbove};
+ghost use Rattle.df_rules.specs.Instances.{KeepsToItsName};
 ghost use Rattle.df_rules.specs.Laws.{IsKept, Laws, ReleaseLaws};
 ghost use Rattle.df_rules.specs.Legal.{IsRight, IsUnaided, Legal, calls_of, run};
-ghost use Rattle.df_rules.specs.Own.{own};
+ghost use Rattle.df_rules.specs.Own.{fixed, own};
 ghost use Rattle.df_rules.specs.Purge.{Keeps, echo, purge};
 ghost use Rattle.df_rules.specs.Received.{Receives, received};
 ghost use Rattle.df_rules.specs.Rules.{Rules};
@@ -139,4 +140,11 @@ pub fn gets_give_deliveries()
 pub fn units_begin_above()
     ensures instances { (start : List (Label × List Privilege)) (past : List Entry) (e : Entry) (o : List ℕ) (n : ℕ) (t : List (List ℕ)) (st : OwnState) → own rows (roots start) past (Managed o n t) ≡ None → own rows (roots start) (e ∷ past) (Managed o n t) ≡ Some st → (owner : OwnState) × (own rows (roots start) (before_fixed rows (roots start) past o n) (Root o) ≡ Some owner) × IsAbove owner st }
     ensures children { (start : List (Label × List Privilege)) (past : List Entry) (e : Entry) (path : List ℕ) (st : OwnState) → own rows (roots start) past (Root path) ≡ None → own rows (roots start) (e ∷ past) (Root path) ≡ Some st → (maker : OwnState) × (own rows (roots start) past (Root (maker_of path)) ≡ Some maker) × IsAbove maker st }
+{}
+
+/// In a legal journal an instance reads at the label at which it began, and makes no tags,
+/// subscriptions and units.
+pub fn instances_keep_to_their_names()
+    ensures state { (start : List (Label × List Privilege)) (past : List Entry) → Legal rows (roots start) past → (o : List ℕ) (n : ℕ) (t : List (List ℕ)) (st : OwnState) → own rows (roots start) past (Managed o n t) ≡ Some st → (f : Fixed) × (fixed rows (roots start) past o n ≡ Some f) × KeepsToItsName f t st }
+    ensures subscriptions { (start : List (Label × List Privilege)) (past : List Entry) → Legal rows (roots start) past → (o : List ℕ) (n : ℕ) (t : List (List ℕ)) → subscriptions rows (roots start) past (Managed o n t) ≡ [] }
 {}
