@@ -10,6 +10,7 @@ use Rattle.df_rules.specs.Legal.{Legal, IsRight, answer, left}
 use Rattle.df_rules.specs.Own.{own_plain, own_instance, fixed, fixed_by, stepped, is_given, born}
 use Rattle.df_rules.specs.Start.{rows}
 use Rattle.df_rules.specs.Subscriptions.{subscriptions}
+use Rattle.df_rules.proofs.Invariant.{base_within}
 use Rattle.df_rules.proofs.Numbers.{Numbered, AreNumbered, numbered}
 use Rattle.df_rules.proofs.RowLaws.{first_is}
 use Rattle.df_unit.proofs.SameFacts.{same_name-exact}
@@ -47,9 +48,9 @@ kept_after o n t fx st ds (Instantiate set privileges) f k = k
 kept_after o n t fx st ds Get Effect.Nothing k = either fx t (is_accepted (reply (Managed o n t) st ds Get)) st st k k
 kept_after o n t fx st ds Get (Effect.Commit c) k = either fx t (is_accepted (reply (Managed o n t) st ds Get)) st st k k
 kept_after o n t fx st ds Get (Effect.Given d) k =
-    either fx t (is_accepted (reply (Managed o n t) st ds Get)) (changed (Managed o n t) st Get (Effect.Given d)) st (record { input = k.input; tags = k.tags; subs = k.subs; units = k.units }) k
+    either fx t (is_accepted (reply (Managed o n t) st ds Get)) (changed (Managed o n t) st Get (Effect.Given d)) st (record { input = k.input; base = k.base; tags = k.tags; subs = k.subs; units = k.units }) k
 kept_after o n t fx st ds c f k =
-    either fx t (is_accepted (reply (Managed o n t) st ds c)) (changed (Managed o n t) st c f) st (record { input = k.input; tags = k.tags; subs = k.subs; units = k.units }) k
+    either fx t (is_accepted (reply (Managed o n t) st ds c)) (changed (Managed o n t) st c f) st (record { input = k.input; base = k.base; tags = k.tags; subs = k.subs; units = k.units }) k
 
 module _ (s : List OwnState) where
   step_keeps : (past : List Entry) (o : List ℕ) (n : ℕ) (t : List (List ℕ)) (e : Entry) → IsRight rows s past e → (fx : Option Fixed) → Keeping t fx (own_instance rows s past o n t) → Keeping t fx (stepped rows (Managed o n t) e (own_instance rows s past o n t))
@@ -70,11 +71,11 @@ module _ (s : List OwnState) where
 
   or_begins : (t : List (List ℕ)) (fx y : Option Fixed) (x : Option OwnState) (past : List Entry) (oc : Option Commit) → Keeping t fx x → Keeping t (option_or fx y) (option_or x (born rows fx t past oc))
   or_begins t None y None past oc h = tt
-  or_begins t (Some f) y None past oc h = go (is_given (Some f) t past oc)
+  or_begins t (Some f) y None past oc h = go (is_given (Some f) t past oc) refl
     where
-      go : (b : Bool) → Keeping t (Some f) (cond b (Some (begin f t)) None)
-      go true = (f, refl, record { input = refl; tags = refl; subs = refl; units = refl })
-      go false = tt
+      go : (b : Bool) → is_given (Some f) t past oc ≡ b → Keeping t (Some f) (cond b (Some (begin f t)) None)
+      go true chosen = (f, refl, record { input = refl; base = base_within f t past oc chosen; tags = refl; subs = refl; units = refl })
+      go false chosen = tt
   or_begins t fx y (Some st) past oc h = (h.0, rw h.1 refl, h.2)
 
   keeping : (past : List Entry) → Legal rows s past → (o : List ℕ) (n : ℕ) (t : List (List ℕ)) → Keeping t (fixed rows s past o n) (own_instance rows s past o n t)

@@ -142,7 +142,8 @@ pub fn units_begin_above()
     ensures children { (start : List (Label × List Privilege)) (past : List Entry) (e : Entry) (path : List ℕ) (st : OwnState) → own rows (roots start) past (Root path) ≡ None → own rows (roots start) (e ∷ past) (Root path) ≡ Some st → (maker : OwnState) × (own rows (roots start) past (Root (maker_of path)) ≡ Some maker) × IsAbove maker st }
 {}
 
-/// In a legal journal an instance reads at the label at which it began, and makes no tags,
+/// In a legal journal an instance reads at the label at which it began, which has the
+/// confidentiality of both labels of its owner before the subscription, and makes no tags,
 /// subscriptions and units.
 pub fn instances_keep_to_their_names()
     ensures state { (start : List (Label × List Privilege)) (past : List Entry) → Legal rows (roots start) past → (o : List ℕ) (n : ℕ) (t : List (List ℕ)) (st : OwnState) → own rows (roots start) past (Managed o n t) ≡ Some st → (f : Fixed) × (fixed rows (roots start) past o n ≡ Some f) × KeepsToItsName f t st }
