@@ -1,9 +1,9 @@
 -- Journals of the calls that are built have no managed subscriptions, no instances and no children.
 use Rattle.std.proofs.Common.{◌≡◌, ℕ, List, [], ◌∷◌, Bool, true, false, refl, cond, Option, Some, None}
-use Rattle.std.specs.Prelude.{⊤}
 use Rattle.std.specs.Option.{option_and_then}
 use Rattle.df_label.specs.Tag.{maker_of, number_of}
-use Rattle.df_rules.specs.Own.{own_plain, own_instance, fixed}
+use Rattle.df_rules.specs.Built.{AllBuilt}
+use Rattle.df_rules.specs.Own.{root_at, own_plain, own_instance, own, fixed}
 use Rattle.df_rules.specs.Start.{rows}
 use Rattle.df_rules.proofs.Steps.{step_none}
 use Rattle.df_unit.specs.Beginnings.{fixes, makes}
@@ -14,14 +14,9 @@ use Rattle.df_unit.specs.declared.call.Call.{Call}
 use Rattle.df_unit.specs.declared.call.Call.TheVariants.{SubscribeManaged, Instantiate}
 use Rattle.df_unit.specs.declared.entry.Entry.{Entry}
 use Rattle.df_unit.specs.declared.entry.Entry.TheVariants.{Done, Emitted}
+use Rattle.df_unit.specs.declared.name.UnitName.{UnitName}
 use Rattle.df_unit.specs.declared.name.UnitName.TheVariants.{Root, Managed}
 use Rattle.df_unit.specs.declared.reply.Reply.{Reply}
-
--- each entry of a unit has a call that is built
-abbrev pub AllBuilt : List Entry → Type 0
-AllBuilt [] = ⊤
-AllBuilt (Done u c r f ∷ past) = AllBuilt past × IsBuilt c
-AllBuilt (Emitted c ∷ past) = AllBuilt past
 
 fixes_nothing : (st : OwnState) (n : ℕ) (c : Call) (r : Reply) → IsBuilt c → fixes st n c r ≡ None
 fixes_nothing st n (SubscribeManaged filter) r built = absurd built
@@ -52,11 +47,21 @@ module _ (s : List OwnState) where
   own_instance_none (Done a c r f ∷ past) built o n t =
       rw (step_none rows s (Managed o n t) (Done a c r f) (own_instance rows s past o n t) (own_instance_none past built.0 o n t), fixed_none past built.0 o n) refl
 
+  -- no plain unit but the roots
+  pub own_plain_none : (past : List Entry) → AllBuilt past → (path : List ℕ) → root_at s path ≡ None → own_plain rows s past path ≡ None
+  own_plain_none [] built path none = none
+  own_plain_none (Emitted c ∷ past) built path none = rw (own_plain_none past built path none) refl
+  own_plain_none (Done a c r f ∷ past) built path none =
+      rw (step_none rows s (Root path) (Done a c r f) (own_plain rows s past path) (own_plain_none past built.0 path none))
+      (nothing_made (λ st. makes st (number_of path) c r) (λ st. makes_nothing st (number_of path) c r built.1) (same a (Root (maker_of path))) (own_plain rows s past (maker_of path)))
+
   -- no child
   pub own_child_none : (past : List Entry) → AllBuilt past → (k m : ℕ) (path : List ℕ) → own_plain rows s past (k ∷ m ∷ path) ≡ None
-  own_child_none [] built k m path = refl
-  own_child_none (Emitted c ∷ past) built k m path = rw (own_child_none past built k m path) refl
-  own_child_none (Done a c r f ∷ past) built k m path =
-      let child = k ∷ m ∷ path in
-      rw (step_none rows s (Root child) (Done a c r f) (own_plain rows s past child) (own_child_none past built.0 k m path))
-      (nothing_made (λ st. makes st (number_of child) c r) (λ st. makes_nothing st (number_of child) c r built.1) (same a (Root (maker_of child))) (own_plain rows s past (maker_of child)))
+  own_child_none past built k m path = own_plain_none past built (k ∷ m ∷ path) refl
+
+  -- each unit is a root
+  pub units_are_roots : (past : List Entry) → AllBuilt past → (u : UnitName) (st : OwnState) → own rows s past u ≡ Some st → (k : ℕ) × (u ≡ Root (k ∷ []))
+  units_are_roots past built (Root []) st h = let none = own_plain_none past built [] refl in absurd (let z : ⊥ = cc in z)
+  units_are_roots past built (Root (k ∷ [])) st h = (k, refl)
+  units_are_roots past built (Root (k ∷ m ∷ path)) st h = let none = own_child_none past built k m path in absurd (let z : ⊥ = cc in z)
+  units_are_roots past built (Managed o n t) st h = let none = own_instance_none past built o n t in absurd (let z : ⊥ = cc in z)

@@ -14,3 +14,4 @@ pub mod Follows
 pub mod Separates
 pub mod Grows
 pub mod Received
+pub mod Built
