@@ -24,4 +24,5 @@ pub mod TakingRows
 pub mod Numbers
 pub mod Once
 pub mod Instances
+pub mod Matching
 pub mod BuiltCalls

@@ -5,6 +5,7 @@ pub mod Own
 pub mod Subscriptions
 pub mod Instances
 pub mod Deliveries
+pub mod Matching
 pub mod Legal
 pub mod Purge
 pub mod Laws

@@ -3,8 +3,8 @@
 //! The crate has no code: each function is a law, and its contract is what holds.
 #![tactic(auto)]
 
-ghost use Rattle.std.specs.Prelude.{[], false, ◌≡◌, ◌∷◌, ◌++◌, ◌<◌, ℕ, List, None, Some, reverse};
-ghost use Rattle.std.specs.List.{All, AllPairs};
+ghost use Rattle.std.specs.Prelude.{[], true, false, ◌≡◌, ◌∷◌, ◌++◌, ◌<◌, ℕ, List, None, Some, reverse};
+ghost use Rattle.std.specs.List.{All, AllPairs, Contains};
 ghost use Rattle.df_filter.specs.declared.clause.Clause.{Clause};
 ghost use Rattle.df_label.specs.declared.label.Label.{Label};
 ghost use Rattle.df_label.specs.Tag.{maker_of};
@@ -20,7 +20,7 @@ ghost use Rattle.df_unit.specs.declared.entry.Entry.TheVariants.{Done};
 ghost use Rattle.df_unit.specs.declared.name.UnitName.{UnitName};
 ghost use Rattle.df_unit.specs.declared.name.UnitName.TheVariants.{Managed, Root};
 ghost use Rattle.df_unit.specs.declared.reply.Reply.{Reply};
-ghost use Rattle.df_rules.specs.Commits.{commit_in};
+ghost use Rattle.df_rules.specs.Commits.{commit_in, commit_of};
 ghost use Rattle.df_rules.specs.Deliveries.{deliveries, was_handed};
 ghost use Rattle.df_rules.specs.Exercised.{IsExercised, before_fixed};
 ghost use Rattle.df_rules.specs.Follows.{Follows, Last, Want, brain_of};
@@ -28,6 +28,7 @@ ghost use Rattle.df_rules.specs.Grows.{HasGrown, IsAbove};
 ghost use Rattle.df_rules.specs.Instances.{KeepsToItsName};
 ghost use Rattle.df_rules.specs.Laws.{IsKept, Laws, ReleaseLaws};
 ghost use Rattle.df_rules.specs.Legal.{IsRight, IsUnaided, Legal, calls_of, run};
+ghost use Rattle.df_rules.specs.Matching.{CallsFor};
 ghost use Rattle.df_rules.specs.Own.{fixed, own};
 ghost use Rattle.df_rules.specs.Purge.{Keeps, echo, purge};
 ghost use Rattle.df_rules.specs.Received.{Receives, received};
@@ -114,6 +115,15 @@ pub fn tags_are_accounted_for()
 pub fn subscriptions_are_numbered()
     ensures order { (start : List (Label × List Privilege)) (past : List Entry) (u : UnitName) → AllPairs ComesBefore (subscriptions rows (roots start) past u) }
     ensures count { (start : List (Label × List Privilege)) (past : List Entry) (u : UnitName) (st : OwnState) → own rows (roots start) past u ≡ Some st → All (λ (sub : ℕ × List Clause). sub.0 < st.subs) (subscriptions rows (roots start) past u) }
+{}
+
+/// Each delivery is one that a commit called for: a plain unit's where the commit adds a part that
+/// the unit may read and the filter of the subscription matches just the parts handed over, and an
+/// instance's where a choice gives it. What a commit calls for was handed to the subscription
+/// before, or is handed now.
+pub fn deliveries_are_what_matches()
+    ensures each { (start : List (Label × List Privilege)) (past : List Entry) (u : UnitName) (d : Given) → Contains (deliveries rows (roots start) past u) d → (newer : List Entry) × (older : List Entry) × (e : Entry) × (c : Commit) × (past ≡ newer ++ e ∷ older) × (commit_of e ≡ Some c) × CallsFor rows (roots start) older u c d }
+    ensures all { (start : List (Label × List Privilege)) (past : List Entry) (e : Entry) (u : UnitName) (c : Commit) (d : Given) → commit_of e ≡ Some c → CallsFor rows (roots start) past u c d → was_handed (deliveries rows (roots start) (e ∷ past) u) d.event d.sub ≡ true }
 {}
 
 /// Later entries leave each delivery as it was.
