@@ -40,6 +40,31 @@ more_step {T} {X} leads next sh prev t ts h =
 pub more_stop : {T X : Type 0} (leads : X → T → List T → Bool) (next : X → List T → Read T X) (prev : X) (t : T) (ts : List T) → leads prev t ts ≡ false → more_of leads next prev (t ∷ ts) ≡ Ok ([], t ∷ ts)
 more_stop leads next prev t ts h = rw h refl
 
+-- what is left behind items is no longer than all
+more_less : {T X : Type 0} (leads : X → T → List T → Bool) (next : X → List T → Read T X) → ((prev : X) → Shrinks (next prev)) → (n : ℕ) (prev : X) (tokens : List T) (xs : List X) (rest : List T) → length tokens ≤ n → more_of leads next prev tokens ≡ Ok (xs, rest) → length rest ≤ length tokens
+more_less {T} {X} leads next sh n prev [] xs rest le e = let p = ok_is ([], []) (xs, rest) e in omega (arith, ap (λ (q : List X × List T). length q.1) (sym p))
+more_less leads next sh zero prev (t ∷ ts) xs rest le e = absurd (omega arith)
+more_less {T} {X} leads next sh (suc n) prev (t ∷ ts) xs rest le e =
+    elim (told (leads prev t ts)) [
+      | inl h ↦
+          let a = bind_ok (next prev ts) (λ x. more_of leads next x.0 x.1 >>= onto x.0) (xs, rest) (sym (more_step leads next sh prev t ts h) ∙ e) in
+          let b = bind_ok (more_of leads next a.0.0 a.0.1) (onto a.0.0) (xs, rest) a.2 in
+          let shorter = sh prev ts a.0.0 a.0.1 a.1 in
+          let less = more_less leads next sh n a.0.0 a.0.1 b.0.0 b.0.1 (omega arith) b.1 in
+          let p = ok_is (a.0.0 ∷ b.0.0, b.0.1) (xs, rest) b.2 in
+          omega (arith, shorter, less, ap (λ (q : List X × List T). length q.1) (sym p))
+      | inr h ↦
+          let p = ok_is ([], t ∷ ts) (xs, rest) (sym (more_stop leads next prev t ts h) ∙ e) in
+          omega (arith, ap (λ (q : List X × List T). length q.1) (sym p))
+    ]
+
+pub more_shrinks : {T X : Type 0} (leads : X → T → List T → Bool) (next : X → List T → Read T X) → ((prev : X) → Shrinks (next prev)) → (prev : X) → Shrinks (more_of leads next prev)
+more_shrinks leads next sh prev tokens xs rest e = more_less leads next sh (length tokens) prev tokens xs rest (omega arith) e
+
+-- a first item and further ones
+pub items_made : {T X : Type 0} (leads : X → T → List T → Bool) (first : List T → Read T X) (next : X → List T → Read T X) (tokens : List T) (x : X × List T) (xs : List X × List T) → first tokens ≡ Ok x → more_of leads next x.0 x.1 ≡ Ok xs → items_at leads first next tokens ≡ Ok ((x.0, xs.0), xs.1)
+items_made leads first next tokens x xs one others = rw (one, others) refl
+
 -- ---- as a loop reads them
 
 regroup : {T X : Type 0} (front : List X) (x : X) (read : Read T (List X)) → with_front front (read >>= onto x) ≡ with_front (front ++ x ∷ []) read

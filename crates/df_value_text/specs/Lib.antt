@@ -1,3 +1,9 @@
 pub mod Join
 pub mod Label
 pub mod Value
+pub mod Fits
+pub mod Number
+pub mod Order
+pub mod ReadTag
+pub mod ReadLabel
+pub mod Answer

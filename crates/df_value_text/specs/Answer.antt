@@ -1,0 +1,53 @@
+-- What a reader of bytes answers.
+use Rattle.std.specs.Prelude.{◌≡◌, ℕ, ◌≤◌, List, ◌++◌, length, drop, Result, Ok, Err, ⊤, ◌⊎◌}
+use Rattle.df_format.specs.Reading.{Bad, Low, Read}
+use Rattle.df_format.specs.Grammar.{CanGoOn, Stands, FirstBad}
+use Rattle.df_value_text.specs.declared.refused.Fault.{Fault}
+use Rattle.df_value_text.specs.declared.refused.Fault.TheVariants as fault
+use Rattle.df_value_text.specs.declared.refused.TextRefused.{TextRefused}
+use Rattle.df_value_text.specs.declared.refused.TextRefused.TheVariants as refused
+
+-- reading these bytes stops at the fault's place, unless there was no memory
+abbrev pub Fails : {Y : Type 0} → List ℕ → Fault → Read ℕ Y → Type 0
+Fails bytes fault.NoMemory read = ⊤
+Fails bytes (fault.Bad place) read = (place ≤ length bytes) × (read ≡ Err (Bad (drop place bytes)))
+Fails bytes (fault.Low place) read = (place ≤ length bytes) × (read ≡ Err (Low (drop place bytes)))
+
+-- what is answered is what reading gives, with the place behind it, unless there was no memory
+abbrev pub Gives : {X Y : Type 0} → (X → Y) → List ℕ → Result (X × ℕ) Fault → Read ℕ Y → Type 0
+Gives view bytes (Ok x) read = (x.1 ≤ length bytes) × (read ≡ Ok (view x.0, drop x.1 bytes))
+Gives view bytes (Err e) read = Fails bytes e read
+
+-- a fault as it is told to callers
+abbrev pub refusal : Fault → TextRefused
+refusal fault.NoMemory = refused.NoMemory
+refusal (fault.Bad place) = refused.Syntax place
+refusal (fault.Low place) = refused.Syntax place
+
+-- what is answered stands at the place, and no text goes on with the byte behind it
+abbrev pub IsFound : {X : Type 0} → (X → List ℕ) → (X → Type 0) → List ℕ → ℕ → X × ℕ → Type 0
+IsFound spell Fits bytes at read = (read.1 ≤ length bytes) × Stands spell Fits (drop at bytes) read.0 (drop read.1 bytes)
+
+-- the answer is this, and the place before these bytes, unless there was no memory
+abbrev pub IsRead : {X : Type 0} → List ℕ → X → List ℕ → Result (X × ℕ) TextRefused → Type 0
+IsRead bytes x rest (Ok read) = (read.0 ≡ x) × (drop read.1 bytes ≡ rest)
+IsRead bytes x rest (Err e) = e ≡ refused.NoMemory
+
+-- the first bytes of these can go on, and what stands behind them is low
+pub record FirstLow {X : Type 0} (IsLow : List ℕ → List ℕ → Type 0) (spell : X → List ℕ) (Fits : X → Type 0) (bytes rest : List ℕ) : Type 0 where
+  pub front : List ℕ
+  pub parts : bytes ≡ front ++ rest
+  pub viable : CanGoOn spell Fits front
+  pub low : IsLow front rest
+
+-- a refusal names the first bad byte
+abbrev pub NamesBad : {X : Type 0} → (X → List ℕ) → (X → Type 0) → List ℕ → ℕ → TextRefused → Type 0
+NamesBad spell Fits bytes at refused.NoMemory = ⊤
+NamesBad spell Fits bytes at (refused.Syntax place) = (place ≤ length bytes) × FirstBad spell Fits (drop at bytes) (drop place bytes)
+NamesBad spell Fits bytes at (refused.TooLarge place) = ⊥
+
+-- a refusal names the first bad byte or a low place
+abbrev pub NamesBadOrLow : {X : Type 0} → (List ℕ → List ℕ → Type 0) → (X → List ℕ) → (X → Type 0) → List ℕ → ℕ → TextRefused → Type 0
+NamesBadOrLow IsLow spell Fits bytes at refused.NoMemory = ⊤
+NamesBadOrLow IsLow spell Fits bytes at (refused.Syntax place) = (place ≤ length bytes) × (FirstBad spell Fits (drop at bytes) (drop place bytes) ⊎ FirstLow IsLow spell Fits (drop at bytes) (drop place bytes))
+NamesBadOrLow IsLow spell Fits bytes at (refused.TooLarge place) = ⊥

@@ -1,0 +1,73 @@
+//! Reading numbers.
+ghost use Rattle.std.specs.Prelude.{◌≡◌, ◌≤◌, ◌<◌, ◌∷◌, [], length, drop, IfOk};
+ghost use Rattle.df_format.specs.Reading.{text_at};
+ghost use Rattle.df_value_text.specs.Answer.{Gives};
+ghost use Rattle.df_value_text.specs.Number.{number_at, digits_at};
+ghost use Rattle.df_value_text.specs.ReadTag.{short_at};
+
+use crate::Fault;
+
+/// The further digits of a number that begins with `first`, as long as it is at most `most`, and
+/// the place behind them.
+fn digits_at(bytes: &[u8], at: usize, most: u64, first: u64) -> (u64, usize)
+    requires place { at ≤ length bytes.now }
+    requires first { first ≤ most }
+    ensures place { result.1 ≤ length bytes.now }
+    ensures onward { at ≤ result.1 }
+    ensures small { result.0 ≤ most }
+    ensures value { (result.0, drop result.1 bytes.now) ≡ digits_at most first (drop at bytes.now) }
+{
+    let mut number = first;
+    let mut place = at;
+    while place < bytes.len() && bytes[place].is_ascii_digit() {
+        let digit = u64::from(bytes[place] - b'0');
+        if digit > most || number > (most - digit) / 10 {
+            break;
+        }
+        number = number * 10 + digit;
+        place += 1;
+    }
+    (number, place)
+}
+
+/// The longest number of at most `most` at the place, and the place behind it.
+pub fn number_at(bytes: &[u8], at: usize, most: u64) -> Result<(u64, usize), Fault>
+    requires { at ≤ length bytes.now }
+    ensures exact { Gives (λ n. n) bytes.now result (number_at most (drop at bytes.now)) }
+    ensures small { IfOk result (λ r. r.0 ≤ most) }
+    ensures onward { IfOk result (λ r. at < r.1) }
+{
+    if at == bytes.len() || !bytes[at].is_ascii_digit() {
+        return Err(Fault::Bad(at));
+    }
+    let digit = u64::from(bytes[at] - b'0');
+    if digit > most {
+        return Err(Fault::Bad(at));
+    }
+    if digit == 0 {
+        return Ok((0, at + 1));
+    }
+    Ok(digits_at(bytes, at + 1, most, digit))
+}
+
+/// The longest number of 32 bits at the place, and the place behind it.
+pub fn short_at(bytes: &[u8], at: usize) -> Result<(u32, usize), Fault>
+    requires { at ≤ length bytes.now }
+    ensures exact { Gives (λ n. n) bytes.now result (short_at (drop at bytes.now)) }
+    ensures onward { IfOk result (λ r. at < r.1) }
+{
+    let (number, place) = number_at(bytes, at, u64::from(u32::MAX))?;
+    Ok((number as u32, place))
+}
+
+/// The place behind this byte, which has to stand at the place.
+pub fn byte_at(bytes: &[u8], at: usize, byte: u8) -> Result<((), usize), Fault>
+    requires { at ≤ length bytes.now }
+    ensures exact { Gives (λ none. byte ∷ []) bytes.now result (text_at (byte ∷ []) (drop at bytes.now)) }
+    ensures onward { IfOk result (λ r. at < r.1) }
+{
+    if at == bytes.len() || bytes[at] != byte {
+        return Err(Fault::Bad(at));
+    }
+    Ok(((), at + 1))
+}
