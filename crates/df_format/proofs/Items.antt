@@ -67,7 +67,7 @@ items_made leads first next tokens x xs one others = rw (one, others) refl
 
 -- ---- as a loop reads them
 
-regroup : {T X : Type 0} (front : List X) (x : X) (read : Read T (List X)) → with_front front (read >>= onto x) ≡ with_front (front ++ x ∷ []) read
+pub regroup : {T X : Type 0} (front : List X) (x : X) (read : Read T (List X)) → with_front front (read >>= onto x) ≡ with_front (front ++ x ∷ []) read
 regroup front x (Ok xs) = ap (λ ys. Ok (ys, xs.1)) (simp append_assoc)
 regroup front x (Err s) = refl
 

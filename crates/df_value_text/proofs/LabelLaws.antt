@@ -21,7 +21,7 @@ use Rattle.df_value_text.specs.Fits.{IsTag, AreTags, IsTagSet, IsLabel, IsPrivil
 use Rattle.df_value_text.specs.Order.{IsLowTag}
 use Rattle.df_value_text.specs.ReadTag.{tag_at, tags_at, leads_tag}
 use Rattle.df_value_text.specs.ReadLabel.{label_of, label_at, auth_at, plus_of, minus_of, right_at, privilege_of, privilege_at}
-use Rattle.df_value_text.proofs.TagLaws.{tag_goes, tag_format}
+use Rattle.df_value_text.proofs.TagLaws.{nowhere, nowhere_is_local, tag_goes, tag_format}
 use Rattle.df_value_text.proofs.TagSetLaws.{tags_goes, tags_format, low_is_local}
 
 -- ---- labels
@@ -83,10 +83,10 @@ begins_auth c = eqb c 97
 auth_can : (c : ℕ) → begins_auth c ≡ true → CanGoOn own (IsText auth) (c ∷ [])
 auth_can c h = record { some = auth; fits = refl; more = 117 ∷ 116 ∷ 104 ∷ []; is = ap (λ (v : ℕ). v ∷ 117 ∷ 116 ∷ 104 ∷ []) (sym (eqb-true c 97 h)) }
 
-auth_format : Format IsLowTag (maybe_spell own) IsAuth (maybe_goes begins_auth never) auth_at
+auth_format : Format nowhere (maybe_spell own) IsAuth (maybe_goes begins_auth never) auth_at
 auth_format =
-    maybe_format IsLowTag begins_auth own (IsText auth) never (text_at auth)
-    (λ x fits. record { first = 97; others = 117 ∷ 116 ∷ 104 ∷ []; is = fits; test = refl }) auth_can (text_format IsLowTag auth)
+    maybe_format nowhere begins_auth own (IsText auth) never (text_at auth)
+    (λ x fits. record { first = 97; others = 117 ∷ 116 ∷ 104 ∷ []; is = fits; test = refl }) auth_can (text_format nowhere auth)
 
 -- what a right adds behind its sign
 abbrev auth_text : Right → List ℕ
@@ -161,20 +161,20 @@ minus_text Minus h = refl
 minus_text PlusAuth h = absurd h
 minus_text MinusAuth h = refl
 
-plus_format : Format IsLowTag right_text IsPlus right_goes (behind_at (43 ∷ []) (as_at plus_of auth_at))
+plus_format : Format nowhere right_text IsPlus right_goes (behind_at (43 ∷ []) (as_at plus_of auth_at))
 plus_format =
-    alike_format IsLowTag (λ r. (43 ∷ []) ++ auth_text r) IsPlus right_goes right_text IsPlus right_goes (behind_at (43 ∷ []) (as_at plus_of auth_at))
+    alike_format nowhere (λ r. (43 ∷ []) ++ auth_text r) IsPlus right_goes right_text IsPlus right_goes (behind_at (43 ∷ []) (as_at plus_of auth_at))
     (record { to = λ r h. h; from = λ r h. (r, h, refl); spelled = plus_text; alike = λ r c h. refl })
-    (behind_format IsLowTag low_is_local (43 ∷ []) auth_text IsPlus right_goes (as_at plus_of auth_at) Plus tt
-    (as_format IsLowTag plus_of (maybe_spell own) IsAuth (maybe_goes begins_auth never) auth_at auth_text IsPlus right_goes
+    (behind_format nowhere nowhere_is_local (43 ∷ []) auth_text IsPlus right_goes (as_at plus_of auth_at) Plus tt
+    (as_format nowhere plus_of (maybe_spell own) IsAuth (maybe_goes begins_auth never) auth_at auth_text IsPlus right_goes
     (record { to = plus_to; from = plus_from; spelled = plus_spelled; alike = plus_alike }) auth_format))
 
-minus_format : Format IsLowTag right_text IsMinus right_goes (behind_at (45 ∷ []) (as_at minus_of auth_at))
+minus_format : Format nowhere right_text IsMinus right_goes (behind_at (45 ∷ []) (as_at minus_of auth_at))
 minus_format =
-    alike_format IsLowTag (λ r. (45 ∷ []) ++ auth_text r) IsMinus right_goes right_text IsMinus right_goes (behind_at (45 ∷ []) (as_at minus_of auth_at))
+    alike_format nowhere (λ r. (45 ∷ []) ++ auth_text r) IsMinus right_goes right_text IsMinus right_goes (behind_at (45 ∷ []) (as_at minus_of auth_at))
     (record { to = λ r h. h; from = λ r h. (r, h, refl); spelled = minus_text; alike = λ r c h. refl })
-    (behind_format IsLowTag low_is_local (45 ∷ []) auth_text IsMinus right_goes (as_at minus_of auth_at) Minus tt
-    (as_format IsLowTag minus_of (maybe_spell own) IsAuth (maybe_goes begins_auth never) auth_at auth_text IsMinus right_goes
+    (behind_format nowhere nowhere_is_local (45 ∷ []) auth_text IsMinus right_goes (as_at minus_of auth_at) Minus tt
+    (as_format nowhere minus_of (maybe_spell own) IsAuth (maybe_goes begins_auth never) auth_at auth_text IsMinus right_goes
     (record { to = minus_to; from = minus_from; spelled = minus_spelled; alike = minus_alike }) auth_format))
 
 -- every right is of one kind
@@ -187,10 +187,10 @@ signed MinusAuth = inr tt
 abbrev pub IsRight : Right → Type 0
 IsRight r = Unit {0}
 
-pub right_format : Format IsLowTag right_text IsRight right_goes right_at
+pub right_format : Format nowhere right_text IsRight right_goes right_at
 right_format =
-    fits_as IsLowTag right_text (λ r. IsPlus r ⊎ IsMinus r) IsRight right_goes right_at (λ r h. tt) (λ r h. signed r)
-    (either_format IsLowTag (λ c. eqb c 43) right_text IsPlus IsMinus right_goes (behind_at (43 ∷ []) (as_at plus_of auth_at)) (behind_at (45 ∷ []) (as_at minus_of auth_at)) plus_format minus_format
+    fits_as nowhere right_text (λ r. IsPlus r ⊎ IsMinus r) IsRight right_goes right_at (λ r h. tt) (λ r h. signed r)
+    (either_format nowhere (λ c. eqb c 43) right_text IsPlus IsMinus right_goes (behind_at (43 ∷ []) (as_at plus_of auth_at)) (behind_at (45 ∷ []) (as_at minus_of auth_at)) plus_format minus_format
     (λ r h. record { first = 43; others = auth_text r; is = plus_text r h; test = refl })
     (λ r h. record { first = 45; others = auth_text r; is = minus_text r h; test = refl }))
 
@@ -204,9 +204,9 @@ before_sign tag MinusAuth rest fits = tag_ends_at tag 45 fits refl refl
 abbrev pub privilege_goes : Privilege → ℕ → Bool
 privilege_goes p c = right_goes p.right c
 
-pub privilege_format : Format IsLowTag privilege_text IsPrivilege privilege_goes privilege_at
+pub privilege_format : Format nowhere privilege_text IsPrivilege privilege_goes privilege_at
 privilege_format =
-    as_format IsLowTag privilege_of (then_spell tag_text right_text) (ThenFits IsTag IsRight) (then_goes right_goes) (then_at tag_at right_at) privilege_text IsPrivilege privilege_goes
+    as_format nowhere privilege_of (then_spell tag_text right_text) (ThenFits IsTag IsRight) (then_goes right_goes) (then_at tag_at right_at) privilege_text IsPrivilege privilege_goes
     (record { to = λ x fits. fits.0; from = λ p fits. ((p.tag, p.right), (fits, tt), refl); spelled = λ x fits. refl; alike = λ x c fits. refl })
-    (then_format IsLowTag low_is_local tag_text IsTag tag_goes tag_at right_text IsRight right_goes right_at (tag_format IsLowTag low_is_local) right_format Plus tt
+    (then_format nowhere nowhere_is_local tag_text IsTag tag_goes tag_at right_text IsRight right_goes right_at (tag_format nowhere nowhere_is_local) right_format Plus tt
     (λ tag r rest fits any ends. before_sign tag r rest fits))

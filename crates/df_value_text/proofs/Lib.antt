@@ -4,3 +4,7 @@ pub mod NumberLaws
 pub mod TagLaws
 pub mod TagSetLaws
 pub mod LabelLaws
+pub mod Loops
+pub mod TagSteps
+pub mod Answering
+pub mod RightSteps

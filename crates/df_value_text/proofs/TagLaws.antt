@@ -32,6 +32,9 @@ IsShort n = n ≤ top
 abbrev pub nowhere : List ℕ → List ℕ → Type 0
 nowhere front rest = ⊥
 
+pub nowhere_is_local : IsLocal nowhere
+nowhere_is_local before front rest low = low
+
 pub short_format : (IsLow : List ℕ → List ℕ → Type 0) → Format IsLow decimal IsShort (number_goes top) short_at
 short_format IsLow = number_format IsLow top (omega arith)
 
@@ -123,7 +126,7 @@ long_again (n ∷ ns) rest fits ends =
     let same : path_text (n ∷ ns) ++ rest ≡ items_spell 46 decimal (n, ns) ++ rest = ap (λ (u : List ℕ). u ++ rest) (joined_items 46 decimal n ns) in
     behind_byte 35 numbers_at (path_text (n ∷ ns) ++ rest) ∙ ap numbers_at same ∙ rw read refl
 
-short_shrinks : (prev : ℕ) → Shrinks short_at
+pub short_shrinks : (prev : ℕ) → Shrinks short_at
 short_shrinks prev = format_shrinks nowhere decimal IsShort (number_goes top) short_at (short_format nowhere)
 
 -- the longest tag is at least as long as any that stands there

@@ -16,7 +16,7 @@ use Rattle.df_format.specs.Spelling.{more_spell, items_spell, maybe_spell}
 use Rattle.df_format.specs.Grammar.{CanGoOn, IsLongest}
 use Rattle.df_format.specs.Format.{Ends, Found, IsViable, place, Cause, Stuck, IsLocal, Format}
 use Rattle.df_format.proofs.Laws.{ok_is, err_is, not_both, bind_ok, bind_err, told, chosen, viable_of}
-use Rattle.df_format.proofs.Items.{Shrinks, format_shrinks, Follow, Parts, LastEnds, ItemsFit, Leads, last_goes, items_goes, items_format}
+use Rattle.df_format.proofs.Items.{Shrinks, format_shrinks, Follow, Parts, LastEnds, ItemsFit, items_found, Leads, last_goes, items_goes, items_format}
 use Rattle.df_format.proofs.Joins.{as_format}
 use Rattle.df_format.proofs.Choices.{Begins, MaybeFits, maybe_goes, maybe_format}
 use Rattle.df_label.specs.Ascending.{IsBelow, IsAscending}
@@ -27,7 +27,7 @@ use Rattle.df_value_text.specs.Label.{path_text, tag_text, tags_text}
 use Rattle.df_value_text.specs.Fits.{AreNumbers, IsTag, AreTags, IsTagSet}
 use Rattle.df_value_text.specs.Order.{StandsLow, IsLowTag}
 use Rattle.df_value_text.specs.Number.{number_at, digits_at}
-use Rattle.df_value_text.specs.ReadTag.{short_at, begins_digit, leads_number, listed, numbers_at, longest_at, ended, tag_at, above, next_at, leads_tag, optional, tags_at}
+use Rattle.df_value_text.specs.ReadTag.{short_at, begins_digit, leads_number, listed, numbers_at, longest_at, ended, tag_at, above, next_at, leads_tag, optional, some_tags_at, tags_at}
 use Rattle.df_value_text.proofs.NumberLaws.{number_goes, number_stops, digit_fits, digit_true, decimal_push, first_true}
 use Rattle.df_value_text.proofs.TagLaws.{top, nowhere, LongEnds, long_found, long_again, long_is_longest, no_digit, behind_byte, joined_items, tag_goes, tag_format}
 
@@ -380,3 +380,11 @@ tags_format =
     (λ x fits. record { first = 35; others = path_text x.0 ++ more_spell 44 tag_text x.1; is = refl; test = refl })
     tags_some
     (items_format IsLowTag low_is_local NearTag leads_tag 44 tag_text IsTag AfterTag tag_goes tag_at next_at tags_parts tags_lead (tag_format IsLowTag low_is_local)))
+
+-- tags that are read ascend
+pub some_ascend : (bytes : List ℕ) (tags : List (List ℕ)) (rest : List ℕ) → some_tags_at bytes ≡ Ok (tags, rest) → IsAscending tag_cmp tags
+some_ascend bytes tags rest e =
+    let a = bind_ok (items_at leads_tag tag_at next_at bytes) (λ x. Ok (listed x.0, x.1)) (tags, rest) e in
+    let f = items_found tags_parts IsLowTag tag_at (tag_format IsLowTag low_is_local) bytes a.0.0 a.0.1 a.1 in
+    let made : List (List ℕ) × List ℕ = (listed a.0.0, a.0.1) in
+    subst (λ (q : List (List ℕ) × List ℕ). IsAscending tag_cmp q.0) (ok_is made (tags, rest) a.2) (ascend a.0.0.0 a.0.0.1 f.fits.1)

@@ -2,6 +2,7 @@
 use Rattle.std.specs.Prelude.{◌≡◌, ℕ, ◌≤◌, List, ◌++◌, length, drop, Result, Ok, Err, ⊤, ◌⊎◌}
 use Rattle.df_format.specs.Reading.{Bad, Low, Read}
 use Rattle.df_format.specs.Grammar.{CanGoOn, Stands, FirstBad}
+use Rattle.df_value_text.specs.ReadTag.{ended}
 use Rattle.df_value_text.specs.declared.refused.Fault.{Fault}
 use Rattle.df_value_text.specs.declared.refused.Fault.TheVariants as fault
 use Rattle.df_value_text.specs.declared.refused.TextRefused.{TextRefused}
@@ -51,3 +52,10 @@ abbrev pub NamesBadOrLow : {X : Type 0} → (List ℕ → List ℕ → Type 0) �
 NamesBadOrLow IsLow spell Fits bytes at refused.NoMemory = ⊤
 NamesBadOrLow IsLow spell Fits bytes at (refused.Syntax place) = (place ≤ length bytes) × (FirstBad spell Fits (drop at bytes) (drop place bytes) ⊎ FirstLow IsLow spell Fits (drop at bytes) (drop place bytes))
 NamesBadOrLow IsLow spell Fits bytes at (refused.TooLarge place) = ⊥
+
+-- no dot stands at the place, or the byte behind it is bad
+abbrev pub EndsAt : List ℕ → ℕ → Result (Unit {0}) Fault → Type 0
+EndsAt bytes place (Ok none) = (x : List ℕ) → ended (x, drop place bytes) ≡ Ok (x, drop place bytes)
+EndsAt bytes place (Err fault.NoMemory) = ⊥
+EndsAt bytes place (Err (fault.Bad k)) = (k ≤ length bytes) × ((x : List ℕ) → ended (x, drop place bytes) ≡ Err (Bad (drop k bytes)))
+EndsAt bytes place (Err (fault.Low k)) = ⊥

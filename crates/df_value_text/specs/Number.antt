@@ -1,5 +1,5 @@
 -- Reading a number: no zero stands in front, and a digit that passes the range ends it.
-use Rattle.std.specs.Prelude.{ℕ, ◌+◌, ◌-◌, ◌*◌, Bool, ◌&&◌, List, [], ◌∷◌, Result, Ok, Err, ◌==◌, nat_le, if◌then◌else◌}
+use Rattle.std.specs.Prelude.{ℕ, ◌+◌, ◌-◌, ◌*◌, Bool, false, ◌&&◌, List, [], ◌∷◌, Result, Ok, Err, ◌==◌, nat_le, if◌then◌else◌}
 use Rattle.std.specs.Char.{is_ascii_digit}
 use Rattle.df_format.specs.Reading.{Stop, Bad, Read}
 
@@ -15,3 +15,8 @@ number_at most (c ∷ cs) =
     if is_ascii_digit c && nat_le (c - 48) most
     then (if c == 48 then Ok (0, cs) else Ok (digits_at most (c - 48) cs))
     else Err (Bad (c ∷ cs))
+
+-- whether this byte stands in front
+abbrev pub begins_with : ℕ → List ℕ → Bool
+begins_with byte [] = false
+begins_with byte (c ∷ cs) = c == byte

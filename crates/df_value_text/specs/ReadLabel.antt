@@ -1,5 +1,5 @@
 -- Reading a label and a privilege.
-use Rattle.std.specs.Prelude.{ℕ, List, [], ◌∷◌, Option, Some, None, Result, Ok, Err, ◌==◌}
+use Rattle.std.specs.Prelude.{ℕ, Bool, true, false, List, [], ◌∷◌, Option, Some, None, Result, Ok, Err, ◌==◌}
 use Rattle.df_format.specs.Reading.{Read, ◌>>=◌, as_at, then_at, maybe_at, either_at, text_at, behind_at, closed_at}
 use Rattle.df_label.specs.declared.label.Label.{Label}
 use Rattle.df_label.specs.declared.privilege.Privilege.{Privilege}
@@ -35,3 +35,8 @@ privilege_of parts = record { tag = parts.0; right = parts.1 }
 
 abbrev pub privilege_at : List ℕ → Read ℕ Privilege
 privilege_at bytes = as_at privilege_of (then_at tag_at right_at) bytes
+
+-- the word that stands or doesn't
+abbrev pub auth_word : Bool → Option (List ℕ)
+auth_word false = None
+auth_word true = Some (97 ∷ 117 ∷ 116 ∷ 104 ∷ [])

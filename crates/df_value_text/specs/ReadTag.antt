@@ -53,6 +53,15 @@ abbrev pub optional : {X : Type 0} → Option (X × List X) → List X
 optional None = []
 optional (Some xs) = listed xs
 
+-- at least one tag
+abbrev pub some_tags_at : List ℕ → Read ℕ (List (List ℕ))
+some_tags_at bytes = as_at listed (items_at leads_tag tag_at next_at) bytes
+
 -- a set of tags
 abbrev pub tags_at : List ℕ → Read ℕ (List (List ℕ))
 tags_at bytes = as_at optional (maybe_at (λ c. c == 35) (items_at leads_tag tag_at next_at)) bytes
+
+-- a dot and a digit stand in front
+abbrev pub leads_at : List ℕ → Bool
+leads_at [] = false
+leads_at (c ∷ cs) = leads_number 0 c cs

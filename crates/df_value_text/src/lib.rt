@@ -3,18 +3,24 @@
 
 mod join;
 mod label;
+mod label_reader;
 mod number;
+mod number_reader;
 mod privilege;
-mod read_number;
+mod readers;
 mod refused;
 mod tag;
+mod tag_reader;
 mod value;
 
 pub use join::append_separator;
 pub use label::append_label;
+pub use label_reader::{label_at, privilege_at, text_at};
 pub use number::{append_number, append_whole};
+pub use number_reader::{byte_at, byte_stands, number_at, short_at};
 pub use privilege::append_privilege;
-pub use read_number::{byte_at, number_at, short_at};
+pub use readers::{read_label, read_privilege, read_tag};
 pub use refused::{Fault, TextRefused};
 pub use tag::{append_path, append_tag, append_tags};
+pub use tag_reader::{tag_at, tags_at};
 pub use value::{append_value, append_words};

@@ -2,8 +2,8 @@
 ghost use Rattle.std.specs.Prelude.{◌≡◌, ◌≤◌, ◌<◌, ◌∷◌, [], length, drop, IfOk};
 ghost use Rattle.df_format.specs.Reading.{text_at};
 ghost use Rattle.df_value_text.specs.Answer.{Gives};
-ghost use Rattle.df_value_text.specs.Number.{number_at, digits_at};
 ghost use Rattle.df_value_text.specs.ReadTag.{short_at};
+ghost use Rattle.df_value_text.specs.Number.{begins_with, number_at, digits_at};
 
 use crate::Fault;
 
@@ -70,4 +70,15 @@ pub fn byte_at(bytes: &[u8], at: usize, byte: u8) -> Result<((), usize), Fault>
         return Err(Fault::Bad(at));
     }
     Ok(((), at + 1))
+}
+
+/// Whether this byte stands at the place.
+pub fn byte_stands(bytes: &[u8], place: usize, byte: u8) -> bool
+    requires { place ≤ length bytes.now }
+    ensures { result ≡ begins_with byte (drop place bytes.now) }
+{
+    if place == bytes.len() {
+        return false;
+    }
+    bytes[place] == byte
 }

@@ -1,6 +1,6 @@
 use Rattle.std.proofs.Common.{length, ◌-◌, ◌≡◌, ◌≤◌, drop}
 use Rattle.df_value_text.specs.Number.{digits_at}
-use Rattle.df_value_text.proofs.read_number.digits_at.Given as goal
+use Rattle.df_value_text.proofs.number_reader.digits_at.Given as goal
 
 -- what is left is read as all was to be
 abbrev pub invariant-loop-place : goal.invariant-loop-place

@@ -1,0 +1,26 @@
+use Rattle.std.proofs.Common.{ℕ, [], ◌∷◌, arith}
+use Rattle.std.proofs.lemmas.Result.{err_from_is_err_and}
+use Rattle.df_format.proofs.Laws.{never}
+use Rattle.df_value_text.specs.Fits.{IsLabel}
+use Rattle.df_value_text.specs.Label.{label_text}
+use Rattle.df_value_text.specs.Order.{IsLowTag}
+use Rattle.df_value_text.specs.ReadLabel.{label_at}
+use Rattle.df_value_text.proofs.LabelLaws.{label_format}
+use Rattle.df_value_text.proofs.Answering.{found_by, only_found, only_refused, names_either}
+use Rattle.df_value_text.proofs.readers.read_label.Goals as goal
+
+pub returns-clause-found : goal.returns-clause-found
+returns-clause-found c = found_by IsLowTag label_text IsLabel never label_at label_format c.args.bytes.now c.args.at c.in_ok-label_at.field-0.0 c.in_ok-label_at.field-0.1 c.in_ok-label_at.ensures.0 c.in_ok-label_at.ensures.1
+
+pub returns-clause-only : goal.returns-clause-only
+returns-clause-only c = only_found IsLowTag label_text IsLabel never label_at label_format c.args.bytes.now c.args.at c.in_ok-label_at.field-0.0 c.in_ok-label_at.field-0.1 c.in_ok-label_at.ensures.1
+
+pub returns-in_err-label_at-clause-only : goal.returns-in_err-label_at-clause-only
+returns-in_err-label_at-clause-only c =
+    let p = err_from_is_err_and c.from_residual.result c.from_residual.ensures.1 in
+    rw (p.1, p.2) (only_refused IsLowTag label_text IsLabel never label_at label_format c.args.bytes.now c.args.at c.in_err-label_at.field-0.0 c.in_err-label_at.ensures)
+
+pub returns-in_err-label_at-clause-syntax : goal.returns-in_err-label_at-clause-syntax
+returns-in_err-label_at-clause-syntax c =
+    let p = err_from_is_err_and c.from_residual.result c.from_residual.ensures.1 in
+    rw (p.1, p.2) (names_either IsLowTag label_text IsLabel never label_at label_format (record { s = []; i = [] }) ((tt, tt), (tt, tt)) c.args.bytes.now c.args.at c.in_err-label_at.field-0.0 c.in_err-label_at.ensures)
