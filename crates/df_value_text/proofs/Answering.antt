@@ -3,8 +3,8 @@ use Rattle.std.proofs.Common.{◌≡◌, ℕ, ◌≤◌, Bool, List, [], ◌∷�
 use Rattle.df_format.specs.Reading.{Stop, Bad, Low, Read}
 use Rattle.df_format.specs.Grammar.{Stands}
 use Rattle.df_format.specs.Format.{Format}
-use Rattle.df_format.proofs.Laws.{ok_is, not_both, stands, is_read, first_bad, can_go_on}
-use Rattle.df_value_text.specs.Answer.{Fails, refusal, IsFound, IsRead, FirstLow, NamesBad, NamesBadOrLow}
+use Rattle.df_format.proofs.Laws.{ok_is, err_is, not_both, stands, is_read, first_bad, can_go_on}
+use Rattle.df_value_text.specs.Answer.{Fails, refusal, IsFound, IsRead, FirstLow, NamesBad, NamesBadOrLow, IsSyntaxAt}
 use Rattle.df_value_text.specs.declared.refused.Fault.{Fault}
 use Rattle.df_value_text.specs.declared.refused.Fault.TheVariants as fault
 use Rattle.df_value_text.specs.declared.refused.TextRefused.{TextRefused}
@@ -36,3 +36,12 @@ module _ {X : Type 0} (IsLow : List ℕ → List ℕ → Type 0) (spell : X → 
   names_bad none x fits bytes at fault.NoMemory h = tt
   names_bad none x fits bytes at (fault.Bad place) h = (h.0, first_bad IsLow spell Fits goes read f x fits (drop at bytes) (drop place bytes) h.1)
   names_bad none x fits bytes at (fault.Low place) h = let s = f.stuck (drop at bytes) (Low (drop place bytes)) h.1 in absurd (none s.front (drop place bytes) s.cause)
+
+-- reading that stops low is answered by a Syntax there
+pub not_found_low : {X : Type 0} (bytes : List ℕ) (x : X) (place : ℕ) (read : Read ℕ X) (rest : List ℕ) → read ≡ Ok (x, drop place bytes) → read ≡ Err (Low rest) → IsSyntaxAt {X = X} bytes rest (Ok (x, place))
+not_found_low {X} bytes x place read rest e low = let here : X × List ℕ = (x, drop place bytes) in not_both here (Low rest) (sym e ∙ low)
+
+pub refused_low : {X : Type 0} (bytes : List ℕ) (e : Fault) (read : Read ℕ X) (rest : List ℕ) → Fails bytes e read → read ≡ Err (Low rest) → IsSyntaxAt {X = X} bytes rest (Err (refusal e))
+refused_low bytes fault.NoMemory read rest h low = tt
+refused_low bytes (fault.Bad place) read rest h low = absurd (let e = err_is (Bad (drop place bytes)) (Low rest) (sym h.1 ∙ low) in cc)
+refused_low bytes (fault.Low place) read rest h low = let e = err_is (Low (drop place bytes)) (Low rest) (sym h.1 ∙ low) in cc

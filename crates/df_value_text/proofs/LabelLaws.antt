@@ -35,7 +35,7 @@ tag_ends_at (n ∷ ns) c h digit dot = apart n ns
     apart n [] = grind (arith, nat_tests)
     apart n (m ∷ ms) = apart m ms
 
-tags_end_at : (tags : List (List ℕ)) (c : ℕ) → IsTagSet tags → is_ascii_digit c ≡ false → eqb c 46 ≡ false → eqb c 44 ≡ false → eqb c 35 ≡ false → tags_goes tags c ≡ false
+pub tags_end_at : (tags : List (List ℕ)) (c : ℕ) → IsTagSet tags → is_ascii_digit c ≡ false → eqb c 46 ≡ false → eqb c 44 ≡ false → eqb c 35 ≡ false → tags_goes tags c ≡ false
 tags_end_at [] c h digit dot comma hash = hash
 tags_end_at (tag ∷ tags) c h digit dot comma hash = apart tag tags h.0
   where

@@ -8,3 +8,4 @@ pub mod Loops
 pub mod TagSteps
 pub mod Answering
 pub mod RightSteps
+pub mod OrderLaws

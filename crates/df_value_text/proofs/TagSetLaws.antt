@@ -81,7 +81,7 @@ pub record LongStuck (bytes : List ℕ) (stop : Stop ℕ) : Type 0 where
   pub shape : 35 ∷ [] ≡ front ++ more
   pub stays : (c : ℕ) (tail : List ℕ) → rest ≡ c ∷ tail → (other : List ℕ) → longest_at (front ++ c ∷ other) ≡ Err (Bad (c ∷ other))
 
-digit_reads : (bytes : List ℕ) (stop : Stop ℕ) → begins_digit bytes ≡ true → short_at bytes ≡ Err stop → ⊥
+pub digit_reads : (bytes : List ℕ) (stop : Stop ℕ) → begins_digit bytes ≡ true → short_at bytes ≡ Err stop → ⊥
 digit_reads [] stop d e = absurd cc
 digit_reads (c ∷ cs) stop d e =
     elim (chosen (is_ascii_digit c && nat_le (c - 48) top) (cond (eqb c 48) (Ok (0, cs)) (Ok (digits_at top (c - 48) cs))) (Err (Bad (c ∷ cs))) (Err stop) e) [
@@ -112,7 +112,7 @@ dots_never (suc n) prev (c ∷ cs) stop e =
     ]
 
 -- numbers stop where no number begins
-numbers_stop : (bytes : List ℕ) (stop : Stop ℕ) → numbers_at bytes ≡ Err stop → short_at bytes ≡ Err stop
+pub numbers_stop : (bytes : List ℕ) (stop : Stop ℕ) → numbers_at bytes ≡ Err stop → short_at bytes ≡ Err stop
 numbers_stop bytes stop e =
     elim (bind_err (items_at leads_number short_at (λ prev. short_at) bytes) (λ x. Ok (listed x.0, x.1)) stop e) [
       | inr h ↦ not_both (listed h.0.0, h.0.1) stop h.2
@@ -210,7 +210,7 @@ next_found prev bytes tag rest e =
       | inr h ↦ not_both (tag, rest) (Low bytes) (sym h.1)
     ]
 
-next_again : (prev tag rest : List ℕ) → AfterTag prev tag → Ends tag_goes tag rest → next_at prev (tag_text tag ++ rest) ≡ Ok (tag, rest)
+pub next_again : (prev tag rest : List ℕ) → AfterTag prev tag → Ends tag_goes tag rest → next_at prev (tag_text tag ++ rest) ≡ Ok (tag, rest)
 next_again prev tag rest after ends =
     let read = (tag_format nowhere (λ before front rest low. low)).again tag rest after.0 ends in
     let a = bind_ok (longest_at (tag_text tag ++ rest)) ended (tag, rest) read in
@@ -300,7 +300,7 @@ next_format prev fits = record {
 pub low_is_local : IsLocal IsLowTag
 low_is_local before front rest low = record { before = before ++ low.before; prev = low.prev; is = ap (λ (u : List ℕ). before ++ u) low.is ∙ sym (append_assoc before low.before (tag_text low.prev ++ 44 ∷ [])); low = low.low }
 
-tags_apart : (tag : List ℕ) → IsTag tag → tag_goes tag 44 ≡ false
+pub tags_apart : (tag : List ℕ) → IsTag tag → tag_goes tag 44 ≡ false
 tags_apart [] h = absurd h
 tags_apart (n ∷ ns) h = apart n ns
   where
@@ -339,7 +339,7 @@ all_tags : (tag : List ℕ) (tags : List (List ℕ)) → Follow AfterTag tag tag
 all_tags tag [] h = tt
 all_tags tag (next ∷ tags) h = (h.0.0, all_tags next tags h.1)
 
-follow_tags : (tag : List ℕ) (tags : List (List ℕ)) → AreTags tags → IsAscending tag_cmp (tag ∷ tags) → Follow AfterTag tag tags
+pub follow_tags : (tag : List ℕ) (tags : List (List ℕ)) → AreTags tags → IsAscending tag_cmp (tag ∷ tags) → Follow AfterTag tag tags
 follow_tags tag [] h a = tt
 follow_tags tag (next ∷ tags) h a = ((h.0, ap is_lt a.0.0), follow_tags next tags h.1 a.1)
 

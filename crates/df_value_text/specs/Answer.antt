@@ -59,3 +59,10 @@ EndsAt bytes place (Ok none) = (x : List ℕ) → ended (x, drop place bytes) �
 EndsAt bytes place (Err fault.NoMemory) = ⊥
 EndsAt bytes place (Err (fault.Bad k)) = (k ≤ length bytes) × ((x : List ℕ) → ended (x, drop place bytes) ≡ Err (Bad (drop k bytes)))
 EndsAt bytes place (Err (fault.Low k)) = ⊥
+
+-- the answer is Syntax at the place before these bytes, unless there was no memory
+abbrev pub IsSyntaxAt : {X : Type 0} → List ℕ → List ℕ → Result (X × ℕ) TextRefused → Type 0
+IsSyntaxAt bytes rest (Ok read) = ⊥
+IsSyntaxAt bytes rest (Err refused.NoMemory) = ⊤
+IsSyntaxAt bytes rest (Err (refused.Syntax place)) = drop place bytes ≡ rest
+IsSyntaxAt bytes rest (Err (refused.TooLarge place)) = ⊥

@@ -12,6 +12,7 @@ mod refused;
 mod tag;
 mod tag_reader;
 mod value;
+mod writers;
 
 pub use join::append_separator;
 pub use label::append_label;
@@ -24,3 +25,4 @@ pub use refused::{Fault, TextRefused};
 pub use tag::{append_path, append_tag, append_tags};
 pub use tag_reader::{tag_at, tags_at};
 pub use value::{append_value, append_words};
+pub use writers::{write_label, write_privilege, write_tag, write_value};

@@ -3,10 +3,10 @@ ghost use Rattle.std.specs.Prelude.{◌≤◌, ℕ, List, length, drop, IfErr, I
 ghost use Rattle.df_format.specs.Grammar.{Stands};
 ghost use Rattle.df_label.specs.declared.label.Label.{Label};
 ghost use Rattle.df_label.specs.declared.privilege.Privilege.{Privilege};
-ghost use Rattle.df_value_text.specs.Answer.{IsFound, IsRead, NamesBad, NamesBadOrLow};
+ghost use Rattle.df_value_text.specs.Answer.{IsFound, IsRead, IsSyntaxAt, NamesBad, NamesBadOrLow};
 ghost use Rattle.df_value_text.specs.Fits.{IsLabel, IsPrivilege, IsTag};
 ghost use Rattle.df_value_text.specs.Label.{label_text, privilege_text, tag_text};
-ghost use Rattle.df_value_text.specs.Order.{IsLowTag};
+ghost use Rattle.df_value_text.specs.Order.{IsLowTag, LowInLabel};
 
 use crate::label_reader::{label_at, privilege_at};
 use crate::tag_reader::tag_at;
@@ -30,6 +30,7 @@ pub fn read_label(alloc: Global, bytes: &[u8], at: usize) -> Result<(Label, usiz
     ensures found { IfOk result (IsFound label_text IsLabel bytes.now at) }
     ensures only { (label : Label) (rest : List ℕ) → Stands label_text IsLabel (drop at bytes.now) label rest → IsRead bytes.now label rest result }
     ensures syntax { IfErr result (NamesBadOrLow IsLowTag label_text IsLabel bytes.now at) }
+    ensures order { (rest : List ℕ) → LowInLabel (drop at bytes.now) rest → IsSyntaxAt bytes.now rest result }
 {
     Ok(label_at(alloc, bytes, at)?)
 }
