@@ -1,13 +1,12 @@
 -- What a format says of the answers of a reader that gives what reading gives.
-use Rattle.std.proofs.Common.{◌≡◌, ℕ, ◌≤◌, Bool, List, [], ◌∷◌, ◌++◌, length, drop, Result, Ok, Err, refl, sym, ap, ◌∙◌, ◌⊎◌, inl, inr}
-use Rattle.df_format.specs.Reading.{Stop, Bad, Low, Read}
+use Rattle.std.proofs.Common.{◌≡◌, ℕ, ◌≤◌, Bool, List, length, drop, Ok, Err, refl, sym, ap, ◌∙◌, inl, inr}
+use Rattle.df_format.specs.Reading.{Bad, Low, Read}
 use Rattle.df_format.specs.Grammar.{Stands}
 use Rattle.df_format.specs.Format.{Format}
 use Rattle.df_format.proofs.Laws.{ok_is, err_is, not_both, stands, is_read, first_bad, can_go_on}
-use Rattle.df_value_text.specs.Answer.{Fails, refusal, IsFound, IsRead, FirstLow, NamesBad, NamesBadOrLow, IsSyntaxAt}
+use Rattle.df_value_text.specs.Answer.{Fails, refusal, IsFound, IsRead, NamesBad, NamesBadOrLow, IsSyntaxAt}
 use Rattle.df_value_text.specs.declared.refused.Fault.{Fault}
 use Rattle.df_value_text.specs.declared.refused.Fault.TheVariants as fault
-use Rattle.df_value_text.specs.declared.refused.TextRefused.{TextRefused}
 use Rattle.df_value_text.specs.declared.refused.TextRefused.TheVariants as refused
 
 module _ {X : Type 0} (IsLow : List ℕ → List ℕ → Type 0) (spell : X → List ℕ) (Fits : X → Type 0) (goes : X → ℕ → Bool) (read : List ℕ → Read ℕ X) (f : Format IsLow spell Fits goes read) where

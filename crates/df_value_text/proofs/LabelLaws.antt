@@ -1,12 +1,12 @@
 -- Labels and privileges are read as they are spelled.
-use Rattle.std.proofs.Common.{◌≡◌, ℕ, Bool, true, false, eqb, List, [], ◌∷◌, ◌++◌, Option, Some, None, Result, Ok, Err, refl, sym, ap, subst, ◌∙◌, append_assoc, arith, ◌⊎◌, inl, inr}
+use Rattle.std.proofs.Common.{◌≡◌, ℕ, Bool, true, false, eqb, List, [], ◌∷◌, ◌++◌, Option, Some, None, refl, sym, ap, append_assoc, arith, ◌⊎◌, inl, inr}
 use Rattle.std.specs.Char.{is_ascii_digit}
 use Rattle.std.proofs.lemmas.Bool.{eqb-true}
 use Rattle.std.proofs.lemmas.Bool.Decides.{nat_tests}
-use Rattle.df_format.specs.Reading.{Read, as_at, then_at, maybe_at, either_at, text_at, behind_at, closed_at}
+use Rattle.df_format.specs.Reading.{as_at, then_at, text_at, behind_at, closed_at}
 use Rattle.df_format.specs.Spelling.{then_spell, maybe_spell}
 use Rattle.df_format.specs.Grammar.{CanGoOn}
-use Rattle.df_format.specs.Format.{Ends, IsLocal, Format}
+use Rattle.df_format.specs.Format.{Ends, Format}
 use Rattle.df_format.proofs.Laws.{never, ends_never, then_format, ThenFits, then_goes}
 use Rattle.df_format.proofs.Texts.{text_format, own, IsText}
 use Rattle.df_format.proofs.Joins.{as_format, alike_format, fits_as, behind_format, closed_format}

@@ -1,9 +1,9 @@
 -- Items read one behind the other, as the code reads them.
-use Rattle.std.proofs.Common.{◌≡◌, ℕ, ◌+◌, ◌<◌, ◌≤◌, Bool, true, false, cond, List, [], ◌∷◌, ◌++◌, length, get_or, take, drop, length-drop, Result, Ok, Err, refl, sym, ap, ◌∙◌, arith, add-one}
+use Rattle.std.proofs.Common.{◌≡◌, ℕ, ◌+◌, ◌<◌, ◌≤◌, Bool, true, false, cond, List, [], ◌∷◌, ◌++◌, length, get_or, take, drop, length-drop, Ok, Err, refl, sym, ap, ◌∙◌, arith, add-one}
 use Rattle.std.proofs.Math.Seq.{drop-cons}
 use Rattle.df_format.specs.Reading.{Stop, Bad, Low, Read, ◌>>=◌, as_at, more_of, items_at, text_at, with_front}
 use Rattle.df_format.proofs.Laws.{ok_is, err_is, not_both}
-use Rattle.df_format.proofs.Items.{Shrinks, item_read, item_failed, no_more, items_made, onto, regroup}
+use Rattle.df_format.proofs.Items.{items_made, onto, regroup}
 use Rattle.std.proofs.lemmas.List.{append-nil, drop_all, drop_more, take_all, take_more}
 use Rattle.df_value_text.specs.Answer.{Fails}
 use Rattle.df_value_text.specs.Number.{begins_with}
@@ -69,10 +69,12 @@ text_on bytes text i place b d total lt is h e = by (drop place bytes) refl h
         let t = drop_first bytes place c cs f in
         let ws : drop i text ≡ b ∷ drop (i + 1) text = drop_more text i d lt ∙ ap (λ (v : ℕ). v ∷ drop (i + 1) text) (sym is) in
         let taken : take (i + 1) text ≡ take i text ++ b ∷ [] = take_more text i d lt ∙ ap (λ (v : ℕ). take i text ++ v ∷ []) (sym is) in
-        let step : text_at (drop i text) (drop place bytes) ≡ (text_at (drop (i + 1) text) cs >>= onto b) = ap (text_at (drop i text)) f ∙ ap (λ (u : List ℕ). text_at u (c ∷ cs)) ws ∙ ap (λ x. cond x (text_at (drop (i + 1) text) cs >>= onto b) (Err (Bad (c ∷ cs)))) h in
-        (t.0, ap (λ (u : List ℕ). with_front u (text_at (drop (i + 1) text) (drop (place + 1) bytes))) taken
-          ∙ ap (λ (u : List ℕ). with_front (take i text ++ b ∷ []) (text_at (drop (i + 1) text) u)) (sym t.1)
-          ∙ sym (regroup (take i text) b (text_at (drop (i + 1) text) cs)) ∙ ap (with_front (take i text)) (sym step) ∙ e)
+        let step : text_at (drop i text) (drop place bytes) ≡ (text_at (drop (i + 1) text) cs >>= onto b) = ap (text_at (drop i text)) f ∙ ap (λ (u : List ℕ). text_at u (c ∷ cs)) ws ∙ ap (λ x. cond x (text_at (drop (i + 1) text) cs >>= onto b) (Err (Bad (c ∷ cs)))) h in (
+          t.0,
+          ap (λ (u : List ℕ). with_front u (text_at (drop (i + 1) text) (drop (place + 1) bytes))) taken
+              ∙ ap (λ (u : List ℕ). with_front (take i text ++ b ∷ []) (text_at (drop (i + 1) text) u)) (sym t.1)
+              ∙ sym (regroup (take i text) b (text_at (drop (i + 1) text) cs)) ∙ ap (with_front (take i text)) (sym step) ∙ e,
+        )
 
 pub text_off : (bytes text : List ℕ) (i place b d : ℕ) (total : Read ℕ (List ℕ)) → i < length text → b ≡ get_or text i d → begins_with b (drop place bytes) ≡ false
     → with_front (take i text) (text_at (drop i text) (drop place bytes)) ≡ total → total ≡ Err (Bad (drop place bytes))

@@ -1,22 +1,19 @@
 -- A tag that isn't above the one before it is refused at its first byte.
-use Rattle.std.proofs.Common.{◌≡◌, ℕ, zero, suc, ◌^◌, ◌<◌, ◌≤◌, Bool, true, false, cond, List, [], ◌∷◌, ◌++◌, length, Option, Some, None, Result, Ok, Err, refl, sym, ap, subst, ◌∙◌, append_assoc, length-append, arith, ◌⊎◌, inl, inr}
+use Rattle.std.proofs.Common.{◌≡◌, ℕ, List, [], ◌∷◌, ◌++◌, length, Ok, Err, refl, sym, ap, ◌∙◌, append_assoc, length-append, arith, inl, inr}
 use Rattle.std.specs.Fmt.{decimal}
-use Rattle.std.specs.Ordering.{is_lt}
-use Rattle.df_format.specs.Reading.{Stop, Bad, Low, Read, ◌>>=◌, as_at, then_at, closed_at, behind_at, text_at, more_of, items_at}
-use Rattle.df_format.specs.Spelling.{more_spell, items_spell}
+use Rattle.df_format.specs.Reading.{Low, Read, ◌>>=◌, more_of}
+use Rattle.df_format.specs.Spelling.{more_spell}
 use Rattle.df_format.specs.Grammar.{IsLongest}
 use Rattle.df_format.proofs.Laws.{ok_is}
 use Rattle.df_format.proofs.Items.{Follow, onto, more_step}
 use Rattle.df_format.specs.Format.{Ends}
-use Rattle.df_label.specs.Ascending.{IsAscending}
-use Rattle.df_label.specs.Tag.{tag_cmp}
 use Rattle.df_value_text.specs.Label.{path_text, tag_text, tags_text}
-use Rattle.df_value_text.specs.Fits.{IsTag, AreTags, IsTagSet}
-use Rattle.df_value_text.specs.Order.{StandsLow, IsLowTag, LowBehind, LowInLabel}
-use Rattle.df_value_text.specs.ReadTag.{begins_digit, numbers_at, longest_at, tag_at, above, next_at, leads_tag, some_tags_at, tags_at}
+use Rattle.df_value_text.specs.Fits.{IsTag, IsTagSet}
+use Rattle.df_value_text.specs.Order.{StandsLow, LowInLabel}
+use Rattle.df_value_text.specs.ReadTag.{begins_digit, numbers_at, longest_at, tag_at, next_at, leads_tag, tags_at}
 use Rattle.df_value_text.specs.ReadLabel.{label_at}
 use Rattle.df_value_text.proofs.TagLaws.{nowhere, nowhere_is_local, digit_first, long_is_longest, behind_byte, joined_items, tag_goes, tag_format}
-use Rattle.df_value_text.proofs.TagSetLaws.{numbers_stop, digit_reads, AfterTag, next_again, next_shrinks, tags_apart, follow_tags, tags_goes, tags_format, low_is_local}
+use Rattle.df_value_text.proofs.TagSetLaws.{numbers_stop, digit_reads, AfterTag, next_again, next_shrinks, tags_apart, follow_tags, tags_format}
 use Rattle.df_value_text.proofs.LabelLaws.{tags_end_at}
 
 same_split : (xs ys m n : List ℕ) → xs ++ m ≡ ys ++ n → length m ≡ length n → (xs ≡ ys) × (m ≡ n)

@@ -1,10 +1,8 @@
 -- The reader of rights, step by step.
-use Rattle.std.proofs.Common.{◌≡◌, ℕ, ◌+◌, Bool, true, false, cond, List, [], ◌∷◌, drop, Option, Result, Ok, Err, refl, sym, ap, ◌∙◌}
-use Rattle.df_format.specs.Reading.{Stop, Read, ◌>>=◌, as_at, behind_at}
-use Rattle.df_label.specs.declared.privilege.Right.{Right}
-use Rattle.df_label.specs.declared.privilege.Right.TheVariants.{Plus, PlusAuth}
+use Rattle.std.proofs.Common.{◌≡◌, ℕ, ◌+◌, Bool, true, List, drop, Ok, Err, refl, ap, ◌∙◌}
+use Rattle.df_format.specs.Reading.{Stop, as_at}
 use Rattle.df_value_text.specs.Number.{begins_with}
-use Rattle.df_value_text.specs.ReadLabel.{auth_at, auth_word, plus_of, minus_of, right_at}
+use Rattle.df_value_text.specs.ReadLabel.{auth_at, auth_word, plus_of, right_at}
 use Rattle.df_value_text.proofs.TagSteps.{behind_it}
 
 right_plus : (bytes : List ℕ) (at : ℕ) → begins_with 43 (drop at bytes) ≡ true → right_at (drop at bytes) ≡ as_at plus_of auth_at (drop (at + 1) bytes)

@@ -1,24 +1,24 @@
 -- Tags are read as they are spelled.
-use Rattle.std.proofs.Common.{◌≡◌, ℕ, zero, suc, ◌+◌, ◌-◌, ◌*◌, ◌^◌, ◌<◌, ◌≤◌, Bool, true, false, cond, ◌&&◌, eqb, List, [], ◌∷◌, ◌++◌, length, Result, Ok, Err, refl, sym, ap, subst, ◌∙◌, append_assoc, arith, ◌⊎◌, inl, inr, eq-eqb}
+use Rattle.std.proofs.Common.{◌≡◌, ℕ, zero, suc, ◌-◌, ◌≤◌, Bool, true, false, cond, ◌&&◌, eqb, List, [], ◌∷◌, ◌++◌, length, Result, Ok, Err, refl, sym, ap, subst, ◌∙◌, append_assoc, arith, inl, inr, eq-eqb}
 use Rattle.std.specs.Prelude.{◌==◌, nat_le}
 use Rattle.std.specs.Char.{is_ascii_digit}
 use Rattle.std.specs.Fmt.{decimal}
 use Rattle.std.proofs.lemmas.Bool.{eqb-true}
 use Rattle.std.proofs.lemmas.Bool.Decides.{nat_tests}
 use Rattle.std.proofs.lemmas.List.{append-nil}
-use Rattle.df_format.specs.Reading.{Stop, Bad, Low, Read, ◌>>=◌, as_at, behind_at, more_at, more_of, items_at}
+use Rattle.df_format.specs.Reading.{Stop, Bad, Read, ◌>>=◌, as_at, behind_at, more_at, more_of, items_at}
 use Rattle.df_format.specs.Spelling.{more_spell, items_spell}
-use Rattle.df_format.specs.Grammar.{CanGoOn, IsLongest}
-use Rattle.df_format.specs.Format.{Ends, Found, place, Cause, Stuck, IsLocal, Format}
-use Rattle.df_format.proofs.Laws.{ok_is, err_is, not_both, bind_ok, bind_err, bind_same, told, chosen}
-use Rattle.df_format.proofs.Items.{Shrinks, format_shrinks, onto, more_step, more_shrinks, items_made, Follow, Parts, IsLast, LastEnds, ItemsFit, items_found, items_again, Leads, last_goes, items_goes, items_format}
+use Rattle.df_format.specs.Grammar.{IsLongest}
+use Rattle.df_format.specs.Format.{IsLocal, Format}
+use Rattle.df_format.proofs.Laws.{ok_is, not_both, bind_ok, bind_same, told, chosen}
+use Rattle.df_format.proofs.Items.{Shrinks, format_shrinks, onto, more_step, more_shrinks, items_made, Follow, Parts, LastEnds, ItemsFit, items_found, items_again, Leads, last_goes, items_goes, items_format}
 use Rattle.df_format.proofs.Joins.{as_format, behind_format, same_read}
 use Rattle.df_value_text.specs.Join.{joined}
 use Rattle.df_value_text.specs.Label.{path_text, tag_text}
 use Rattle.df_value_text.specs.Fits.{AreNumbers, IsTag}
-use Rattle.df_value_text.specs.Number.{number_at, digits_at}
+use Rattle.df_value_text.specs.Number.{digits_at}
 use Rattle.df_value_text.specs.ReadTag.{short_at, begins_digit, leads_number, listed, numbers_at, longest_at, ended, tag_at}
-use Rattle.df_value_text.proofs.NumberLaws.{number_format, number_goes, number_stops, first_true, number_least}
+use Rattle.df_value_text.proofs.NumberLaws.{number_format, number_goes, first_true, number_least}
 
 -- ---- numbers with dots between them
 

@@ -1,6 +1,6 @@
 -- Sets of tags are read as they are spelled.
-use Rattle.std.proofs.Common.{◌≡◌, ℕ, zero, suc, ◌+◌, ◌-◌, ◌*◌, ◌^◌, ◌<◌, ◌≤◌, Bool, true, false, cond, ◌&&◌, eqb, List, [], ◌∷◌, ◌++◌, length, Option, Some, None, Result, Ok, Err, refl, sym, ap, subst, ◌∙◌, append_assoc, arith, ◌⊎◌, inl, inr, eq-eqb}
-use Rattle.std.specs.Prelude.{◌==◌, nat_le}
+use Rattle.std.proofs.Common.{◌≡◌, ℕ, zero, suc, ◌+◌, ◌-◌, ◌*◌, ◌<◌, Bool, true, false, cond, ◌&&◌, eqb, List, [], ◌∷◌, ◌++◌, length, Option, Some, None, Ok, Err, refl, sym, ap, subst, ◌∙◌, append_assoc, arith, inl, inr}
+use Rattle.std.specs.Prelude.{nat_le}
 use Rattle.std.specs.Char.{is_ascii_digit}
 use Rattle.std.specs.Fmt.{decimal}
 use Rattle.std.specs.Cmp.{nat_cmp_is, tied_itself, nat_cmp_total}
@@ -10,25 +10,24 @@ use Rattle.std.specs.declared.cmp.Ordering.TheVariants.{Less, Equal, Greater}
 use Rattle.std.specs.Ordering.{is_lt, nat_cmp}
 use Rattle.std.proofs.lemmas.Bool.{eqb-true, and_parts}
 use Rattle.std.proofs.lemmas.Bool.Decides.{nat_tests}
-use Rattle.std.proofs.lemmas.List.{append-nil}
-use Rattle.df_format.specs.Reading.{Stop, Bad, Low, Read, ◌>>=◌, as_at, maybe_at, behind_at, more_at, more_of, items_at}
+use Rattle.df_format.specs.Reading.{Stop, Bad, Low, ◌>>=◌, maybe_at, more_at, more_of, items_at}
 use Rattle.df_format.specs.Spelling.{more_spell, items_spell, maybe_spell}
 use Rattle.df_format.specs.Grammar.{CanGoOn, IsLongest}
-use Rattle.df_format.specs.Format.{Ends, Found, IsViable, place, Cause, Stuck, IsLocal, Format}
+use Rattle.df_format.specs.Format.{Ends, Stuck, IsLocal, Format}
 use Rattle.df_format.proofs.Laws.{ok_is, err_is, not_both, bind_ok, bind_err, told, chosen, viable_of}
 use Rattle.df_format.proofs.Items.{Shrinks, format_shrinks, Follow, Parts, LastEnds, ItemsFit, items_found, Leads, last_goes, items_goes, items_format}
 use Rattle.df_format.proofs.Joins.{as_format}
-use Rattle.df_format.proofs.Choices.{Begins, MaybeFits, maybe_goes, maybe_format}
-use Rattle.df_label.specs.Ascending.{IsBelow, IsAscending}
+use Rattle.df_format.proofs.Choices.{MaybeFits, maybe_goes, maybe_format}
+use Rattle.df_label.specs.Ascending.{IsAscending}
 use Rattle.df_label.specs.Tag.{tag_cmp}
 use Rattle.df_label.proofs.SetFacts.{below_trans}
 use Rattle.df_label.proofs.TagSetFacts.{tag_cmp_exact}
 use Rattle.df_value_text.specs.Label.{path_text, tag_text, tags_text}
-use Rattle.df_value_text.specs.Fits.{AreNumbers, IsTag, AreTags, IsTagSet}
+use Rattle.df_value_text.specs.Fits.{IsTag, AreTags, IsTagSet}
 use Rattle.df_value_text.specs.Order.{StandsLow, IsLowTag}
-use Rattle.df_value_text.specs.Number.{number_at, digits_at}
+use Rattle.df_value_text.specs.Number.{digits_at}
 use Rattle.df_value_text.specs.ReadTag.{short_at, begins_digit, leads_number, listed, numbers_at, longest_at, ended, tag_at, above, next_at, leads_tag, optional, some_tags_at, tags_at}
-use Rattle.df_value_text.proofs.NumberLaws.{number_goes, number_stops, digit_fits, digit_true, decimal_push, first_true}
+use Rattle.df_value_text.proofs.NumberLaws.{number_goes, number_stops, digit_fits, digit_true, decimal_push}
 use Rattle.df_value_text.proofs.TagLaws.{top, nowhere, LongEnds, long_found, long_again, long_is_longest, no_digit, behind_byte, joined_items, tag_goes, tag_format}
 
 -- ---- longer tags

@@ -1,12 +1,12 @@
 -- The loops that read numbers and tags, step by step.
-use Rattle.std.proofs.Common.{◌≡◌, ℕ, ◌+◌, ◌-◌, ◌<◌, ◌≤◌, Bool, true, false, cond, List, [], ◌∷◌, ◌++◌, length, get_or, drop, Option, Some, None, Result, Ok, Err, refl, sym, ap, subst, ◌∙◌, arith}
+use Rattle.std.proofs.Common.{◌≡◌, ℕ, ◌+◌, true, false, cond, List, [], ◌∷◌, ◌++◌, length, get_or, drop, Option, Some, None, Ok, Err, refl, sym, ap, ◌∙◌, arith}
 use Rattle.std.specs.Prelude.{◌==◌}
 use Rattle.std.proofs.Math.Seq.{get_or-append_seam}
 use Rattle.std.proofs.lemmas.List.{length_push}
 use Rattle.df_format.specs.Reading.{Stop, Read, ◌>>=◌, more_of, items_at, with_front}
 use Rattle.df_format.proofs.Items.{item_read, item_failed, no_more}
 use Rattle.df_value_text.specs.Number.{begins_with}
-use Rattle.df_value_text.specs.ReadTag.{short_at, begins_digit, leads_number, leads_at, numbers_at, tag_at, next_at, leads_tag, listed, optional, some_tags_at, tags_at}
+use Rattle.df_value_text.specs.ReadTag.{short_at, leads_number, leads_at, numbers_at, tag_at, next_at, leads_tag, listed, optional, some_tags_at, tags_at}
 use Rattle.df_value_text.proofs.TagLaws.{short_shrinks}
 use Rattle.df_value_text.proofs.TagSetLaws.{next_shrinks}
 use Rattle.df_value_text.proofs.Loops.{drop_first, items_read, items_stop}
@@ -36,14 +36,14 @@ pub number_failed : (bytes : List ℕ) (at start place first last : ℕ) (number
 number_failed bytes at start place first last numbers stop one h so_far e =
     let l = led bytes place (drop place bytes) refl h in
     items_stop leads_number short_at (λ prev. short_at) (drop at bytes) (drop start bytes) first stop one
-      (item_failed leads_number (λ prev. short_at) short_shrinks numbers last (drop place bytes) l.first (drop (place + 1) bytes) stop _ l.is l.leads e so_far)
+    (item_failed leads_number (λ prev. short_at) short_shrinks numbers last (drop place bytes) l.first (drop (place + 1) bytes) stop _ l.is l.leads e so_far)
 
 pub numbers_done : (bytes : List ℕ) (at start place first last : ℕ) (numbers : List ℕ) → short_at (drop at bytes) ≡ Ok (first, drop start bytes) → leads_at (drop place bytes) ≡ false
     → with_front numbers (more_of leads_number (λ prev. short_at) last (drop place bytes)) ≡ with_front (first ∷ []) (more_of leads_number (λ prev. short_at) first (drop start bytes))
     → numbers_at (drop at bytes) ≡ Ok (numbers, drop place bytes)
 numbers_done bytes at start place first last numbers one h so_far =
     items_read leads_number short_at (λ prev. short_at) (drop at bytes) (drop start bytes) (drop place bytes) first numbers one
-      (no_more leads_number (λ prev. short_at) numbers last (drop place bytes) _ (λ c cs is. ap leads_at (sym is) ∙ h) so_far)
+    (no_more leads_number (λ prev. short_at) numbers last (drop place bytes) _ (λ c cs is. ap leads_at (sym is) ∙ h) so_far)
 
 -- ---- tags
 
@@ -73,14 +73,14 @@ pub tag_failed : (bytes : List ℕ) (at start place : ℕ) (first last prev : Li
 tag_failed bytes at start place first last prev tags stop one h so_far same e =
     let b = behind_it bytes place 44 h in
     items_stop leads_tag tag_at next_at (drop at bytes) (drop start bytes) first stop one
-      (item_failed leads_tag next_at next_shrinks tags last (drop place bytes) b.0 (drop (place + 1) bytes) stop _ b.1 b.2 (ap (λ (p : List ℕ). next_at p (drop (place + 1) bytes)) (sym same) ∙ e) so_far)
+    (item_failed leads_tag next_at next_shrinks tags last (drop place bytes) b.0 (drop (place + 1) bytes) stop _ b.1 b.2 (ap (λ (p : List ℕ). next_at p (drop (place + 1) bytes)) (sym same) ∙ e) so_far)
 
 pub tags_done : (bytes : List ℕ) (at start place : ℕ) (first last : List ℕ) (tags : List (List ℕ)) → tag_at (drop at bytes) ≡ Ok (first, drop start bytes) → begins_with 44 (drop place bytes) ≡ false
     → with_front tags (more_of leads_tag next_at last (drop place bytes)) ≡ with_front (first ∷ []) (more_of leads_tag next_at first (drop start bytes))
     → some_tags_at (drop at bytes) ≡ Ok (tags, drop place bytes)
 tags_done bytes at start place first last tags one h so_far =
     items_read leads_tag tag_at next_at (drop at bytes) (drop start bytes) (drop place bytes) first tags one
-      (no_more leads_tag next_at tags last (drop place bytes) _ (λ c cs is. ap (begins_with 44) (sym is) ∙ h) so_far)
+    (no_more leads_tag next_at tags last (drop place bytes) _ (λ c cs is. ap (begins_with 44) (sym is) ∙ h) so_far)
 
 -- a set begins with a tag, or has none
 abbrev some_made : List ℕ × List (List ℕ) → List ℕ → Read ℕ (Option (List ℕ × List (List ℕ)))

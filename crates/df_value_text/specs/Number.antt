@@ -1,7 +1,7 @@
 -- Reading a number: no zero stands in front, and a digit that passes the range ends it.
-use Rattle.std.specs.Prelude.{ℕ, ◌+◌, ◌-◌, ◌*◌, Bool, false, ◌&&◌, List, [], ◌∷◌, Result, Ok, Err, ◌==◌, nat_le, if◌then◌else◌}
+use Rattle.std.specs.Prelude.{ℕ, ◌+◌, ◌-◌, ◌*◌, Bool, false, ◌&&◌, List, [], ◌∷◌, Ok, Err, ◌==◌, nat_le, if◌then◌else◌}
 use Rattle.std.specs.Char.{is_ascii_digit}
-use Rattle.df_format.specs.Reading.{Stop, Bad, Read}
+use Rattle.df_format.specs.Reading.{Bad, Read}
 
 -- further digits, as long as the number is at most this
 abbrev pub digits_at : ℕ → ℕ → List ℕ → ℕ × List ℕ

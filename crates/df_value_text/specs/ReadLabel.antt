@@ -1,6 +1,6 @@
 -- Reading a label and a privilege.
-use Rattle.std.specs.Prelude.{ℕ, Bool, true, false, List, [], ◌∷◌, Option, Some, None, Result, Ok, Err, ◌==◌}
-use Rattle.df_format.specs.Reading.{Read, ◌>>=◌, as_at, then_at, maybe_at, either_at, text_at, behind_at, closed_at}
+use Rattle.std.specs.Prelude.{ℕ, Bool, true, false, List, [], ◌∷◌, Option, Some, None, ◌==◌}
+use Rattle.df_format.specs.Reading.{Read, as_at, then_at, maybe_at, either_at, text_at, behind_at, closed_at}
 use Rattle.df_label.specs.declared.label.Label.{Label}
 use Rattle.df_label.specs.declared.privilege.Privilege.{Privilege}
 use Rattle.df_label.specs.declared.privilege.Right.{Right}

@@ -1,8 +1,8 @@
 -- Reading a tag and a set of tags.
-use Rattle.std.specs.Prelude.{ℕ, Bool, false, ◌&&◌, List, [], ◌∷◌, Option, Some, None, Result, Ok, Err, ◌==◌, if◌then◌else◌}
+use Rattle.std.specs.Prelude.{ℕ, Bool, false, ◌&&◌, List, [], ◌∷◌, Option, Some, None, Ok, Err, ◌==◌, if◌then◌else◌}
 use Rattle.std.specs.Ordering.{is_lt}
 use Rattle.std.specs.Char.{is_ascii_digit}
-use Rattle.df_format.specs.Reading.{Stop, Bad, Low, Read, ◌>>=◌, as_at, maybe_at, behind_at, items_at}
+use Rattle.df_format.specs.Reading.{Bad, Low, Read, ◌>>=◌, as_at, maybe_at, behind_at, items_at}
 use Rattle.df_label.specs.Tag.{tag_cmp}
 use Rattle.df_value_text.specs.Number.{number_at}
 

@@ -4,9 +4,9 @@ ghost use Rattle.df_format.specs.Reading.{text_at};
 ghost use Rattle.df_value_text.specs.Answer.{Gives};
 ghost use Rattle.df_value_text.specs.ReadLabel.{auth_at, auth_word, label_at, privilege_at, right_at};
 
+use crate::Fault;
 use crate::number_reader::{byte_at, byte_stands};
 use crate::tag_reader::{tag_at, tags_at};
-use crate::Fault;
 use df_label::{Label, Privilege, Right};
 use std::alloc::Global;
 

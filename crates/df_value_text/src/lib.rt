@@ -26,3 +26,6 @@ pub use tag::{append_path, append_tag, append_tags};
 pub use tag_reader::{tag_at, tags_at};
 pub use value::{append_value, append_words};
 pub use writers::{write_label, write_privilege, write_tag, write_value};
+
+#[cfg(test)]
+mod tests;

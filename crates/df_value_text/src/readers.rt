@@ -8,9 +8,9 @@ ghost use Rattle.df_value_text.specs.Fits.{IsLabel, IsPrivilege, IsTag};
 ghost use Rattle.df_value_text.specs.Label.{label_text, privilege_text, tag_text};
 ghost use Rattle.df_value_text.specs.Order.{IsLowTag, LowInLabel};
 
+use crate::TextRefused;
 use crate::label_reader::{label_at, privilege_at};
 use crate::tag_reader::tag_at;
-use crate::TextRefused;
 use df_label::{Label, Privilege, Tag};
 use std::alloc::Global;
 
@@ -36,7 +36,11 @@ pub fn read_label(alloc: Global, bytes: &[u8], at: usize) -> Result<(Label, usiz
 }
 
 /// The longest privilege at the place, and the place behind it.
-pub fn read_privilege(alloc: Global, bytes: &[u8], at: usize) -> Result<(Privilege, usize), TextRefused>
+pub fn read_privilege(
+    alloc: Global,
+    bytes: &[u8],
+    at: usize,
+) -> Result<(Privilege, usize), TextRefused>
     requires { at ≤ length bytes.now }
     ensures found { IfOk result (IsFound privilege_text IsPrivilege bytes.now at) }
     ensures only { (privilege : Privilege) (rest : List ℕ) → Stands privilege_text IsPrivilege (drop at bytes.now) privilege rest → IsRead bytes.now privilege rest result }

@@ -5,8 +5,8 @@ ghost use Rattle.df_label.specs.Tag.{tag_cmp};
 ghost use Rattle.df_value_text.specs.Answer.{EndsAt, Gives};
 ghost use Rattle.df_value_text.specs.ReadTag.{begins_digit, ended, leads_at, longest_at, next_at, numbers_at, some_tags_at, tag_at, tags_at};
 
-use crate::number_reader::{byte_at, byte_stands, short_at};
 use crate::Fault;
+use crate::number_reader::{byte_at, byte_stands, short_at};
 use df_label::{NoMemory, Tag, TagSet};
 use std::alloc::Global;
 

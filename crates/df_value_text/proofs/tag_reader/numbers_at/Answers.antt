@@ -14,10 +14,15 @@ returns-in_err-number-clause-exact c =
 pub loop-numbers-preserved : goal.loop-numbers-preserved
 loop-numbers-preserved c =
     let inv = c.loop-numbers.invariant in
-    let some : 0 < length c.push-in-loop-numbers.new.self.items = omega (arith, ap length c.in_ok-push-2.ensures.items, length_push c.loop-numbers.numbers.items c.in_ok-number.number) in
-    (inv.0, inv.1, c.in_ok-number.number,
+    let some : 0 < length c.push-in-loop-numbers.new.self.items = omega (arith, ap length c.in_ok-push-2.ensures.items, length_push c.loop-numbers.numbers.items c.in_ok-number.number) in (
+      inv.0,
+      inv.1,
+      c.in_ok-number.number,
       number_read c.args.bytes.now c.loop-numbers.place c.in_ok-number.after inv.2 c.in_ok-number.number c.loop-numbers.numbers.items c.push-in-loop-numbers.new.self.items _ (sym c.leads_number.ensures ∙ c.loop-numbers-test.true) c.in_ok-number.ensures.exact.1 c.in_ok-push-2.ensures.items inv.3,
-      c.in_ok-number.ensures.exact.0, some, omega (arith, inv.6, c.in_ok-number.ensures.onward))
+      c.in_ok-number.ensures.exact.0,
+      some,
+      omega (arith, inv.6, c.in_ok-number.ensures.onward),
+    )
 
 pub returns-clause-exact : goal.returns-clause-exact
 returns-clause-exact c =

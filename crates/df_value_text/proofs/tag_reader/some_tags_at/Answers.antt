@@ -1,4 +1,4 @@
-use Rattle.std.proofs.Common.{◌≡◌, ◌+◌, List, ℕ, length, sym, ap, ◌∙◌, arith}
+use Rattle.std.proofs.Common.{length, sym, ap, ◌∙◌, arith}
 use Rattle.std.proofs.lemmas.Result.{err_from_is_err_and}
 use Rattle.std.proofs.lemmas.List.{length_push}
 use Rattle.df_value_text.proofs.Loops.{fails_by}
@@ -15,11 +15,16 @@ returns-in_err-tag c =
 pub tags-preserved : goal.tags-preserved
 tags-preserved c =
     let inv = c.tags.invariant in
-    let same = c.index.ensures ∙ last_is c.tags.tags.items inv.2 inv.3 _ _ (omega (arith, c.len.ensures, inv.7, ap length inv.4, length_push inv.2 inv.3)) inv.4 in
-    (inv.0, inv.1, c.tags.tags.items, c.in_ok-tag.tag, c.in_ok-push-2.ensures.items,
+    let same = c.index.ensures ∙ last_is c.tags.tags.items inv.2 inv.3 _ _ (omega (arith, c.len.ensures, inv.7, ap length inv.4, length_push inv.2 inv.3)) inv.4 in (
+      inv.0,
+      inv.1,
+      c.tags.tags.items,
+      c.in_ok-tag.tag,
+      c.in_ok-push-2.ensures.items,
       tag_read c.args.bytes.now c.tags.place c.in_ok-tag.after inv.3 c.index.result.now c.in_ok-tag.tag c.tags.tags.items c.push-in-tags.new.self.items _ (sym c.byte_stands.ensures ∙ c.tags-test.true) same c.in_ok-tag.ensures.exact.1 c.in_ok-push-2.ensures.items inv.5,
       c.in_ok-tag.ensures.exact.0,
-      omega (arith, c.in_ok-push-2.ensures.len, inv.7, ap length c.in_ok-push-2.ensures.items, length_push c.tags.tags.items c.in_ok-tag.tag))
+      omega (arith, c.in_ok-push-2.ensures.len, inv.7, ap length c.in_ok-push-2.ensures.items, length_push c.tags.tags.items c.in_ok-tag.tag),
+    )
 
 pub returns : goal.returns
 returns c =

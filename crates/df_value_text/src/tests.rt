@@ -1,0 +1,117 @@
+//! Each public reader and writer on literals, whole and damaged, with the offset by hand.
+use crate::{
+    TextRefused, read_label, read_privilege, read_tag, write_label, write_privilege, write_tag,
+};
+use std::test::Fail;
+
+const fn bad(offset: usize) -> Result<usize, TextRefused> {
+    Err(TextRefused::Syntax { offset })
+}
+
+#[test]
+fn tags_are_read_to_their_end(rt: HostRuntime) -> Result<(), Fail> {
+    let alloc = rt.alloc();
+    let rows: [(&[u8], Result<usize, TextRefused>); 14] = [
+        (b"#0", Ok(2)),
+        (b"#1.0|", Ok(4)),
+        (b"#4294967295", Ok(11)),
+        (b"#4294967296", Ok(10)),
+        (b"#01", Ok(2)),
+        (b"#7+", Ok(2)),
+        (b"", bad(0)),
+        (b"1", bad(0)),
+        (b"#", bad(1)),
+        (b"#a", bad(1)),
+        (b"#1.", bad(3)),
+        (b"#1.x", bad(3)),
+        (b"#1..2", bad(3)),
+        (b"#-1", bad(1)),
+    ];
+    for (text, expected) in rows {
+        match read_tag(alloc, text, 0) {
+            Ok((tag, end)) => {
+                let mut again = Vec::new(alloc);
+                write_tag(&tag, &mut again)?;
+                assert_eq!(rt; Ok(end), expected);
+                assert!(rt; again.len() == end && text.starts_with(again.as_slice()));
+            }
+            Err(refused) => assert_eq!(rt; Err(refused), expected),
+        }
+    }
+    Ok(())
+}
+
+#[test]
+fn labels_are_read_to_their_end(rt: HostRuntime) -> Result<(), Fail> {
+    let alloc = rt.alloc();
+    let rows: [(&[u8], Result<usize, TextRefused>); 21] = [
+        (b"{|}", Ok(3)),
+        (b"{#0,#3.1|#2}", Ok(12)),
+        (b"{|#1,#1.0,#2} x", Ok(13)),
+        (b"{#5,#5.0|}", Ok(10)),
+        (b"", bad(0)),
+        (b"{", bad(1)),
+        (b"{}", bad(1)),
+        (b"{|", bad(2)),
+        (b"{#0|#2", bad(6)),
+        (b"{#0,|}", bad(4)),
+        (b"{#0,#", bad(5)),
+        (b"{#1 |}", bad(3)),
+        (b"{#1.|}", bad(4)),
+        (b"{#5,#6.x|}", bad(7)),
+        (b"{#5,#42949672961|}", bad(14)),
+        // a tag that isn't above the one before it, whatever stands behind
+        (b"{#5,#5|}", bad(4)),
+        (b"{#5,#3|}", bad(4)),
+        (b"{#5,#3.x|}", bad(4)),
+        (b"{#5,#5.x|}", bad(4)),
+        (b"{|#2,#1}", bad(5)),
+        (b"{#1|#1.0,#1", bad(9)),
+    ];
+    for (text, expected) in rows {
+        match read_label(alloc, text, 0) {
+            Ok((label, end)) => {
+                let mut again = Vec::new(alloc);
+                write_label(&label, &mut again)?;
+                assert_eq!(rt; Ok(end), expected);
+                assert!(rt; again.len() == end && text.starts_with(again.as_slice()));
+            }
+            Err(refused) => assert_eq!(rt; Err(refused), expected),
+        }
+    }
+    assert!(rt; read_label(alloc, b"x{|}", 1).is_ok());
+    Ok(())
+}
+
+#[test]
+fn privileges_are_read_to_their_end(rt: HostRuntime) -> Result<(), Fail> {
+    let alloc = rt.alloc();
+    let rows: [(&[u8], Result<usize, TextRefused>); 14] = [
+        (b"#1+", Ok(3)),
+        (b"#1-", Ok(3)),
+        (b"#1+auth", Ok(7)),
+        (b"#1.2-auth,", Ok(9)),
+        (b"#1+,", Ok(3)),
+        (b"#1-b", Ok(3)),
+        (b"#1+authx", Ok(7)),
+        (b"#1", bad(2)),
+        (b"#1*", bad(2)),
+        (b"#1+a", bad(4)),
+        (b"#1+axth", bad(4)),
+        (b"#1-aut", bad(6)),
+        (b"#1.+", bad(3)),
+        (b"+auth", bad(0)),
+    ];
+    for (text, expected) in rows {
+        match read_privilege(alloc, text, 0) {
+            Ok((privilege, end)) => {
+                let mut again = Vec::new(alloc);
+                write_privilege(&privilege, &mut again)?;
+                assert_eq!(rt; Ok(end), expected);
+                assert!(rt; again.len() == end && text.starts_with(again.as_slice()));
+            }
+            Err(refused) => assert_eq!(rt; Err(refused), expected),
+        }
+    }
+    Ok(())
+}
