@@ -8,7 +8,8 @@ use crate::tables::{
 };
 use df_filter::Filter;
 use df_label::NoMemory;
-use df_unit::{Call, Close, Commit, EditRefused, Effect, Reply, UnitName};
+use df_local::{Close, EditRefused};
+use df_unit::{Call, Commit, Effect, Reply, UnitName};
 use std::alloc::Global;
 
 /// What a call answers and what it does beyond the unit.

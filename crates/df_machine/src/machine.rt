@@ -6,7 +6,8 @@ use crate::answer::make_call;
 use crate::start::Start;
 use crate::tables::{EventRow, Unit, first_units, place};
 use df_label::NoMemory;
-use df_unit::{Call, Entry, Local, Reply, UnitName};
+use df_local::Local;
+use df_unit::{Call, Entry, Reply, UnitName};
 use std::alloc::Global;
 use std::marker::Model;
 

@@ -5,8 +5,9 @@ use crate::line::Line;
 use crate::start::RootStart;
 use df_filter::{Clause, Filter};
 use df_label::{Label, NoMemory};
+use df_local::Local;
 use df_part::{Contents, PartRef, readable};
-use df_unit::{Commit, EventName, Given, Local, Parts, UnitName};
+use df_unit::{Commit, EventName, Given, Parts, UnitName};
 use std::alloc::Global;
 
 /// An ordinary subscription: its number and its filter.

@@ -1,2 +1,1 @@
-pub mod OpenHandles
 pub mod SameFacts

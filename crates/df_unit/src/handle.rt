@@ -1,6 +1,7 @@
 ghost use Rattle.std.specs.Prelude.{◌≡◌};
 
 use crate::{EventName, Parts};
+use df_label::NoMemory;
 use df_part::{Part, Spot};
 use std::marker::Model;
 
@@ -24,6 +25,8 @@ impl Model for Spots {
 }
 
 impl Spots {
+    ghost use Rattle.std.specs.Prelude.{◌++◌, ◌∷◌, [], OnOk, OnErr};
+
     /// Takes no memory.
     pub fn new(spots: Vec<Spot>) -> Spots
         ensures { result ≡ spots.items }
@@ -35,6 +38,14 @@ impl Spots {
         ensures { result.now ≡ self.now }
     {
         self.spots.as_slice()
+    }
+
+    pub fn push(&mut self, spot: Spot) -> Result<(), NoMemory>
+        ensures ok { OnOk result (self.new ≡ self.old ++ spot ∷ []) }
+        ensures unchanged { OnErr result (self.new ≡ self.old) }
+    {
+        self.spots.push(spot)?;
+        Ok(())
     }
 }
 
@@ -73,7 +84,7 @@ impl Drafts {
         self.parts.as_slice()
     }
 
-    pub(crate) fn push(&mut self, part: Part) -> Result<(), NoMemory>
+    pub fn push(&mut self, part: Part) -> Result<(), NoMemory>
         ensures ok { OnOk result (self.new ≡ self.old ++ part ∷ []) }
         ensures unchanged { OnErr result (self.new ≡ self.old) }
     {
@@ -81,8 +92,6 @@ impl Drafts {
         Ok(())
     }
 }
-
-use df_label::NoMemory;
 
 /// An open handle: a draft of an event, or a view of one that was handed to the unit.
 #[derive(Drop)]

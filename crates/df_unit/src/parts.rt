@@ -186,7 +186,7 @@ impl PartRead {
 }
 
 /// The same value once more.
-pub(crate) fn share(value: &Frozen) -> Result<Frozen, NoMemory>
+fn share(value: &Frozen) -> Result<Frozen, NoMemory>
     ensures { IfOk result (λ v. v ≡ value.now) }
 {
     match value.share() {

@@ -1,7 +1,7 @@
 use Rattle.std.proofs.Common.{◌≡◌, get_or, subst, sym, ap, ◌∙◌, Option, None, arith}
 use Rattle.df_unit.specs.declared.handle.Handle.{Handle}
-use Rattle.df_unit.proofs.OpenHandles.{none_kept, changed_at-open, open_kept}
-use Rattle.df_unit.proofs.handles.draft.Goals as goal
+use Rattle.df_local.proofs.OpenHandles.{none_kept, changed_at-open, open_kept}
+use Rattle.df_local.proofs.handles.draft.Goals as goal
 
 pub returns-in_default-clause-ok : goal.returns-in_default-clause-ok
 returns-in_default-clause-ok c =

@@ -1,7 +1,7 @@
 use Rattle.std.proofs.Common.{◌≡◌, ap, ◌∙◌, arith}
 use Rattle.df_unit.specs.Handles.{least_free}
-use Rattle.df_unit.proofs.OpenHandles.{opened_in, opened_end}
-use Rattle.df_unit.proofs.handles.open.Goals as goal
+use Rattle.df_local.proofs.OpenHandles.{opened_in, opened_end}
+use Rattle.df_local.proofs.handles.open.Goals as goal
 
 pub returns-then-h-len-clause-ok : goal.returns-then-h-len-clause-ok
 returns-then-h-len-clause-ok c =

@@ -1,0 +1,2 @@
+pub mod LocalState
+pub mod Locally

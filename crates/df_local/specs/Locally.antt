@@ -1,0 +1,110 @@
+-- What the calls of a unit make of it.
+use Rattle.std.specs.Prelude.{ℕ, Bool, ◌≡◌, ◌+◌, ⊤, not, ◌&&◌, if◌then◌else◌, List, [], ◌∷◌}
+use Rattle.std.specs.List.{filter, flat_map}
+use Rattle.df_part.specs.Contents.{is_deleted}
+use Rattle.df_part.specs.Part.{readable}
+use Rattle.df_label.specs.declared.label.Label.{Label}
+use Rattle.df_label.specs.declared.privilege.Privilege.{Privilege}
+use Rattle.df_unit.specs.declared.call.Call.{Call}
+use Rattle.df_unit.specs.declared.commit.Commit.{Commit}
+use Rattle.df_unit.specs.declared.commit.Given.{Given}
+use Rattle.df_unit.specs.declared.entry.Effect.{Effect}
+use Rattle.df_unit.specs.declared.reply.Reply.{Reply}
+use Rattle.df_unit.specs.declared.name.UnitName.TheVariants.{Root}
+use Rattle.df_unit.specs.Beginnings.{root}
+use Rattle.df_unit.specs.OwnState.{OwnState}
+use Rattle.df_unit.specs.declared.handle.Handle.{Handle}
+use Rattle.df_unit.specs.declared.name.EventName.{EventName}
+use Rattle.df_part.specs.declared.edit.Spot.{Spot}
+use Rattle.df_part.specs.declared.part.Part.{Part}
+use Rattle.df_unit.specs.Drafts.{relabelled}
+use Rattle.df_unit.specs.Rows.{reply, effect, after, is_accepted, is_nil, subscribed, refused_write, unwritable}
+use Rattle.df_local.specs.declared.close.Close.{Close}
+use Rattle.df_local.specs.declared.close.Close.TheVariants.{Publish, Release}
+use Rattle.df_local.specs.declared.close.EditRefused.{EditRefused}
+use Rattle.df_local.specs.declared.close.EditRefused.TheVariants.{NoSuchHandle, NotDraft, NotReceived, EmptyEvent, CannotWrite, NoMemory}
+use Rattle.df_local.specs.LocalState.{LocalState}
+
+-- the unit with another state
+abbrev pub with_own : LocalState → OwnState → LocalState
+with_own l st = record { unit = l.unit; own = st }
+
+-- a root as it begins
+abbrev pub root_at : ℕ → Label → List Privilege → LocalState
+root_at number label privileges = record { unit = Root (number ∷ []); own = root label privileges }
+
+-- a call's reply and the unit after it are its row's, where these deliveries are left and the call has this effect
+pub record AnswersOf (left : List Given) (f : Effect) (call : Call) (r : Reply) (old new : LocalState) : Type 0 where
+  pub replied : r ≡ reply old.unit old.own left call
+  pub moved : new ≡ with_own old (after old.unit old.own call r f)
+
+-- a local call's reply is its row's, and the unit is as that row leaves it
+abbrev pub Answers : Call → Reply → LocalState → LocalState → Type 0
+Answers call r old new = AnswersOf [] Effect.Nothing call r old new
+
+-- a get's reply is its row's where this delivery is the first that is left, and the unit is as that row leaves it
+abbrev pub TakesIn : Given → Reply → LocalState → LocalState → Type 0
+TakesIn g r old new = AnswersOf (g ∷ []) (Effect.Given g) Call.Get r old new
+
+-- the state where a subscription with this reply is counted
+abbrev pub counted : OwnState → Reply → OwnState
+counted st r = if is_accepted r then record st { subs = st.subs + 1 } else st
+
+-- a subscription of either kind is answered by its row and counted
+pub record CountsSub (r : Reply) (old new : LocalState) : Type 0 where
+  pub replied : r ≡ subscribed old.unit old.own
+  pub moved : new ≡ with_own old (counted old.own r)
+
+-- the call that closes a handle in this way
+abbrev pub closing : Close → ℕ → Call
+closing Publish h = Call.Publish h
+closing Release h = Call.Release h
+
+-- what an edit does: nothing where it is empty
+abbrev pub done_by : Commit → Effect
+done_by c = if is_nil c.edit.0 && is_nil c.edit.1 then Effect.Nothing else Effect.Commit c
+
+-- what a publish of an open handle is answered
+abbrev pub publish_reply : Handle → Reply
+publish_reply d = if d.is_view then Reply.NotDraft else if is_nil d.drafted then Reply.EmptyEvent else Reply.Ok
+
+-- what a release of an open handle is answered
+abbrev pub release_reply : Label → Handle → Reply
+release_reply out d = if not d.is_view then Reply.NotReceived else refused_write out (unwritable out d.named)
+
+abbrev pub edited : EventName → List Spot → List Part → Commit
+edited event deleted added = record { event = event; edit = (deleted, added) }
+
+-- what the release of an open handle does
+abbrev pub released_by : Label → Handle → Effect
+released_by out d = if is_nil d.named && is_nil d.drafted then Effect.Nothing else Effect.Commit (edited d.event d.named (relabelled out d.drafted))
+
+-- the closing call is accepted, and this commit is what it does
+pub record Commits (how : Close) (h : ℕ) (l : LocalState) (c : Commit) : Type 0 where
+  pub replied : reply l.unit l.own [] (closing how h) ≡ Reply.Ok
+  pub done : effect l.unit l.own [] (closing how h) ≡ done_by c
+
+-- the reply is this refusal; want of memory says nothing of it
+abbrev pub IsRefusal : EditRefused → Reply → Type 0
+IsRefusal NoSuchHandle r = r ≡ Reply.NoSuchHandle
+IsRefusal NotDraft r = r ≡ Reply.NotDraft
+IsRefusal NotReceived r = r ≡ Reply.NotReceived
+IsRefusal EmptyEvent r = r ≡ Reply.EmptyEvent
+IsRefusal (CannotWrite out part) r = r ≡ Reply.CannotWrite out part
+IsRefusal NoMemory r = ⊤
+
+-- the closing call is refused in this way
+abbrev pub Refuses : Close → ℕ → LocalState → EditRefused → Type 0
+Refuses how h l e = IsRefusal e (reply l.unit l.own [] (closing how h))
+
+-- whether a part of a view is readable and isn't named for deletion
+abbrev pub is_visible : Label → List Spot → Part → Bool
+is_visible input named part = readable input part && not (is_deleted part named)
+
+-- the parts of a view that are readable and aren't named for deletion
+abbrev pub visible_in : Label → List Spot → List Part → List Part
+visible_in input named parts = filter (is_visible input named) parts
+
+-- the privileges of the parts, in order
+abbrev pub privileges_of : List Part → List Privilege
+privileges_of parts = flat_map (λ part. part.privileges) parts

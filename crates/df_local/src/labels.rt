@@ -1,0 +1,164 @@
+//! Changing a unit's labels.
+
+ghost use Rattle.std.specs.Prelude.{◌≡◌, IfOk, OnErr};
+ghost use Rattle.df_label.specs.Label.{join};
+ghost use Rattle.df_unit.specs.Rows.{half_changed, now_dropped, now_endorsed, tag_changed};
+ghost use Rattle.df_unit.specs.declared.call.Call.{Call};
+ghost use Rattle.df_local.specs.Locally.{Answers, with_own};
+
+use crate::Local;
+use df_label::{Label, NoMemory, Tag, TagSet};
+use df_priv::{Act, Half, needed};
+use df_unit::Reply;
+
+/// What a change makes of an output label and of the tags that are set aside.
+#[derive(Drop)]
+struct OutChange {
+    output: Label,
+    dropped: TagSet,
+    endorsed: TagSet,
+}
+
+/// What a change makes of an input label and of the contamination.
+#[derive(Drop)]
+struct InChange {
+    input: Label,
+    contamination: Label,
+}
+
+impl Local {
+    /// Changes the output label.
+    pub fn change_out_label(&mut self, half: Half, act: Act, tag: &Tag) -> Result<Reply, NoMemory>
+        ensures ok { IfOk result (λ r. Answers (Call.ChangeOutLabel half act tag.now) r self.old self.new) }
+        ensures unchanged { OnErr result (self.new ≡ self.old) }
+    {
+        let q = match needed(act, tag) {
+            Ok(q) => q,
+            Err(refused) => return Err(refused),
+        };
+        if !self.held.holds(&q) {
+            return Ok(Reply::Lacks(q));
+        }
+        let out = match self.out_changed(half, act, tag) {
+            Ok(out) => out,
+            Err(refused) => return Err(refused),
+        };
+        self.put_out(out);
+        Ok(Reply::Ok)
+    }
+
+    /// Changes both labels, each by itself.
+    pub fn change_in_out(&mut self, half: Half, act: Act, tag: &Tag) -> Result<Reply, NoMemory>
+        ensures ok { IfOk result (λ r. Answers (Call.ChangeInOut half act tag.now) r self.old self.new) }
+        ensures unchanged { OnErr result (self.new ≡ self.old) }
+    {
+        if self.is_instance() {
+            return Ok(Reply::NotInManaged);
+        }
+        let q = match needed(act, tag) {
+            Ok(q) => q,
+            Err(refused) => return Err(refused),
+        };
+        if !self.held.holds(&q) {
+            return Ok(Reply::Lacks(q));
+        }
+        let ins = match self.in_changed(half, act, tag) {
+            Ok(ins) => ins,
+            Err(refused) => return Err(refused),
+        };
+        let out = match self.out_changed(half, act, tag) {
+            Ok(out) => out,
+            Err(refused) => return Err(refused),
+        };
+        self.put_in(ins);
+        self.put_out(out);
+        Ok(Reply::Ok)
+    }
+
+    fn out_changed(&self, half: Half, act: Act, tag: &Tag) -> Result<OutChange, NoMemory>
+        ensures output { IfOk result (λ c. c.output ≡ half_changed half act tag.now self.now.own.output) }
+        ensures dropped { IfOk result (λ c. c.dropped ≡ now_dropped half act tag.now self.now.own) }
+        ensures endorsed { IfOk result (λ c. c.endorsed ≡ now_endorsed half act tag.now self.now.own) }
+    {
+        let output = half_changed(half, act, tag, &self.output)?;
+        let dropped = self.now_dropped(half, act, tag)?;
+        let endorsed = self.now_endorsed(half, act, tag)?;
+        Ok(OutChange {
+            output,
+            dropped,
+            endorsed,
+        })
+    }
+
+    fn in_changed(&self, half: Half, act: Act, tag: &Tag) -> Result<InChange, NoMemory>
+        ensures input { IfOk result (λ c. c.input ≡ half_changed half act tag.now self.now.own.input) }
+        ensures contamination { IfOk result (λ c. c.contamination ≡ join self.now.own.contamination (half_changed half act tag.now self.now.own.input)) }
+    {
+        let input = half_changed(half, act, tag, &self.input)?;
+        let contamination = self.contamination.join(&input)?;
+        Ok(InChange {
+            input,
+            contamination,
+        })
+    }
+
+    fn put_out(&mut self, out: OutChange)
+        ensures { self.new ≡ with_own self.old (record self.old.own { output = out.output; dropped = out.dropped; endorsed = out.endorsed }) }
+    {
+        self.output = out.output;
+        self.dropped = out.dropped;
+        self.endorsed = out.endorsed;
+    }
+
+    fn put_in(&mut self, ins: InChange)
+        ensures { self.new ≡ with_own self.old (record self.old.own { input = ins.input; contamination = ins.contamination }) }
+    {
+        self.input = ins.input;
+        self.contamination = ins.contamination;
+    }
+
+    fn now_dropped(&self, half: Half, act: Act, tag: &Tag) -> Result<TagSet, NoMemory>
+        ensures { IfOk result (λ s. s ≡ now_dropped half act tag.now self.now.own) }
+    {
+        match (half, act) {
+            (Half::S, Act::Del) if self.output.s.contains(tag) => self.dropped.with(tag),
+            _ => self.dropped.copy(),
+        }
+    }
+
+    fn now_endorsed(&self, half: Half, act: Act, tag: &Tag) -> Result<TagSet, NoMemory>
+        ensures { IfOk result (λ s. s ≡ now_endorsed half act tag.now self.now.own) }
+    {
+        match (half, act) {
+            (Half::I, Act::Add) if !self.output.i.contains(tag) => self.endorsed.with(tag),
+            _ => self.endorsed.copy(),
+        }
+    }
+}
+
+/// A label with a tag put into or taken out of one half.
+fn half_changed(half: Half, act: Act, tag: &Tag, label: &Label) -> Result<Label, NoMemory>
+    ensures { IfOk result (λ l. l ≡ half_changed half act tag.now label.now) }
+{
+    match half {
+        Half::S => {
+            let s = tag_changed(act, tag, &label.s)?;
+            let i = label.i.copy()?;
+            Ok(Label { s, i })
+        }
+        Half::I => {
+            let s = label.s.copy()?;
+            let i = tag_changed(act, tag, &label.i)?;
+            Ok(Label { s, i })
+        }
+    }
+}
+
+fn tag_changed(act: Act, tag: &Tag, tags: &TagSet) -> Result<TagSet, NoMemory>
+    ensures { IfOk result (λ s. s ≡ tag_changed act tag.now tags.now) }
+{
+    match act {
+        Act::Add => tags.with(tag),
+        Act::Del => tags.without(tag),
+    }
+}

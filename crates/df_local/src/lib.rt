@@ -1,0 +1,19 @@
+//! A unit's own state, and the calls that concern no other unit.
+#![tactic(auto)]
+
+mod clone;
+mod close;
+mod draft;
+mod handles;
+mod labels;
+mod local;
+mod parts;
+mod read;
+mod receive;
+mod tags;
+
+pub use close::{Close, EditRefused};
+pub use draft::MOST_PARTS;
+pub use handles::MOST_HANDLES;
+pub use local::Local;
+pub use receive::MOST_SUBS;

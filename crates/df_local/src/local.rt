@@ -1,0 +1,155 @@
+//! A unit with its own state, and what others may read of it.
+
+ghost use Rattle.std.specs.Prelude.{◌≡◌, IfOk};
+ghost use Rattle.df_priv.specs.Held.{holds};
+ghost use Rattle.df_unit.specs.Rows.{is_instance};
+ghost use Rattle.df_local.specs.Locally.{root_at};
+
+use df_label::{Label, NoMemory, Privilege, Privileges, TagSet};
+use df_priv::Held;
+use df_unit::{Handle, Path, UnitName};
+use std::alloc::Global;
+use std::marker::Model;
+
+/// A unit: its name and its own state. A contract sees the state as the call table does.
+#[derive(Drop)]
+pub struct Local {
+    pub(crate) name: UnitName,
+    pub(crate) input: Label,
+    pub(crate) output: Label,
+    pub(crate) contamination: Label,
+    pub(crate) dropped: TagSet,
+    pub(crate) endorsed: TagSet,
+    pub(crate) held: Held,
+    pub(crate) handles: Vec<Option<Handle>>,
+    pub(crate) given: u64,
+    pub(crate) events: u32,
+    pub(crate) tags: u32,
+    pub(crate) subs: u32,
+    pub(crate) units: u32,
+    pub(crate) alloc: Global,
+}
+
+impl Model for Local {
+    ghost use Rattle.df_local.specs.LocalState.{LocalState, local_code};
+
+    ghost Value = { LocalState };
+
+    ghost coded = { local_code };
+
+    ghost view = { λ l. record {
+      unit = l.name;
+      own = record {
+        input = l.input;
+        output = l.output;
+        contamination = l.contamination;
+        dropped = l.dropped;
+        endorsed = l.endorsed;
+        held = l.held;
+        events = l.events;
+        tags = l.tags;
+        subs = l.subs;
+        units = l.units;
+        given = l.given;
+        handles = l.handles.items;
+      };
+    } };
+}
+
+impl Local {
+    /// A root as it begins.
+    pub fn of_root(
+        alloc: Global,
+        number: u32,
+        label: Label,
+        privileges: Privileges,
+    ) -> Result<Local, NoMemory>
+        ensures { IfOk result (λ l. l ≡ root_at number label privileges) }
+    {
+        let input = label.copy()?;
+        let output = label.copy()?;
+        Ok(Local {
+            name: UnitName::Root(Path::root(number)),
+            input,
+            output,
+            contamination: label,
+            dropped: TagSet::new(alloc),
+            endorsed: TagSet::new(alloc),
+            held: Held::from(privileges),
+            handles: Vec::new(alloc),
+            given: 0,
+            events: 0,
+            tags: 0,
+            subs: 0,
+            units: 0,
+            alloc,
+        })
+    }
+
+    pub fn name(&self) -> &UnitName
+        ensures { result.now ≡ self.now.unit }
+    {
+        &self.name
+    }
+
+    pub fn input(&self) -> &Label
+        ensures { result.now ≡ self.now.own.input }
+    {
+        &self.input
+    }
+
+    pub fn output(&self) -> &Label
+        ensures { result.now ≡ self.now.own.output }
+    {
+        &self.output
+    }
+
+    pub fn contamination(&self) -> &Label
+        ensures { result.now ≡ self.now.own.contamination }
+    {
+        &self.contamination
+    }
+
+    pub fn dropped(&self) -> &TagSet
+        ensures { result.now ≡ self.now.own.dropped }
+    {
+        &self.dropped
+    }
+
+    pub fn endorsed(&self) -> &TagSet
+        ensures { result.now ≡ self.now.own.endorsed }
+    {
+        &self.endorsed
+    }
+
+    pub fn holds(&self, p: &Privilege) -> bool
+        ensures { result ≡ holds self.now.own.held p.now }
+    {
+        self.held.holds(p)
+    }
+
+    pub fn events_made(&self) -> u32
+        ensures { result ≡ self.now.own.events }
+    {
+        self.events
+    }
+
+    pub fn tags_made(&self) -> u32
+        ensures { result ≡ self.now.own.tags }
+    {
+        self.tags
+    }
+
+    pub fn subs_made(&self) -> u32
+        ensures { result ≡ self.now.own.subs }
+    {
+        self.subs
+    }
+
+    /// Whether the unit is the instance of a managed subscription.
+    pub fn is_instance(&self) -> bool
+        ensures { result ≡ is_instance self.now.unit }
+    {
+        matches!(&self.name, UnitName::Managed { .. })
+    }
+}

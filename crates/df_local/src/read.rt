@@ -1,0 +1,155 @@
+//! Reading the parts of a handle.
+
+ghost use Rattle.std.specs.Prelude.{◌≡◌, IfOk, OnErr, OnOk};
+ghost use Rattle.std.specs.List.{filter};
+ghost use Rattle.std.specs.Str.{bytes_eq};
+ghost use Rattle.df_part.specs.Contents.{is_deleted};
+ghost use Rattle.df_unit.specs.Drafts.{shown, visible, visible_named};
+ghost use Rattle.df_unit.specs.Held.{grant_all};
+ghost use Rattle.df_unit.specs.declared.call.Call.{Call};
+ghost use Rattle.df_local.specs.Locally.{Answers, is_visible, privileges_of, visible_in};
+
+use crate::Local;
+use crate::handles::handle_at;
+use crate::parts::shown;
+use df_frozen::Name;
+use df_label::{Label, NoMemory, Privilege};
+use df_part::{Part, PartRef, Spot, readable};
+use df_priv::Held;
+use df_unit::{Handle, PartsRead, Reply};
+use std::alloc::Global;
+
+/// What a read shows, and what is held after it.
+#[derive(Drop)]
+struct Reading {
+    shown: PartsRead,
+    held: Held,
+}
+
+impl Local {
+    /// Reads the visible parts of a name. The unit holds their privileges from now on.
+    pub fn read_part(&mut self, h: u32, name: &Name) -> Result<Reply, NoMemory>
+        ensures ok { IfOk result (λ r. Answers (Call.ReadPart h name.now) r self.old self.new) }
+        ensures unchanged { OnErr result (self.new ≡ self.old) }
+    {
+        let Some(handle) = handle_at(self.handles.as_slice(), h) else {
+            return Ok(Reply::NoSuchHandle);
+        };
+        let parts = match visible_named(self.alloc, &self.input, name, handle) {
+            Ok(parts) => parts,
+            Err(refused) => return Err(refused),
+        };
+        if parts.is_empty() {
+            return Ok(Reply::NoSuchPart);
+        }
+        match read(self.alloc, &self.held, parts.as_slice()) {
+            Ok(read) => {
+                self.held = read.held;
+                Ok(Reply::Parts(read.shown))
+            }
+            Err(refused) => Err(refused),
+        }
+    }
+}
+
+/// Reads these parts with what is held.
+fn read(alloc: Global, held: &Held, parts: &[PartRef]) -> Result<Reading, NoMemory>
+    ensures shown { IfOk result (λ r. r.shown ≡ shown parts.now) }
+    ensures held { IfOk result (λ r. r.held ≡ grant_all held.now (privileges_of parts.now)) }
+{
+    let shown = shown(alloc, parts)?;
+    let mut held = held.copy()?;
+    grant_parts(&mut held, parts)?;
+    Ok(Reading {
+        shown: PartsRead::new(shown),
+        held,
+    })
+}
+
+fn grant_parts(held: &mut Held, parts: &[PartRef]) -> Result<(), NoMemory>
+    ensures { OnOk result (held.new ≡ grant_all held.old (privileges_of parts.now)) }
+{
+    for part in parts {
+        grant_all(held, part.part().privileges.as_slice())?;
+    }
+    Ok(())
+}
+
+/// Holds each of the privileges from now on.
+pub fn grant_all(held: &mut Held, privileges: &[Privilege]) -> Result<(), NoMemory>
+    ensures { OnOk result (held.new ≡ grant_all held.old privileges.now) }
+{
+    for p in privileges {
+        held.grant(p)?;
+    }
+    Ok(())
+}
+
+/// The visible parts of a name, in order.
+fn visible_named(
+    alloc: Global,
+    input: &Label,
+    name: &Name,
+    handle: &Handle,
+) -> Result<Vec<PartRef>, NoMemory>
+    ensures { IfOk result (λ v. v.items ≡ visible_named input.now name.now handle.now) }
+{
+    named_in(alloc, name, visible(alloc, input, handle)?.as_slice())
+}
+
+/// The parts of a name, in order.
+fn named_in(alloc: Global, name: &Name, parts: &[PartRef]) -> Result<Vec<PartRef>, NoMemory>
+    ensures { IfOk result (λ v. v.items ≡ filter (λ part. bytes_eq name.now part.name) parts.now) }
+{
+    let mut named = Vec::new(alloc);
+    for part in parts {
+        if *name == part.part().name {
+            named.push(part.share()?)?;
+        }
+    }
+    Ok(named)
+}
+
+/// The visible parts, in order.
+pub fn visible(alloc: Global, input: &Label, handle: &Handle) -> Result<Vec<PartRef>, NoMemory>
+    ensures { IfOk result (λ v. v.items ≡ visible input.now handle.now) }
+{
+    visible_in(
+        alloc,
+        input,
+        handle.named.as_slice(),
+        handle.seen.as_slice(),
+    )
+}
+
+fn visible_in(
+    alloc: Global,
+    input: &Label,
+    named: &[Spot],
+    seen: &[PartRef],
+) -> Result<Vec<PartRef>, NoMemory>
+    ensures { IfOk result (λ v. v.items ≡ visible_in input.now named.now seen.now) }
+{
+    let mut parts = Vec::new(alloc);
+    for part in seen {
+        if is_visible(input, named, part.part()) {
+            parts.push(part.share()?)?;
+        }
+    }
+    Ok(parts)
+}
+
+/// Whether a part of a view is readable and isn't named for deletion.
+pub fn is_visible(input: &Label, named: &[Spot], part: &Part) -> bool
+    ensures { result ≡ is_visible input.now named.now part.now }
+{
+    readable(input, part) && !is_deleted(part, named)
+}
+
+fn is_deleted(part: &Part, named: &[Spot]) -> bool
+    ensures { result ≡ is_deleted part.now named.now }
+{
+    named
+        .iter()
+        .any(|spot| part.name == spot.name && part.label == spot.label)
+}

@@ -1,0 +1,74 @@
+//! Taking in what is handed to a unit, and counting its subscriptions.
+
+ghost use Rattle.std.specs.Prelude.{◌≡◌, IfOk, OnErr};
+ghost use Rattle.df_unit.specs.Handles.{view_of};
+ghost use Rattle.df_local.specs.Locally.{CountsSub, TakesIn};
+
+use crate::Local;
+use crate::handles::{is_full, least_free, open};
+use df_label::NoMemory;
+use df_unit::{Drafts, Given, Handle, Reply, Spots};
+use std::alloc::Global;
+
+/// How many subscriptions a unit may make, of both kinds together.
+pub const MOST_SUBS: u32 = 64;
+
+impl Local {
+    /// Opens a view of an event that was handed to the unit.
+    #[tactic(auto, using(crate::proofs::OpenHandles::least_free_within))]
+    pub fn take_in(&mut self, given: &Given) -> Result<Reply, NoMemory>
+        ensures ok { IfOk result (λ r. TakesIn given.now r self.old self.new) }
+        ensures unchanged { OnErr result (self.new ≡ self.old) }
+    {
+        if is_full(self.handles.as_slice()) {
+            return Ok(Reply::TooManyHandles);
+        }
+        if self.given == u64::MAX {
+            return Err(NoMemory);
+        }
+        let h = least_free(self.handles.as_slice());
+        let handle = match view_of(self.alloc, given) {
+            Ok(handle) => handle,
+            Err(refused) => return Err(refused),
+        };
+        match open(&mut self.handles, handle) {
+            Ok(()) => {}
+            Err(refused) => return Err(refused),
+        }
+        self.given += 1;
+        Ok(Reply::Event {
+            h: h as u32,
+            sub: given.sub,
+        })
+    }
+
+    /// Counts one more subscription.
+    pub fn count_sub(&mut self) -> Reply
+        ensures { CountsSub result self.old self.new }
+    {
+        if self.is_instance() {
+            return Reply::NotInManaged;
+        }
+        if self.subs >= MOST_SUBS {
+            return Reply::TooManySubs;
+        }
+        let number = self.subs;
+        self.subs += 1;
+        Reply::Sub(number)
+    }
+}
+
+/// A view of an event that was handed to the unit.
+fn view_of(alloc: Global, given: &Given) -> Result<Handle, NoMemory>
+    ensures { IfOk result (λ d. d ≡ view_of given.now.event given.now.parts) }
+{
+    let event = given.event.copy()?;
+    let seen = given.parts.copy()?;
+    Ok(Handle {
+        is_view: true,
+        event,
+        seen,
+        named: Spots::new(Vec::new(alloc)),
+        drafted: Drafts::new(Vec::new(alloc)),
+    })
+}
