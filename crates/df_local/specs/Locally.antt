@@ -1,7 +1,7 @@
 -- What the calls of a unit make of it.
 use Rattle.std.specs.Prelude.{ℕ, Bool, ◌≡◌, ◌+◌, ⊤, not, ◌&&◌, if◌then◌else◌, List, [], ◌∷◌}
-use Rattle.std.specs.List.{filter, flat_map}
-use Rattle.df_part.specs.Contents.{is_deleted}
+use Rattle.std.specs.List.{filter, flat_map, list_any}
+use Rattle.df_part.specs.Contents.{is_at, is_deleted}
 use Rattle.df_part.specs.Part.{readable}
 use Rattle.df_label.specs.declared.label.Label.{Label}
 use Rattle.df_label.specs.declared.privilege.Privilege.{Privilege}
@@ -104,6 +104,10 @@ is_visible input named part = readable input part && not (is_deleted part named)
 -- the parts of a view that are readable and aren't named for deletion
 abbrev pub visible_in : Label → List Spot → List Part → List Part
 visible_in input named parts = filter (is_visible input named) parts
+
+-- whether one of these parts is visible and has the name and the exact label of a spot
+abbrev pub has_seen : Label → List Spot → Spot → List Part → Bool
+has_seen input named d parts = list_any (λ part. is_visible input named part && is_at part d) parts
 
 -- the privileges of the parts, in order
 abbrev pub privileges_of : List Part → List Privilege

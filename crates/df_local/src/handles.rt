@@ -4,7 +4,7 @@ ghost use Rattle.std.specs.Prelude.{◌≡◌, ◌≤◌, ◌∷◌, [], ◌++�
 ghost use Rattle.df_unit.specs.Handles.{changed_at, closed, handle_at, is_full, least_free, open_count, opened};
 
 use df_label::NoMemory;
-use df_part::{Part, Spot};
+use df_part::Part;
 use df_unit::{Drafts, Handle};
 
 /// How many handles a unit may have open.
@@ -94,22 +94,6 @@ pub fn draft_anew(handles: &mut Vec<Option<Handle>>, h: u32, drafted: Drafts)
             handle.drafted = drafted;
         }
     }
-}
-
-/// Names a spot for deletion at an open handle.
-pub fn name_spot(handles: &mut Vec<Option<Handle>>, h: u32, spot: Spot) -> Result<(), NoMemory>
-    ensures ok { OnOk result (handles.new.items ≡ changed_at handles.old.items h (λ d. record d { named = d.named ++ spot ∷ [] })) }
-    ensures unchanged { OnErr result (handles.new.items ≡ handles.old.items) }
-{
-    let place = h as usize;
-    if place < handles.len() {
-        if let Some(handle) = &mut handles[place] {
-            let Ok(()) = handle.named.push(spot) else {
-                return Err(NoMemory);
-            };
-        }
-    }
-    Ok(())
 }
 
 /// Closes a handle.

@@ -4,6 +4,7 @@
 mod clone;
 mod close;
 mod draft;
+mod edits;
 mod handles;
 mod labels;
 mod local;

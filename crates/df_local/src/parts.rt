@@ -46,6 +46,21 @@ pub fn new_part(
     })
 }
 
+/// The same part once more.
+pub fn copy_of(part: &Part) -> Result<Part, NoMemory>
+    ensures { IfOk result (λ p. p ≡ part.now) }
+{
+    let label = part.label.copy()?;
+    let value = share(&part.value)?;
+    let privileges = part.privileges.copy()?;
+    Ok(Part {
+        name: part.name,
+        label,
+        value,
+        privileges,
+    })
+}
+
 fn relabel(output: &Label, part: &Part) -> Result<Part, NoMemory>
     ensures { IfOk result (λ p. p ≡ relabel output.now part.now) }
 {

@@ -1,7 +1,7 @@
-use Rattle.std.proofs.Common.{◌≡◌, get_or, subst, sym, ap, ◌∙◌, Option, None, arith}
+use Rattle.std.proofs.Common.{◌≡◌, get_or, subst, sym, ◌∙◌, Option, None, arith}
 use Rattle.df_unit.specs.declared.handle.Handle.{Handle}
 use Rattle.df_local.proofs.OpenHandles.{none_kept, changed_at-open, open_kept}
-use Rattle.df_local.proofs.handles.name_spot.Goals as goal
+use Rattle.df_local.proofs.edits.delete_at.Goals as goal
 
 pub returns-in_default-clause-ok : goal.returns-in_default-clause-ok
 returns-in_default-clause-ok c =
@@ -13,9 +13,9 @@ returns-in_default-clause-ok c =
 pub returns-in-Ok-clause-ok : goal.returns-in-Ok-clause-ok
 returns-in-Ok-clause-ok c =
     let x = c.in-Some.handle in
-    changed_at-open c.args.handles.now.items c.args.h _ x _ _ (omega arith) (sym c.in-Some.is ∙ c.index_mut.ensures.value) (ap (λ p. record x { named = p }) c.in-Ok.ensures.ok)
+    changed_at-open c.args.handles.now.items c.args.h _ x _ _ (omega arith) (sym c.in-Some.is ∙ c.index_mut.ensures.value) c.in-Ok.ensures.ok
 
-pub returns-in_default-push-clause-unchanged : goal.returns-in_default-push-clause-unchanged
-returns-in_default-push-clause-unchanged c =
+pub returns-in_default-delete_in-clause-unchanged : goal.returns-in_default-delete_in-clause-unchanged
+returns-in_default-delete_in-clause-unchanged c =
     let x = c.in-Some.handle in
-    open_kept c.args.handles.now.items c.args.h _ x _ (omega arith) (sym c.in-Some.is ∙ c.index_mut.ensures.value) (ap (λ p. record x { named = p }) c.in_default-push.ensures.unchanged)
+    open_kept c.args.handles.now.items c.args.h _ x _ (omega arith) (sym c.in-Some.is ∙ c.index_mut.ensures.value) c.in_default-delete_in.ensures.unchanged

@@ -1,0 +1,208 @@
+//! Deleting parts, and attaching privileges to drafted ones.
+
+ghost use Rattle.std.specs.Prelude.{◌≡◌, IfOk, OnOk, OnErr, not, map};
+ghost use Rattle.std.specs.List.{filter};
+ghost use Rattle.df_part.specs.Contents.{is_at};
+ghost use Rattle.df_unit.specs.Drafts.{attach, deleted_in, has_at, spot, visible};
+ghost use Rattle.df_unit.specs.Handles.{changed_at};
+ghost use Rattle.df_unit.specs.declared.call.Call.{Call};
+ghost use Rattle.df_unit.specs.declared.reply.Reply.{Reply};
+ghost use Rattle.df_local.specs.Locally.{Answers, has_seen};
+
+use crate::Local;
+use crate::handles::{draft_anew, handle_at};
+use crate::parts::copy_of;
+use crate::read::is_visible;
+use df_frozen::Name;
+use df_label::{Label, NoMemory, Privilege};
+use df_part::{Part, PartRef, Spot};
+use df_priv::needed_to_attach;
+use df_unit::{Drafts, Handle, Reply};
+use std::alloc::Global;
+
+impl Local {
+    /// Takes all drafted parts of a name and label out of the draft. Where there are none, names
+    /// the visible ones for deletion.
+    pub fn del_part(&mut self, h: u32, label: &Label, name: &Name) -> Result<Reply, NoMemory>
+        ensures ok { IfOk result (λ r. Answers (Call.DelPart h label.now name.now) r self.old self.new) }
+        ensures unchanged { OnErr result (self.new ≡ self.old) }
+    {
+        let Some(handle) = handle_at(self.handles.as_slice(), h) else {
+            return Ok(Reply::NoSuchHandle);
+        };
+        let is_drafted = has_drafted(handle.drafted.as_slice(), name, label);
+        if !is_drafted && !has_visible(&self.input, handle, name, label) {
+            return Ok(Reply::NoSuchPart);
+        }
+        if !is_drafted && !self.output.flows_to(label) {
+            return cannot_write(&self.output, label);
+        }
+        let spot = match spot_at(name, label) {
+            Ok(spot) => spot,
+            Err(refused) => return Err(refused),
+        };
+        match delete_at(self.alloc, &mut self.handles, h, spot) {
+            Ok(()) => Ok(Reply::Ok),
+            Err(refused) => Err(refused),
+        }
+    }
+
+    /// Attaches a privilege to all drafted parts of a name and label.
+    #[tactic(auto, using(crate::proofs::OpenHandles::changed_same))]
+    pub fn attach_privilege(
+        &mut self,
+        h: u32,
+        label: &Label,
+        name: &Name,
+        p: &Privilege,
+    ) -> Result<Reply, NoMemory>
+        ensures ok { IfOk result (λ r. Answers (Call.AttachPrivilege h label.now name.now p.now) r self.old self.new) }
+        ensures unchanged { OnErr result (self.new ≡ self.old) }
+    {
+        let Some(handle) = handle_at(self.handles.as_slice(), h) else {
+            return Ok(Reply::NoSuchHandle);
+        };
+        if !has_drafted(handle.drafted.as_slice(), name, label) {
+            return Ok(Reply::NoSuchPart);
+        }
+        let q = match needed_to_attach(p) {
+            Ok(q) => q,
+            Err(refused) => return Err(refused),
+        };
+        if !self.held.holds(&q) {
+            return Ok(Reply::Lacks(q));
+        }
+        let drafted = match attached(self.alloc, handle.drafted.as_slice(), name, label, p) {
+            Ok(drafted) => drafted,
+            Err(refused) => return Err(refused),
+        };
+        draft_anew(&mut self.handles, h, Drafts::new(drafted));
+        Ok(Reply::Ok)
+    }
+}
+
+/// Deletes a spot at an open handle.
+fn delete_at(
+    alloc: Global,
+    handles: &mut Vec<Option<Handle>>,
+    h: u32,
+    spot: Spot,
+) -> Result<(), NoMemory>
+    ensures ok { OnOk result (handles.new.items ≡ changed_at handles.old.items h (deleted_in spot)) }
+    ensures unchanged { OnErr result (handles.new.items ≡ handles.old.items) }
+{
+    let place = h as usize;
+    if place < handles.len() {
+        if let Some(handle) = &mut handles[place] {
+            let Ok(()) = delete_in(alloc, handle, spot) else {
+                return Err(NoMemory);
+            };
+        }
+    }
+    Ok(())
+}
+
+/// Takes the drafted parts of a spot out. Where there are none, names the spot for deletion.
+fn delete_in(alloc: Global, handle: &mut Handle, spot: Spot) -> Result<(), NoMemory>
+    ensures ok { OnOk result (handle.new ≡ deleted_in spot handle.old) }
+    ensures unchanged { OnErr result (handle.new ≡ handle.old) }
+{
+    if !has_drafted(handle.drafted.as_slice(), &spot.name, &spot.label) {
+        return handle.named.push(spot);
+    }
+    match undrafted(alloc, handle.drafted.as_slice(), &spot.name, &spot.label) {
+        Ok(left) => {
+            handle.drafted = left;
+            Ok(())
+        }
+        Err(refused) => Err(refused),
+    }
+}
+
+fn is_at(part: &Part, name: &Name, label: &Label) -> bool
+    ensures { result ≡ is_at part.now (spot name.now label.now) }
+{
+    part.name == *name && part.label == *label
+}
+
+/// Whether a part of this name and label is drafted.
+fn has_drafted(parts: &[Part], name: &Name, label: &Label) -> bool
+    ensures { result ≡ has_at parts.now (spot name.now label.now) }
+{
+    parts.iter().any(|part| is_at(part, name, label))
+}
+
+/// Whether a visible part has this name and label.
+#[tactic(auto, using(crate::proofs::ReadInTurn::seen_at))]
+fn has_visible(input: &Label, handle: &Handle, name: &Name, label: &Label) -> bool
+    ensures { result ≡ has_at (visible input.now handle.now) (spot name.now label.now) }
+{
+    has_seen(
+        input,
+        handle.named.as_slice(),
+        handle.seen.as_slice(),
+        name,
+        label,
+    )
+}
+
+fn has_seen(input: &Label, named: &[Spot], seen: &[PartRef], name: &Name, label: &Label) -> bool
+    ensures { result ≡ has_seen input.now named.now (spot name.now label.now) seen.now }
+{
+    seen.iter().any(|part| is_visible(input, named, part.part()) && is_at(part.part(), name, label))
+}
+
+/// The drafted parts without those of a name and label.
+fn undrafted(alloc: Global, parts: &[Part], name: &Name, label: &Label) -> Result<Drafts, NoMemory>
+    ensures { IfOk result (λ d. d ≡ filter (λ part. not (is_at part (spot name.now label.now))) parts.now) }
+{
+    let mut left = Vec::new(alloc);
+    for part in parts {
+        if !is_at(part, name, label) {
+            left.push(copy_of(part)?)?;
+        }
+    }
+    Ok(Drafts::new(left))
+}
+
+/// The drafted parts with a privilege on each of those of a name and label.
+fn attached(
+    alloc: Global,
+    parts: &[Part],
+    name: &Name,
+    label: &Label,
+    p: &Privilege,
+) -> Result<Vec<Part>, NoMemory>
+    ensures { IfOk result (λ v. v.items ≡ map (attach (spot name.now label.now) p.now) parts.now) }
+{
+    let mut attached = Vec::with_capacity(alloc, parts.len())?;
+    for part in parts {
+        attached.push(attach(part, name, label, p)?)?;
+    }
+    Ok(attached)
+}
+
+fn attach(part: &Part, name: &Name, label: &Label, p: &Privilege) -> Result<Part, NoMemory>
+    ensures { IfOk result (λ q. q ≡ attach (spot name.now label.now) p.now part.now) }
+{
+    let mut copy = copy_of(part)?;
+    if is_at(part, name, label) {
+        copy.privileges.add(p)?;
+    }
+    Ok(copy)
+}
+
+fn spot_at(name: &Name, label: &Label) -> Result<Spot, NoMemory>
+    ensures { IfOk result (λ d. d ≡ spot name.now label.now) }
+{
+    let label = label.copy()?;
+    Ok(Spot { name: *name, label })
+}
+
+fn cannot_write(output: &Label, label: &Label) -> Result<Reply, NoMemory>
+    ensures { IfOk result (λ r. r ≡ Reply.CannotWrite output.now label.now) }
+{
+    let out = output.copy()?;
+    let part = label.copy()?;
+    Ok(Reply::CannotWrite { out, part })
+}
