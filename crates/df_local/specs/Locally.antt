@@ -1,5 +1,5 @@
 -- What the calls of a unit make of it.
-use Rattle.std.specs.Prelude.{ℕ, Bool, ◌≡◌, ◌+◌, ⊤, not, ◌&&◌, if◌then◌else◌, List, [], ◌∷◌}
+use Rattle.std.specs.Prelude.{ℕ, Bool, ◌≡◌, ◌+◌, ⊤, not, ◌&&◌, if◌then◌else◌, nat_le, length, List, [], ◌∷◌}
 use Rattle.std.specs.List.{filter, flat_map, list_any}
 use Rattle.df_part.specs.Contents.{is_at, is_deleted}
 use Rattle.df_part.specs.Part.{readable}
@@ -12,13 +12,15 @@ use Rattle.df_unit.specs.declared.entry.Effect.{Effect}
 use Rattle.df_unit.specs.declared.reply.Reply.{Reply}
 use Rattle.df_unit.specs.declared.name.UnitName.TheVariants.{Root}
 use Rattle.df_unit.specs.Beginnings.{root}
+use Rattle.df_unit.specs.Handles.{handle_at}
+use Rattle.df_unit.specs.Limits.{most_parts}
 use Rattle.df_unit.specs.OwnState.{OwnState}
 use Rattle.df_unit.specs.declared.handle.Handle.{Handle}
 use Rattle.df_unit.specs.declared.name.EventName.{EventName}
 use Rattle.df_part.specs.declared.edit.Spot.{Spot}
 use Rattle.df_part.specs.declared.part.Part.{Part}
 use Rattle.df_unit.specs.Drafts.{relabelled}
-use Rattle.df_unit.specs.Rows.{reply, effect, after, is_accepted, is_nil, subscribed, refused_write, unwritable}
+use Rattle.df_unit.specs.Rows.{at_handle, reply, effect, after, is_accepted, is_nil, subscribed, refused_write, unwritable}
 use Rattle.df_local.specs.declared.close.Close.{Close}
 use Rattle.df_local.specs.declared.close.Close.TheVariants.{Publish, Release}
 use Rattle.df_local.specs.declared.close.EditRefused.{EditRefused}
@@ -45,6 +47,10 @@ Answers call r old new = AnswersOf [] Effect.Nothing call r old new
 -- a get's reply is its row's where this delivery is the first that is left, and the unit is as that row leaves it
 abbrev pub TakesIn : Given → Reply → LocalState → LocalState → Type 0
 TakesIn g r old new = AnswersOf (g ∷ []) (Effect.Given g) Call.Get r old new
+
+-- what drafting a part at a handle is answered
+abbrev pub added_reply : OwnState → ℕ → Reply
+added_reply st h = at_handle (handle_at st.handles h) (λ d. if nat_le most_parts (length d.drafted) then Reply.TooManyParts (most_parts + 1) else Reply.Ok)
 
 -- the state where a subscription with this reply is counted
 abbrev pub counted : OwnState → Reply → OwnState

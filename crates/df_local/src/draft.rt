@@ -1,8 +1,7 @@
 //! Opening drafts, and drafting parts.
 
-ghost use Rattle.std.specs.Prelude.{◌≡◌, ◌<◌, false, IfOk, OnOk, OnErr};
+ghost use Rattle.std.specs.Prelude.{◌≡◌, false, IfOk, OnOk, OnErr};
 ghost use Rattle.df_unit.specs.Handles.{is_full, least_free};
-ghost use Rattle.df_unit.specs.Limits.{most_numbers};
 ghost use Rattle.df_unit.specs.Rows.{drafting};
 ghost use Rattle.df_unit.specs.declared.call.Call.{Call};
 ghost use Rattle.df_local.specs.Locally.{Answers, with_own};
@@ -36,16 +35,29 @@ impl Local {
         }
     }
 
-    /// Opens a draft of the unit's next event, with these parts.
+    /// Opens a draft of the unit's next event, with these parts. Tells its handle.
     #[tactic(auto, using(crate::proofs::OpenHandles::least_free_within))]
     pub(crate) fn open_draft(&mut self, drafted: Drafts) -> Result<u32, NoMemory>
-        requires room { is_full self.old.own.handles ≡ false }
-        requires numbers { self.old.own.events < most_numbers }
+        requires { is_full self.old.own.handles ≡ false }
         ensures number { IfOk result (λ h. h ≡ least_free self.old.own.handles) }
         ensures ok { OnOk result (self.new ≡ with_own self.old (drafting self.old.unit drafted self.old.own)) }
         ensures unchanged { OnErr result (self.new ≡ self.old) }
     {
         let h = least_free(self.handles.as_slice());
+        match self.put_draft(drafted) {
+            Ok(()) => Ok(h as u32),
+            Err(refused) => Err(refused),
+        }
+    }
+
+    /// Opens a draft of the unit's next event, with these parts.
+    pub(crate) fn put_draft(&mut self, drafted: Drafts) -> Result<(), NoMemory>
+        ensures ok { OnOk result (self.new ≡ with_own self.old (drafting self.old.unit drafted self.old.own)) }
+        ensures unchanged { OnErr result (self.new ≡ self.old) }
+    {
+        if self.events == u32::MAX {
+            return Err(NoMemory);
+        }
         let unit = match self.name.copy() {
             Ok(unit) => unit,
             Err(refused) => return Err(refused),
@@ -65,7 +77,7 @@ impl Local {
             Err(refused) => return Err(refused),
         }
         self.events += 1;
-        Ok(h as u32)
+        Ok(())
     }
 
     /// Drafts a part, with its label raised to the unit's output label.

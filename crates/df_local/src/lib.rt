@@ -1,6 +1,7 @@
 //! A unit's own state, and the calls that concern no other unit.
 #![tactic(auto)]
 
+mod answer;
 mod clone;
 mod close;
 mod draft;
@@ -12,7 +13,9 @@ mod parts;
 mod read;
 mod receive;
 mod tags;
+mod take;
 
+pub use answer::Answer;
 pub use close::{Close, EditRefused};
 pub use draft::MOST_PARTS;
 pub use handles::MOST_HANDLES;

@@ -58,12 +58,20 @@ fn read(alloc: Global, held: &Held, parts: &[PartRef]) -> Result<Reading, NoMemo
     ensures held { IfOk result (λ r. r.held ≡ grant_all held.now (privileges_of parts.now)) }
 {
     let shown = shown(alloc, parts)?;
-    let mut held = held.copy()?;
-    grant_parts(&mut held, parts)?;
+    let held = granted(held, parts)?;
     Ok(Reading {
         shown: PartsRead::new(shown),
         held,
     })
+}
+
+/// What is held once the privileges of the parts are.
+pub fn granted(held: &Held, parts: &[PartRef]) -> Result<Held, NoMemory>
+    ensures { IfOk result (λ h. h ≡ grant_all held.now (privileges_of parts.now)) }
+{
+    let mut held = held.copy()?;
+    grant_parts(&mut held, parts)?;
+    Ok(held)
 }
 
 fn grant_parts(held: &mut Held, parts: &[PartRef]) -> Result<(), NoMemory>
@@ -86,7 +94,7 @@ pub fn grant_all(held: &mut Held, privileges: &[Privilege]) -> Result<(), NoMemo
 }
 
 /// The visible parts of a name, in order.
-fn visible_named(
+pub fn visible_named(
     alloc: Global,
     input: &Label,
     name: &Name,

@@ -1,8 +1,10 @@
 //! Taking in what is handed to a unit, and counting its subscriptions.
 
-ghost use Rattle.std.specs.Prelude.{◌≡◌, IfOk, OnErr};
+ghost use Rattle.std.specs.Prelude.{◌≡◌, IfOk, OnErr, OnOk};
 ghost use Rattle.df_unit.specs.Handles.{view_of};
-ghost use Rattle.df_local.specs.Locally.{CountsSub, TakesIn};
+ghost use Rattle.df_unit.specs.Rows.{taken_in};
+ghost use Rattle.df_unit.specs.declared.entry.Effect.{Effect};
+ghost use Rattle.df_local.specs.Locally.{CountsSub, TakesIn, with_own};
 
 use crate::Local;
 use crate::handles::{is_full, least_free, open};
@@ -23,10 +25,24 @@ impl Local {
         if is_full(self.handles.as_slice()) {
             return Ok(Reply::TooManyHandles);
         }
+        let h = least_free(self.handles.as_slice());
+        match self.put_view(given) {
+            Ok(()) => Ok(Reply::Event {
+                h: h as u32,
+                sub: given.sub,
+            }),
+            Err(refused) => Err(refused),
+        }
+    }
+
+    /// Opens a view of an event and counts it.
+    pub(crate) fn put_view(&mut self, given: &Given) -> Result<(), NoMemory>
+        ensures ok { OnOk result (self.new ≡ with_own self.old (taken_in (Effect.Given given.now) self.old.own)) }
+        ensures unchanged { OnErr result (self.new ≡ self.old) }
+    {
         if self.given == u64::MAX {
             return Err(NoMemory);
         }
-        let h = least_free(self.handles.as_slice());
         let handle = match view_of(self.alloc, given) {
             Ok(handle) => handle,
             Err(refused) => return Err(refused),
@@ -36,10 +52,7 @@ impl Local {
             Err(refused) => return Err(refused),
         }
         self.given += 1;
-        Ok(Reply::Event {
-            h: h as u32,
-            sub: given.sub,
-        })
+        Ok(())
     }
 
     /// Counts one more subscription.
