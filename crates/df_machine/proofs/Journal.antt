@@ -9,9 +9,9 @@ use Rattle.df_unit.specs.declared.name.UnitName.{UnitName}
 use Rattle.df_unit.specs.declared.reply.Reply.{Reply}
 
 -- a journal with one more entry at its end
-pub journal_more : (j k l : List Entry) (n a : UnitName) (c : Call) (r s : Reply) (f : Effect) → k ≡ j → l ≡ k ++ Done n c r f ∷ [] → n ≡ a → s ≡ r → reverse l ≡ Done a c s f ∷ reverse j
-journal_more j k l n a c r s f e g h i =
-    ap reverse (g ∙ ap (λ (x : List Entry). x ++ Done n c r f ∷ []) e ∙ ap (λ (m : UnitName). j ++ Done m c r f ∷ []) h) ∙ reverse-append j (Done a c r f ∷ []) ∙ ap (λ (q : Reply). Done a c q f ∷ reverse j) (sym i)
+pub journal_more : (j k l : List Entry) (n a : UnitName) (c : Call) (r : Reply) (f : Effect) → k ≡ j → l ≡ k ++ Done n c r f ∷ [] → n ≡ a → reverse l ≡ Done a c r f ∷ reverse j
+journal_more j k l n a c r f e g h =
+    ap reverse (g ∙ ap (λ (x : List Entry). x ++ Done n c r f ∷ []) e ∙ ap (λ (m : UnitName). j ++ Done m c r f ∷ []) h) ∙ reverse-append j (Done a c r f ∷ [])
 
 -- the last of a list is the first of it reversed
 pub last_reverse : (es : List Entry) → slice_get es (length es - 1) ≡ slice_get (reverse es) 0

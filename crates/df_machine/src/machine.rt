@@ -1,13 +1,16 @@
-ghost use Rattle.std.specs.Prelude.{◌≡◌, [], ◌∷◌, reverse, IfOk, IfErr, OnErr, option_copied, slice_get};
+ghost use Rattle.std.specs.Prelude.{◌≡◌, ◌^◌, ◌<◌, ◌∷◌, [], length, IfErr, IfOk, None, OnErr, OnOk, map, option_copied, reverse, slice_get};
+ghost use Rattle.df_rules.specs.Commits.{commit_in};
+ghost use Rattle.df_tables.specs.Table.{rows_from};
 ghost use Rattle.df_unit.specs.Served.{IsBuilt};
-ghost use Rattle.df_machine.specs.Journal.{AppendsEntry};
+ghost use Rattle.df_unit.specs.declared.entry.Effect.{Effect};
+ghost use Rattle.df_unit.specs.declared.entry.Entry.TheVariants.{Done};
+ghost use Rattle.df_machine.specs.Journal.{IsLegal, answer_in, appended, begun, local_of};
 
-use crate::answer::make_call;
-use crate::start::Start;
-use crate::tables::{EventRow, Unit, first_units, place};
+use crate::start::{RootStart, Start};
 use df_label::NoMemory;
-use df_local::Local;
-use df_unit::{Call, Entry, Reply, UnitName};
+use df_local::{Answer, Local};
+use df_tables::{EventRow, Unit, find, first_unit, hand_over, move_unit, prepare, put_contents};
+use df_unit::{Call, Commit, Effect, Entry, Reply, UnitName};
 use std::alloc::Global;
 use std::marker::Model;
 
@@ -24,21 +27,39 @@ pub struct Core {
 impl Model for Core {
     ghost use Rattle.std.specs.Prelude.{List, reverse};
     ghost use Rattle.std.specs.Coded.{coded×, coded_list};
+    ghost use Rattle.df_rules.specs.Start.{rows};
+    ghost use Rattle.df_tables.specs.Agree.{Agrees};
     ghost use Rattle.df_unit.specs.contracts.entry.Entry as entry;
     ghost use Rattle.df_machine.specs.contracts.start.Start as begun;
-    ghost use Rattle.df_machine.specs.Journal.{State};
+    ghost use Rattle.df_machine.specs.Journal.{State, firsts};
 
     ghost Value = { State };
 
     ghost coded = { coded× begun.the_row.coded (coded_list entry.the_row.coded) };
 
     ghost view = { λ c. (c.start, reverse c.journal.items) };
+
+    ghost invariant = { λ c. Agrees rows (firsts c.start) (reverse c.journal.items) c.units.items c.events.items };
 }
 
 /// A call that was not made, for want of memory. Nothing has changed.
 #[derive(Drop)]
 pub struct NotStepped {
     pub call: Call,
+}
+
+/// The rows of the roots as they begin, root 0 first.
+fn first_units(alloc: Global, roots: &[RootStart]) -> Result<Vec<Unit>, NoMemory>
+    requires { length roots.now < 2 ^ 32 }
+    ensures { IfOk result (λ units. units.items ≡ rows_from 0 (map begun roots.now)) }
+{
+    let mut units = Vec::with_capacity(alloc, roots.len())?;
+    for (number, root) in roots.iter().enumerate() {
+        let label = root.label.copy()?;
+        let privileges = root.privileges.copy()?;
+        units.push(first_unit(alloc, number as u32, label, privileges)?)?;
+    }
+    Ok(units)
 }
 
 impl Core {
@@ -56,9 +77,10 @@ impl Core {
         })
     }
 
-    /// The journal, the oldest entry first.
+    /// The journal, the oldest entry first. It is legal.
     pub fn journal(&self) -> &[Entry]
-        ensures { reverse result.now ≡ self.now.1 }
+        ensures journal { reverse result.now ≡ self.now.1 }
+        ensures legal { IsLegal self.now }
     {
         self.journal.as_slice()
     }
@@ -79,39 +101,131 @@ impl Core {
     }
 
     /// A unit's own state, where the unit exists.
-    pub fn local(&self, name: &UnitName) -> Option<&Local> {
-        match place(self.units.as_slice(), name) {
-            Some(k) => Some(&self.units[k].local),
+    pub fn local(&self, name: &UnitName) -> Option<&Local>
+        ensures { option_copied result ≡ local_of self.now name.now }
+    {
+        match find(self.units.as_slice(), name) {
+            Some(unit) => Some(&unit.local),
             None => None,
         }
     }
 
-    /// Makes a call for a unit: appends one entry and answers its reply.
-    pub fn step(&mut self, actor: &UnitName, call: Call) -> Result<Reply, NotStepped>
-        requires { IsBuilt call }
-        ensures entry { IfOk result (λ reply. AppendsEntry actor.now call reply self.old self.new) }
+    /// What the rules answer to a call.
+    fn answer(&self, actor: &UnitName, call: &Call) -> Result<Answer, NoMemory>
+        requires { IsBuilt call.now }
+        ensures { IfOk result (λ a. (a.reply, a.effect) ≡ answer_in self.now actor.now call.now) }
+    {
+        match find(self.units.as_slice(), actor) {
+            Some(unit) => {
+                let answer = unit.local.answer(unit.line.first(), call)?;
+                Ok(answer)
+            }
+            None => Ok(Answer {
+                reply: Reply::NoSuchUnit,
+                effect: Effect::Nothing,
+            }),
+        }
+    }
+
+    /// Appends the entry of a call without a commit.
+    fn book_plain(
+        &mut self,
+        actor: &UnitName,
+        call: Call,
+        reply: Reply,
+        effect: Effect,
+    ) -> Result<Reply, NotStepped>
+        requires built { IsBuilt call }
+        requires plain { commit_in effect ≡ None }
+        requires right { answer_in self.old actor.now call ≡ (reply, effect) }
+        ensures ok { OnOk result (self.new ≡ (self.old.0, Done actor.now call reply effect ∷ self.old.1)) }
+        ensures reply { IfOk result (λ r. r ≡ reply) }
         ensures unchanged { OnErr result (self.new ≡ self.old) }
         ensures back { IfErr result (λ e. e.call ≡ call) }
     {
-        let Ok(()) = self.journal.reserve(1) else {
+        let Ok(kept) = reply.copy() else {
             return Err(NotStepped { call });
         };
         let Ok(name) = actor.copy() else {
             return Err(NotStepped { call });
         };
-        let Ok(answer) = make_call(self.alloc, &mut self.units, &mut self.events, actor, &call)
-        else {
+        let Ok(()) = self.journal.reserve(1) else {
             return Err(NotStepped { call });
         };
-        let Ok(reply) = answer.reply.copy() else {
+        let Ok(()) = move_unit(&mut self.units, actor, &call, &reply, &effect) else {
             return Err(NotStepped { call });
         };
         self.journal.push_reserved(Entry::Done {
             actor: name,
             call,
-            reply: answer.reply,
-            effect: answer.effect,
+            reply,
+            effect,
         });
-        Ok(reply)
+        Ok(kept)
+    }
+
+    /// Appends the entry of a call that makes a commit.
+    fn book_commit(
+        &mut self,
+        actor: &UnitName,
+        call: Call,
+        reply: Reply,
+        commit: Commit,
+    ) -> Result<Reply, NotStepped>
+        requires built { IsBuilt call }
+        requires right { answer_in self.old actor.now call ≡ (reply, Effect.Commit commit) }
+        ensures ok { OnOk result (self.new ≡ (self.old.0, Done actor.now call reply (Effect.Commit commit) ∷ self.old.1)) }
+        ensures reply { IfOk result (λ r. r ≡ reply) }
+        ensures unchanged { OnErr result (self.new ≡ self.old) }
+        ensures back { IfErr result (λ e. e.call ≡ call) }
+    {
+        let Ok(()) = self.events.reserve(1) else {
+            return Err(NotStepped { call });
+        };
+        let Ok(()) = self.journal.reserve(1) else {
+            return Err(NotStepped { call });
+        };
+        let Ok(ready) = prepare(self.alloc, self.events.as_slice(), actor, &reply, &commit) else {
+            return Err(NotStepped { call });
+        };
+        let Ok(effect) = hand_over(
+            self.alloc,
+            &mut self.units,
+            actor,
+            &call,
+            &reply,
+            commit,
+            &ready.after,
+        ) else {
+            return Err(NotStepped { call });
+        };
+        put_contents(&mut self.events, ready.event, ready.after);
+        self.journal.push_reserved(Entry::Done {
+            actor: ready.actor,
+            call,
+            reply,
+            effect,
+        });
+        Ok(ready.kept)
+    }
+
+    /// Makes a call for a unit: appends one entry, with the answer that the rules give, and answers
+    /// its reply.
+    pub fn step(&mut self, actor: &UnitName, call: Call) -> Result<Reply, NotStepped>
+        requires { IsBuilt call }
+        ensures entry { OnOk result (self.new ≡ appended actor.now call self.old) }
+        ensures reply { IfOk result (λ r. r ≡ (answer_in self.old actor.now call).0) }
+        ensures unchanged { OnErr result (self.new ≡ self.old) }
+        ensures back { IfErr result (λ e. e.call ≡ call) }
+    {
+        let Ok(answer) = self.answer(actor, &call) else {
+            return Err(NotStepped { call });
+        };
+        let Answer { reply, effect } = answer;
+        match effect {
+            Effect::Nothing => self.book_plain(actor, call, reply, Effect::Nothing),
+            Effect::Given(given) => self.book_plain(actor, call, reply, Effect::Given(given)),
+            Effect::Commit(commit) => self.book_commit(actor, call, reply, commit),
+        }
     }
 }

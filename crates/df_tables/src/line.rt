@@ -3,7 +3,7 @@
 
 ghost use Rattle.std.specs.Prelude.{◌≡◌, ◌==◌, ◌&&◌, [], IfOk, OnOk, OnErr, slice_get, drop, map, length, option_copied};
 ghost use Rattle.df_unit.specs.Name.{same_event};
-ghost use Rattle.df_machine.specs.Line.{mark_of, settled, was_marked};
+ghost use Rattle.df_tables.specs.Line.{mark_of, settled, was_marked};
 
 use df_label::NoMemory;
 use df_unit::{EventName, Given};
@@ -28,7 +28,7 @@ pub struct Line {
 
 impl Model for Line {
     ghost use Rattle.std.specs.Prelude.{◌≡◌, ◌+◌, ◌≤◌, vec_len, vec_capacity, map};
-    ghost use Rattle.df_machine.specs.Line.{LineState, line_code, mark_of};
+    ghost use Rattle.df_tables.specs.Line.{LineState, line_code, mark_of};
 
     ghost Value = { LineState };
 

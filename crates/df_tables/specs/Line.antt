@@ -6,8 +6,8 @@ use Rattle.df_unit.specs.Name.{same_event}
 use Rattle.df_unit.specs.contracts.commit.Given as given
 use Rattle.df_unit.specs.declared.commit.Given.{Given}
 use Rattle.df_unit.specs.declared.name.EventName.{EventName}
-use Rattle.df_machine.specs.contracts.line.Mark as mark
-use Rattle.df_machine.specs.declared.line.Mark.{Mark}
+use Rattle.df_tables.specs.contracts.line.Mark as mark
+use Rattle.df_tables.specs.declared.line.Mark.{Mark}
 
 -- an event that was handed to a subscription
 abbrev pub mark_of : Given → Mark

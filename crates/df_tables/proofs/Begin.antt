@@ -1,0 +1,72 @@
+-- In the beginning the tables agree with the empty journal.
+use Rattle.std.proofs.Common.{◌≡◌, ℕ, zero, suc, ◌+◌, ◌==◌, List, [], ◌∷◌, Option, Some, None, Bool, true, false, ◌&&◌, if◌then◌else◌, map, slice_get, refl, ap, sym, subst, ◌∙◌, arith, eq-eqb, nat_eq}
+use Rattle.std.specs.Cmp.Lexicographic.{pointwise}
+use Rattle.df_label.specs.declared.label.Label.{Label}
+use Rattle.df_label.specs.declared.privilege.Privilege.{Privilege}
+use Rattle.df_rules.specs.Deliveries.{deliveries}
+use Rattle.df_rules.specs.Own.{own, root_at}
+use Rattle.df_rules.specs.Start.{rows, roots, root_of}
+use Rattle.df_rules.specs.Subscriptions.{subscriptions}
+use Rattle.df_unit.specs.Name.{same}
+use Rattle.df_unit.specs.OwnState.{OwnState}
+use Rattle.df_unit.specs.declared.name.UnitName.{UnitName}
+use Rattle.df_unit.specs.declared.name.UnitName.TheVariants.{Root, Managed}
+use Rattle.df_tables.specs.Agree.{IsSeat, Agrees}
+use Rattle.df_tables.specs.Table.{find, first_row, rows_from}
+use Rattle.df_tables.specs.declared.units.Unit.{Unit}
+
+abbrev Starts : Type 0
+Starts = List (Label × List Privilege)
+
+managed_none : (o : List ℕ) (n : ℕ) (t : List (List ℕ)) (k : ℕ) (rs : Starts) → find (Managed o n t) (rows_from k rs) ≡ None
+managed_none o n t k [] = refl
+managed_none o n t k (r ∷ rs) = managed_none o n t (k + 1) rs
+
+-- a root's path has one number
+long_none : (j m : ℕ) (path : List ℕ) (k : ℕ) (rs : Starts) → find (Root (j ∷ m ∷ path)) (rows_from k rs) ≡ None
+long_none j m path k [] = refl
+long_none j m path k (r ∷ rs) = by (nat_eq k j) (find (Root (j ∷ m ∷ path)) (rows_from (k + 1) rs)) (long_none j m path (k + 1) rs)
+  where
+    by : (b : Bool) (p : Option Unit) → p ≡ None → (if b && false then Some (first_row k r) else p) ≡ None
+    by true p h = h
+    by false p h = h
+
+empty_none : (k : ℕ) (rs : Starts) → find (Root []) (rows_from k rs) ≡ None
+empty_none k [] = refl
+empty_none k (r ∷ rs) = empty_none (k + 1) rs
+
+other : (k m : ℕ) → (k == k + suc m) ≡ false
+other k m = grind arith
+
+one : (b : Bool) → (b && true) ≡ b
+one true = refl
+one false = refl
+
+root_seat : (m k j : ℕ) (rs : Starts) → j ≡ k + m → IsSeat (Root (j ∷ [])) (slice_get (map root_of rs) m) [] [] (find (Root (j ∷ [])) (rows_from k rs))
+root_seat zero k j [] e = (refl, refl)
+root_seat (suc m) k j [] e = (refl, refl)
+root_seat zero k j (r ∷ rs) e =
+    let h : (k == j) ≡ true = eq-eqb k j (omega arith) in
+    let test : same (first_row k r).local.unit (Root (j ∷ [])) ≡ true = one (k == j) ∙ h in
+    subst (λ (b : Bool). IsSeat (Root (j ∷ [])) (Some (root_of r)) [] [] (if b then Some (first_row k r) else find (Root (j ∷ [])) (rows_from (k + 1) rs))) (sym test)
+    (record { unit = ap (λ (n : ℕ). Root (n ∷ [])) (omega arith); own = refl; subscriptions = refl; left = refl; marks = refl; taken = omega arith })
+root_seat (suc m) k j (r ∷ rs) e =
+    let h : (k == j) ≡ false = subst (λ x. (k == x) ≡ false) (sym e) (other k m) in
+    let test : same (first_row k r).local.unit (Root (j ∷ [])) ≡ false = one (k == j) ∙ h in
+    subst (λ (b : Bool). IsSeat (Root (j ∷ [])) (slice_get (map root_of rs) m) [] [] (if b then Some (first_row k r) else find (Root (j ∷ [])) (rows_from (k + 1) rs))) (sym test)
+    (root_seat m (k + 1) j rs (omega arith))
+
+seat_first : (rs : Starts) (n : UnitName) → IsSeat n (own rows (roots rs) [] n) (subscriptions rows (roots rs) [] n) (deliveries rows (roots rs) [] n) (find n (rows_from 0 rs))
+seat_first rs (Root []) = subst (λ (p : Option Unit). IsSeat (Root []) None [] [] p) (sym (empty_none 0 rs)) (refl, refl)
+seat_first rs (Root (j ∷ [])) = root_seat j 0 j rs (omega arith)
+seat_first rs (Root (j ∷ m ∷ path)) = subst (λ (p : Option Unit). IsSeat (Root (j ∷ m ∷ path)) None [] [] p) (sym (long_none j m path 0 rs)) (refl, refl)
+seat_first rs (Managed o n t) = subst (λ (p : Option Unit). IsSeat (Managed o n t) None [] [] p) (sym (managed_none o n t 0 rs)) (refl, refl)
+
+pub agrees_first : (rs : Starts) → Agrees rows (roots rs) [] (rows_from 0 rs) []
+agrees_first rs = record {
+  legal = tt;
+  seats = seat_first rs;
+  parts = λ ev. refl;
+  unmanaged = λ o n. refl;
+  no_instances = λ o n t. refl;
+}

@@ -1,0 +1,45 @@
+-- What is found in a changed table.
+use Rattle.std.proofs.Common.{◌≡◌, List, [], ◌∷◌, Option, Some, None, Bool, true, false, if◌then◌else◌, map, option_map, refl, ap, sym, subst, ◌∙◌}
+use Rattle.df_unit.specs.Name.{same}
+use Rattle.df_unit.specs.declared.name.UnitName.{UnitName}
+use Rattle.df_unit.proofs.SameFacts.{same_name-exact, same_name_decides}
+use Rattle.df_tables.specs.Table.{find, moved_at}
+use Rattle.df_tables.specs.declared.units.Unit.{Unit}
+
+pub find-map : (g : Unit → Unit) → ((u : Unit) → (g u).local.unit ≡ u.local.unit) → (n : UnitName) (us : List Unit) → find n (map g us) ≡ option_map g (find n us)
+find-map g kept n [] = refl
+find-map g kept n (u ∷ us) = ap (λ (m : UnitName). if same m n then Some (g u) else find n (map g us)) (kept u) ∙ by (same u.local.unit n) (find-map g kept n us)
+  where
+    by : (b : Bool) → find n (map g us) ≡ option_map g (find n us) → (if b then Some (g u) else find n (map g us)) ≡ option_map g (if b then Some u else find n us)
+    by true ih = refl
+    by false ih = ih
+
+pub find-moved : (a : UnitName) (g : Unit → Unit) → ((u : Unit) → (g u).local.unit ≡ u.local.unit) → (n : UnitName) (us : List Unit) → find n (moved_at a g us) ≡ (if same a n then option_map g (find n us) else find n us)
+find-moved a g kept n [] = none (same a n)
+  where
+    none : (b : Bool) → let x : Option Unit = None in x ≡ (if b then None else None)
+    none true = refl
+    none false = refl
+find-moved a g kept n (u ∷ us) = by (same u.local.unit a) refl (find-moved a g kept n us)
+  where
+    here : (b : Bool) (x y : Option Unit) → (if b then Some (g u) else y) ≡ (if b then option_map g (if b then Some u else y) else (if b then Some u else y))
+    here true x y = refl
+    here false x y = refl
+
+    swap : (p q : Bool) (x y : Option Unit) → (p ≡ true → q ≡ true → ⊥) → x ≡ (if p then option_map g y else y) → (if q then Some u else x) ≡ (if p then option_map g (if q then Some u else y) else (if q then Some u else y))
+    swap true true x y never e = absurd (never refl refl)
+    swap true false x y never e = e
+    swap false true x y never e = refl
+    swap false false x y never e = e
+
+    never : same u.local.unit a ≡ false → same a n ≡ true → same u.local.unit n ≡ true → ⊥
+    never e p q =
+        let f : u.local.unit ≡ a = same_name-exact u.local.unit n q ∙ sym (same_name-exact a n p) in
+        let h : same u.local.unit a ≡ true = (same_name_decides u.local.unit a).1 f in cc
+
+    by : (b : Bool) → same u.local.unit a ≡ b → find n (moved_at a g us) ≡ (if same a n then option_map g (find n us) else find n us) → find n (if b then g u ∷ us else u ∷ moved_at a g us) ≡ (if same a n then option_map g (find n (u ∷ us)) else find n (u ∷ us))
+    by true e ih =
+        ap (λ (m : UnitName). if same m n then Some (g u) else find n us) (kept u ∙ same_name-exact u.local.unit a e)
+        ∙ here (same a n) None (find n us)
+        ∙ ap (λ (m : UnitName). if same a n then option_map g (if same m n then Some u else find n us) else (if same m n then Some u else find n us)) (sym (same_name-exact u.local.unit a e))
+    by false e ih = swap (same a n) (same u.local.unit n) (find n (moved_at a g us)) (find n us) (never e) ih

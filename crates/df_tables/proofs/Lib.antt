@@ -1,0 +1,9 @@
+pub mod Places
+pub mod Finds
+pub mod Rows
+pub mod Steps
+pub mod Tells
+pub mod Brought
+pub mod Subscribing
+pub mod Begin
+pub mod Built

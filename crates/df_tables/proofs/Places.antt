@@ -1,0 +1,119 @@
+-- The place of the first row that passes a test, and what stands there.
+use Rattle.std.proofs.Common.{◌≡◌, ℕ, zero, suc, ◌+◌, ◌<◌, Bool, true, false, if◌then◌else◌, List, [], ◌∷◌, ◌++◌, set, get_or, length, take, drop, map, refl, ap, sym, ◌∙◌, subst, arith, Option, Some, None, option_map}
+use Rattle.std.specs.List.{position_from}
+use Rattle.df_part.specs.declared.part.Part.{Part}
+use Rattle.df_unit.specs.Name.{same, same_event}
+use Rattle.df_unit.specs.declared.commit.Commit.{Commit}
+use Rattle.df_unit.specs.declared.name.EventName.{EventName}
+use Rattle.df_unit.specs.declared.name.UnitName.{UnitName}
+use Rattle.df_unit.proofs.SameFacts.{same_event_decides}
+use Rattle.df_tables.specs.Table.{find, moved_at, parts_of, quieted, with_news}
+use Rattle.df_tables.specs.declared.events.EventRow.{EventRow}
+use Rattle.df_tables.specs.declared.units.Unit.{Unit}
+
+abbrev pub place_by : {A : Type 0} → (A → Bool) → List A → Option ℕ
+place_by p [] = None
+place_by p (x ∷ xs) = if p x then Some 0 else option_map suc (place_by p xs)
+
+place_by-from : {A : Type 0} (p : A → Bool) (i : ℕ) (xs : List A) → position_from p i xs ≡ option_map (λ m. i + m) (place_by p xs)
+place_by-from p i [] = refl
+place_by-from p i (x ∷ xs) = by (p x) (place_by-from p (i + 1) xs)
+  where
+    more : (o : Option ℕ) → option_map (λ m. i + 1 + m) o ≡ option_map (λ m. i + m) (option_map suc o)
+    more None = refl
+    more (Some m) = ap Some (omega arith)
+
+    by : (b : Bool) → position_from p (i + 1) xs ≡ option_map (λ m. i + 1 + m) (place_by p xs) → (if b then Some i else position_from p (i + 1) xs) ≡ option_map (λ m. i + m) (if b then Some 0 else option_map suc (place_by p xs))
+    by true ih = ap Some (omega arith)
+    by false ih = ih ∙ more (place_by p xs)
+
+plus_none : (o : Option ℕ) → option_map (λ m. 0 + m) o ≡ o
+plus_none None = refl
+plus_none (Some m) = ap Some (omega arith)
+
+pub place_by-is : {A : Type 0} (p : A → Bool) (xs : List A) → position_from p 0 xs ≡ place_by p xs
+place_by-is p xs = place_by-from p 0 xs ∙ plus_none (place_by p xs)
+
+-- units
+
+-- where no row is the unit's, nothing is found and nothing is changed
+pub at_none : (a : UnitName) (us : List Unit) → place_by (λ u. same u.local.unit a) us ≡ None → (find a us ≡ None) × ((g : Unit → Unit) → us ≡ moved_at a g us)
+at_none a [] h = (refl, λ g. refl)
+at_none a (u ∷ us) h = by (same u.local.unit a) (place_by (λ u. same u.local.unit a) us) (at_none a us) h
+  where
+    by : (b : Bool) (o : Option ℕ) → (o ≡ None → (find a us ≡ None) × ((g : Unit → Unit) → us ≡ moved_at a g us)) → (if b then Some 0 else option_map suc o) ≡ None → ((if b then Some u else find a us) ≡ None) × ((g : Unit → Unit) → u ∷ us ≡ (if b then g u ∷ us else u ∷ moved_at a g us))
+    by true o ih h = absurd (cc)
+    by false None ih h = let r = ih refl in (r.0, λ g. ap (λ (l : List Unit). u ∷ l) (r.1 g))
+    by false (Some m) ih h = absurd (cc)
+
+-- the row at this place is the unit's, and to change the table at the unit is to change it there
+abbrev pub Stands : UnitName → List Unit → Unit → ℕ → Type 0
+Stands a us d k = (find a us ≡ Some (get_or us k d)) × ((g : Unit → Unit) → set us k (g (get_or us k d)) ≡ moved_at a g us)
+
+pub at_some : (a : UnitName) (us : List Unit) (k : ℕ) (d : Unit) → place_by (λ u. same u.local.unit a) us ≡ Some k → Stands a us d k
+at_some a [] k d h = absurd (cc)
+at_some a (u ∷ us) k d h = by (same u.local.unit a) (place_by (λ u. same u.local.unit a) us) (λ j g. at_some a us j d g) h
+  where
+    Here : Bool → ℕ → Type 0
+    Here b k = ((if b then Some u else find a us) ≡ Some (get_or (u ∷ us) k d)) × ((g : Unit → Unit) → set (u ∷ us) k (g (get_or (u ∷ us) k d)) ≡ (if b then g u ∷ us else u ∷ moved_at a g us))
+
+    by : (b : Bool) (o : Option ℕ) → ((j : ℕ) → o ≡ Some j → Stands a us d j) → (if b then Some 0 else option_map suc o) ≡ Some k → Here b k
+    by true o ih h = let z : 0 ≡ k = cc in subst (λ i. Here true i) z (refl, λ g. refl)
+    by false None ih h = absurd (cc)
+    by false (Some j) ih h = let z : suc j ≡ k = cc in let r = ih j refl in subst (λ i. Here false i) z (r.0, λ g. ap (λ (l : List Unit). u ∷ l) (r.1 g))
+
+-- events
+
+swap : (p q : Bool) (x y z : List Part) → (p ≡ true → q ≡ true → ⊥) → (if q then x else (if p then y else z)) ≡ (if p then y else (if q then x else z))
+swap true true x y z never = absurd (never refl refl)
+swap true false x y z never = refl
+swap false true x y z never = refl
+swap false false x y z never = refl
+
+here : (p : Bool) (x y z : List Part) → (if p then x else z) ≡ (if p then x else (if p then y else z))
+here true x y z = refl
+here false x y z = refl
+
+not_both : (r ev e : EventName) → same_event r ev ≡ false → same_event ev e ≡ true → same_event r e ≡ true → ⊥
+not_both r ev e f p q =
+    let g : r ≡ ev = (same_event_decides r e).0 q ∙ sym ((same_event_decides ev e).0 p) in
+    let h : same_event r ev ≡ true = (same_event_decides r ev).1 g in cc
+
+-- a row at the end, where the event had none
+pub put_end : (ev : EventName) (ps : List Part) (e : EventName) (rs : List EventRow) → place_by (λ r. same_event r.event ev) rs ≡ None → parts_of e (rs ++ record { event = ev; contents = ps } ∷ []) ≡ (if same_event ev e then ps else parts_of e rs)
+put_end ev ps e [] h = refl
+put_end ev ps e (r ∷ rs) h = by (same_event r.event ev) refl (place_by (λ r. same_event r.event ev) rs) (put_end ev ps e rs) h
+  where
+    by : (b : Bool) → same_event r.event ev ≡ b → (o : Option ℕ) → (o ≡ None → parts_of e (rs ++ record { event = ev; contents = ps } ∷ []) ≡ (if same_event ev e then ps else parts_of e rs)) → (if b then Some 0 else option_map suc o) ≡ None → (if same_event r.event e then r.contents else parts_of e (rs ++ record { event = ev; contents = ps } ∷ [])) ≡ (if same_event ev e then ps else (if same_event r.event e then r.contents else parts_of e rs))
+    by true f o ih h = absurd (cc)
+    by false f None ih h = ap (λ (l : List Part). if same_event r.event e then r.contents else l) (ih refl) ∙ swap (same_event ev e) (same_event r.event e) r.contents ps (parts_of e rs) (not_both r.event ev e f)
+    by false f (Some m) ih h = absurd (cc)
+
+-- other parts in the event's row
+pub put_at : (ev : EventName) (ps : List Part) (e : EventName) (rs : List EventRow) (k : ℕ) (d : EventRow) → place_by (λ r. same_event r.event ev) rs ≡ Some k → parts_of e (set rs k (record { event = (get_or rs k d).event; contents = ps })) ≡ (if same_event ev e then ps else parts_of e rs)
+put_at ev ps e [] k d h = absurd (cc)
+put_at ev ps e (r ∷ rs) k d h = by (same_event r.event ev) refl (place_by (λ r. same_event r.event ev) rs) (λ j g. put_at ev ps e rs j d g) h
+  where
+    Here : ℕ → Type 0
+    Here k = parts_of e (set (r ∷ rs) k (record { event = (get_or (r ∷ rs) k d).event; contents = ps })) ≡ (if same_event ev e then ps else parts_of e (r ∷ rs))
+
+    by : (b : Bool) → same_event r.event ev ≡ b → (o : Option ℕ) → ((j : ℕ) → o ≡ Some j → parts_of e (set rs j (record { event = (get_or rs j d).event; contents = ps })) ≡ (if same_event ev e then ps else parts_of e rs)) → (if b then Some 0 else option_map suc o) ≡ Some k → Here k
+    by true f o ih h =
+        let z : 0 ≡ k = cc in
+        let g : r.event ≡ ev = (same_event_decides r.event ev).0 f in
+        subst Here z (ap (λ (x : EventName). if same_event x e then ps else parts_of e rs) g ∙ here (same_event ev e) ps r.contents (parts_of e rs) ∙ ap (λ (x : EventName). if same_event ev e then ps else (if same_event x e then r.contents else parts_of e rs)) (sym g))
+    by false f None ih h = absurd (cc)
+    by false f (Some j) ih h =
+        let z : suc j ≡ k = cc in
+        subst Here z (ap (λ (l : List Part). if same_event r.event e then r.contents else l) (ih j refl) ∙ swap (same_event ev e) (same_event r.event e) r.contents ps (parts_of e rs) (not_both r.event ev e f))
+
+-- a loop that changes each row
+pub map_step : {A : Type 0} (g : A → A) (xs : List A) (i : ℕ) (d x : A) → i < length xs → x ≡ g (get_or (map g (take i xs) ++ drop i xs) i d) → set (map g (take i xs) ++ drop i xs) i x ≡ map g (take (suc i) xs) ++ drop (suc i) xs
+map_step g [] i d x h e = absurd (omega arith)
+map_step g (y ∷ ys) zero d x h e = ap (λ z. z ∷ ys) e
+map_step g (y ∷ ys) (suc i) d x h e = ap (λ l. g y ∷ l) (map_step g ys i d x (omega arith) e)
+
+-- staging in a part of the table shows nowhere else
+pub quiet_part : (c : Commit) (parts : List Part) (xs ys : List Unit) → map quieted (map (with_news c parts) xs ++ ys) ≡ map quieted (xs ++ ys)
+quiet_part c parts [] ys = refl
+quiet_part c parts (x ∷ xs) ys = ap (λ l. quieted x ∷ l) (quiet_part c parts xs ys)

@@ -1,0 +1,4 @@
+pub mod Agree
+pub mod Line
+pub mod Moves
+pub mod Table
