@@ -1,5 +1,5 @@
 -- What a machine's journal tells, and how it grows.
-use Rattle.std.specs.Prelude.{◌≡◌, List, ◌∷◌, Option, map}
+use Rattle.std.specs.Prelude.{List, ◌∷◌, Option, map}
 use Rattle.std.specs.Option.{option_map}
 use Rattle.df_label.specs.declared.label.Label.{Label}
 use Rattle.df_label.specs.declared.privilege.Privilege.{Privilege}

@@ -1,14 +1,12 @@
 -- In the beginning the tables agree with the empty journal.
 use Rattle.std.proofs.Common.{◌≡◌, ℕ, zero, suc, ◌+◌, ◌==◌, List, [], ◌∷◌, Option, Some, None, Bool, true, false, ◌&&◌, if◌then◌else◌, map, slice_get, refl, ap, sym, subst, ◌∙◌, arith, eq-eqb, nat_eq}
-use Rattle.std.specs.Cmp.Lexicographic.{pointwise}
 use Rattle.df_label.specs.declared.label.Label.{Label}
 use Rattle.df_label.specs.declared.privilege.Privilege.{Privilege}
 use Rattle.df_rules.specs.Deliveries.{deliveries}
-use Rattle.df_rules.specs.Own.{own, root_at}
+use Rattle.df_rules.specs.Own.{own}
 use Rattle.df_rules.specs.Start.{rows, roots, root_of}
 use Rattle.df_rules.specs.Subscriptions.{subscriptions}
 use Rattle.df_unit.specs.Name.{same}
-use Rattle.df_unit.specs.OwnState.{OwnState}
 use Rattle.df_unit.specs.declared.name.UnitName.{UnitName}
 use Rattle.df_unit.specs.declared.name.UnitName.TheVariants.{Root, Managed}
 use Rattle.df_tables.specs.Agree.{IsSeat, Agrees}

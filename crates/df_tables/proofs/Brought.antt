@@ -1,5 +1,5 @@
 -- What a commit brings to a unit.
-use Rattle.std.proofs.Common.{◌≡◌, ℕ, List, [], ◌∷◌, Bool, true, false, not, ◌||◌, if◌then◌else◌, refl, ap, sym, ◌∙◌}
+use Rattle.std.proofs.Common.{◌≡◌, ℕ, List, [], ◌∷◌, Bool, true, false, not, ◌||◌, if◌then◌else◌, refl}
 use Rattle.std.specs.List.{filter, flat_map, list_any}
 use Rattle.df_filter.specs.declared.clause.Clause.{Clause}
 use Rattle.df_part.specs.Part.{cut}
@@ -7,7 +7,6 @@ use Rattle.df_part.specs.declared.part.Part.{Part}
 use Rattle.df_unit.specs.OwnState.{OwnState}
 use Rattle.df_unit.specs.Rows.{is_nil}
 use Rattle.df_unit.specs.declared.commit.Commit.{Commit}
-use Rattle.df_unit.specs.declared.commit.Given.{Given}
 use Rattle.df_tables.specs.Table.{offered, marked_news}
 use Rattle.df_tables.specs.declared.line.Mark.{Mark}
 

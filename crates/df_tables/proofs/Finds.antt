@@ -1,5 +1,5 @@
 -- What is found in a changed table.
-use Rattle.std.proofs.Common.{◌≡◌, List, [], ◌∷◌, Option, Some, None, Bool, true, false, if◌then◌else◌, map, option_map, refl, ap, sym, subst, ◌∙◌}
+use Rattle.std.proofs.Common.{◌≡◌, List, [], ◌∷◌, Option, Some, None, Bool, true, false, if◌then◌else◌, map, option_map, refl, ap, sym, ◌∙◌}
 use Rattle.df_unit.specs.Name.{same}
 use Rattle.df_unit.specs.declared.name.UnitName.{UnitName}
 use Rattle.df_unit.proofs.SameFacts.{same_name-exact, same_name_decides}

@@ -1,8 +1,8 @@
 -- The row of a unit after an entry.
-use Rattle.std.proofs.Common.{◌≡◌, ℕ, ◌+◌, ◌<◌, ◌≤◌, zero, suc, List, [], ◌∷◌, ◌++◌, Option, Some, None, Bool, true, false, if◌then◌else◌, map, length, drop, refl, ap, sym, subst, ◌∙◌, arith, length-append, add-one}
+use Rattle.std.proofs.Common.{◌≡◌, ℕ, ◌+◌, ◌≤◌, zero, suc, List, [], ◌∷◌, ◌++◌, Some, None, Bool, true, false, if◌then◌else◌, map, length, drop, refl, ap, sym, ◌∙◌, arith, length-append, add-one}
 use Rattle.std.specs.Prelude.{option_to_list}
 use Rattle.std.proofs.Math.Seq.{drop-nil}
-use Rattle.std.proofs.lemmas.List.{drop-append-le, append-nil, map-append}
+use Rattle.std.proofs.lemmas.List.{drop-append-le, map-append}
 use Rattle.std.specs.List.{flat_map}
 use Rattle.df_filter.specs.declared.clause.Clause.{Clause}
 use Rattle.df_part.specs.Contents.{apply}

@@ -10,8 +10,8 @@ use Rattle.df_part.specs.declared.part.Part.{Part}
 use Rattle.df_rules.specs.Commits.{commit_in, committed, contents}
 use Rattle.df_rules.specs.Deliveries.{plain_news, deliveries, deliveries_plain}
 use Rattle.df_rules.specs.Laws.{TakingLaws}
-use Rattle.df_rules.specs.Legal.{answer, answer_of, left}
-use Rattle.df_rules.specs.Own.{own, own_plain, own_instance, fixed, made_by}
+use Rattle.df_rules.specs.Legal.{answer, answer_of}
+use Rattle.df_rules.specs.Own.{own, own_plain, own_instance, fixed}
 use Rattle.df_rules.specs.Rules.{Rules}
 use Rattle.df_rules.specs.Subscriptions.{subscriptions}
 use Rattle.df_unit.specs.Name.{same, same_event}

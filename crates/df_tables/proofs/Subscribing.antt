@@ -1,13 +1,12 @@
 -- An answered call makes the subscription that its reply numbers.
-use Rattle.std.proofs.Common.{◌≡◌, ℕ, List, Bool, true, false, if◌then◌else◌, refl, ap, sym, subst, ◌∙◌, Option, Some, None, eq-eqb}
+use Rattle.std.proofs.Common.{◌≡◌, ℕ, List, Bool, true, false, if◌then◌else◌, refl, ap, ◌∙◌, eq-eqb}
 use Rattle.std.specs.Prelude.{◌==◌}
 use Rattle.df_filter.specs.declared.clause.Clause.{Clause}
 use Rattle.df_unit.specs.OwnState.{OwnState}
-use Rattle.df_unit.specs.Rows.{subscribed, subscribes, subscribes_at, is_instance}
+use Rattle.df_unit.specs.Rows.{subscribes}
 use Rattle.df_unit.specs.declared.call.Call.{Call}
 use Rattle.df_unit.specs.declared.call.Call.TheVariants.{Subscribe}
 use Rattle.df_unit.specs.declared.entry.Effect.{Effect}
-use Rattle.df_unit.specs.declared.name.UnitName.{UnitName}
 use Rattle.df_unit.specs.declared.reply.Reply.{Reply}
 use Rattle.df_unit.specs.declared.reply.Reply.TheVariants.{Sub}
 use Rattle.df_tables.specs.Moves.{IsAnswered, made_by}

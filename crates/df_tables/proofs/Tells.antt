@@ -1,12 +1,11 @@
 -- What the tables tell of units and of answers.
-use Rattle.std.proofs.Common.{◌≡◌, ℕ, List, [], ◌∷◌, ◌++◌, Option, Some, None, map, refl, ap, sym, subst, ◌∙◌}
+use Rattle.std.proofs.Common.{◌≡◌, List, [], ◌∷◌, Option, Some, None, map, refl, ap, sym, subst, ◌∙◌}
 use Rattle.std.specs.Prelude.{option_to_list, slice_get}
 use Rattle.std.proofs.lemmas.List.{append-nil}
-use Rattle.df_filter.specs.declared.clause.Clause.{Clause}
 use Rattle.df_local.specs.LocalState.{LocalState}
 use Rattle.df_part.specs.declared.part.Part.{Part}
 use Rattle.df_rules.specs.Deliveries.{deliveries}
-use Rattle.df_rules.specs.Legal.{answer, answer_of, left}
+use Rattle.df_rules.specs.Legal.{answer, answer_of}
 use Rattle.df_rules.specs.Own.{own}
 use Rattle.df_rules.specs.Rules.{Rules}
 use Rattle.df_rules.specs.Subscriptions.{subscriptions}

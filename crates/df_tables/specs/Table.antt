@@ -1,5 +1,5 @@
 -- The tables of units and of events, and what an entry makes of them.
-use Rattle.std.specs.Prelude.{ℕ, ◌+◌, Option, Some, None, List, [], ◌∷◌, ◌++◌, Bool, not, ◌&&◌, if◌then◌else◌, drop, option_to_list}
+use Rattle.std.specs.Prelude.{ℕ, ◌+◌, Option, Some, None, List, [], ◌∷◌, ◌++◌, not, ◌&&◌, if◌then◌else◌, drop, option_to_list}
 use Rattle.std.specs.List.{flat_map}
 use Rattle.df_filter.specs.declared.clause.Clause.{Clause}
 use Rattle.df_label.specs.declared.label.Label.{Label}

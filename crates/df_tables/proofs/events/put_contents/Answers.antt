@@ -1,4 +1,4 @@
-use Rattle.std.proofs.Common.{◌≡◌, set, ap, sym, ◌∙◌}
+use Rattle.std.proofs.Common.{set, ap, sym, ◌∙◌}
 use Rattle.df_unit.specs.Name.{same_event}
 use Rattle.df_tables.specs.Table.{parts_of}
 use Rattle.df_tables.specs.declared.events.EventRow.{EventRow}

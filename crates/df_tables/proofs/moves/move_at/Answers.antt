@@ -1,4 +1,4 @@
-use Rattle.std.proofs.Common.{◌≡◌, set, ap, sym, ◌∙◌}
+use Rattle.std.proofs.Common.{set, ap, sym, ◌∙◌}
 use Rattle.df_rules.specs.Start.{rows}
 use Rattle.df_unit.specs.Name.{same}
 use Rattle.df_tables.specs.Table.{moved_row}

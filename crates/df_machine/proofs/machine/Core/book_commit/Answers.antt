@@ -1,6 +1,5 @@
 use Rattle.std.proofs.Common.{◌≡◌, List, [], ◌∷◌, ◌++◌, map, reverse, ap, sym, subst, ◌∙◌, if◌then◌else◌}
 use Rattle.df_part.specs.Contents.{apply}
-use Rattle.df_part.specs.declared.part.Part.{Part}
 use Rattle.df_rules.specs.Start.{rows}
 use Rattle.df_rules.proofs.TakingRows.{row_taking_laws}
 use Rattle.df_unit.specs.Name.{same_event}
@@ -9,7 +8,7 @@ use Rattle.df_unit.specs.declared.entry.Entry.{Entry}
 use Rattle.df_unit.specs.declared.entry.Entry.TheVariants.{Done}
 use Rattle.df_unit.specs.declared.name.EventName.{EventName}
 use Rattle.df_tables.specs.Agree.{Agrees}
-use Rattle.df_tables.specs.Table.{moved_at, moved_row, parts_of, settled_row, with_news}
+use Rattle.df_tables.specs.Table.{parts_of}
 use Rattle.df_tables.specs.declared.events.EventRow.{EventRow}
 use Rattle.df_tables.specs.declared.moves.Ready.{Ready}
 use Rattle.df_tables.specs.declared.units.Unit.{Unit}

@@ -1,4 +1,4 @@
-use Rattle.std.proofs.Common.{◌≡◌, List, ◌∷◌, map, reverse, ap, sym, subst, ◌∙◌}
+use Rattle.std.proofs.Common.{◌≡◌, List, ◌∷◌, map, reverse, sym, subst, ◌∙◌}
 use Rattle.df_rules.specs.Start.{rows}
 use Rattle.df_rules.proofs.TakingRows.{row_taking_laws}
 use Rattle.df_unit.specs.declared.entry.Entry.{Entry}
