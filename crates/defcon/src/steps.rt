@@ -4,7 +4,8 @@ ghost use Rattle.df_unit.specs.declared.entry.Entry.{Entry};
 ghost use Rattle.df_unit.specs.Served.{IsBuilt};
 ghost use Rattle.df_journal_text.specs.Entry.{entry_text};
 ghost use Rattle.df_script_text.specs.declared.refused.FileRefused.{FileRefused};
-ghost use Rattle.defcon.specs.Steps.{AppendsStep, IsMade, Records, RecordsScript, RefusesLine};
+ghost use Rattle.df_machine.specs.Journal.{appended};
+ghost use Rattle.defcon.specs.Steps.{AppendsStep, Records, RecordsScript, RefusesLine, contamination_in};
 
 use df_journal_text::{append_entry, append_head};
 use df_label::{Label, NoMemory};
@@ -14,6 +15,7 @@ use df_unit::{Call, UnitName};
 use std::alloc::Global;
 
 /// The text of the journal of a script's calls.
+#[tactic(auto, using(crate::proofs::Sound::journal_is_sound))]
 pub fn steps(alloc: Global, bytes: &[u8]) -> Result<Vec<u8>, FileRefused>
     ensures records { IfOk result (λ text. RecordsScript bytes.now text.items) }
     ensures refuses { IfErr result (RefusesLine bytes.now) }
@@ -46,7 +48,7 @@ fn journal_of(alloc: Global, start: Start, mut lines: Vec<ScriptLine>) -> Result
 /// Makes a call, and appends its entry with the actor's contamination before it.
 fn append_step(core: &mut Core, line: ScriptLine, text: &mut Vec<u8>) -> Result<(), NoMemory>
     requires { IsBuilt line.call }
-    ensures { OnOk result (AppendsStep line text.old.items text.new.items) }
+    ensures { OnOk result (AppendsStep line core.old core.new text.old.items text.new.items) }
 {
     let contamination = contamination_of(core, &line.actor)?;
     let ScriptLine { actor, call } = line;
@@ -55,7 +57,9 @@ fn append_step(core: &mut Core, line: ScriptLine, text: &mut Vec<u8>) -> Result<
 }
 
 /// The contamination of a unit, where it exists.
-fn contamination_of(core: &Core, name: &UnitName) -> Result<Option<Label>, NoMemory> {
+fn contamination_of(core: &Core, name: &UnitName) -> Result<Option<Label>, NoMemory>
+    ensures { IfOk result (λ c. c ≡ contamination_in core.now name.now) }
+{
     match core.local(name) {
         Some(local) => Ok(Some(local.contamination().copy()?)),
         None => Ok(None),
@@ -65,7 +69,7 @@ fn contamination_of(core: &Core, name: &UnitName) -> Result<Option<Label>, NoMem
 /// Makes a call, of which the journal then tells.
 fn make_call(core: &mut Core, actor: &UnitName, call: Call) -> Result<(), NoMemory>
     requires { IsBuilt call }
-    ensures { OnOk result (IsMade actor.now call core.old core.new) }
+    ensures { OnOk result (core.new ≡ appended actor.now call core.old) }
 {
     let reply = core.step(actor, call);
     if reply.is_ok() { Ok(()) } else { Err(NoMemory) }

@@ -3,12 +3,12 @@ use Rattle.std.proofs.lemmas.List.{reverse-reverse}
 use Rattle.df_unit.specs.Served.{IsBuilt}
 use Rattle.df_journal_text.specs.Start.{head_text}
 use Rattle.df_script_text.specs.declared.line.ScriptLine.{ScriptLine}
-use Rattle.defcon.proofs.Journals.{all_at, next_line, records_more, records_none}
+use Rattle.defcon.proofs.Journals.{all_at, next_line, written_more, written_none}
 use Rattle.defcon.proofs.steps.journal_of.Goals as goal
 
 pub loop-line-init : goal.loop-line-init
 loop-line-init c =
-    ([], ap reverse c.reverse.ensures.items ∙ reverse-reverse c.args.lines.items, records_none c.args.start c.append_head.new.to.items (c.in_ok-append_head.ensures ∙ ap (λ (t : List ℕ). t ++ head_text c.args.start) c.new-text.ensures.items))
+    ([], ap reverse c.reverse.ensures.items ∙ reverse-reverse c.args.lines.items, written_none c.args.start c.in_ok-core.core c.append_head.new.to.items c.in_ok-core.ensures (c.in_ok-append_head.ensures ∙ ap (λ (t : List ℕ). t ++ head_text c.args.start) c.new-text.ensures.items))
 
 pub append_step-requires : goal.append_step-requires
 append_step-requires c =
@@ -24,4 +24,4 @@ loop-line-preserved c =
     let left = reverse c.pop.new.self.items in
     let popped : c.loop-line.lines.items ≡ c.pop.new.self.items ++ line ∷ [] = c.pop.ensures.items ∙ ap (λ (o : Option ScriptLine). c.pop.new.self.items ++ option_to_list o) c.in-Some.is in
     let next = next_line c.args.lines.items past c.loop-line.lines.items c.pop.new.self.items line c.loop-line.invariant.1 popped in
-    (past ++ line ∷ [], append_assoc past (line ∷ []) left ∙ next, records_more c.args.start past line c.loop-line.text.items c.append_step.new.text.items c.loop-line.invariant.2 c.in_ok-append_step.ensures)
+    (past ++ line ∷ [], append_assoc past (line ∷ []) left ∙ next, written_more c.args.start past line c.loop-line.core c.append_step.new.core c.loop-line.text.items c.append_step.new.text.items c.loop-line.invariant.2 c.in_ok-append_step.ensures)
