@@ -162,6 +162,10 @@ number_format IsLow most wide = record {
   on = λ n c fits g. number_on most n c wide g;
 }
 
+-- a zero is a number of its own
+pub zero_read : (most : ℕ) (cs : List ℕ) → number_at most (48 ∷ cs) ≡ Ok (0, cs)
+zero_read most cs = rw (first_is most 0 (omega arith) (omega arith)) refl
+
 -- a number stops at its first byte
 pub number_stops : (most : ℕ) (bytes : List ℕ) (stop : Stop ℕ) → number_at most bytes ≡ Err stop → stop ≡ Bad bytes
 number_stops most [] stop e = sym (err_is (Bad []) stop e)
@@ -193,3 +197,15 @@ number_least most (suc n) tail m rest wide le e =
     let here = decimal_by_steps (ReadSo most) (read_one most) (read_more most) (suc n) (omega arith) (omega arith) le tail in
     let both = ok_is (digits_at most (suc n) tail) (m, rest) (sym here ∙ e) in
     omega (arith, digits_shrink most (suc n) tail, ap (λ (q : ℕ × List ℕ). length q.1) (sym both))
+
+-- whatever stands behind that byte
+pub number_stays : (most c : ℕ) (cs other : List ℕ) (stop : Stop ℕ) → number_at most (c ∷ cs) ≡ Err stop → number_at most (c ∷ other) ≡ Err (Bad (c ∷ other))
+number_stays most c cs other stop e =
+    elim (chosen (is_ascii_digit c && nat_le (c - 48) most) (cond (eqb c 48) (Ok (0, cs)) (Ok (digits_at most (c - 48) cs))) (Err (Bad (c ∷ cs))) (Err stop) e) [
+      | inl h ↦
+          elim (chosen (eqb c 48) (Ok (0, cs)) (Ok (digits_at most (c - 48) cs)) (Err stop) h.1) [
+            | inl k ↦ not_both (0, cs) stop k.1
+            | inr k ↦ not_both (digits_at most (c - 48) cs) stop k.1
+          ]
+      | inr h ↦ rw (h.0) refl
+    ]

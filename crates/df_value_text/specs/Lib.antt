@@ -3,6 +3,7 @@ pub mod Label
 pub mod Value
 pub mod Fits
 pub mod Number
+pub mod ReadWhole
 pub mod Order
 pub mod ReadTag
 pub mod ReadLabel

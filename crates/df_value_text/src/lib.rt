@@ -18,7 +18,7 @@ pub use join::append_separator;
 pub use label::append_label;
 pub use label_reader::{label_at, privilege_at, text_at};
 pub use number::{append_number, append_whole};
-pub use number_reader::{byte_at, byte_stands, number_at, short_at};
+pub use number_reader::{byte_at, byte_stands, number_at, short_at, whole_at};
 pub use privilege::append_privilege;
 pub use readers::{read_label, read_privilege, read_tag};
 pub use refused::{Fault, TextRefused};

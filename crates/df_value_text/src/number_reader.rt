@@ -1,9 +1,10 @@
 //! Reading numbers.
-ghost use Rattle.std.specs.Prelude.{◌≡◌, ◌≤◌, ◌<◌, ◌∷◌, [], length, drop, IfOk};
+ghost use Rattle.std.specs.Prelude.{◌≡◌, ◌≤◌, ◌<◌, ◌^◌, ◌∷◌, [], length, drop, IfOk};
 ghost use Rattle.df_format.specs.Reading.{text_at};
 ghost use Rattle.df_value_text.specs.Answer.{Gives};
 ghost use Rattle.df_value_text.specs.ReadTag.{short_at};
 ghost use Rattle.df_value_text.specs.Number.{begins_with, number_at, digits_at};
+ghost use Rattle.df_value_text.specs.ReadWhole.{minus, positive_at, whole_at};
 
 use crate::Fault;
 
@@ -81,4 +82,40 @@ pub fn byte_stands(bytes: &[u8], place: usize, byte: u8) -> bool
         return false;
     }
     bytes[place] == byte
+}
+
+/// The longest number of at most `most` at the place, which isn't 0, and the place behind it.
+fn positive_at(bytes: &[u8], at: usize, most: u64) -> Result<(u64, usize), Fault>
+    requires { at ≤ length bytes.now }
+    ensures exact { Gives (λ n. n) bytes.now result (positive_at most (drop at bytes.now)) }
+    ensures small { IfOk result (λ r. r.0 ≤ most) }
+    ensures onward { IfOk result (λ r. at < r.1) }
+{
+    if at == bytes.len() || bytes[at] == b'0' {
+        return Err(Fault::Bad(at));
+    }
+    number_at(bytes, at, most)
+}
+
+/// The number that is this far below 0.
+fn below_zero(distance: u64) -> i64
+    requires positive { 0 < distance }
+    requires small { distance ≤ 2 ^ 63 }
+    ensures { result ≡ minus distance }
+{
+    -((distance - 1) as i64) - 1
+}
+
+/// The longest whole number at the place, and the place behind it.
+pub fn whole_at(bytes: &[u8], at: usize) -> Result<(i64, usize), Fault>
+    requires { at ≤ length bytes.now }
+    ensures exact { Gives (λ z. z) bytes.now result (whole_at (drop at bytes.now)) }
+    ensures onward { IfOk result (λ r. at < r.1) }
+{
+    if byte_stands(bytes, at, b'-') {
+        let (distance, end) = positive_at(bytes, at + 1, 1 << 63)?;
+        return Ok((below_zero(distance), end));
+    }
+    let (number, end) = number_at(bytes, at, i64::MAX as u64)?;
+    Ok((number as i64, end))
 }

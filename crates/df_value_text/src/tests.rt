@@ -1,6 +1,7 @@
 //! Each public reader and writer on literals, whole and damaged, with the offset by hand.
 use crate::{
-    TextRefused, read_label, read_privilege, read_tag, write_label, write_privilege, write_tag,
+    Fault, TextRefused, append_whole, read_label, read_privilege, read_tag, whole_at, write_label,
+    write_privilege, write_tag,
 };
 use std::test::Fail;
 
@@ -113,5 +114,41 @@ fn privileges_are_read_to_their_end(rt: HostRuntime) -> Result<(), Fail> {
             Err(refused) => assert_eq!(rt; Err(refused), expected),
         }
     }
+    Ok(())
+}
+
+#[test]
+fn whole_numbers_are_read_to_their_end(rt: HostRuntime) -> Result<(), Fail> {
+    let alloc = rt.alloc();
+    let rows: [(&[u8], Result<(i64, usize), Fault>); 17] = [
+        (b"0", Ok((0, 1))),
+        (b"-1", Ok((-1, 2))),
+        (b"42,", Ok((42, 2))),
+        (b"-107x", Ok((-107, 4))),
+        (b"9223372036854775807", Ok((i64::MAX, 19))),
+        (b"-9223372036854775808", Ok((i64::MIN, 20))),
+        // a digit that passes the range ends the number
+        (b"9223372036854775808", Ok((922337203685477580, 18))),
+        (b"-9223372036854775809", Ok((-922337203685477580, 19))),
+        (b"01", Ok((0, 1))),
+        (b"", Err(Fault::Bad(0))),
+        (b"x", Err(Fault::Bad(0))),
+        (b"+1", Err(Fault::Bad(0))),
+        (b"-", Err(Fault::Bad(1))),
+        (b"-x", Err(Fault::Bad(1))),
+        (b"--1", Err(Fault::Bad(1))),
+        (b"-0", Err(Fault::Bad(1))),
+        (b"-01", Err(Fault::Bad(1))),
+    ];
+    for (text, expected) in rows {
+        let read = whole_at(text, 0);
+        assert_eq!(rt; read, expected);
+        if let Ok((number, end)) = read {
+            let mut again = Vec::new(alloc);
+            append_whole(number, &mut again)?;
+            assert!(rt; again.len() == end && text.starts_with(again.as_slice()));
+        }
+    }
+    assert_eq!(rt; whole_at(b"x-5", 1), Ok((-5, 3)));
     Ok(())
 }

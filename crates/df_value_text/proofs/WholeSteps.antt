@@ -1,0 +1,33 @@
+-- The reader of whole numbers, step by step.
+use Rattle.std.proofs.Common.{◌≡◌, ℕ, ◌+◌, ◌<◌, true, false, List, [], ◌∷◌, drop, Ok, Err, refl, ap, ◌∙◌, arith}
+use Rattle.std.specs.Prelude.{pos}
+use Rattle.df_format.specs.Reading.{Stop, as_at}
+use Rattle.df_value_text.specs.Number.{number_at, begins_with}
+use Rattle.df_value_text.specs.ReadWhole.{positive_at, minus, whole_at}
+use Rattle.df_value_text.proofs.WholeLaws.{positive_format}
+use Rattle.df_value_text.proofs.TagSteps.{behind_it}
+
+whole_minus : (bytes : List ℕ) (at : ℕ) → begins_with 45 (drop at bytes) ≡ true → whole_at (drop at bytes) ≡ as_at minus (positive_at 9223372036854775808) (drop (at + 1) bytes)
+whole_minus bytes at h =
+    let b = behind_it bytes at 45 h in
+    ap whole_at b.1 ∙ rw (b.2) refl
+
+whole_plain : (bytes : List ℕ) → begins_with 45 bytes ≡ false → whole_at bytes ≡ as_at pos (number_at 9223372036854775807) bytes
+whole_plain [] h = refl
+whole_plain (c ∷ cs) h = rw h refl
+
+pub minus_stops : (bytes : List ℕ) (at : ℕ) (stop : Stop ℕ) → begins_with 45 (drop at bytes) ≡ true → positive_at 9223372036854775808 (drop (at + 1) bytes) ≡ Err stop → whole_at (drop at bytes) ≡ Err stop
+minus_stops bytes at stop h e = whole_minus bytes at h ∙ rw e refl
+
+pub minus_reads : (bytes : List ℕ) (at end n : ℕ) → begins_with 45 (drop at bytes) ≡ true → positive_at 9223372036854775808 (drop (at + 1) bytes) ≡ Ok (n, drop end bytes) → whole_at (drop at bytes) ≡ Ok (minus n, drop end bytes)
+minus_reads bytes at end n h e = whole_minus bytes at h ∙ rw e refl
+
+pub plain_stops : (bytes : List ℕ) (at : ℕ) (stop : Stop ℕ) → begins_with 45 (drop at bytes) ≡ false → number_at 9223372036854775807 (drop at bytes) ≡ Err stop → whole_at (drop at bytes) ≡ Err stop
+plain_stops bytes at stop h e = whole_plain (drop at bytes) h ∙ rw e refl
+
+pub plain_reads : (bytes : List ℕ) (at end n : ℕ) → begins_with 45 (drop at bytes) ≡ false → number_at 9223372036854775807 (drop at bytes) ≡ Ok (n, drop end bytes) → whole_at (drop at bytes) ≡ Ok (pos n, drop end bytes)
+plain_reads bytes at end n h e = whole_plain (drop at bytes) h ∙ rw e refl
+
+-- what is read behind the sign isn't 0
+pub is_positive : (bytes : List ℕ) (n : ℕ) (rest : List ℕ) → positive_at 9223372036854775808 bytes ≡ Ok (n, rest) → 0 < n
+is_positive bytes n rest e = ((positive_format (λ front rest. ⊥) 9223372036854775808 (omega arith)).found bytes n rest e).fits.0
