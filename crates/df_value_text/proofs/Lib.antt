@@ -2,12 +2,14 @@ pub mod Joins
 pub mod Values
 pub mod NumberLaws
 pub mod WholeLaws
+pub mod NameLaws
 pub mod TagLaws
 pub mod TagSetLaws
 pub mod LabelLaws
 pub mod Loops
 pub mod TagSteps
 pub mod WholeSteps
+pub mod NameSteps
 pub mod Answering
 pub mod RightSteps
 pub mod OrderLaws

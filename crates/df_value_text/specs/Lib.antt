@@ -4,6 +4,7 @@ pub mod Value
 pub mod Fits
 pub mod Number
 pub mod ReadWhole
+pub mod ReadName
 pub mod Order
 pub mod ReadTag
 pub mod ReadLabel

@@ -4,6 +4,7 @@
 mod join;
 mod label;
 mod label_reader;
+mod name_reader;
 mod number;
 mod number_reader;
 mod privilege;
@@ -17,6 +18,7 @@ mod writers;
 pub use join::append_separator;
 pub use label::append_label;
 pub use label_reader::{label_at, privilege_at, text_at};
+pub use name_reader::name_at;
 pub use number::{append_number, append_whole};
 pub use number_reader::{byte_at, byte_stands, number_at, short_at, whole_at};
 pub use privilege::append_privilege;

@@ -1,7 +1,7 @@
 //! Each public reader and writer on literals, whole and damaged, with the offset by hand.
 use crate::{
-    Fault, TextRefused, append_whole, read_label, read_privilege, read_tag, whole_at, write_label,
-    write_privilege, write_tag,
+    Fault, TextRefused, append_whole, name_at, read_label, read_privilege, read_tag, whole_at,
+    write_label, write_privilege, write_tag,
 };
 use std::test::Fail;
 
@@ -150,5 +150,40 @@ fn whole_numbers_are_read_to_their_end(rt: HostRuntime) -> Result<(), Fail> {
         }
     }
     assert_eq!(rt; whole_at(b"x-5", 1), Ok((-5, 3)));
+    Ok(())
+}
+
+#[test]
+fn names_are_read_to_their_end(rt: HostRuntime) -> Result<(), Fail> {
+    let rows: [(&[u8], Result<usize, Fault>); 17] = [
+        (b"a", Ok(1)),
+        (b"price=5", Ok(5)),
+        (b"x_9z.", Ok(4)),
+        (b"aB", Ok(1)),
+        (b"a-b", Ok(1)),
+        (b"a`", Ok(1)),
+        (b"z{", Ok(1)),
+        (b"a/", Ok(1)),
+        (b"a:", Ok(1)),
+        // the 33rd byte ends the name
+        (b"abcdefghijklmnopqrstuvwxyz_01234", Ok(32)),
+        (b"abcdefghijklmnopqrstuvwxyz_012345", Ok(32)),
+        (b"", Err(Fault::Bad(0))),
+        (b"1a", Err(Fault::Bad(0))),
+        (b"_a", Err(Fault::Bad(0))),
+        (b"A", Err(Fault::Bad(0))),
+        (b"`a", Err(Fault::Bad(0))),
+        (b"{a", Err(Fault::Bad(0))),
+    ];
+    for (text, expected) in rows {
+        match name_at(text, 0) {
+            Ok((name, end)) => {
+                assert_eq!(rt; Ok(end), expected);
+                assert!(rt; name.as_bytes().len() == end && text.starts_with(name.as_bytes()));
+            }
+            Err(fault) => assert_eq!(rt; Err(fault), expected),
+        }
+    }
+    assert!(rt; name_at(b"{|} price 5", 4).is_ok_and(|(_, end)| end == 9));
     Ok(())
 }
