@@ -3,6 +3,7 @@ pub mod Values
 pub mod NumberLaws
 pub mod WholeLaws
 pub mod NameLaws
+pub mod BytesLaws
 pub mod TagLaws
 pub mod TagSetLaws
 pub mod LabelLaws
@@ -10,6 +11,7 @@ pub mod Loops
 pub mod TagSteps
 pub mod WholeSteps
 pub mod NameSteps
+pub mod BytesSteps
 pub mod Answering
 pub mod RightSteps
 pub mod OrderLaws

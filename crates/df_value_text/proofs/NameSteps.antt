@@ -14,7 +14,8 @@ none_left (suc most) (c ∷ cs) e = absurd (omega (arith, e))
 pub none_there : (most place : ℕ) (bytes : List ℕ) → length bytes ≤ place → name_bytes most (drop place bytes) ≡ 0
 none_there most place bytes le = ap (name_bytes most) (drop_all place bytes le)
 
-first_of : (bytes : List ℕ) (place : ℕ) → place < length bytes → drop place bytes ≡ get_or bytes place 0 ∷ drop (place + 1) bytes
+-- the first byte, and those behind it
+pub first_of : (bytes : List ℕ) (place : ℕ) → place < length bytes → drop place bytes ≡ get_or bytes place 0 ∷ drop (place + 1) bytes
 first_of bytes place lt = rw (add-one, drop-cons bytes place 0 lt) refl
 
 pub none_fits : (most place : ℕ) (bytes : List ℕ) → place < length bytes → is_name_byte (get_or bytes place 0) ≡ false → name_bytes most (drop place bytes) ≡ 0

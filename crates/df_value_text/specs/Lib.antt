@@ -5,6 +5,7 @@ pub mod Fits
 pub mod Number
 pub mod ReadWhole
 pub mod ReadName
+pub mod ReadBytes
 pub mod Order
 pub mod ReadTag
 pub mod ReadLabel

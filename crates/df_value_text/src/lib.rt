@@ -1,6 +1,7 @@
 //! The one spelling of numbers, tags, labels, privileges and values, and exact readers of it.
 #![tactic(auto)]
 
+mod bytes_reader;
 mod join;
 mod label;
 mod label_reader;
@@ -15,6 +16,7 @@ mod tag_reader;
 mod value;
 mod writers;
 
+pub use bytes_reader::bytes_at;
 pub use join::append_separator;
 pub use label::append_label;
 pub use label_reader::{label_at, privilege_at, text_at};

@@ -8,11 +8,18 @@ use crate::Fault;
 use df_frozen::Name;
 use std::str;
 
+/// Whether this is a letter a to z.
+fn is_letter(byte: u8) -> bool
+    ensures { result ≡ is_letter byte }
+{
+    byte.is_ascii_lowercase()
+}
+
 /// Whether this is a letter a to z, a digit or `_`.
 fn is_name_byte(byte: u8) -> bool
     ensures { result ≡ is_name_byte byte }
 {
-    byte.is_ascii_lowercase() || byte.is_ascii_digit() || byte == b'_'
+    is_letter(byte) || byte.is_ascii_digit() || byte == b'_'
 }
 
 /// The place behind the further bytes of a name, of which there are at most 31.
@@ -45,7 +52,7 @@ pub fn name_at(bytes: &[u8], at: usize) -> Result<(Name, usize), Fault>
     ensures exact { Gives (λ n. n) bytes.now result (name_at (drop at bytes.now)) }
     ensures onward { IfOk result (λ r. at < r.1) }
 {
-    if at == bytes.len() || !bytes[at].is_ascii_lowercase() {
+    if at == bytes.len() || !is_letter(bytes[at]) {
         return Err(Fault::Bad(at));
     }
     let end = name_end(bytes, at + 1);

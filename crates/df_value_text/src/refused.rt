@@ -51,6 +51,14 @@ impl From<NoMemory> for Fault {
     }
 }
 
+impl From<df_frozen::NoMemory> for Fault {
+    ghost from_gives = { λ e f. f ≡ fault.NoMemory };
+
+    fn from(_error: df_frozen::NoMemory) -> Fault {
+        Fault::NoMemory
+    }
+}
+
 impl From<Fault> for TextRefused {
     ghost from_gives = { λ f e. e ≡ refusal f };
 

@@ -1,7 +1,7 @@
 //! Each public reader and writer on literals, whole and damaged, with the offset by hand.
 use crate::{
-    Fault, TextRefused, append_whole, name_at, read_label, read_privilege, read_tag, whole_at,
-    write_label, write_privilege, write_tag,
+    Fault, TextRefused, append_whole, bytes_at, name_at, read_label, read_privilege, read_tag,
+    whole_at, write_label, write_privilege, write_tag,
 };
 use std::test::Fail;
 
@@ -185,5 +185,42 @@ fn names_are_read_to_their_end(rt: HostRuntime) -> Result<(), Fail> {
         }
     }
     assert!(rt; name_at(b"{|} price 5", 4).is_ok_and(|(_, end)| end == 9));
+    Ok(())
+}
+
+#[test]
+fn bytes_are_read_to_their_end(rt: HostRuntime) -> Result<(), Fail> {
+    let alloc = rt.alloc();
+    let whole: [(&[u8], &[u8], usize); 4] = [
+        (b"x\"\"", b"", 3),
+        (b"x\"00\"", b"\x00", 5),
+        (b"x\"0aff97\" ", b"\x0a\xff\x97", 9),
+        (b"x\"22\"\"", b"\"", 5),
+    ];
+    for (text, content, end) in whole {
+        match bytes_at(alloc, text, 0) {
+            Ok((blob, place)) => assert!(rt; blob.as_slice() == content && place == end),
+            Err(_) => assert!(rt; false),
+        }
+    }
+    let damaged: [(&[u8], usize); 14] = [
+        (b"", 0),
+        (b"\"\"", 0),
+        (b"x", 1),
+        (b"x0", 1),
+        (b"x\"", 2),
+        (b"x\"g0\"", 2),
+        (b"x\"A0\"", 2),
+        (b"x\"a", 3),
+        (b"x\"a\"", 3),
+        (b"x\"0F\"", 3),
+        (b"x\"0/\"", 3),
+        (b"x\"0:\"", 3),
+        (b"x\"0`\"", 3),
+        (b"x\"00 11\"", 4),
+    ];
+    for (text, place) in damaged {
+        assert!(rt; bytes_at(alloc, text, 0).is_err_and(|fault| fault == Fault::Bad(place)));
+    }
     Ok(())
 }

@@ -11,4 +11,4 @@ invariant-loop-count l = record {
 }
 
 abbrev pub decreases-loop-count : goal.decreases-loop-count
-decreases-loop-count l = 31 - l.count
+decreases-loop-count l = length l.bytes - (l.at + l.count)

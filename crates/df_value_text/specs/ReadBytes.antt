@@ -1,0 +1,33 @@
+-- Reading bytes, in pairs of hexadecimal digits.
+use Rattle.std.specs.Prelude.{ℕ, ◌+◌, ◌-◌, ◌*◌, ◌<◌, Bool, ◌&&◌, ◌||◌, List, [], ◌∷◌, Ok, Err, nat_le, nat_lt, if◌then◌else◌, ⊤}
+use Rattle.df_format.specs.Reading.{Bad, Read, ◌>>=◌, behind_at, closed_at}
+
+-- 0 to 9 or a to f
+abbrev pub is_hex : ℕ → Bool
+is_hex c = (nat_le 48 c && nat_le c 57) || (nat_le 97 c && nat_le c 102)
+
+-- what the digit stands for
+abbrev pub hex_value : ℕ → ℕ
+hex_value c = if nat_lt c 58 then c - 48 else c - 87
+
+-- the byte of two digits
+abbrev pub hex_byte : ℕ → ℕ → ℕ
+hex_byte high low = 16 * hex_value high + hex_value low
+
+-- as many pairs of digits as there are
+abbrev pub pairs_at : List ℕ → Read ℕ (List ℕ)
+pairs_at [] = Ok ([], [])
+pairs_at (a ∷ []) = if is_hex a then Err (Bad []) else Ok ([], a ∷ [])
+pairs_at (a ∷ b ∷ cs) =
+    if is_hex a
+    then (if is_hex b then (pairs_at cs >>= λ xs. Ok (hex_byte a b ∷ xs.0, xs.1)) else Err (Bad (b ∷ cs)))
+    else Ok ([], a ∷ b ∷ cs)
+
+-- bytes, behind `x"` and in front of `"`
+abbrev pub bytes_at : List ℕ → Read ℕ (List ℕ)
+bytes_at bytes = behind_at (120 ∷ 34 ∷ []) (closed_at (34 ∷ []) pairs_at) bytes
+
+-- bytes of 8 bits
+abbrev pub AreBytes : List ℕ → Type 0
+AreBytes [] = ⊤
+AreBytes (b ∷ bs) = (b < 256) × AreBytes bs
