@@ -26,14 +26,14 @@ value_small c h = grind (arith, nat_tests)
 digit_back : (c : ℕ) → is_hex c ≡ true → hex_digit (hex_value c) ≡ c
 digit_back c h = grind (arith, nat_tests)
 
-digit_is : (d : ℕ) → d < 16 → is_hex (hex_digit d) ≡ true
+pub digit_is : (d : ℕ) → d < 16 → is_hex (hex_digit d) ≡ true
 digit_is d lt = grind (arith, nat_tests)
 
-digit_value : (d : ℕ) → d < 16 → hex_value (hex_digit d) ≡ d
+pub digit_value : (d : ℕ) → d < 16 → hex_value (hex_digit d) ≡ d
 digit_value d lt = grind (arith, nat_tests)
 
 -- two digits are those of their byte
-pair_back : (a b : ℕ) → is_hex a ≡ true → is_hex b ≡ true → hex (hex_byte a b) ≡ a ∷ b ∷ []
+pub pair_back : (a b : ℕ) → is_hex a ≡ true → is_hex b ≡ true → hex (hex_byte a b) ≡ a ∷ b ∷ []
 pair_back a b ha hb =
     let high : (16 * hex_value a + hex_value b) / 16 ≡ hex_value a = omega (arith, value_small a ha, value_small b hb) in
     let low : (16 * hex_value a + hex_value b) % 16 ≡ hex_value b = omega (arith, value_small a ha, value_small b hb) in

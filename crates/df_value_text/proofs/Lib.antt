@@ -4,6 +4,7 @@ pub mod NumberLaws
 pub mod WholeLaws
 pub mod NameLaws
 pub mod BytesLaws
+pub mod EscapeLaws
 pub mod TagLaws
 pub mod TagSetLaws
 pub mod LabelLaws

@@ -6,6 +6,7 @@ pub mod Number
 pub mod ReadWhole
 pub mod ReadName
 pub mod ReadBytes
+pub mod ReadEscape
 pub mod Order
 pub mod ReadTag
 pub mod ReadLabel
