@@ -10,7 +10,7 @@ use Rattle.df_machine.specs.declared.start.RootStart.{RootStart}
 use Rattle.df_rules.specs.Legal.{answered, run}
 use Rattle.df_rules.specs.Start.{rows}
 use Rattle.df_unit.specs.declared.call.Call.{Call}
-use Rattle.df_unit.specs.declared.call.Call.TheVariants.{CreateEvent, AddPart, DelPart, ReadPart, CloneEvent, AttachPrivilege, ChangeOutLabel, CreateTag, DropEvent, Subscribe, SubscribeManaged, Get, Publish, Release, ChangeInOut, Instantiate}
+use Rattle.df_unit.specs.declared.call.Call.TheVariants.{SubscribeManaged, Instantiate}
 use Rattle.df_unit.specs.declared.entry.Entry.{Entry}
 use Rattle.df_unit.specs.declared.name.UnitName.{UnitName}
 use Rattle.df_unit.specs.Served.{IsBuilt}
@@ -72,22 +72,9 @@ written_more roots ls l old new before now w a =
 
 -- the calls of scripts are built
 pub read_is_built : (c : Call) → IsReadCall c → IsBuilt c
-read_is_built CreateEvent h = tt
-read_is_built (AddPart a b c d) h = tt
-read_is_built (ReadPart a b) h = tt
-read_is_built (Subscribe f) h = tt
-read_is_built Get h = tt
-read_is_built (Publish a) h = tt
-read_is_built (DelPart a b c) h = absurd h
-read_is_built (CloneEvent a b) h = absurd h
-read_is_built (AttachPrivilege a b c d) h = absurd h
-read_is_built (ChangeOutLabel a b c) h = absurd h
-read_is_built CreateTag h = absurd h
-read_is_built (DropEvent a) h = absurd h
 read_is_built (SubscribeManaged f) h = absurd h
-read_is_built (Release a) h = absurd h
-read_is_built (ChangeInOut a b c) h = absurd h
 read_is_built (Instantiate a b) h = absurd h
+read_is_built _ h = tt
 
 -- a script that isn't read is the text of none
 pub refuses_line : (bytes : List ℕ) (refused : FileRefused) → (refused ≡ Syntax 0 → (roots : List RootStart) (lines : List ScriptLine) → IsScript roots lines → bytes ≡ script_text roots lines → ⊥) → NamesNoLine refused → RefusesLine bytes refused

@@ -1,23 +1,18 @@
 //! What a call is answered, before anything moves.
 
 ghost use Rattle.std.specs.Prelude.{◌≡◌, [], false, IfOk, option_copied, option_to_list};
-ghost use Rattle.df_unit.specs.Rows.{effect, is_accepted, reply, subscribed};
+ghost use Rattle.df_unit.specs.Rows.{effect, is_accepted, reply};
 ghost use Rattle.df_unit.specs.Served.{IsBuilt};
 ghost use Rattle.df_unit.specs.declared.call.Call.{Call};
 ghost use Rattle.df_unit.specs.declared.entry.Effect.{Effect};
 ghost use Rattle.df_unit.specs.declared.reply.Reply.{Reply};
-ghost use Rattle.df_local.specs.Locally.{IsRefusal, added_reply, done_by};
+ghost use Rattle.df_local.specs.Locally.{IsRefusal, closing, done_by};
 
 use crate::Local;
 use crate::close::{Close, EditRefused};
-use crate::draft::MOST_PARTS;
-use crate::handles::{handle_at, is_full, least_free};
-use crate::parts::shown;
-use crate::read::visible_named;
-use crate::receive::MOST_SUBS;
-use df_frozen::Name;
+use crate::handles::{is_full, least_free};
 use df_label::NoMemory;
-use df_unit::{Call, Commit, Effect, Given, PartsRead, Reply};
+use df_unit::{Call, Commit, Effect, Given, Reply};
 
 /// What a call is answered, and what it does beyond the unit.
 #[derive(Drop)]
@@ -46,63 +41,22 @@ impl Local {
         match call {
             Call::CreateEvent => Ok(quiet(self.create_reply())),
             Call::AddPart { h, .. } => Ok(quiet(self.add_reply(*h))),
+            Call::DelPart { h, label, name } => Ok(quiet(self.del_reply(*h, label, name)?)),
             Call::ReadPart { h, name } => Ok(quiet(self.read_reply(*h, name)?)),
+            Call::CloneEvent { h, label } => Ok(quiet(self.clone_reply(*h, label)?)),
+            Call::AttachPrivilege { h, label, name, p } => {
+                Ok(quiet(self.attach_reply(*h, label, name, p)?))
+            }
+            Call::ChangeOutLabel { act, tag, .. } => Ok(quiet(self.out_reply(*act, tag)?)),
+            Call::CreateTag => Ok(quiet(self.tag_reply()?)),
+            Call::DropEvent { h } => Ok(quiet(self.drop_reply(*h))),
             Call::Subscribe { .. } => Ok(quiet(self.sub_reply())),
             Call::Get => self.get_answer(next),
-            Call::Publish { h } => self.publish_answer(*h),
+            Call::Publish { h } => self.closing_answer(*h, Close::Publish),
+            Call::Release { h } => self.closing_answer(*h, Close::Release),
+            Call::ChangeInOut { act, tag, .. } => Ok(quiet(self.in_out_reply(*act, tag)?)),
             _ => unreachable!(),
         }
-    }
-
-    #[tactic(auto, using(crate::proofs::OpenHandles::least_free_within))]
-    fn create_reply(&self) -> Reply
-        ensures { result ≡ reply self.now.unit self.now.own [] Call.CreateEvent }
-    {
-        if is_full(self.handles.as_slice()) {
-            return Reply::TooManyHandles;
-        }
-        if self.events == u32::MAX {
-            return Reply::Exhausted;
-        }
-        Reply::Handle(least_free(self.handles.as_slice()) as u32)
-    }
-
-    fn add_reply(&self, h: u32) -> Reply
-        ensures { result ≡ added_reply self.now.own h }
-    {
-        let Some(handle) = handle_at(self.handles.as_slice(), h) else {
-            return Reply::NoSuchHandle;
-        };
-        if handle.drafted.as_slice().len() >= MOST_PARTS {
-            return Reply::TooManyParts { wanted: 65 };
-        }
-        Reply::Ok
-    }
-
-    fn read_reply(&self, h: u32, name: &Name) -> Result<Reply, NoMemory>
-        ensures { IfOk result (λ r. r ≡ reply self.now.unit self.now.own [] (Call.ReadPart h name.now)) }
-    {
-        let Some(handle) = handle_at(self.handles.as_slice(), h) else {
-            return Ok(Reply::NoSuchHandle);
-        };
-        let parts = visible_named(self.alloc, &self.input, name, handle)?;
-        if parts.is_empty() {
-            return Ok(Reply::NoSuchPart);
-        }
-        let shown = shown(self.alloc, parts.as_slice())?;
-        Ok(Reply::Parts(PartsRead::new(shown)))
-    }
-
-    fn sub_reply(&self) -> Reply
-        ensures { result ≡ subscribed self.now.unit self.now.own }
-    {
-        if self.is_instance() {
-            return Reply::NotInManaged;
-        }
-        if self.subs >= MOST_SUBS {
-            return Reply::TooManySubs;
-        }
-        Reply::Sub(self.subs)
     }
 
     #[tactic(auto, using(crate::proofs::OpenHandles::least_free_within))]
@@ -127,11 +81,11 @@ impl Local {
         })
     }
 
-    fn publish_answer(&self, h: u32) -> Result<Answer, NoMemory>
-        ensures reply { IfOk result (λ a. a.reply ≡ reply self.now.unit self.now.own [] (Call.Publish h)) }
-        ensures effect { IfOk result (λ a. a.effect ≡ effect self.now.unit self.now.own [] (Call.Publish h)) }
+    fn closing_answer(&self, h: u32, how: Close) -> Result<Answer, NoMemory>
+        ensures reply { IfOk result (λ a. a.reply ≡ reply self.now.unit self.now.own [] (closing how h)) }
+        ensures effect { IfOk result (λ a. a.effect ≡ effect self.now.unit self.now.own [] (closing how h)) }
     {
-        match self.edit_of(h, Close::Publish) {
+        match self.edit_of(h, how) {
             Ok(commit) => Ok(Answer {
                 reply: Reply::Ok,
                 effect: done_by(commit),

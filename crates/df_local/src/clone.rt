@@ -1,15 +1,18 @@
 //! Cloning an event.
 
-ghost use Rattle.std.specs.Prelude.{◌≡◌, ◌+◌, ◌++◌, length, IfOk, OnErr, OnOk};
-ghost use Rattle.df_unit.specs.Drafts.{clone, cloned, source, visible};
+ghost use Rattle.std.specs.Prelude.{◌≡◌, ◌++◌, [], length, IfOk, OnErr, OnOk};
+ghost use Rattle.df_unit.specs.Drafts.{clone, cloned, source};
+ghost use Rattle.df_unit.specs.Rows.{changed, reply};
 ghost use Rattle.df_unit.specs.declared.call.Call.{Call};
-ghost use Rattle.df_local.specs.Locally.{Answers};
+ghost use Rattle.df_unit.specs.declared.entry.Effect.{Effect};
+ghost use Rattle.df_local.specs.Locally.{Answers, with_own};
 
 use crate::Local;
 use crate::draft::MOST_PARTS;
-use crate::handles::{handle_at, is_full};
+use crate::handles::{handle_at, is_full, least_free};
 use crate::parts::{new_part, raised};
 use crate::read::visible;
+use crate::take::is_accepted;
 use df_label::{Label, NoMemory};
 use df_part::{Part, PartRef};
 use df_unit::{Drafts, Handle, Reply};
@@ -21,29 +24,62 @@ impl Local {
         ensures ok { IfOk result (λ r. Answers (Call.CloneEvent h label.now) r self.old self.new) }
         ensures unchanged { OnErr result (self.new ≡ self.old) }
     {
+        let reply = match self.clone_reply(h, label) {
+            Ok(reply) => reply,
+            Err(refused) => return Err(refused),
+        };
+        if !is_accepted(&reply) {
+            return Ok(reply);
+        }
+        match self.put_clone(h, label) {
+            Ok(()) => Ok(reply),
+            Err(refused) => Err(refused),
+        }
+    }
+
+    #[tactic(auto, using(crate::proofs::OpenHandles::least_free_within))]
+    pub(crate) fn clone_reply(&self, h: u32, label: &Label) -> Result<Reply, NoMemory>
+        ensures { IfOk result (λ r. r ≡ reply self.now.unit self.now.own [] (Call.CloneEvent h label.now)) }
+    {
         let Some(handle) = handle_at(self.handles.as_slice(), h) else {
             return Ok(Reply::NoSuchHandle);
         };
         if is_full(self.handles.as_slice()) {
             return Ok(Reply::TooManyHandles);
         }
-        let parts = match cloned(self.alloc, &self.output, label, &self.input, handle) {
-            Ok(parts) => parts,
-            Err(refused) => return Err(refused),
-        };
-        if parts.len() > MOST_PARTS {
+        let count = source_count(self.alloc, &self.input, handle)?;
+        if count > MOST_PARTS {
             return Ok(Reply::TooManyParts {
-                wanted: parts.len() as u64,
+                wanted: count as u64,
             });
         }
         if self.events == u32::MAX {
             return Ok(Reply::Exhausted);
         }
-        match self.open_draft(Drafts::new(parts)) {
-            Ok(h) => Ok(Reply::Handle(h)),
+        Ok(Reply::Handle(least_free(self.handles.as_slice()) as u32))
+    }
+
+    pub(crate) fn put_clone(&mut self, h: u32, label: &Label) -> Result<(), NoMemory>
+        ensures ok { OnOk result (self.new ≡ with_own self.old (changed self.old.unit self.old.own (Call.CloneEvent h label.now) Effect.Nothing)) }
+        ensures unchanged { OnErr result (self.new ≡ self.old) }
+    {
+        let Some(handle) = handle_at(self.handles.as_slice(), h) else {
+            return self.put_draft(Drafts::new(Vec::new(self.alloc)));
+        };
+        match cloned(self.alloc, &self.output, label, &self.input, handle) {
+            Ok(parts) => self.put_draft(Drafts::new(parts)),
             Err(refused) => Err(refused),
         }
     }
+}
+
+/// How many parts a clone copies.
+fn source_count(alloc: Global, input: &Label, handle: &Handle) -> Result<usize, NoMemory>
+    ensures { IfOk result (λ n. n ≡ length (source input.now handle.now)) }
+{
+    let seen = visible(alloc, input, handle)?.len();
+    let drafted = handle.drafted.as_slice().len();
+    seen.checked_add(drafted).ok_or(NoMemory)
 }
 
 /// A copy of each visible part, and then of each drafted one.
@@ -54,8 +90,7 @@ fn cloned(
     input: &Label,
     handle: &Handle,
 ) -> Result<Vec<Part>, NoMemory>
-    ensures parts { IfOk result (λ v. v.items ≡ cloned output.now label.now (source input.now handle.now)) }
-    ensures count { IfOk result (λ v. length v.items ≡ length (source input.now handle.now)) }
+    ensures { IfOk result (λ v. v.items ≡ cloned output.now label.now (source input.now handle.now)) }
 {
     let seen = visible(alloc, input, handle)?;
     let mut parts = Vec::new(alloc);

@@ -1,14 +1,15 @@
 //! Opening drafts, and drafting parts.
 
-ghost use Rattle.std.specs.Prelude.{◌≡◌, false, IfOk, OnOk, OnErr};
-ghost use Rattle.df_unit.specs.Handles.{is_full, least_free};
-ghost use Rattle.df_unit.specs.Rows.{drafting};
+ghost use Rattle.std.specs.Prelude.{◌≡◌, [], IfOk, OnOk, OnErr};
+ghost use Rattle.df_unit.specs.Rows.{changed, drafting, reply};
 ghost use Rattle.df_unit.specs.declared.call.Call.{Call};
-ghost use Rattle.df_local.specs.Locally.{Answers, with_own};
+ghost use Rattle.df_unit.specs.declared.entry.Effect.{Effect};
+ghost use Rattle.df_local.specs.Locally.{Answers, added_reply, with_own};
 
 use crate::Local;
-use crate::handles::{close, draft, handle_at, is_full, least_free, open};
+use crate::handles::{draft, handle_at, is_full, least_free, open};
 use crate::parts::new_part;
+use crate::take::is_accepted;
 use df_frozen::{Frozen, Name};
 use df_label::{Label, NoMemory};
 use df_unit::{Drafts, EventName, Handle, Parts, Reply, Spots};
@@ -22,32 +23,27 @@ impl Local {
         ensures ok { IfOk result (λ r. Answers Call.CreateEvent r self.old self.new) }
         ensures unchanged { OnErr result (self.new ≡ self.old) }
     {
-        if is_full(self.handles.as_slice()) {
-            return Ok(Reply::TooManyHandles);
+        let reply = self.create_reply();
+        if !is_accepted(&reply) {
+            return Ok(reply);
         }
-        if self.events == u32::MAX {
-            return Ok(Reply::Exhausted);
-        }
-        let drafted = Drafts::new(Vec::new(self.alloc));
-        match self.open_draft(drafted) {
-            Ok(h) => Ok(Reply::Handle(h)),
+        match self.put_draft(Drafts::new(Vec::new(self.alloc))) {
+            Ok(()) => Ok(reply),
             Err(refused) => Err(refused),
         }
     }
 
-    /// Opens a draft of the unit's next event, with these parts. Tells its handle.
     #[tactic(auto, using(crate::proofs::OpenHandles::least_free_within))]
-    pub(crate) fn open_draft(&mut self, drafted: Drafts) -> Result<u32, NoMemory>
-        requires { is_full self.old.own.handles ≡ false }
-        ensures number { IfOk result (λ h. h ≡ least_free self.old.own.handles) }
-        ensures ok { OnOk result (self.new ≡ with_own self.old (drafting self.old.unit drafted self.old.own)) }
-        ensures unchanged { OnErr result (self.new ≡ self.old) }
+    pub(crate) fn create_reply(&self) -> Reply
+        ensures { result ≡ reply self.now.unit self.now.own [] Call.CreateEvent }
     {
-        let h = least_free(self.handles.as_slice());
-        match self.put_draft(drafted) {
-            Ok(()) => Ok(h as u32),
-            Err(refused) => Err(refused),
+        if is_full(self.handles.as_slice()) {
+            return Reply::TooManyHandles;
         }
+        if self.events == u32::MAX {
+            return Reply::Exhausted;
+        }
+        Reply::Handle(least_free(self.handles.as_slice()) as u32)
     }
 
     /// Opens a draft of the unit's next event, with these parts.
@@ -91,18 +87,40 @@ impl Local {
         ensures ok { IfOk result (λ r. Answers (Call.AddPart h label.now name.now value.now) r self.old self.new) }
         ensures unchanged { OnErr result (self.new ≡ self.old) }
     {
+        let reply = self.add_reply(h);
+        if !is_accepted(&reply) {
+            return Ok(reply);
+        }
+        match self.put_part(h, label, name, value) {
+            Ok(()) => Ok(reply),
+            Err(refused) => Err(refused),
+        }
+    }
+
+    pub(crate) fn add_reply(&self, h: u32) -> Reply
+        ensures { result ≡ added_reply self.now.own h }
+    {
         let Some(handle) = handle_at(self.handles.as_slice(), h) else {
-            return Ok(Reply::NoSuchHandle);
+            return Reply::NoSuchHandle;
         };
         if handle.drafted.as_slice().len() >= MOST_PARTS {
-            return Ok(Reply::TooManyParts { wanted: 65 });
+            return Reply::TooManyParts { wanted: 65 };
         }
-        let part = match new_part(self.alloc, &self.output, label, name, value) {
-            Ok(part) => part,
-            Err(refused) => return Err(refused),
-        };
-        match draft(&mut self.handles, h, part) {
-            Ok(()) => Ok(Reply::Ok),
+        Reply::Ok
+    }
+
+    pub(crate) fn put_part(
+        &mut self,
+        h: u32,
+        label: &Label,
+        name: &Name,
+        value: &Frozen,
+    ) -> Result<(), NoMemory>
+        ensures ok { OnOk result (self.new ≡ with_own self.old (changed self.old.unit self.old.own (Call.AddPart h label.now name.now value.now) Effect.Nothing)) }
+        ensures unchanged { OnErr result (self.new ≡ self.old) }
+    {
+        match new_part(self.alloc, &self.output, label, name, value) {
+            Ok(part) => draft(&mut self.handles, h, part),
             Err(refused) => Err(refused),
         }
     }
@@ -112,10 +130,19 @@ impl Local {
         ensures ok { IfOk result (λ r. Answers (Call.DropEvent h) r self.old self.new) }
         ensures unchanged { OnErr result (self.new ≡ self.old) }
     {
-        if handle_at(self.handles.as_slice(), h).is_none() {
-            return Ok(Reply::NoSuchHandle);
+        let reply = self.drop_reply(h);
+        if is_accepted(&reply) {
+            self.shut(h);
         }
-        close(&mut self.handles, h);
-        Ok(Reply::Ok)
+        Ok(reply)
+    }
+
+    pub(crate) fn drop_reply(&self, h: u32) -> Reply
+        ensures { result ≡ reply self.now.unit self.now.own [] (Call.DropEvent h) }
+    {
+        match handle_at(self.handles.as_slice(), h) {
+            Some(_) => Reply::Ok,
+            None => Reply::NoSuchHandle,
+        }
     }
 }

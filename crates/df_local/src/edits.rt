@@ -1,18 +1,21 @@
 //! Deleting parts, and attaching privileges to drafted ones.
 
-ghost use Rattle.std.specs.Prelude.{◌≡◌, IfOk, OnOk, OnErr, not, map};
+ghost use Rattle.std.specs.Prelude.{◌≡◌, [], IfOk, OnOk, OnErr, not, map};
 ghost use Rattle.std.specs.List.{filter};
 ghost use Rattle.df_part.specs.Contents.{is_at};
 ghost use Rattle.df_unit.specs.Drafts.{attach, deleted_in, has_at, spot, visible};
 ghost use Rattle.df_unit.specs.Handles.{changed_at};
+ghost use Rattle.df_unit.specs.Rows.{changed, reply};
 ghost use Rattle.df_unit.specs.declared.call.Call.{Call};
+ghost use Rattle.df_unit.specs.declared.entry.Effect.{Effect};
 ghost use Rattle.df_unit.specs.declared.reply.Reply.{Reply};
-ghost use Rattle.df_local.specs.Locally.{Answers, has_seen};
+ghost use Rattle.df_local.specs.Locally.{Answers, has_seen, with_own};
 
 use crate::Local;
 use crate::handles::{draft_anew, handle_at};
 use crate::parts::copy_of;
 use crate::read::is_visible;
+use crate::take::is_accepted;
 use df_frozen::Name;
 use df_label::{Label, NoMemory, Privilege};
 use df_part::{Part, PartRef, Spot};
@@ -27,28 +30,20 @@ impl Local {
         ensures ok { IfOk result (λ r. Answers (Call.DelPart h label.now name.now) r self.old self.new) }
         ensures unchanged { OnErr result (self.new ≡ self.old) }
     {
-        let Some(handle) = handle_at(self.handles.as_slice(), h) else {
-            return Ok(Reply::NoSuchHandle);
-        };
-        let is_drafted = has_drafted(handle.drafted.as_slice(), name, label);
-        if !is_drafted && !has_visible(&self.input, handle, name, label) {
-            return Ok(Reply::NoSuchPart);
-        }
-        if !is_drafted && !self.output.flows_to(label) {
-            return cannot_write(&self.output, label);
-        }
-        let spot = match spot_at(name, label) {
-            Ok(spot) => spot,
+        let reply = match self.del_reply(h, label, name) {
+            Ok(reply) => reply,
             Err(refused) => return Err(refused),
         };
-        match delete_at(self.alloc, &mut self.handles, h, spot) {
-            Ok(()) => Ok(Reply::Ok),
+        if !is_accepted(&reply) {
+            return Ok(reply);
+        }
+        match self.put_deleted(h, label, name) {
+            Ok(()) => Ok(reply),
             Err(refused) => Err(refused),
         }
     }
 
     /// Attaches a privilege to all drafted parts of a name and label.
-    #[tactic(auto, using(crate::proofs::OpenHandles::changed_same))]
     pub fn attach_privilege(
         &mut self,
         h: u32,
@@ -59,25 +54,87 @@ impl Local {
         ensures ok { IfOk result (λ r. Answers (Call.AttachPrivilege h label.now name.now p.now) r self.old self.new) }
         ensures unchanged { OnErr result (self.new ≡ self.old) }
     {
+        let reply = match self.attach_reply(h, label, name, p) {
+            Ok(reply) => reply,
+            Err(refused) => return Err(refused),
+        };
+        if !is_accepted(&reply) {
+            return Ok(reply);
+        }
+        match self.put_attached(h, label, name, p) {
+            Ok(()) => Ok(reply),
+            Err(refused) => Err(refused),
+        }
+    }
+
+    pub(crate) fn del_reply(&self, h: u32, label: &Label, name: &Name) -> Result<Reply, NoMemory>
+        ensures { IfOk result (λ r. r ≡ reply self.now.unit self.now.own [] (Call.DelPart h label.now name.now)) }
+    {
+        let Some(handle) = handle_at(self.handles.as_slice(), h) else {
+            return Ok(Reply::NoSuchHandle);
+        };
+        if has_drafted(handle.drafted.as_slice(), name, label) {
+            return Ok(Reply::Ok);
+        }
+        if !has_visible(&self.input, handle, name, label) {
+            return Ok(Reply::NoSuchPart);
+        }
+        if !self.output.flows_to(label) {
+            return cannot_write(&self.output, label);
+        }
+        Ok(Reply::Ok)
+    }
+
+    pub(crate) fn put_deleted(&mut self, h: u32, label: &Label, name: &Name) -> Result<(), NoMemory>
+        ensures ok { OnOk result (self.new ≡ with_own self.old (changed self.old.unit self.old.own (Call.DelPart h label.now name.now) Effect.Nothing)) }
+        ensures unchanged { OnErr result (self.new ≡ self.old) }
+    {
+        match spot_at(name, label) {
+            Ok(spot) => delete_at(self.alloc, &mut self.handles, h, spot),
+            Err(refused) => Err(refused),
+        }
+    }
+
+    pub(crate) fn attach_reply(
+        &self,
+        h: u32,
+        label: &Label,
+        name: &Name,
+        p: &Privilege,
+    ) -> Result<Reply, NoMemory>
+        ensures { IfOk result (λ r. r ≡ reply self.now.unit self.now.own [] (Call.AttachPrivilege h label.now name.now p.now)) }
+    {
         let Some(handle) = handle_at(self.handles.as_slice(), h) else {
             return Ok(Reply::NoSuchHandle);
         };
         if !has_drafted(handle.drafted.as_slice(), name, label) {
             return Ok(Reply::NoSuchPart);
         }
-        let q = match needed_to_attach(p) {
-            Ok(q) => q,
-            Err(refused) => return Err(refused),
+        let q = needed_to_attach(p)?;
+        Ok(self.where_held(q))
+    }
+
+    #[tactic(auto, using(crate::proofs::OpenHandles::changed_same))]
+    pub(crate) fn put_attached(
+        &mut self,
+        h: u32,
+        label: &Label,
+        name: &Name,
+        p: &Privilege,
+    ) -> Result<(), NoMemory>
+        ensures ok { OnOk result (self.new ≡ with_own self.old (changed self.old.unit self.old.own (Call.AttachPrivilege h label.now name.now p.now) Effect.Nothing)) }
+        ensures unchanged { OnErr result (self.new ≡ self.old) }
+    {
+        let Some(handle) = handle_at(self.handles.as_slice(), h) else {
+            return Ok(());
         };
-        if !self.held.holds(&q) {
-            return Ok(Reply::Lacks(q));
+        match attached(self.alloc, handle.drafted.as_slice(), name, label, p) {
+            Ok(drafted) => {
+                draft_anew(&mut self.handles, h, Drafts::new(drafted));
+                Ok(())
+            }
+            Err(refused) => Err(refused),
         }
-        let drafted = match attached(self.alloc, handle.drafted.as_slice(), name, label, p) {
-            Ok(drafted) => drafted,
-            Err(refused) => return Err(refused),
-        };
-        draft_anew(&mut self.handles, h, Drafts::new(drafted));
-        Ok(Reply::Ok)
     }
 }
 

@@ -1,13 +1,17 @@
 //! Changing a unit's labels.
 
-ghost use Rattle.std.specs.Prelude.{◌≡◌, IfOk, OnErr};
+ghost use Rattle.std.specs.Prelude.{◌≡◌, if◌then◌else◌, IfOk, OnErr, OnOk};
 ghost use Rattle.df_label.specs.Label.{join};
-ghost use Rattle.df_unit.specs.Rows.{half_changed, now_dropped, now_endorsed, tag_changed};
+ghost use Rattle.df_priv.specs.Needed.{needed};
+ghost use Rattle.df_unit.specs.Rows.{changed, half_changed, is_instance, now_dropped, now_endorsed, tag_changed, where_held};
 ghost use Rattle.df_unit.specs.declared.call.Call.{Call};
+ghost use Rattle.df_unit.specs.declared.entry.Effect.{Effect};
+ghost use Rattle.df_unit.specs.declared.reply.Reply.{Reply};
 ghost use Rattle.df_local.specs.Locally.{Answers, with_own};
 
 use crate::Local;
-use df_label::{Label, NoMemory, Tag, TagSet};
+use crate::take::is_accepted;
+use df_label::{Label, NoMemory, Privilege, Tag, TagSet};
 use df_priv::{Act, Half, needed};
 use df_unit::Reply;
 
@@ -32,19 +36,17 @@ impl Local {
         ensures ok { IfOk result (λ r. Answers (Call.ChangeOutLabel half act tag.now) r self.old self.new) }
         ensures unchanged { OnErr result (self.new ≡ self.old) }
     {
-        let q = match needed(act, tag) {
-            Ok(q) => q,
+        let reply = match self.out_reply(act, tag) {
+            Ok(reply) => reply,
             Err(refused) => return Err(refused),
         };
-        if !self.held.holds(&q) {
-            return Ok(Reply::Lacks(q));
+        if !is_accepted(&reply) {
+            return Ok(reply);
         }
-        let out = match self.out_changed(half, act, tag) {
-            Ok(out) => out,
-            Err(refused) => return Err(refused),
-        };
-        self.put_out(out);
-        Ok(Reply::Ok)
+        match self.put_out(half, act, tag) {
+            Ok(()) => Ok(reply),
+            Err(refused) => Err(refused),
+        }
     }
 
     /// Changes both labels, each by itself.
@@ -52,27 +54,76 @@ impl Local {
         ensures ok { IfOk result (λ r. Answers (Call.ChangeInOut half act tag.now) r self.old self.new) }
         ensures unchanged { OnErr result (self.new ≡ self.old) }
     {
+        let reply = match self.in_out_reply(act, tag) {
+            Ok(reply) => reply,
+            Err(refused) => return Err(refused),
+        };
+        if !is_accepted(&reply) {
+            return Ok(reply);
+        }
+        match self.put_in_out(half, act, tag) {
+            Ok(()) => Ok(reply),
+            Err(refused) => Err(refused),
+        }
+    }
+
+    /// That all is well where the privilege is held, else that it lacks.
+    pub(crate) fn where_held(&self, q: Privilege) -> Reply
+        ensures { result ≡ where_held self.now.own q Reply.Ok }
+    {
+        if self.held.holds(&q) {
+            Reply::Ok
+        } else {
+            Reply::Lacks(q)
+        }
+    }
+
+    pub(crate) fn out_reply(&self, act: Act, tag: &Tag) -> Result<Reply, NoMemory>
+        ensures { IfOk result (λ r. r ≡ where_held self.now.own (needed act tag.now) Reply.Ok) }
+    {
+        let q = needed(act, tag)?;
+        Ok(self.where_held(q))
+    }
+
+    pub(crate) fn in_out_reply(&self, act: Act, tag: &Tag) -> Result<Reply, NoMemory>
+        ensures { IfOk result (λ r. r ≡ (if is_instance self.now.unit then Reply.NotInManaged else where_held self.now.own (needed act tag.now) Reply.Ok)) }
+    {
         if self.is_instance() {
             return Ok(Reply::NotInManaged);
         }
-        let q = match needed(act, tag) {
-            Ok(q) => q,
-            Err(refused) => return Err(refused),
-        };
-        if !self.held.holds(&q) {
-            return Ok(Reply::Lacks(q));
+        let q = needed(act, tag)?;
+        Ok(self.where_held(q))
+    }
+
+    pub(crate) fn put_out(&mut self, half: Half, act: Act, tag: &Tag) -> Result<(), NoMemory>
+        ensures ok { OnOk result (self.new ≡ with_own self.old (changed self.old.unit self.old.own (Call.ChangeOutLabel half act tag.now) Effect.Nothing)) }
+        ensures unchanged { OnErr result (self.new ≡ self.old) }
+    {
+        match self.out_changed(half, act, tag) {
+            Ok(out) => {
+                self.set_out(out);
+                Ok(())
+            }
+            Err(refused) => Err(refused),
         }
+    }
+
+    pub(crate) fn put_in_out(&mut self, half: Half, act: Act, tag: &Tag) -> Result<(), NoMemory>
+        ensures ok { OnOk result (self.new ≡ with_own self.old (changed self.old.unit self.old.own (Call.ChangeInOut half act tag.now) Effect.Nothing)) }
+        ensures unchanged { OnErr result (self.new ≡ self.old) }
+    {
         let ins = match self.in_changed(half, act, tag) {
             Ok(ins) => ins,
             Err(refused) => return Err(refused),
         };
-        let out = match self.out_changed(half, act, tag) {
-            Ok(out) => out,
-            Err(refused) => return Err(refused),
-        };
-        self.put_in(ins);
-        self.put_out(out);
-        Ok(Reply::Ok)
+        match self.out_changed(half, act, tag) {
+            Ok(out) => {
+                self.set_in(ins);
+                self.set_out(out);
+                Ok(())
+            }
+            Err(refused) => Err(refused),
+        }
     }
 
     fn out_changed(&self, half: Half, act: Act, tag: &Tag) -> Result<OutChange, NoMemory>
@@ -102,7 +153,7 @@ impl Local {
         })
     }
 
-    fn put_out(&mut self, out: OutChange)
+    fn set_out(&mut self, out: OutChange)
         ensures { self.new ≡ with_own self.old (record self.old.own { output = out.output; dropped = out.dropped; endorsed = out.endorsed }) }
     {
         self.output = out.output;
@@ -110,7 +161,7 @@ impl Local {
         self.endorsed = out.endorsed;
     }
 
-    fn put_in(&mut self, ins: InChange)
+    fn set_in(&mut self, ins: InChange)
         ensures { self.new ≡ with_own self.old (record self.old.own { input = ins.input; contamination = ins.contamination }) }
     {
         self.input = ins.input;

@@ -1,17 +1,20 @@
 //! Reading the parts of a handle.
 
-ghost use Rattle.std.specs.Prelude.{◌≡◌, IfOk, OnErr, OnOk};
+ghost use Rattle.std.specs.Prelude.{◌≡◌, [], IfOk, OnErr, OnOk};
 ghost use Rattle.std.specs.List.{filter};
 ghost use Rattle.std.specs.Str.{bytes_eq};
 ghost use Rattle.df_part.specs.Contents.{is_deleted};
-ghost use Rattle.df_unit.specs.Drafts.{shown, visible, visible_named};
+ghost use Rattle.df_unit.specs.Drafts.{visible, visible_named};
 ghost use Rattle.df_unit.specs.Held.{grant_all};
+ghost use Rattle.df_unit.specs.Rows.{changed, reply};
 ghost use Rattle.df_unit.specs.declared.call.Call.{Call};
-ghost use Rattle.df_local.specs.Locally.{Answers, is_visible, privileges_of, visible_in};
+ghost use Rattle.df_unit.specs.declared.entry.Effect.{Effect};
+ghost use Rattle.df_local.specs.Locally.{Answers, is_visible, privileges_of, visible_in, with_own};
 
 use crate::Local;
 use crate::handles::handle_at;
 use crate::parts::shown;
+use crate::take::is_accepted;
 use df_frozen::Name;
 use df_label::{Label, NoMemory, Privilege};
 use df_part::{Part, PartRef, Spot, readable};
@@ -19,54 +22,62 @@ use df_priv::Held;
 use df_unit::{Handle, PartsRead, Reply};
 use std::alloc::Global;
 
-/// What a read shows, and what is held after it.
-#[derive(Drop)]
-struct Reading {
-    shown: PartsRead,
-    held: Held,
-}
-
 impl Local {
     /// Reads the visible parts of a name. The unit holds their privileges from now on.
     pub fn read_part(&mut self, h: u32, name: &Name) -> Result<Reply, NoMemory>
         ensures ok { IfOk result (λ r. Answers (Call.ReadPart h name.now) r self.old self.new) }
         ensures unchanged { OnErr result (self.new ≡ self.old) }
     {
+        let reply = match self.read_reply(h, name) {
+            Ok(reply) => reply,
+            Err(refused) => return Err(refused),
+        };
+        if !is_accepted(&reply) {
+            return Ok(reply);
+        }
+        match self.hold_read(h, name) {
+            Ok(()) => Ok(reply),
+            Err(refused) => Err(refused),
+        }
+    }
+
+    pub(crate) fn read_reply(&self, h: u32, name: &Name) -> Result<Reply, NoMemory>
+        ensures { IfOk result (λ r. r ≡ reply self.now.unit self.now.own [] (Call.ReadPart h name.now)) }
+    {
         let Some(handle) = handle_at(self.handles.as_slice(), h) else {
             return Ok(Reply::NoSuchHandle);
+        };
+        let parts = visible_named(self.alloc, &self.input, name, handle)?;
+        if parts.is_empty() {
+            return Ok(Reply::NoSuchPart);
+        }
+        let shown = shown(self.alloc, parts.as_slice())?;
+        Ok(Reply::Parts(PartsRead::new(shown)))
+    }
+
+    pub(crate) fn hold_read(&mut self, h: u32, name: &Name) -> Result<(), NoMemory>
+        ensures ok { OnOk result (self.new ≡ with_own self.old (changed self.old.unit self.old.own (Call.ReadPart h name.now) Effect.Nothing)) }
+        ensures unchanged { OnErr result (self.new ≡ self.old) }
+    {
+        let Some(handle) = handle_at(self.handles.as_slice(), h) else {
+            return Ok(());
         };
         let parts = match visible_named(self.alloc, &self.input, name, handle) {
             Ok(parts) => parts,
             Err(refused) => return Err(refused),
         };
-        if parts.is_empty() {
-            return Ok(Reply::NoSuchPart);
-        }
-        match read(self.alloc, &self.held, parts.as_slice()) {
-            Ok(read) => {
-                self.held = read.held;
-                Ok(Reply::Parts(read.shown))
+        match granted(&self.held, parts.as_slice()) {
+            Ok(held) => {
+                self.held = held;
+                Ok(())
             }
             Err(refused) => Err(refused),
         }
     }
 }
 
-/// Reads these parts with what is held.
-fn read(alloc: Global, held: &Held, parts: &[PartRef]) -> Result<Reading, NoMemory>
-    ensures shown { IfOk result (λ r. r.shown ≡ shown parts.now) }
-    ensures held { IfOk result (λ r. r.held ≡ grant_all held.now (privileges_of parts.now)) }
-{
-    let shown = shown(alloc, parts)?;
-    let held = granted(held, parts)?;
-    Ok(Reading {
-        shown: PartsRead::new(shown),
-        held,
-    })
-}
-
 /// What is held once the privileges of the parts are.
-pub fn granted(held: &Held, parts: &[PartRef]) -> Result<Held, NoMemory>
+fn granted(held: &Held, parts: &[PartRef]) -> Result<Held, NoMemory>
     ensures { IfOk result (λ h. h ≡ grant_all held.now (privileges_of parts.now)) }
 {
     let mut held = held.copy()?;
@@ -84,7 +95,7 @@ fn grant_parts(held: &mut Held, parts: &[PartRef]) -> Result<(), NoMemory>
 }
 
 /// Holds each of the privileges from now on.
-pub fn grant_all(held: &mut Held, privileges: &[Privilege]) -> Result<(), NoMemory>
+fn grant_all(held: &mut Held, privileges: &[Privilege]) -> Result<(), NoMemory>
     ensures { OnOk result (held.new ≡ grant_all held.old privileges.now) }
 {
     for p in privileges {
@@ -94,7 +105,7 @@ pub fn grant_all(held: &mut Held, privileges: &[Privilege]) -> Result<(), NoMemo
 }
 
 /// The visible parts of a name, in order.
-pub fn visible_named(
+fn visible_named(
     alloc: Global,
     input: &Label,
     name: &Name,

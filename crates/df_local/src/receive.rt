@@ -1,13 +1,14 @@
 //! Taking in what is handed to a unit, and counting its subscriptions.
 
-ghost use Rattle.std.specs.Prelude.{◌≡◌, IfOk, OnErr, OnOk};
+ghost use Rattle.std.specs.Prelude.{◌≡◌, ◌+◌, IfOk, OnErr, OnOk};
 ghost use Rattle.df_unit.specs.Handles.{view_of};
-ghost use Rattle.df_unit.specs.Rows.{taken_in};
+ghost use Rattle.df_unit.specs.Rows.{subscribed, taken_in};
 ghost use Rattle.df_unit.specs.declared.entry.Effect.{Effect};
 ghost use Rattle.df_local.specs.Locally.{CountsSub, TakesIn, with_own};
 
 use crate::Local;
 use crate::handles::{is_full, least_free, open};
+use crate::take::is_accepted;
 use df_label::NoMemory;
 use df_unit::{Drafts, Given, Handle, Reply, Spots};
 use std::alloc::Global;
@@ -59,15 +60,34 @@ impl Local {
     pub fn count_sub(&mut self) -> Reply
         ensures { CountsSub result self.old self.new }
     {
+        let reply = self.sub_reply();
+        if is_accepted(&reply) {
+            self.subs += 1;
+        }
+        reply
+    }
+
+    pub(crate) fn sub_reply(&self) -> Reply
+        ensures { result ≡ subscribed self.now.unit self.now.own }
+    {
         if self.is_instance() {
             return Reply::NotInManaged;
         }
         if self.subs >= MOST_SUBS {
             return Reply::TooManySubs;
         }
-        let number = self.subs;
+        Reply::Sub(self.subs)
+    }
+
+    pub(crate) fn put_sub(&mut self) -> Result<(), NoMemory>
+        ensures ok { OnOk result (self.new ≡ with_own self.old (record self.old.own { subs = self.old.own.subs + 1 })) }
+        ensures unchanged { OnErr result (self.new ≡ self.old) }
+    {
+        if self.subs == u32::MAX {
+            return Err(NoMemory);
+        }
         self.subs += 1;
-        Reply::Sub(number)
+        Ok(())
     }
 }
 

@@ -1,22 +1,18 @@
 //! Making tags.
 
-ghost use Rattle.std.specs.Prelude.{◌≡◌, ◌++◌, ◌∷◌, [], IfOk, OnErr, OnOk};
+ghost use Rattle.std.specs.Prelude.{◌≡◌, [], IfOk, OnErr, OnOk};
 ghost use Rattle.df_unit.specs.Held.{all_over, grant_all};
+ghost use Rattle.df_unit.specs.Rows.{changed, next_tag, path_of, reply};
 ghost use Rattle.df_priv.specs.Held.{grant};
 ghost use Rattle.df_unit.specs.declared.call.Call.{Call};
-ghost use Rattle.df_local.specs.Locally.{Answers};
+ghost use Rattle.df_unit.specs.declared.entry.Effect.{Effect};
+ghost use Rattle.df_local.specs.Locally.{Answers, with_own};
 
 use crate::Local;
+use crate::take::is_accepted;
 use df_label::{NoMemory, Privilege, Right, Tag};
 use df_priv::Held;
 use df_unit::{Path, Reply, UnitName};
-
-/// A tag, and what its maker holds once it is made.
-#[derive(Drop)]
-struct Made {
-    tag: Tag,
-    held: Held,
-}
 
 impl Local {
     /// Makes the unit's next tag. The unit holds all four privileges over it.
@@ -24,33 +20,76 @@ impl Local {
         ensures ok { IfOk result (λ r. Answers Call.CreateTag r self.old self.new) }
         ensures unchanged { OnErr result (self.new ≡ self.old) }
     {
-        let UnitName::Root(path) = &self.name else {
-            return Ok(Reply::NotInManaged);
+        let reply = match self.tag_reply() {
+            Ok(reply) => reply,
+            Err(refused) => return Err(refused),
         };
+        if !is_accepted(&reply) {
+            return Ok(reply);
+        }
+        match self.put_tag() {
+            Ok(()) => Ok(reply),
+            Err(refused) => Err(refused),
+        }
+    }
+
+    pub(crate) fn tag_reply(&self) -> Result<Reply, NoMemory>
+        ensures { IfOk result (λ r. r ≡ reply self.now.unit self.now.own [] Call.CreateTag) }
+    {
+        if self.is_instance() {
+            return Ok(Reply::NotInManaged);
+        }
         if self.tags == u32::MAX {
             return Ok(Reply::Exhausted);
         }
-        match self.made(path) {
-            Ok(made) => {
-                self.held = made.held;
+        let tag = self.next_tag()?;
+        Ok(Reply::Tag(tag))
+    }
+
+    pub(crate) fn put_tag(&mut self) -> Result<(), NoMemory>
+        ensures ok { OnOk result (self.new ≡ with_own self.old (changed self.old.unit self.old.own Call.CreateTag Effect.Nothing)) }
+        ensures unchanged { OnErr result (self.new ≡ self.old) }
+    {
+        if self.tags == u32::MAX {
+            return Err(NoMemory);
+        }
+        match self.held_with_next() {
+            Ok(held) => {
+                self.held = held;
                 self.tags += 1;
-                Ok(Reply::Tag(made.tag))
+                Ok(())
             }
             Err(refused) => Err(refused),
         }
     }
 
-    fn made(&self, path: &Path) -> Result<Made, NoMemory>
-        ensures tag { IfOk result (λ m. m.tag ≡ path.now ++ self.now.own.tags ∷ []) }
-        ensures held { IfOk result (λ m. m.held ≡ grant_all self.now.own.held (all_over (path.now ++ self.now.own.tags ∷ []))) }
+    fn next_tag(&self) -> Result<Tag, NoMemory>
+        ensures { IfOk result (λ t. t ≡ next_tag self.now.unit self.now.own) }
     {
-        let tag = Tag::new(self.alloc, path.as_slice(), self.tags)?;
+        Tag::new(self.alloc, path_of(&self.name).as_slice(), self.tags)
+    }
+
+    /// What is held once the next tag is made.
+    fn held_with_next(&self) -> Result<Held, NoMemory>
+        ensures { IfOk result (λ h. h ≡ grant_all self.now.own.held (all_over (next_tag self.now.unit self.now.own))) }
+    {
+        let tag = self.next_tag()?;
         let mut held = self.held.copy()?;
         grant_over(&mut held, &tag, Right::Plus)?;
         grant_over(&mut held, &tag, Right::Minus)?;
         grant_over(&mut held, &tag, Right::PlusAuth)?;
         grant_over(&mut held, &tag, Right::MinusAuth)?;
-        Ok(Made { tag, held })
+        Ok(held)
+    }
+}
+
+/// The path of a plain unit, or of an instance's owner.
+fn path_of(unit: &UnitName) -> &Path
+    ensures { result.now ≡ path_of unit.now }
+{
+    match unit {
+        UnitName::Root(path) => path,
+        UnitName::Managed { owner, .. } => owner,
     }
 }
 

@@ -1,23 +1,17 @@
 //! Taking a call in, once its reply and effect are known.
 
-ghost use Rattle.std.specs.Prelude.{◌≡◌, ◌++◌, ◌∷◌, [], OnErr, OnOk, ◌+◌};
-ghost use Rattle.df_unit.specs.Drafts.{new_part, raised};
-ghost use Rattle.df_unit.specs.Handles.{changed_at, handle_at};
-ghost use Rattle.df_unit.specs.Held.{grant_all};
-ghost use Rattle.df_unit.specs.Rows.{after, found, is_accepted, taken_in};
+ghost use Rattle.std.specs.Prelude.{◌≡◌, OnErr, OnOk};
+ghost use Rattle.df_unit.specs.Rows.{after, is_accepted, taken_in};
 ghost use Rattle.df_unit.specs.Served.{IsBuilt};
 ghost use Rattle.df_local.specs.Locally.{with_own};
 
 use crate::Local;
-use crate::handles::{draft, handle_at};
-use crate::parts::new_part;
-use crate::read::{granted, visible_named};
-use df_frozen::{Frozen, Name};
-use df_label::{Label, NoMemory};
+use df_label::NoMemory;
 use df_unit::{Call, Drafts, Effect, Reply};
 
 impl Local {
-    /// Takes a call in, with its reply and its effect. A refused call changes nothing.
+    /// Takes a call in, with its reply and its effect. A refused call changes nothing. Where a
+    /// counter stands at its greatest, that is NoMemory.
     pub fn take(&mut self, call: &Call, reply: &Reply, effect: &Effect) -> Result<(), NoMemory>
         requires { IsBuilt call.now }
         ensures ok { OnOk result (self.new ≡ with_own self.old (after self.old.unit self.old.own call.now reply.now effect.now)) }
@@ -34,62 +28,21 @@ impl Local {
                 name,
                 value,
             } => self.put_part(*h, label, name, value),
+            Call::DelPart { h, label, name } => self.put_deleted(*h, label, name),
             Call::ReadPart { h, name } => self.hold_read(*h, name),
+            Call::CloneEvent { h, label } => self.put_clone(*h, label),
+            Call::AttachPrivilege { h, label, name, p } => self.put_attached(*h, label, name, p),
+            Call::ChangeOutLabel { half, act, tag } => self.put_out(*half, *act, tag),
+            Call::CreateTag => self.put_tag(),
             Call::Subscribe { .. } => self.put_sub(),
             Call::Get => self.put_given(effect),
-            Call::Publish { h } => {
+            Call::DropEvent { h } | Call::Publish { h } | Call::Release { h } => {
                 self.shut(*h);
                 Ok(())
             }
+            Call::ChangeInOut { half, act, tag } => self.put_in_out(*half, *act, tag),
             _ => unreachable!(),
         }
-    }
-
-    fn put_part(
-        &mut self,
-        h: u32,
-        label: &Label,
-        name: &Name,
-        value: &Frozen,
-    ) -> Result<(), NoMemory>
-        ensures ok { OnOk result (self.new ≡ with_own self.old (record self.old.own { handles = changed_at self.old.own.handles h (λ d. record d { drafted = d.drafted ++ new_part (raised self.old.own.output label.now) name.now value.now ∷ [] }) })) }
-        ensures unchanged { OnErr result (self.new ≡ self.old) }
-    {
-        match new_part(self.alloc, &self.output, label, name, value) {
-            Ok(part) => draft(&mut self.handles, h, part),
-            Err(refused) => Err(refused),
-        }
-    }
-
-    fn hold_read(&mut self, h: u32, name: &Name) -> Result<(), NoMemory>
-        ensures ok { OnOk result (self.new ≡ with_own self.old (record self.old.own { held = grant_all self.old.own.held (found self.old.own.input name.now (handle_at self.old.own.handles h)) })) }
-        ensures unchanged { OnErr result (self.new ≡ self.old) }
-    {
-        let Some(handle) = handle_at(self.handles.as_slice(), h) else {
-            return Ok(());
-        };
-        let parts = match visible_named(self.alloc, &self.input, name, handle) {
-            Ok(parts) => parts,
-            Err(refused) => return Err(refused),
-        };
-        match granted(&self.held, parts.as_slice()) {
-            Ok(held) => {
-                self.held = held;
-                Ok(())
-            }
-            Err(refused) => Err(refused),
-        }
-    }
-
-    fn put_sub(&mut self) -> Result<(), NoMemory>
-        ensures ok { OnOk result (self.new ≡ with_own self.old (record self.old.own { subs = self.old.own.subs + 1 })) }
-        ensures unchanged { OnErr result (self.new ≡ self.old) }
-    {
-        if self.subs == u32::MAX {
-            return Err(NoMemory);
-        }
-        self.subs += 1;
-        Ok(())
     }
 
     fn put_given(&mut self, effect: &Effect) -> Result<(), NoMemory>
@@ -104,7 +57,7 @@ impl Local {
 }
 
 /// Whether the reply is no refusal.
-fn is_accepted(reply: &Reply) -> bool
+pub fn is_accepted(reply: &Reply) -> bool
     ensures { result ≡ is_accepted reply.now }
 {
     matches!(
