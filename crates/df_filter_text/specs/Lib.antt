@@ -1,2 +1,4 @@
 pub mod FieldTest
 pub mod Filter
+pub mod Fits
+pub mod Answer

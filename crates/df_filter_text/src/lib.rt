@@ -1,8 +1,12 @@
-//! The one spelling of filters.
+//! The one spelling of filters, and their reader.
 #![tactic(auto)]
 
+mod read;
+mod refused;
 #[cfg(test)]
 mod tests;
 mod write;
 
+pub use read::read_filter;
+pub use refused::FilterTextRefused;
 pub use write::{append_filter, write_filter};

@@ -24,7 +24,7 @@ pub use name_reader::name_at;
 pub use number::{append_number, append_whole};
 pub use number_reader::{byte_at, byte_stands, number_at, short_at, whole_at};
 pub use privilege::append_privilege;
-pub use readers::{read_label, read_privilege, read_tag};
+pub use readers::{read_label, read_privilege, read_tag, read_value};
 pub use refused::{Fault, TextRefused};
 pub use tag::{append_path, append_tag, append_tags};
 pub use tag_reader::{tag_at, tags_at};

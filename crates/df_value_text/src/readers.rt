@@ -1,16 +1,19 @@
 //! The public readers: the longest literal at a place, and the place behind it.
 ghost use Rattle.std.specs.Prelude.{◌≤◌, ℕ, List, length, drop, IfErr, IfOk};
 ghost use Rattle.df_format.specs.Grammar.{Stands};
+ghost use Rattle.df_frozen.specs.Plain.{Plain};
 ghost use Rattle.df_label.specs.declared.label.Label.{Label};
 ghost use Rattle.df_label.specs.declared.privilege.Privilege.{Privilege};
 ghost use Rattle.df_value_text.specs.Answer.{IsFound, IsRead, IsSyntaxAt, NamesBad, NamesBadOrLow};
-ghost use Rattle.df_value_text.specs.Fits.{IsLabel, IsPrivilege, IsTag};
+ghost use Rattle.df_value_text.specs.Fits.{IsLabel, IsPrivilege, IsTag, IsValue};
 ghost use Rattle.df_value_text.specs.Label.{label_text, privilege_text, tag_text};
 ghost use Rattle.df_value_text.specs.Order.{IsLowTag, LowInLabel};
+ghost use Rattle.df_value_text.specs.Value.{value_text};
 
 use crate::TextRefused;
 use crate::label_reader::{label_at, privilege_at};
 use crate::tag_reader::tag_at;
+use df_frozen::Frozen;
 use df_label::{Label, Privilege, Tag};
 use std::alloc::Global;
 
@@ -47,4 +50,13 @@ pub fn read_privilege(
     ensures syntax { IfErr result (NamesBad privilege_text IsPrivilege bytes.now at) }
 {
     Ok(privilege_at(alloc, bytes, at)?)
+}
+
+/// The longest value at the place, frozen, and the place behind it.
+pub fn read_value(alloc: Global, bytes: &[u8], at: usize) -> Result<(Frozen, usize), TextRefused>
+    requires { at ≤ length bytes.now }
+    ensures found { IfOk result (IsFound value_text IsValue bytes.now at) }
+    ensures only { (value : Plain) (rest : List ℕ) → Stands value_text IsValue (drop at bytes.now) value rest → IsRead bytes.now value rest result }
+{
+    Err(TextRefused::NoMemory)
 }
