@@ -7,6 +7,8 @@ pub mod ReadWhole
 pub mod ReadName
 pub mod ReadBytes
 pub mod ReadEscape
+pub mod ReadWide
+pub mod ReadWords
 pub mod Order
 pub mod ReadTag
 pub mod ReadLabel

@@ -14,6 +14,7 @@ mod refused;
 mod tag;
 mod tag_reader;
 mod value;
+mod words_reader;
 mod writers;
 
 pub use bytes_reader::bytes_at;
@@ -29,6 +30,7 @@ pub use refused::{Fault, TextRefused};
 pub use tag::{append_path, append_tag, append_tags};
 pub use tag_reader::{tag_at, tags_at};
 pub use value::{append_value, append_words};
+pub use words_reader::words_at;
 pub use writers::{write_label, write_privilege, write_tag, write_value};
 
 #[cfg(test)]
