@@ -1,8 +1,9 @@
 -- The reader of bytes, step by step.
-use Rattle.std.proofs.Common.{◌≡◌, ℕ, ◌+◌, ◌<◌, ◌≤◌, true, false, List, [], ◌∷◌, ◌++◌, length, get_or, drop, Ok, Err, refl, sym, ap, ◌∙◌, arith}
+use Rattle.std.proofs.Common.{◌≡◌, ℕ, ◌+◌, ◌<◌, ◌≤◌, true, false, List, [], ◌∷◌, ◌++◌, length, length-append, length-drop, get_or, drop, Ok, Err, refl, sym, ap, ◌∙◌, arith}
 use Rattle.std.proofs.lemmas.List.{drop_all, append-nil}
-use Rattle.df_format.specs.Reading.{Bad, Read, ◌>>=◌, with_front}
+use Rattle.df_format.specs.Reading.{Bad, Read, ◌>>=◌, text_at, with_front}
 use Rattle.df_format.proofs.Items.{regroup}
+use Rattle.df_format.proofs.Texts.{text_found}
 use Rattle.df_value_text.specs.ReadBytes.{is_hex, hex_byte, pairs_at}
 use Rattle.df_value_text.proofs.NameSteps.{first_of}
 
@@ -59,3 +60,11 @@ pub pairs_end : (bytes : List ℕ) (place : ℕ) (out : List ℕ) (total : Read 
 pairs_end bytes place out total le so_far =
     let none : drop place bytes ≡ [] = drop_all place bytes le in
     sym so_far ∙ ap (with_front out) (ap pairs_at none ∙ ap (λ (u : List ℕ). Ok ([], u)) (sym none)) ∙ all_of out (drop place bytes)
+
+-- what stands in front ends no earlier than it begins
+pub no_earlier : (bytes front : List ℕ) (at end : ℕ) → at ≤ length bytes → end ≤ length bytes → drop at bytes ≡ front ++ drop end bytes → at ≤ end
+no_earlier bytes front at end within le e = omega (arith, within, le, ap length e, length-append front (drop end bytes), length-drop at bytes, length-drop end bytes)
+
+-- fixed bytes too
+pub text_onward : (bytes ws x : List ℕ) (at end : ℕ) → at ≤ length bytes → end ≤ length bytes → text_at ws (drop at bytes) ≡ Ok (x, drop end bytes) → at ≤ end
+text_onward bytes ws x at end within le e = no_earlier bytes ws at end within le (text_found ws (drop at bytes) x (drop end bytes) e).1

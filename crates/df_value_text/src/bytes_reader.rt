@@ -38,6 +38,7 @@ fn hex_byte(high: u8, low: u8) -> u8
 fn pairs_at(alloc: Global, bytes: &[u8], at: usize) -> Result<(Vec<u8>, usize), Fault>
     requires { at ≤ length bytes.now }
     ensures exact { Gives (λ v. v.items) bytes.now result (pairs_at (drop at bytes.now)) }
+    ensures onward { IfOk result (λ r. at ≤ r.1) }
 {
     let mut content = Vec::new(alloc);
     let mut place = at;
@@ -55,6 +56,7 @@ fn pairs_at(alloc: Global, bytes: &[u8], at: usize) -> Result<(Vec<u8>, usize), 
 pub fn bytes_at(alloc: Global, bytes: &[u8], at: usize) -> Result<(Blob, usize), Fault>
     requires { at ≤ length bytes.now }
     ensures exact { Gives (λ b. b) bytes.now result (bytes_at (drop at bytes.now)) }
+    ensures onward { IfOk result (λ r. at < r.1) }
 {
     let (_, start) = text_at(bytes, at, b"x\"")?;
     let (content, quote) = pairs_at(alloc, bytes, start)?;
