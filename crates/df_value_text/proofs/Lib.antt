@@ -5,6 +5,7 @@ pub mod WholeLaws
 pub mod NameLaws
 pub mod BytesLaws
 pub mod EscapeLaws
+pub mod WideLaws
 pub mod TagLaws
 pub mod TagSetLaws
 pub mod LabelLaws

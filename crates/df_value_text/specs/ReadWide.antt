@@ -22,19 +22,16 @@ least_second lead = if lead == 224 then 160 else if lead == 240 then 144 else 12
 abbrev pub most_second : ℕ → ℕ
 most_second lead = if lead == 237 then 159 else if lead == 244 then 143 else 191
 
+-- a byte that passes the test, and what stands behind it
+abbrev pub led_at : (ℕ → Bool) → (ℕ → List ℕ → Read ℕ (List ℕ)) → List ℕ → Read ℕ (List ℕ)
+led_at test next [] = Err (Bad [])
+led_at test next (b ∷ bs) = if test b then (next b bs >>= λ r. Ok (b ∷ r.0, r.1)) else Err (Bad (b ∷ bs))
+
 -- so many bytes, the first of this range and the others from 80 to BF
 abbrev pub trail_at : ℕ → ℕ → ℕ → List ℕ → Read ℕ (List ℕ)
 trail_at zero least most bytes = Ok ([], bytes)
-trail_at (suc n) least most [] = Err (Bad [])
-trail_at (suc n) least most (b ∷ bs) =
-    if is_between least most b
-    then (trail_at n 128 191 bs >>= λ r. Ok (b ∷ r.0, r.1))
-    else Err (Bad (b ∷ bs))
+trail_at (suc n) least most bytes = led_at (is_between least most) (λ b. trail_at n 128 191) bytes
 
 -- a character of several bytes: its bytes
 abbrev pub wide_at : List ℕ → Read ℕ (List ℕ)
-wide_at [] = Err (Bad [])
-wide_at (lead ∷ bs) =
-    if is_lead lead
-    then (trail_at (trail_length lead) (least_second lead) (most_second lead) bs >>= λ r. Ok (lead ∷ r.0, r.1))
-    else Err (Bad (lead ∷ bs))
+wide_at bytes = led_at is_lead (λ lead. trail_at (trail_length lead) (least_second lead) (most_second lead)) bytes
