@@ -171,11 +171,11 @@ IsEscaped c = IsQuoted c ⊎ IsControl c
 abbrev pub IsPlain : ℕ → Type 0
 IsPlain c = is_plain c ≡ true
 
-escaped_is : (c : ℕ) → IsEscaped c → escaped c ≡ 92 ∷ behind_slash c
+pub escaped_is : (c : ℕ) → IsEscaped c → escaped c ≡ 92 ∷ behind_slash c
 escaped_is c (inl h) = rw h refl
 escaped_is c (inr h) = rw (not_quoted c h, h) refl
 
-plain_is : (c : ℕ) → IsPlain c → escaped c ≡ c ∷ []
+pub plain_is : (c : ℕ) → IsPlain c → escaped c ≡ c ∷ []
 plain_is c h =
     let unquoted : is_quoted c ≡ false = grind (arith, nat_tests) in
     let no_control : is_control c ≡ false = grind (arith, nat_tests) in

@@ -6,6 +6,7 @@ pub mod NameLaws
 pub mod BytesLaws
 pub mod EscapeLaws
 pub mod WideLaws
+pub mod CharLaws
 pub mod TagLaws
 pub mod TagSetLaws
 pub mod LabelLaws

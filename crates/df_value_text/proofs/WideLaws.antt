@@ -1,5 +1,5 @@
 -- Characters of several bytes are read as they stand.
-use Rattle.std.proofs.Common.{◌≡◌, ℕ, zero, suc, ◌+◌, ◌-◌, ◌*◌, ◌/◌, ◌%◌, ◌<◌, ◌≤◌, Bool, true, false, cond, eqb, nat_lt, List, [], ◌∷◌, ◌++◌, Ok, Err, refl, sym, ap, subst, ◌∙◌, arith, ◌⊎◌, inl, inr}
+use Rattle.std.proofs.Common.{◌≡◌, ℕ, zero, suc, ◌+◌, ◌-◌, ◌*◌, ◌/◌, ◌<◌, ◌≤◌, Bool, true, false, eqb, nat_lt, List, [], ◌∷◌, ◌++◌, Ok, Err, refl, sym, ap, subst, ◌∙◌, arith, ◌⊎◌, inl, inr}
 use Rattle.std.proofs.lemmas.Bool.Decides.{nat_tests}
 use Rattle.std.proofs.Math.Utf8.{scalar, next, encode, scalar_cases, low_scalar}
 use Rattle.df_format.specs.Reading.{Stop, Bad, Read, ◌>>=◌}
@@ -79,7 +79,7 @@ IsTrail (suc n) least most x = LedFits (is_between least most) (λ b. IsTrail n 
 between_least : (least most : ℕ) → least ≤ most → is_between least most least ≡ true
 between_least least most le = grind (arith, nat_tests)
 
-trail_some : (n least most : ℕ) → least ≤ most → (x : List ℕ) × IsTrail n least most x
+pub trail_some : (n least most : ℕ) → least ≤ most → (x : List ℕ) × IsTrail n least most x
 trail_some zero least most le = ([], refl)
 trail_some (suc n) least most le =
     let more = trail_some n 128 191 (omega arith) in
@@ -96,7 +96,7 @@ trail_format IsLow moved (suc n) least most =
 abbrev pub IsWide : List ℕ → Type 0
 IsWide x = LedFits is_lead (λ lead. IsTrail (trail_length lead) (least_second lead) (most_second lead)) x
 
-some_second : (lead : ℕ) → least_second lead ≤ most_second lead
+pub some_second : (lead : ℕ) → least_second lead ≤ most_second lead
 some_second lead = grind (arith, nat_tests)
 
 pub wide_format : (IsLow : List ℕ → List ℕ → Type 0) → IsLocal IsLow → Format IsLow own IsWide never wide_at
@@ -107,17 +107,17 @@ wide_format IsLow moved =
 
 -- ---- the characters that they are
 
-order : (m n : ℕ) → (m < n) ⊎ (n ≤ m)
+pub order : (m n : ℕ) → (m < n) ⊎ (n ≤ m)
 order m n = by (nat_lt m n) refl
   where
     by : (t : Bool) → nat_lt m n ≡ t → (m < n) ⊎ (n ≤ m)
     by true e = inl (grind (arith, nat_tests))
     by false e = inr (grind (arith, nat_tests))
 
-below : (m n : ℕ) → m < n → nat_lt m n ≡ true
+pub below : (m n : ℕ) → m < n → nat_lt m n ≡ true
 below m n h = grind (arith, nat_tests)
 
-not_below : (m n : ℕ) → n ≤ m → nat_lt m n ≡ false
+pub not_below : (m n : ℕ) → n ≤ m → nat_lt m n ≡ false
 not_below m n h = grind (arith, nat_tests)
 
 two : (c : ℕ) → 128 ≤ c → c < 2048 → encode c ≡ (192 + c / 64) ∷ next c ∷ []
@@ -139,7 +139,7 @@ IsOfMany x = (c : ℕ) × (128 ≤ c) × (scalar c ≡ true) × (encode c ≡ x)
 between : (least most b : ℕ) → least ≤ b → b ≤ most → is_between least most b ≡ true
 between least most b l h = grind (arith, nat_tests)
 
-between_is : (least most b : ℕ) → is_between least most b ≡ true → (least ≤ b) × (b ≤ most)
+pub between_is : (least most b : ℕ) → is_between least most b ≡ true → (least ≤ b) × (b ≤ most)
 between_is least most b h = (grind (arith, nat_tests), grind (arith, nat_tests))
 
 length_one : (lead : ℕ) → lead < 224 → trail_length lead ≡ 1
@@ -167,7 +167,7 @@ up_to_most lead b l h k = by (eqb lead 237) (eqb lead 244) refl refl
     by false true e f = rw (e, f) (k (grind (arith, nat_tests)))
     by false false e f = rw (e, f) l
 
-least_is : (lead : ℕ) → 128 ≤ least_second lead
+pub least_is : (lead : ℕ) → 128 ≤ least_second lead
 least_is lead = grind (arith, nat_tests)
 
 most_is : (lead : ℕ) → most_second lead ≤ 191
