@@ -7,6 +7,7 @@ pub mod BytesLaws
 pub mod EscapeLaws
 pub mod WideLaws
 pub mod CharLaws
+pub mod WordsLaws
 pub mod TagLaws
 pub mod TagSetLaws
 pub mod LabelLaws
