@@ -19,3 +19,8 @@ pub mod BytesSteps
 pub mod Answering
 pub mod RightSteps
 pub mod OrderLaws
+pub mod EndedLaws
+pub mod HigherLaws
+pub mod EntryLaws
+pub mod NestLaws
+pub mod ValueLaws

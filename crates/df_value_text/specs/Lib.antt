@@ -12,4 +12,6 @@ pub mod ReadWords
 pub mod Order
 pub mod ReadTag
 pub mod ReadLabel
+pub mod ReadValue
+pub mod OrderNames
 pub mod Answer
