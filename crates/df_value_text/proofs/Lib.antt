@@ -22,5 +22,7 @@ pub mod OrderLaws
 pub mod EndedLaws
 pub mod HigherLaws
 pub mod EntryLaws
+pub mod PutSteps
 pub mod NestLaws
 pub mod ValueLaws
+pub mod ValueSteps

@@ -14,6 +14,7 @@ mod refused;
 mod tag;
 mod tag_reader;
 mod value;
+mod value_reader;
 mod words_reader;
 mod writers;
 

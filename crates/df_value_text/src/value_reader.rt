@@ -1,0 +1,197 @@
+//! Reading values that nest.
+ghost use Rattle.std.specs.Prelude.{◌≡◌, ◌≤◌, ◌<◌, ◌+◌, ◌&&◌, not, ◌==◌, [], ℕ, Some, length, drop, IfOk, IfErr, OnOk};
+ghost use Rattle.std.specs.List.{list_all};
+ghost use Rattle.df_frozen.specs.Place.{push_at, put_at};
+ghost use Rattle.df_frozen.specs.Value.{named, plain};
+ghost use Rattle.df_value_text.specs.Answer.{Gives};
+ghost use Rattle.df_value_text.specs.Number.{begins_with};
+ghost use Rattle.df_value_text.specs.ReadValue.{entry_at, given_at, higher_at, is_greatest, leaf_at, list_at, map_at, next_entry_at, value_within};
+ghost use Rattle.df_value_text.specs.declared.refused.Fault.TheVariants as fault;
+
+use crate::Fault;
+use crate::bytes_reader::bytes_at;
+use crate::name_reader::name_at;
+use crate::number_reader::{byte_at, byte_stands, whole_at};
+use crate::words_reader::words_at;
+use df_frozen::{Entries, Items, Name, Value};
+use std::alloc::Global;
+
+/// The longest value at the place, and the place behind it. It takes a stack as deep as the value.
+#[cycle(read)]
+pub(crate) fn value_at(alloc: Global, bytes: &[u8], at: usize) -> Result<(Value, usize), Fault>
+    requires { at ≤ length bytes.now }
+    ensures exact { (n : ℕ) → length bytes.now < at + n → Gives plain bytes.now result (value_within n (drop at bytes.now)) }
+    ensures onward { IfOk result (λ r. at < r.1) }
+{
+    if byte_stands(bytes, at, b'[') {
+        return list_at(alloc, bytes, at + 1);
+    }
+    if byte_stands(bytes, at, b'(') {
+        return map_at(alloc, bytes, at + 1);
+    }
+    leaf_at(alloc, bytes, at)
+}
+
+/// The words, bytes or number at the place, and the place behind it.
+fn leaf_at(alloc: Global, bytes: &[u8], at: usize) -> Result<(Value, usize), Fault>
+    requires { at ≤ length bytes.now }
+    ensures exact { Gives plain bytes.now result (leaf_at (drop at bytes.now)) }
+    ensures onward { IfOk result (λ r. at < r.1) }
+{
+    if byte_stands(bytes, at, b'"') {
+        let (words, end) = words_at(alloc, bytes, at)?;
+        return Ok((Value::Words(words), end));
+    }
+    if byte_stands(bytes, at, b'x') {
+        let (blob, end) = bytes_at(alloc, bytes, at)?;
+        return Ok((Value::Bytes(blob), end));
+    }
+    let (number, end) = whole_at(bytes, at)?;
+    Ok((Value::Int(number), end))
+}
+
+/// The list whose `[` stands before the place, and the place behind it.
+#[cycle(read)]
+fn list_at(alloc: Global, bytes: &[u8], at: usize) -> Result<(Value, usize), Fault>
+    requires { at ≤ length bytes.now }
+    ensures exact { (n : ℕ) → length bytes.now < at + n → Gives plain bytes.now result (list_at (value_within n) (drop at bytes.now)) }
+    ensures onward { IfOk result (λ r. at < r.1) }
+{
+    let mut list = Value::Items(Items::new(alloc));
+    if byte_stands(bytes, at, b']') {
+        return Ok((list, at + 1));
+    }
+    let (first, start) = value_at(alloc, bytes, at)?;
+    push(&mut list, first)?;
+    let mut place = start;
+    'values: while byte_stands(bytes, place, b',') {
+        let (value, after) = value_at(alloc, bytes, place + 1)?;
+        push(&mut list, value)?;
+        place = after;
+    }
+    let (_, end) = byte_at(bytes, place, b']')?;
+    Ok((list, end))
+}
+
+/// The map whose `(` stands before the place, and the place behind it.
+#[cycle(read)]
+fn map_at(alloc: Global, bytes: &[u8], at: usize) -> Result<(Value, usize), Fault>
+    requires { at ≤ length bytes.now }
+    ensures exact { (n : ℕ) → length bytes.now < at + n → Gives plain bytes.now result (map_at (value_within n) (drop at bytes.now)) }
+    ensures onward { IfOk result (λ r. at < r.1) }
+{
+    let mut map = Value::Map(Entries::new(alloc));
+    if byte_stands(bytes, at, b')') {
+        return Ok((map, at + 1));
+    }
+    let (first, start) = entry_at(alloc, bytes, at)?;
+    let mut last = first.0;
+    put(&mut map, first)?;
+    let mut place = start;
+    'entries: while leads_entry(bytes, place, &last) {
+        let (entry, after) = next_entry_at(alloc, bytes, place + 1, &last)?;
+        last = entry.0;
+        put(&mut map, entry)?;
+        place = after;
+    }
+    let (_, end) = byte_at(bytes, place, b')')?;
+    Ok((map, end))
+}
+
+/// The entry at the place, and the place behind it.
+#[cycle(read)]
+fn entry_at(alloc: Global, bytes: &[u8], at: usize) -> Result<((Name, Value), usize), Fault>
+    requires { at ≤ length bytes.now }
+    ensures exact { (n : ℕ) → length bytes.now < at + n → Gives named bytes.now result (entry_at (value_within n) (drop at bytes.now)) }
+    ensures onward { IfOk result (λ r. at < r.1) }
+{
+    let (name, behind) = name_at(bytes, at)?;
+    let (value, end) = given_at(alloc, bytes, behind)?;
+    Ok(((name, value), end))
+}
+
+/// The entry at the place, whose name has to be above this one, and the place behind it.
+#[cycle(read)]
+fn next_entry_at(
+    alloc: Global,
+    bytes: &[u8],
+    at: usize,
+    last: &Name,
+) -> Result<((Name, Value), usize), Fault>
+    requires { at ≤ length bytes.now }
+    ensures exact { (n : ℕ) → length bytes.now < at + n → Gives named bytes.now result (next_entry_at (value_within n) last.now (drop at bytes.now)) }
+    ensures onward { IfOk result (λ r. at < r.1) }
+{
+    let (name, behind) = higher_at(bytes, at, last)?;
+    let (value, end) = given_at(alloc, bytes, behind)?;
+    Ok(((name, value), end))
+}
+
+/// The value behind the `=` at the place, and the place behind it.
+#[cycle(read)]
+fn given_at(alloc: Global, bytes: &[u8], at: usize) -> Result<(Value, usize), Fault>
+    requires { at ≤ length bytes.now }
+    ensures exact { (n : ℕ) → length bytes.now < at + n → Gives plain bytes.now result (given_at (value_within n) (drop at bytes.now)) }
+    ensures onward { IfOk result (λ r. at < r.1) }
+{
+    let (_, start) = byte_at(bytes, at, b'=')?;
+    value_at(alloc, bytes, start)
+}
+
+/// The name at the place, which has to be above this one, and the place behind it.
+fn higher_at(bytes: &[u8], at: usize, last: &Name) -> Result<(Name, usize), Fault>
+    requires { at ≤ length bytes.now }
+    ensures exact { Gives (λ n. n) bytes.now result (higher_at last.now (drop at bytes.now)) }
+    ensures onward { IfOk result (λ r. at < r.1) }
+{
+    let (name, end) = name_at(bytes, at)?;
+    if !last.cmp(&name).is_lt() {
+        return Err(Fault::Low(at));
+    }
+    Ok((name, end))
+}
+
+/// Whether each of these bytes is `z`.
+fn are_z(text: &[u8]) -> bool
+    ensures { result ≡ list_all (λ c. c == 122) text.now }
+{
+    text.iter().all(|byte| *byte == b'z')
+}
+
+/// Whether this is the greatest name, 32 times `z`.
+fn is_greatest(name: &Name) -> bool
+    ensures { result ≡ is_greatest name.now }
+{
+    let text = name.as_bytes();
+    32 <= text.len() && are_z(text)
+}
+
+/// Whether a comma stands at the place, behind which an entry may stand.
+fn leads_entry(bytes: &[u8], place: usize, last: &Name) -> bool
+    requires { place ≤ length bytes.now }
+    ensures { result ≡ (begins_with 44 (drop place bytes.now) && not (is_greatest last.now)) }
+{
+    byte_stands(bytes, place, b',') && !is_greatest(last)
+}
+
+/// Appends the value to the list.
+fn push(list: &mut Value, value: Value) -> Result<(), Fault>
+    ensures pushed { OnOk result (push_at [] (plain value) (plain list.old) ≡ Some (plain list.new)) }
+    ensures cause { IfErr result (λ e. e ≡ fault.NoMemory) }
+{
+    match list.push_at(&[], value) {
+        Ok(()) => Ok(()),
+        Err(_) => Err(Fault::NoMemory),
+    }
+}
+
+/// Puts the entry into the map.
+fn put(map: &mut Value, entry: (Name, Value)) -> Result<(), Fault>
+    ensures put { OnOk result (put_at [] entry.0 (plain entry.1) (plain map.old) ≡ Some (plain map.new)) }
+    ensures cause { IfErr result (λ e. e ≡ fault.NoMemory) }
+{
+    match map.put_at(&[], entry.0, entry.1) {
+        Ok(()) => Ok(()),
+        Err(_) => Err(Fault::NoMemory),
+    }
+}
