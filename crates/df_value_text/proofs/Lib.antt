@@ -26,3 +26,4 @@ pub mod PutSteps
 pub mod NestLaws
 pub mod ValueLaws
 pub mod ValueSteps
+pub mod ValueAnswers

@@ -36,3 +36,5 @@ pub use writers::{write_label, write_privilege, write_tag, write_value};
 
 #[cfg(test)]
 mod tests;
+#[cfg(test)]
+mod value_tests;
