@@ -16,6 +16,8 @@ pub mod TagSteps
 pub mod WholeSteps
 pub mod NameSteps
 pub mod BytesSteps
+pub mod CharSteps
+pub mod WordsSteps
 pub mod Answering
 pub mod RightSteps
 pub mod OrderLaws

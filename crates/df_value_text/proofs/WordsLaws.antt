@@ -1,5 +1,5 @@
 -- Words are read as they are spelled.
-use Rattle.std.proofs.Common.{◌≡◌, ℕ, suc, Bool, true, false, cond, ◌&&◌, List, [], ◌∷◌, ◌++◌, refl, ap, ◌∙◌, append_assoc}
+use Rattle.std.proofs.Common.{◌≡◌, ℕ, suc, Bool, true, false, cond, ◌&&◌, List, [], ◌∷◌, ◌++◌, Ok, refl, ap, ◌∙◌, append_assoc}
 use Rattle.std.specs.Prelude.{IsUtf8}
 use Rattle.std.specs.List.{concat}
 use Rattle.std.proofs.Math.Utf8.{scalar, scalars, encode, encodes}
@@ -81,6 +81,10 @@ chars_format IsLow moved =
       alike = λ xs c fits. go_alike 0 xs c;
     })
     (many_format IsLow moved begins spell Fits never (λ k. char_at) (char_items IsLow moved) 0)
+
+-- what is read is UTF-8
+pub chars_utf8 : (bytes text rest : List ℕ) → chars_at bytes ≡ Ok (text, rest) → IsUtf8 text
+chars_utf8 bytes text rest e = ((chars_format (λ front rest. ⊥) (λ before front rest low. low)).found bytes text rest e).fits
 
 -- ---- in quotes
 

@@ -10,7 +10,7 @@ use df_frozen::Blob;
 use std::alloc::Global;
 
 /// Whether this is a hexadecimal digit, 0 to 9 or a to f.
-fn is_hex(byte: u8) -> bool
+pub fn is_hex(byte: u8) -> bool
     ensures { result ≡ is_hex byte }
 {
     byte.is_ascii_digit() || (b'a' <= byte && byte <= b'f')
@@ -26,7 +26,7 @@ fn hex_value(digit: u8) -> u8
 }
 
 /// The byte of two digits.
-fn hex_byte(high: u8, low: u8) -> u8
+pub fn hex_byte(high: u8, low: u8) -> u8
     requires high { is_hex high ≡ true }
     requires low { is_hex low ≡ true }
     ensures { result ≡ hex_byte high low }

@@ -2,6 +2,7 @@
 #![tactic(auto)]
 
 mod bytes_reader;
+mod char_reader;
 mod join;
 mod label;
 mod label_reader;
