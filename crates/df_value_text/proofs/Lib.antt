@@ -4,6 +4,12 @@ pub mod NumberLaws
 pub mod WholeLaws
 pub mod NameLaws
 pub mod BytesLaws
+pub mod CountingLaws
+pub mod CountingTexts
+pub mod CountingValues
+pub mod CountingFronts
+pub mod CountingSteps
+pub mod BitsLaws
 pub mod EscapeLaws
 pub mod WideLaws
 pub mod CharLaws

@@ -1,6 +1,8 @@
 pub mod Join
 pub mod Label
 pub mod Value
+pub mod Brackets
+pub mod Counting
 pub mod Fits
 pub mod Number
 pub mod ReadWhole

@@ -1,14 +1,17 @@
 //! The one spelling of numbers, tags, labels, privileges and values, and exact readers of it.
 #![tactic(auto)]
 
+mod brackets;
 mod bytes_reader;
 mod char_reader;
+mod counting;
 mod join;
 mod label;
 mod label_reader;
 mod name_reader;
 mod number;
 mod number_reader;
+mod place;
 mod privilege;
 mod readers;
 mod refused;

@@ -1,0 +1,15 @@
+-- How many bits there are, and how large a number of so many is.
+use Rattle.std.proofs.Common.{◌≡◌, ℕ, zero, suc, ◌/◌, ◌^◌, ◌<◌, ◌≤◌, length, refl, ap, arith}
+use Rattle.std.proofs.Math.Pow.{pow_mono}
+use Rattle.df_value_text.specs.Brackets.{bits}
+
+pub length-bits : (count n : ℕ) → length (bits count n) ≡ count
+length-bits zero n = refl
+length-bits (suc count) n = ap suc (length-bits count (n / 2))
+
+-- 33 bits at most hold a number with place for one more
+pub small_bits : (count n : ℕ) → length (bits count n) ≤ 32 → n < 2 ^ count → (count ≤ 32) × (n < 2 ^ 32)
+small_bits count n le lt =
+    let few : count ≤ 32 = omega (arith, length-bits count n) in
+    let most : 2 ^ count ≤ 2 ^ 32 = pow_mono few in
+    (few, omega arith)
