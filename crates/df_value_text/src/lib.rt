@@ -5,6 +5,7 @@ mod brackets;
 mod bytes_reader;
 mod char_reader;
 mod counting;
+mod counting_laws;
 mod join;
 mod label;
 mod label_reader;
@@ -23,6 +24,7 @@ mod words_reader;
 mod writers;
 
 pub use bytes_reader::bytes_at;
+pub use counting_laws::{counts_are_exact, counts_decide};
 pub use join::append_separator;
 pub use label::append_label;
 pub use label_reader::{label_at, privilege_at, text_at};
