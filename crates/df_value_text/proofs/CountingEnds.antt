@@ -1,8 +1,8 @@
 -- Behind the whole value nothing counts.
-use Rattle.std.proofs.Common.{◌≡◌, ℕ, ◌+◌, ◌<◌, ◌≤◌, max, Bool, true, false, cond, ltb, List, [], ◌∷◌, ◌++◌, length, length-append, drop, refl, sym, ap, subst, ◌∙◌, append_assoc, arith, inl, inr}
+use Rattle.std.proofs.Common.{◌≡◌, ℕ, ◌+◌, ◌<◌, ◌≤◌, max, Bool, true, false, cond, ltb, List, [], ◌∷◌, ◌++◌, length, length-append, take, drop, refl, sym, ap, subst, ◌∙◌, append_assoc, arith, inl, inr}
 use Rattle.std.specs.Prelude.{◌↔◌}
 use Rattle.std.proofs.lemmas.Bool.{ltb-true, ltb-false}
-use Rattle.std.proofs.lemmas.List.{append-nil}
+use Rattle.std.proofs.lemmas.List.{append-nil, drop-append-le, length-take-le, take-append-drop}
 use Rattle.std.specs.Char.{is_ascii_digit}
 use Rattle.df_frozen.specs.Limits.{IsWithinLimits}
 use Rattle.df_frozen.specs.Plain.{Plain, int, words, bytes, items, entries, node_count, byte_count, depth}
@@ -126,3 +126,14 @@ over_longer text rest more over = record {
   within = over.within;
   over = over.over;
 }
+
+-- the first byte by which a count is passed in front of a place is so of all bytes
+pub over_in_front : (text : List ℕ) (from stop here : ℕ) → from ≤ stop → stop ≤ length text → here ≤ stop → FirstOver (drop from (take stop text)) (drop here (take stop text)) → FirstOver (drop from text) (drop here text)
+over_in_front text from stop here le within below over =
+    subst (λ (u : List ℕ). FirstOver (drop from text) u) (whole here below)
+    (subst (λ (u : List ℕ). FirstOver u (drop here (take stop text) ++ drop stop text)) (whole from le) (over_longer (drop from (take stop text)) (drop here (take stop text)) (drop stop text) over))
+  where
+    whole : (n : ℕ) → n ≤ stop → drop n (take stop text) ++ drop stop text ≡ drop n text
+    whole n below =
+        let short : length (take stop text) ≡ stop = length-take-le stop text within in
+        sym (drop-append-le n (take stop text) (drop stop text) (omega (arith, short, below))) ∙ ap (λ (u : List ℕ). drop n u) (take-append-drop stop text)

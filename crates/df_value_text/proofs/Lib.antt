@@ -9,6 +9,7 @@ pub mod CountingTexts
 pub mod CountingValues
 pub mod CountingFronts
 pub mod CountingEnds
+pub mod CountingExamples
 pub mod CountingSteps
 pub mod BitsLaws
 pub mod EscapeLaws
