@@ -1,0 +1,4 @@
+pub mod ThenLaws
+pub mod FieldTestLaws
+pub mod ClauseLaws
+pub mod FilterLaws

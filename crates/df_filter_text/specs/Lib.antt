@@ -1,4 +1,6 @@
 pub mod FieldTest
 pub mod Filter
 pub mod Fits
+pub mod ReadFieldTest
+pub mod ReadFilter
 pub mod Answer

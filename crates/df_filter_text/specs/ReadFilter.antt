@@ -1,0 +1,61 @@
+-- Reading a filter.
+use Rattle.std.specs.Prelude.{ℕ, zero, suc, List, [], ◌∷◌, Ok, ◌==◌}
+use Rattle.df_filter.specs.declared.clause.Clause.{Clause}
+use Rattle.df_filter.specs.declared.clause.Test.{Test}
+use Rattle.df_filter.specs.declared.clause.Test.TheVariants as test
+use Rattle.df_filter.specs.declared.field_test.FieldTest.{FieldTest}
+use Rattle.df_filter.specs.declared.field_test.FieldTest.TheVariants as field
+use Rattle.df_format.specs.Reading.{Read, as_at, then_at, maybe_at, either_at, text_at, behind_at}
+use Rattle.df_filter_text.specs.ReadFieldTest.{field_test_at}
+use Rattle.df_value_text.specs.ReadName.{name_at}
+use Rattle.df_value_text.specs.ReadTag.{listed, optional}
+
+-- what is asked of a field, asked of the value itself
+abbrev pub test_of : FieldTest → Test
+test_of (field.IntEq n) = test.IntEq n
+test_of (field.IntLess n) = test.IntLess n
+test_of (field.IntMore n) = test.IntMore n
+test_of (field.IntIn low high) = test.IntIn low high
+test_of (field.TextEq text) = test.TextEq text
+test_of (field.TextPrefix text) = test.TextPrefix text
+
+-- `?`
+abbrev pub present_at : List ℕ → Read ℕ Test
+present_at bytes = as_at (λ sign. test.Present) (text_at (63 ∷ [])) bytes
+
+-- the test of a field, by its name
+abbrev pub key_of : List ℕ × FieldTest → Test
+key_of asked = test.Key asked.0 asked.1
+
+-- `.`, a field's name and what is asked of the field
+abbrev pub key_at : List ℕ → Read ℕ Test
+key_at bytes = as_at key_of (behind_at (46 ∷ []) (then_at name_at field_test_at)) bytes
+
+-- what is asked of the value itself
+abbrev pub value_test_at : List ℕ → Read ℕ Test
+value_test_at bytes = as_at test_of field_test_at bytes
+
+-- a field or the value itself, as the first byte tells
+abbrev pub from_key_at : List ℕ → Read ℕ Test
+from_key_at bytes = either_at (λ c. c == 46) key_at value_test_at bytes
+
+-- a test: `?` or one of these
+abbrev pub test_at : List ℕ → Read ℕ Test
+test_at bytes = either_at (λ c. c == 63) present_at from_key_at bytes
+
+-- the clause of a name and a test
+abbrev pub clause_of : List ℕ × Test → Clause
+clause_of parts = record { name = parts.0; test = parts.1 }
+
+-- a name and a test
+abbrev pub clause_at : List ℕ → Read ℕ Clause
+clause_at bytes = as_at clause_of (then_at name_at test_at) bytes
+
+-- at most so many clauses, each behind `&`
+abbrev pub more_clauses_at : ℕ → List ℕ → Read ℕ (List Clause)
+more_clauses_at zero bytes = Ok ([], bytes)
+more_clauses_at (suc most) bytes = as_at optional (maybe_at (λ c. c == 38) (behind_at (38 ∷ []) (then_at clause_at (more_clauses_at most)))) bytes
+
+-- one to four clauses
+abbrev pub filter_at : List ℕ → Read ℕ (List Clause)
+filter_at bytes = as_at listed (then_at clause_at (more_clauses_at 3)) bytes
