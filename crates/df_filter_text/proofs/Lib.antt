@@ -2,3 +2,5 @@ pub mod ThenLaws
 pub mod FieldTestLaws
 pub mod ClauseLaws
 pub mod FilterLaws
+pub mod ClauseSteps
+pub mod Whole

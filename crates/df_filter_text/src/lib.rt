@@ -1,6 +1,8 @@
 //! The one spelling of filters, and their reader.
 #![tactic(auto)]
 
+mod clause_reader;
+mod field_test_reader;
 mod read;
 mod refused;
 #[cfg(test)]

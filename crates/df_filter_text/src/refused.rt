@@ -1,8 +1,10 @@
 //! Why a text isn't read as a filter.
 ghost use Rattle.std.specs.Prelude.{◌≡◌};
+ghost use Rattle.df_filter_text.specs.Answer.{refusal};
 ghost use Rattle.df_filter_text.specs.declared.refused.FilterTextRefused.TheVariants as refused;
 
 use df_label::NoMemory;
+use df_value_text::Fault;
 
 /// Why a text isn't read as a filter.
 #[derive(Clone, Copy, Debug, PartialEq, Eq)]
@@ -21,5 +23,17 @@ impl From<NoMemory> for FilterTextRefused {
 
     fn from(_error: NoMemory) -> FilterTextRefused {
         FilterTextRefused::NoMemory
+    }
+}
+
+impl From<Fault> for FilterTextRefused {
+    ghost from_gives = { λ f e. e ≡ refusal f };
+
+    fn from(fault: Fault) -> FilterTextRefused {
+        match fault {
+            Fault::NoMemory => FilterTextRefused::NoMemory,
+            Fault::Bad(offset) => FilterTextRefused::Syntax { offset },
+            Fault::Low(offset) => FilterTextRefused::Syntax { offset },
+        }
     }
 }
