@@ -7,14 +7,13 @@ use Rattle.std.proofs.lemmas.List.Concat.{flat_map-append}
 use Rattle.std.proofs.lemmas.List.Splits.{slice_split_at, join_with_byte-slice_split}
 use Rattle.df_machine.specs.declared.start.RootStart.{RootStart}
 use Rattle.df_value_text.specs.Label.{label_text, privilege_text}
-use Rattle.df_journal_text.specs.Name.{unit_text}
-use Rattle.df_journal_text.specs.Call.{call_words}
 use Rattle.df_journal_text.specs.Start.{roots_text, start_text}
 use Rattle.df_script_text.specs.declared.line.ScriptLine.{ScriptLine}
 use Rattle.df_script_text.specs.Lines.{call_line, root_line, numbered, body_lines, script_lines}
 use Rattle.df_script_text.specs.Reads.{Reads}
 use Rattle.df_script_text.specs.Script.{IsReadLine, IsReadRoot, IsScript, script_line, script_text}
-use Rattle.df_script_text.proofs.Splits.{Avoids, Avoids-word, Avoids-line, AreWords-line, AreWords-root}
+use Rattle.df_script_text.proofs.Calls.{Avoids-call}
+use Rattle.df_script_text.proofs.Splits.{Avoids, Avoids-word, Avoids-words, Avoids-line, AreWords-root}
 use Rattle.df_script_text.proofs.Numbered.{numbered-each}
 
 -- a line with its line feed
@@ -56,20 +55,14 @@ script_text-lines roots ls =
 Avoids-root : (k : ℕ) (root : RootStart) → k < 2 ^ 32 → IsReadRoot root → Avoids 10 (root_line k root)
 Avoids-root k root small f =
     let w = AreWords-root k small root f in
-    Avoids-line (codes "unit") (decimal k ∷ label_text root.label ∷ map privilege_text root.privileges) w.0 w.1
-
--- a call's line has no line feed
-Avoids-call : (l : ScriptLine) → IsReadLine l → Avoids 10 (call_line l)
-Avoids-call l f =
-    let w = AreWords-line l f in
-    Avoids-line (unit_text l.actor) (call_words l.call) w.0 w.1
+    Avoids-line (codes "unit") (decimal k ∷ label_text root.label ∷ map privilege_text root.privileges) (Avoids-word 10 (codes "unit") (lit≤ tt) w.0) (Avoids-words (decimal k ∷ label_text root.label ∷ map privilege_text root.privileges) w.1)
 
 -- no line of a script has a line feed
 Avoids-script : (roots : List RootStart) (ls : List ScriptLine) → IsScript roots ls → AllByRecursion (Avoids 10) (codes "defcon-script 1" ∷ body_lines roots ls)
 Avoids-script roots ls h =
     let root_lines : AllByRecursion (Avoids 10) (numbered root_line 0 roots) = numbered-each root_line (Avoids 10) IsReadRoot (2 ^ 32) Avoids-root 0 roots (omega (arith, h.0.0)) (recursion_from_All IsReadRoot roots h.0.1) in
     let call_lines : AllByRecursion (Avoids 10) (numbered (λ _ l. call_line l) 0 ls) = numbered-each (λ _ l. call_line l) (Avoids 10) IsReadLine (length ls) (λ k l small f. Avoids-call l f) 0 ls (omega arith) (recursion_from_All IsReadLine ls h.1) in
-    let header : Avoids 10 (codes "defcon-script 1") = Avoids-line (codes "defcon-script") (codes "1" ∷ []) refl (refl, tt) in
+    let header : Avoids 10 (codes "defcon-script 1") = Avoids-line (codes "defcon-script") (codes "1" ∷ []) (Avoids-word 10 (codes "defcon-script") (lit≤ tt) refl) (Avoids-words (codes "1" ∷ []) (refl, tt)) in
     let body : AllByRecursion (Avoids 10) (body_lines roots ls) = recursion_from_All (Avoids 10) _ (All-append (Avoids 10) (numbered root_line 0 roots) (codes "run" ∷ numbered (λ _ l. call_line l) 0 ls) (All-from_recursion (Avoids 10) _ root_lines) (All-cons (Avoids 10) (codes "run") _ (Avoids-word 10 (codes "run") (lit≤ tt) refl) (All-from_recursion (Avoids 10) _ call_lines))) in
     (header, body)
 

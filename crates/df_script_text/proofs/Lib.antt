@@ -1,7 +1,11 @@
 pub mod Bodies
+pub mod Calls
+pub mod Cuts
 pub mod Files
 pub mod Lists
 pub mod Literals
 pub mod Numbered
+pub mod Privileges
 pub mod Splits
+pub mod Values
 pub mod Words

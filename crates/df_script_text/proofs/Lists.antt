@@ -1,14 +1,6 @@
 -- Slices of words of a known length.
 use Rattle.std.proofs.Common.{◌≡◌, ℕ, ◌<◌, ◌≤◌, List, [], ◌∷◌, length, map, get_or, refl, arith, Bor}
 
--- three words
-pub map-three : (ws : List (Bor (List ℕ))) (d e f : Bor (List ℕ)) → 3 ≤ length ws → length ws < 4 → map (λ w. w.now) ws ≡ (get_or ws 0 d).now ∷ (get_or ws 1 e).now ∷ (get_or ws 2 f).now ∷ []
-map-three [] d e f h l = absurd (omega arith)
-map-three (a ∷ []) d e f h l = absurd (omega arith)
-map-three (a ∷ b ∷ []) d e f h l = absurd (omega arith)
-map-three (a ∷ b ∷ c ∷ []) d e f h l = refl
-map-three (a ∷ b ∷ c ∷ x ∷ ws) d e f h l = absurd (omega arith)
-
 -- five words
 pub map-five : (ws : List (Bor (List ℕ))) (d e f g i : Bor (List ℕ)) → 5 ≤ length ws → length ws < 6 → map (λ w. w.now) ws ≡ (get_or ws 0 d).now ∷ (get_or ws 1 e).now ∷ (get_or ws 2 f).now ∷ (get_or ws 3 g).now ∷ (get_or ws 4 i).now ∷ []
 map-five [] d e f g i h l = absurd (omega arith)

@@ -1,20 +1,16 @@
--- Numbers, names and filters from their words.
-use Rattle.std.proofs.Common.{◌≡◌, ℕ, ◌<◌, ◌^◌, Bool, true, false, nat_eq, ℤ, Option, Some, Result, Ok, List, [], ◌∷◌, ◌++◌, codes, decimal, refl, sym, ap, subst, ◌∙◌, arith, SFits, w64, IsUtf8}
-use Rattle.std.specs.Result.{result_ok}
+-- Numbers and other literals from their words.
+use Rattle.std.proofs.Common.{◌≡◌, ℕ, ◌-◌, ◌<◌, ◌^◌, Bool, true, false, nat_eq, Option, Some, None, Result, Ok, Err, IfOk, List, [], ◌++◌, length, drop, decimal, sym, ap, subst, ◌∙◌, arith, append-nil, length-drop, IsUtf8}
 use Rattle.std.specs.Cmp.Lexicographic.{pointwise}
-use Rattle.std.specs.Fmt.{signed_decimal}
-use Rattle.std.specs.Str.Parse.{ParsesUnsigned, ParsesSigned}
-use Rattle.std.proofs.lemmas.Fmt.{IsAscii-decimal, IsAscii-signed, parse-decimal, parse-signed_decimal}
+use Rattle.std.specs.Str.Parse.{ParsesUnsigned}
+use Rattle.std.proofs.lemmas.Fmt.{IsAscii-decimal, decimal_injective, parse-decimal}
 use Rattle.std.proofs.lemmas.Str.{IsUtf8-from_ascii}
+use Rattle.std.proofs.lemmas.List.{drop_all}
 use Rattle.std.proofs.lemmas.Slice.Eq.{bytes_eq-Decides}
-use Rattle.df_frozen.specs.Name.{is_name}
-use Rattle.df_filter.specs.Filter.{filter_of}
-use Rattle.df_filter.specs.declared.clause.Clause.{Clause}
-use Rattle.df_filter.specs.declared.clause.Test.TheVariants.{Present}
-use Rattle.df_filter.specs.declared.filter.FilterRefused.{FilterRefused}
-use Rattle.df_filter_text.specs.Filter.{filter_text}
+use Rattle.df_format.specs.Grammar.{Stands}
+use Rattle.df_value_text.specs.Answer.{IsFound, IsRead}
+use Rattle.df_value_text.specs.declared.refused.TextRefused.{TextRefused}
 use Rattle.df_script_text.specs.Reads.{Reads}
-use Rattle.df_script_text.specs.Script.{IsReadFilter}
+use Rattle.df_script_text.specs.Whole.{IsWhole}
 
 -- a number's word is a text
 pub IsUtf8-number : (n : ℕ) (text : List ℕ) → n < 2 ^ 32 → text ≡ decimal n → IsUtf8 text
@@ -24,20 +20,27 @@ IsUtf8-number n text h e = subst IsUtf8 (sym e) (IsUtf8-from_ascii (decimal n) (
 pub parse-number : {E : Type 0} (n : ℕ) (text : List ℕ) (r : Result ℕ E) → n < 2 ^ 32 → text ≡ decimal n → ParsesUnsigned 32 10 text r → r ≡ Ok n
 parse-number n text r h e p = parse-decimal 32 n text r h (omega (arith, h)) e p
 
--- a whole number's word is a text
-pub IsUtf8-whole : (z : ℤ) (text : List ℕ) → SFits w64 z → text ≡ signed_decimal z → IsUtf8 text
-IsUtf8-whole z text h e = subst IsUtf8 (sym e) (IsUtf8-from_ascii (signed_decimal z) (IsAscii-signed z h.sfits))
-
--- a whole number's word is parsed as the number
-pub parse-whole : {E : Type 0} (z : ℤ) (text : List ℕ) (r : Result ℤ E) → SFits w64 z → text ≡ signed_decimal z → ParsesSigned w64 10 text r → r ≡ Ok z
-parse-whole z text r h e p = parse-signed_decimal w64 z text r h h.sfits e p
+-- numbers of one spelling are one
+pub same_number : (word : List ℕ) (n m : ℕ) → n < 2 ^ 32 → m < 2 ^ 32 → word ≡ decimal n → word ≡ decimal m → n ≡ m
+same_number word n m h k e f = decimal_injective n m (omega (arith, h)) (omega (arith, k)) (sym e ∙ f)
 
 -- texts that were found to differ
 pub pointwise-differ : (a b : List ℕ) (r : Bool) → r ≡ pointwise nat_eq a b → r ≡ false → a ≡ b → ⊥
 pointwise-differ a b r e f same = let t : pointwise nat_eq a b ≡ true = (bytes_eq-Decides a b).1 same in cc
 
--- a name and `?` are read as a filter
-pub Reads-filter : (text front name : List ℕ) → text ≡ front ++ codes "?" → (is_name name ≡ true) × (front ≡ name) → (clauses : List Clause) → clauses ≡ record { name = name; test = Present } ∷ [] → (made : Result (List Clause) FilterRefused) → made ≡ filter_of clauses → (o : Option (List Clause)) → o ≡ result_ok made → Reads filter_text IsReadFilter text o
-Reads-filter text front name is fits clauses are made makes o gives =
-    let some : o ≡ Some (record { name = name; test = Present } ∷ []) = gives ∙ ap result_ok (makes ∙ ap filter_of are) in
-    rw some ((fits.0, refl), is ∙ ap (λ (l : List ℕ). l ++ codes "?") fits.1)
+-- a literal that stands in front of nothing is the whole word
+stands_whole : {X : Type 0} (spell : X → List ℕ) (Fits : X → Type 0) (word : List ℕ) (x : X) → Fits x → word ≡ spell x → Stands spell Fits word x []
+stands_whole spell Fits word x f e = record { parts = e ∙ sym (append-nil (spell x)); fits = f; ends = λ t tail same goes. cc }
+
+-- a reader of literals reads whole words
+pub Reads-whole : {X : Type 0} (spell : X → List ℕ) (Fits : X → Type 0) (word : List ℕ) (read : Result (X × ℕ) TextRefused) (o : Option X) → IfOk read (IsFound spell Fits word 0) → ((x : X) (rest : List ℕ) → Stands spell Fits (drop 0 word) x rest → IsRead word x rest read) → IsWhole (length word) read o → Reads spell Fits word o
+Reads-whole spell Fits word (Ok read) (Some x) found only w =
+    let none : drop read.1 word ≡ [] = ap (λ (n : ℕ). drop n word) w.1 ∙ drop_all (length word) word (omega arith) in
+    (subst Fits w.0 found.1.fits, found.1.parts ∙ ap (λ (l : List ℕ). spell read.0 ++ l) none ∙ append-nil (spell read.0) ∙ ap spell w.0)
+Reads-whole spell Fits word (Ok read) None found only w =
+    λ x f e.
+    let is = only x [] (stands_whole spell Fits word x f e) in
+    let n : length word - read.1 ≡ 0 = sym (length-drop read.1 word) ∙ ap length is.1 in
+    w (omega (arith, found.0))
+Reads-whole spell Fits word (Err e) (Some x) found only w = absurd w
+Reads-whole spell Fits word (Err e) None found only w = λ x f same. w (only x [] (stands_whole spell Fits word x f same))

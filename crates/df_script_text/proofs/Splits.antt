@@ -1,20 +1,18 @@
 -- Lines and their words.
-use Rattle.std.proofs.Common.{◌≡◌, ℕ, ◌<◌, ◌≤◌, ◌^◌, true, false, nat_lt, Option, Some, None, Result, Ok, Err, IfOk, List, [], ◌∷◌, ◌++◌, map, codes, decimal, refl, sym, ap, subst, ◌∙◌, arith, lit≤, append-nil}
+use Rattle.std.proofs.Common.{◌≡◌, ℕ, ◌<◌, ◌≤◌, ◌^◌, true, false, nat_lt, Option, Some, None, Result, Ok, Err, IfOk, List, [], ◌∷◌, ◌++◌, map, codes, decimal, refl, sym, ap, ◌∙◌, arith, lit≤, append-nil}
 use lib.Dec.{eqb}
-use Rattle.std.specs.List.{All, slice_split, join_with_byte}
-use Rattle.std.proofs.lemmas.List.Elements.{All-nil, All-cons, All-append}
+use Rattle.std.specs.List.{All, AllByRecursion, slice_split, join_with_byte}
+use Rattle.std.proofs.lemmas.List.Elements.{All-nil, All-cons, All-append, recursion_from_All}
 use Rattle.std.proofs.lemmas.List.Splits.{slice_split_none, slice_split_at, join_with_byte-slice_split}
 use Rattle.std.proofs.lemmas.Bool.Decides.{nat_tests}
 use Rattle.df_machine.specs.declared.start.RootStart.{RootStart}
+use Rattle.df_value_text.specs.Fits.{IsPrivilege}
 use Rattle.df_value_text.specs.Label.{label_text, privilege_text}
 use Rattle.df_journal_text.specs.Line.{spaced}
-use Rattle.df_journal_text.specs.Name.{unit_text}
-use Rattle.df_journal_text.specs.Call.{call_words}
-use Rattle.df_script_text.specs.declared.line.ScriptLine.{ScriptLine}
-use Rattle.df_script_text.specs.Lines.{call_line, line_words, root_line, root_words}
+use Rattle.df_script_text.specs.Lines.{root_line, root_words}
 use Rattle.df_script_text.specs.Reads.{Reads}
-use Rattle.df_script_text.specs.Script.{IsReadLine, IsReadRoot}
-use Rattle.df_script_text.proofs.Words.{is_word, AreWords, both, is_word-decimal, is_word-actor, AreWords-call, label_text-none}
+use Rattle.df_script_text.specs.Script.{IsReadRoot}
+use Rattle.df_script_text.proofs.Words.{is_word, AreWords, both, is_word-decimal, is_word-label, AreWords-privileges}
 
 -- no byte of this text is the byte
 abbrev pub Avoids : ℕ → List ℕ → Type 0
@@ -31,15 +29,20 @@ Avoids-word c (b ∷ bs) h t =
     let p = both (nat_lt 32 b) (is_word bs) t in
     All-cons (λ b. eqb b c ≡ false) b bs (differs c b h p.0) (Avoids-word c bs h p.1)
 
--- words behind one another have no line feed
-Avoids-spaced : (ws : List (List ℕ)) → AreWords ws → Avoids 10 (spaced ws)
+-- words have no line feed
+pub Avoids-words : (ws : List (List ℕ)) → AreWords ws → AllByRecursion (Avoids 10) ws
+Avoids-words [] h = tt
+Avoids-words (w ∷ ws) h = (Avoids-word 10 w (lit≤ tt) h.0, Avoids-words ws h.1)
+
+-- texts without line feed behind one another
+Avoids-spaced : (ws : List (List ℕ)) → AllByRecursion (Avoids 10) ws → Avoids 10 (spaced ws)
 Avoids-spaced [] h = All-nil (λ b. eqb b 10 ≡ false)
 Avoids-spaced (w ∷ ws) h =
-    All-append (λ b. eqb b 10 ≡ false) (32 ∷ w) (spaced ws) (All-cons (λ b. eqb b 10 ≡ false) 32 w refl (Avoids-word 10 w (lit≤ tt) h.0)) (Avoids-spaced ws h.1)
+    All-append (λ b. eqb b 10 ≡ false) (32 ∷ w) (spaced ws) (All-cons (λ b. eqb b 10 ≡ false) 32 w refl h.0) (Avoids-spaced ws h.1)
 
--- a line of words has no line feed
-pub Avoids-line : (w : List ℕ) (ws : List (List ℕ)) → is_word w ≡ true → AreWords ws → Avoids 10 (w ++ spaced ws)
-Avoids-line w ws h t = All-append (λ b. eqb b 10 ≡ false) w (spaced ws) (Avoids-word 10 w (lit≤ tt) h) (Avoids-spaced ws t)
+-- a line of texts without line feed
+pub Avoids-line : (w : List ℕ) (ws : List (List ℕ)) → Avoids 10 w → AllByRecursion (Avoids 10) ws → Avoids 10 (w ++ spaced ws)
+Avoids-line w ws h t = All-append (λ b. eqb b 10 ≡ false) w (spaced ws) h (Avoids-spaced ws t)
 
 -- words behind one another are split again
 pub slice_split-spaced : (w : List ℕ) (ws : List (List ℕ)) → is_word w ≡ true → AreWords ws → slice_split (λ b. eqb b 32) (w ++ spaced ws) ≡ w ∷ ws
@@ -60,18 +63,10 @@ Reads-spaced first words Fits each text ws is (Some x) r =
 Reads-spaced first words Fits each text ws is None r =
     λ x f e. r x f (is ∙ ap (slice_split (λ b. eqb b 32)) e ∙ slice_split-spaced (first x) (words x) (each x f).0 (each x f).1)
 
--- the words of a call's line are words
-pub AreWords-line : (l : ScriptLine) → IsReadLine l → (is_word (unit_text l.actor) ≡ true) × AreWords (call_words l.call)
-AreWords-line l f = (is_word-actor l.actor f.0, AreWords-call l.call f.1)
-
 -- the words of a root's line are words
 pub AreWords-root : (number : ℕ) → number < 2 ^ 32 → (root : RootStart) → IsReadRoot root → (is_word (codes "unit") ≡ true) × AreWords (decimal number ∷ label_text root.label ∷ map privilege_text root.privileges)
 AreWords-root number small root f =
-    (refl, (is_word-decimal number (omega (arith, small)), (ap is_word (label_text-none root.label f.0), subst (λ ps. AreWords (map privilege_text ps)) (sym f.1) tt)))
-
--- what reads the words of a call's line reads the line
-pub Reads-call_line : (text : List ℕ) (ws : List (List ℕ)) → ws ≡ slice_split (λ b. eqb b 32) text → (o : Option ScriptLine) → Reads line_words IsReadLine ws o → Reads call_line IsReadLine text o
-Reads-call_line text ws is o r = Reads-spaced (λ l. unit_text l.actor) (λ l. call_words l.call) IsReadLine AreWords-line text ws is o r
+    (refl, (is_word-decimal number (omega (arith, small)), (is_word-label root.label f.0, AreWords-privileges root.privileges (recursion_from_All IsPrivilege root.privileges f.1.0))))
 
 -- what reads the words of a root's line reads the line
 pub Reads-root_line : (number : ℕ) → number < 2 ^ 32 → (text : List ℕ) (ws : List (List ℕ)) → ws ≡ slice_split (λ b. eqb b 32) text → (o : Option RootStart) → Reads (root_words number) IsReadRoot ws o → Reads (root_line number) IsReadRoot text o

@@ -1,6 +1,6 @@
 -- Words: each of their bytes is above a space.
-use Rattle.std.proofs.Common.{◌≡◌, ℕ, ◌<◌, ◌^◌, Bool, true, false, ◌&&◌, nat_lt, List, [], ◌∷◌, ◌++◌, codes, decimal, ℤ, pos, negsuc, suc, refl, ap, ◌∙◌, arith, lit<, SFits, w64}
-use Rattle.std.specs.List.{list_all, AllByRecursion}
+use Rattle.std.proofs.Common.{◌≡◌, ℕ, ◌<◌, ◌^◌, Bool, true, false, ◌&&◌, nat_lt, List, [], ◌∷◌, ◌++◌, map, codes, decimal, ℤ, pos, negsuc, suc, refl, arith, lit<}
+use Rattle.std.specs.List.{list_all, AllByRecursion, join_with_byte}
 use Rattle.std.specs.Str.{all_ascii_digits}
 use Rattle.std.specs.Char.{is_ascii_digit}
 use Rattle.std.specs.Str.Parse.{digits_value}
@@ -8,20 +8,23 @@ use Rattle.std.specs.Fmt.{signed_decimal}
 use Rattle.std.proofs.lemmas.Fmt.{digits_decimal}
 use Rattle.std.proofs.lemmas.Str.Parse.{IsNumeralModel, numerals_by_value, tells_all_ascii_digits}
 use Rattle.std.proofs.lemmas.Bool.Decides.{nat_tests}
-use Rattle.df_frozen.specs.Name.{is_name, is_name_byte, is_letter}
-use Rattle.df_frozen.specs.Plain.{Plain, int, words, bytes, items, entries}
 use Rattle.df_label.specs.declared.label.Label.{Label}
-use Rattle.df_filter.specs.declared.clause.Clause.{Clause}
+use Rattle.df_label.specs.declared.privilege.Privilege.{Privilege}
+use Rattle.df_label.specs.declared.privilege.Right.{Right}
+use Rattle.df_label.specs.declared.privilege.Right.TheVariants.{Plus, Minus, PlusAuth, MinusAuth}
+use Rattle.df_priv.specs.declared.need.Half.{Half}
+use Rattle.df_priv.specs.declared.need.Half.TheVariants.{S, I}
+use Rattle.df_priv.specs.declared.need.Act.{Act}
+use Rattle.df_priv.specs.declared.need.Act.TheVariants.{Add, Del}
+use Rattle.df_frozen.specs.Name.{is_name, is_name_byte, is_letter}
 use Rattle.df_unit.specs.declared.name.UnitName.{UnitName}
 use Rattle.df_unit.specs.declared.name.UnitName.TheVariants.{Root, Managed}
-use Rattle.df_unit.specs.declared.call.Call.{Call}
-use Rattle.df_unit.specs.declared.call.Call.TheVariants.{CreateEvent, AddPart, DelPart, ReadPart, CloneEvent, AttachPrivilege, ChangeOutLabel, CreateTag, DropEvent, Subscribe, SubscribeManaged, Get, Publish, Release, ChangeInOut, Instantiate}
-use Rattle.df_value_text.specs.Label.{label_text, tags_text}
-use Rattle.df_value_text.specs.Value.{value_text}
-use Rattle.df_filter_text.specs.Filter.{filter_text, test_text}
+use Rattle.df_value_text.specs.Fits.{AreNumbers, AreTags, IsLabel, IsPrivilege, IsTag, IsTagSet}
+use Rattle.df_value_text.specs.Label.{label_text, privilege_text, right_text, tag_text, tags_text}
+use Rattle.df_value_text.specs.ReadWhole.{IsWhole}
+use Rattle.df_journal_text.specs.Call.{act_text, half_text}
 use Rattle.df_journal_text.specs.Name.{unit_text}
-use Rattle.df_journal_text.specs.Call.{call_words}
-use Rattle.df_script_text.specs.Script.{IsReadActor, IsReadCall, IsReadFilter, IsReadLabel, IsReadValue}
+use Rattle.df_script_text.specs.Script.{IsReadActor}
 
 -- whether each byte is above a space
 abbrev pub is_word : List ℕ → Bool
@@ -37,7 +40,7 @@ both true b h = (refl, h)
 both false b h = cc
 
 -- one more byte above a space
-above : (b : ℕ) (bs : List ℕ) → 32 < b → is_word bs ≡ true → is_word (b ∷ bs) ≡ true
+pub above : (b : ℕ) (bs : List ℕ) → 32 < b → is_word bs ≡ true → is_word (b ∷ bs) ≡ true
 above b bs h t = let e : nat_lt 32 b ≡ true = grind (arith, nat_tests) in rw e t
 
 -- a digit is above a space
@@ -68,9 +71,9 @@ pub is_word-decimal : (n : ℕ) → n < 2 ^ 64 → is_word (decimal n) ≡ true
 is_word-decimal n h = is_word-digits (decimal n) (digits_decimal digits_model n h)
 
 -- a whole number is a word
-pub is_word-signed : (z : ℤ) → SFits w64 z → is_word (signed_decimal z) ≡ true
-is_word-signed (pos n) h = let s : n < 2 ^ 63 = h.sfits in is_word-decimal n (omega arith)
-is_word-signed (negsuc n) h = let s : n < 2 ^ 63 = h.sfits in above 45 (decimal (suc n)) (lit< tt) (is_word-decimal (suc n) (omega arith))
+pub is_word-signed : (z : ℤ) → IsWhole z → is_word (signed_decimal z) ≡ true
+is_word-signed (pos n) h = is_word-decimal n (omega (arith, h))
+is_word-signed (negsuc n) h = above 45 (decimal (suc n)) (lit< tt) (is_word-decimal (suc n) (omega (arith, h)))
 
 -- the bytes of a name are a word
 name_bytes : (bs : List ℕ) → list_all is_name_byte bs ≡ true → is_word bs ≡ true
@@ -88,34 +91,72 @@ is_word-name (b ∷ bs) h =
     above b bs (letter_above b p.0) (name_bytes bs q.1)
 
 -- two words in a row are a word
-is_word-append : (xs ys : List ℕ) → is_word xs ≡ true → is_word ys ≡ true → is_word (xs ++ ys) ≡ true
+pub is_word-append : (xs ys : List ℕ) → is_word xs ≡ true → is_word ys ≡ true → is_word (xs ++ ys) ≡ true
 is_word-append [] ys h t = t
 is_word-append (x ∷ xs) ys h t =
     let p = both (nat_lt 32 x) (is_word xs) h in
     rw p.0 (is_word-append xs ys p.1 t)
 
--- the label without tags
-pub label_text-none : (l : Label) → IsReadLabel l → label_text l ≡ codes "{|}"
-label_text-none l h =
-    ap (λ s. codes "{" ++ tags_text s ++ codes "|" ++ tags_text l.i ++ codes "}") h.0 ∙ ap (λ i. codes "{" ++ tags_text [] ++ codes "|" ++ tags_text i ++ codes "}") h.1
+-- a number of 32 bits is a word
+pub number_word : (n : ℕ) → n < 2 ^ 32 → is_word (decimal n) ≡ true
+number_word n h = is_word-decimal n (omega (arith, h))
 
--- the label without tags is a word
-is_word-label : (l : Label) → IsReadLabel l → is_word (label_text l) ≡ true
-is_word-label l h = ap is_word (label_text-none l h)
+-- words with a byte above a space between each two are a word
+is_word-joined : (sep : ℕ) (ws : List (List ℕ)) → 32 < sep → AreWords ws → is_word (join_with_byte sep ws) ≡ true
+is_word-joined sep [] h t = refl
+is_word-joined sep (w ∷ []) h t = t.0
+is_word-joined sep (w ∷ v ∷ vs) h t =
+    is_word-append w (sep ∷ join_with_byte sep (v ∷ vs)) t.0 (above sep (join_with_byte sep (v ∷ vs)) h (is_word-joined sep (v ∷ vs) h t.1))
 
--- a whole number is a word
-is_word-value : (p : Plain) → IsReadValue p → is_word (value_text p) ≡ true
-is_word-value (int z) h = is_word-signed z h
-is_word-value (words s) h = absurd h
-is_word-value (bytes s) h = absurd h
-is_word-value (items ps) h = absurd h
-is_word-value (entries es) h = absurd h
+-- numbers of 32 bits are words
+AreWords-numbers : (ns : List ℕ) → AreNumbers ns → AreWords (map decimal ns)
+AreWords-numbers [] h = tt
+AreWords-numbers (n ∷ ns) h = (number_word n h.0, AreWords-numbers ns h.1)
 
--- a filter of one clause is a word
-is_word-filter : (cs : List Clause) → IsReadFilter cs → is_word (filter_text cs) ≡ true
-is_word-filter [] h = absurd h
-is_word-filter (c ∷ []) h = is_word-append c.name (test_text c.test) (is_word-name c.name h.0) (ap (λ test. is_word (test_text test)) h.1)
-is_word-filter (c ∷ d ∷ cs) h = absurd h
+-- a tag is a word
+pub is_word-tag : (tag : List ℕ) → IsTag tag → is_word (tag_text tag) ≡ true
+is_word-tag [] h = absurd h
+is_word-tag (n ∷ ns) h = is_word-joined 46 (map decimal (n ∷ ns)) (lit< tt) (number_word n h.0, AreWords-numbers ns h.1)
+
+-- tags are words
+AreWords-tags : (tags : List (List ℕ)) → AreTags tags → AreWords (map tag_text tags)
+AreWords-tags [] h = tt
+AreWords-tags (tag ∷ tags) h = (is_word-tag tag h.0, AreWords-tags tags h.1)
+
+-- a set of tags is a word
+is_word-tags : (tags : List (List ℕ)) → IsTagSet tags → is_word (tags_text tags) ≡ true
+is_word-tags tags h = is_word-joined 44 (map tag_text tags) (lit< tt) (AreWords-tags tags h.0)
+
+-- a label is a word
+pub is_word-label : (l : Label) → IsLabel l → is_word (label_text l) ≡ true
+is_word-label l h =
+    is_word-append (tags_text l.s ++ codes "|" ++ tags_text l.i) (codes "}") (is_word-append (tags_text l.s ++ codes "|") (tags_text l.i) (is_word-append (tags_text l.s) (codes "|") (is_word-tags l.s h.0) refl) (is_word-tags l.i h.1)) refl
+
+-- a right is a word
+is_word-right : (right : Right) → is_word (right_text right) ≡ true
+is_word-right Plus = refl
+is_word-right Minus = refl
+is_word-right PlusAuth = refl
+is_word-right MinusAuth = refl
+
+-- a privilege is a word
+pub is_word-privilege : (p : Privilege) → IsPrivilege p → is_word (privilege_text p) ≡ true
+is_word-privilege p h = is_word-append (tag_text p.tag) (right_text p.right) (is_word-tag p.tag h) (is_word-right p.right)
+
+-- privileges are words
+pub AreWords-privileges : (ps : List Privilege) → AllByRecursion IsPrivilege ps → AreWords (map privilege_text ps)
+AreWords-privileges [] h = tt
+AreWords-privileges (p ∷ ps) h = (is_word-privilege p h.0, AreWords-privileges ps h.1)
+
+-- a half of a label is a word
+pub is_word-half : (half : Half) → is_word (half_text half) ≡ true
+is_word-half S = refl
+is_word-half I = refl
+
+-- what is done with a tag is a word
+pub is_word-act : (act : Act) → is_word (act_text act) ≡ true
+is_word-act Add = refl
+is_word-act Del = refl
 
 -- who makes a call is a word
 pub is_word-actor : (u : UnitName) → IsReadActor u → is_word (unit_text u) ≡ true
@@ -123,26 +164,3 @@ is_word-actor (Root []) h = absurd h
 is_word-actor (Root (k ∷ [])) h = is_word-decimal k (omega (arith, h))
 is_word-actor (Root (k ∷ j ∷ ks)) h = absurd h
 is_word-actor (Managed p n s) h = absurd h
-
--- a number of 32 bits is a word
-number_word : (n : ℕ) → n < 2 ^ 32 → is_word (decimal n) ≡ true
-number_word n h = is_word-decimal n (omega (arith, h))
-
--- the words of a call are words
-pub AreWords-call : (call : Call) → IsReadCall call → AreWords (call_words call)
-AreWords-call CreateEvent f = (refl, tt)
-AreWords-call (AddPart h label name value) f = (refl, (number_word h f.0, (is_word-label label f.1, (is_word-name name f.2, (is_word-value value f.3, tt)))))
-AreWords-call (DelPart h label name) f = absurd f
-AreWords-call (ReadPart h name) f = (refl, (number_word h f.0, (is_word-name name f.1, tt)))
-AreWords-call (CloneEvent h label) f = absurd f
-AreWords-call (AttachPrivilege h label name p) f = absurd f
-AreWords-call (ChangeOutLabel half act tag) f = absurd f
-AreWords-call CreateTag f = absurd f
-AreWords-call (DropEvent h) f = absurd f
-AreWords-call (Subscribe filter) f = (refl, (is_word-filter filter f, tt))
-AreWords-call (SubscribeManaged filter) f = absurd f
-AreWords-call Get f = (refl, tt)
-AreWords-call (Publish h) f = (refl, (number_word h f, tt))
-AreWords-call (Release h) f = absurd f
-AreWords-call (ChangeInOut half act tag) f = absurd f
-AreWords-call (Instantiate s privileges) f = absurd f

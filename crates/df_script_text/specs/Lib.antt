@@ -1,3 +1,5 @@
+pub mod Cut
 pub mod Lines
 pub mod Reads
 pub mod Script
+pub mod Whole

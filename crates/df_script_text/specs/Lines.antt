@@ -1,15 +1,17 @@
 -- The lines of a script without their line feeds, and their words.
 use Rattle.std.specs.Prelude.{ℕ, ◌+◌, List, [], ◌∷◌, ◌++◌, map, codes, decimal}
+use Rattle.std.specs.List.{join_with_byte}
 use Rattle.df_value_text.specs.Label.{label_text, privilege_text}
+use Rattle.df_unit.specs.declared.call.Call.{Call}
 use Rattle.df_machine.specs.declared.start.RootStart.{RootStart}
 use Rattle.df_journal_text.specs.Line.{spaced}
 use Rattle.df_journal_text.specs.Name.{unit_text}
 use Rattle.df_journal_text.specs.Call.{call_words}
 use Rattle.df_script_text.specs.declared.line.ScriptLine.{ScriptLine}
 
--- the words of a call's line
-abbrev pub line_words : ScriptLine → List (List ℕ)
-line_words l = unit_text l.actor ∷ call_words l.call
+-- the words of a call with a space between each two
+abbrev pub call_text : Call → List ℕ
+call_text call = join_with_byte 32 (call_words call)
 
 -- a call's line
 abbrev pub call_line : ScriptLine → List ℕ

@@ -1,13 +1,12 @@
 -- Which scripts are read, and how they are spelled.
-use Rattle.std.specs.Prelude.{◌≡◌, ℕ, ◌<◌, ◌^◌, true, List, [], ◌∷◌, ◌++◌, length, codes}
+use Rattle.std.specs.Prelude.{◌≡◌, ℕ, ◌<◌, ◌^◌, true, ⊤, List, [], ◌∷◌, ◌++◌, length, codes}
 use Rattle.std.specs.List.{All, flat_map}
-use Rattle.std.specs.Int.RustNames.{FitsSigned}
-use mir.Syntax.{w64}
-use Rattle.df_label.specs.declared.label.Label.{Label}
+use Rattle.df_label.specs.Ascending.{IsAscending}
+use Rattle.df_label.specs.Privilege.{privilege_cmp}
+use Rattle.df_label.specs.declared.privilege.Privilege.{Privilege}
 use Rattle.df_frozen.specs.Name.{is_name}
-use Rattle.df_frozen.specs.Plain.{Plain, int, words, bytes, items, entries}
-use Rattle.df_filter.specs.declared.clause.Clause.{Clause}
-use Rattle.df_filter.specs.declared.clause.Test.TheVariants.{Present}
+use Rattle.df_value_text.specs.Fits.{IsLabel, IsPrivilege, IsTag, IsValue}
+use Rattle.df_filter_text.specs.Fits.{IsFilter}
 use Rattle.df_unit.specs.declared.name.UnitName.{UnitName}
 use Rattle.df_unit.specs.declared.name.UnitName.TheVariants.{Root, Managed}
 use Rattle.df_unit.specs.declared.call.Call.{Call}
@@ -36,50 +35,36 @@ IsReadActor (Root (number ∷ [])) = number < 2 ^ 32
 IsReadActor (Root (number ∷ next ∷ numbers)) = ⊥
 IsReadActor (Managed owner sub s) = ⊥
 
--- a label: the one without tags
-abbrev pub IsReadLabel : Label → Type 0
-IsReadLabel label = (label.s ≡ []) × (label.i ≡ [])
-
--- a value: a whole number
-abbrev pub IsReadValue : Plain → Type 0
-IsReadValue (int number) = FitsSigned w64 number
-IsReadValue (words text) = ⊥
-IsReadValue (bytes text) = ⊥
-IsReadValue (items values) = ⊥
-IsReadValue (entries values) = ⊥
-
--- a filter: one clause, which asks that there is a part of its name
-abbrev pub IsReadFilter : List Clause → Type 0
-IsReadFilter [] = ⊥
-IsReadFilter (clause ∷ []) = (is_name clause.name ≡ true) × (clause.test ≡ Present)
-IsReadFilter (clause ∷ next ∷ clauses) = ⊥
-
--- a call that scripts have so far
+-- a call that scripts have so far: its handle has 32 bits, and each of its words is a literal
 abbrev pub IsReadCall : Call → Type 0
-IsReadCall CreateEvent = Unit {0}
-IsReadCall (AddPart h label name value) = (h < 2 ^ 32) × IsReadLabel label × (is_name name ≡ true) × IsReadValue value
-IsReadCall (DelPart h label name) = ⊥
+IsReadCall CreateEvent = ⊤
+IsReadCall (AddPart h label name value) = (h < 2 ^ 32) × IsLabel label × (is_name name ≡ true) × IsValue value
+IsReadCall (DelPart h label name) = (h < 2 ^ 32) × IsLabel label × (is_name name ≡ true)
 IsReadCall (ReadPart h name) = (h < 2 ^ 32) × (is_name name ≡ true)
-IsReadCall (CloneEvent h label) = ⊥
-IsReadCall (AttachPrivilege h label name p) = ⊥
-IsReadCall (ChangeOutLabel half act tag) = ⊥
-IsReadCall CreateTag = ⊥
-IsReadCall (DropEvent h) = ⊥
-IsReadCall (Subscribe filter) = IsReadFilter filter
+IsReadCall (CloneEvent h label) = (h < 2 ^ 32) × IsLabel label
+IsReadCall (AttachPrivilege h label name p) = (h < 2 ^ 32) × IsLabel label × (is_name name ≡ true) × IsPrivilege p
+IsReadCall (ChangeOutLabel half act tag) = IsTag tag
+IsReadCall CreateTag = ⊤
+IsReadCall (DropEvent h) = h < 2 ^ 32
+IsReadCall (Subscribe filter) = IsFilter filter
 IsReadCall (SubscribeManaged filter) = ⊥
-IsReadCall Get = Unit {0}
+IsReadCall Get = ⊤
 IsReadCall (Publish h) = h < 2 ^ 32
-IsReadCall (Release h) = ⊥
-IsReadCall (ChangeInOut half act tag) = ⊥
+IsReadCall (Release h) = h < 2 ^ 32
+IsReadCall (ChangeInOut half act tag) = IsTag tag
 IsReadCall (Instantiate s privileges) = ⊥
 
 -- such a call of a root
 abbrev pub IsReadLine : ScriptLine → Type 0
 IsReadLine l = IsReadActor l.actor × IsReadCall l.call
 
--- a root without tags and privileges
+-- privileges in ascending order
+abbrev pub AreReadPrivileges : List Privilege → Type 0
+AreReadPrivileges ps = All IsPrivilege ps × IsAscending privilege_cmp ps
+
+-- a root: its label, and its privileges in ascending order
 abbrev pub IsReadRoot : RootStart → Type 0
-IsReadRoot root = IsReadLabel root.label × (root.privileges ≡ [])
+IsReadRoot root = IsLabel root.label × AreReadPrivileges root.privileges
 
 -- fewer than 2 ^ 32 such roots
 abbrev pub AreReadRoots : List RootStart → Type 0
@@ -92,4 +77,4 @@ IsScript roots lines = AreReadRoots roots × All IsReadLine lines
 -- where a file is refused, no line is named
 abbrev pub NamesNoLine : FileRefused → Type 0
 NamesNoLine (Syntax line) = line ≡ 0
-NamesNoLine NoMemory = Unit {0}
+NamesNoLine NoMemory = ⊤

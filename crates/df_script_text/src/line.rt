@@ -2,10 +2,12 @@
 
 ghost use Rattle.std.specs.Prelude.{map, IfOk, option_map};
 ghost use Rattle.std.specs.List.{All};
+ghost use Rattle.df_script_text.specs.Lines.{call_line, numbered};
 ghost use Rattle.df_script_text.specs.Reads.{Reads};
+ghost use Rattle.df_script_text.specs.Script.{IsReadLine};
 
 use crate::call::read_call;
-use crate::pieces::pieces;
+use crate::pieces::cut_at_space;
 use crate::word::read_actor;
 use df_label::NoMemory;
 use df_unit::{Call, UnitName};
@@ -18,14 +20,11 @@ pub struct ScriptLine {
     pub call: Call,
 }
 
-ghost use Rattle.df_script_text.specs.Lines.{call_line, line_words, numbered};
-ghost use Rattle.df_script_text.specs.Script.{IsReadLine};
-
-/// The words of a line.
-fn read_words(alloc: Global, words: &[&[u8]]) -> Result<Option<ScriptLine>, NoMemory>
-    ensures { IfOk result (Reads line_words IsReadLine (map (λ w. w.now) words.now)) }
+/// A line, without its line feed.
+fn read_line(alloc: Global, line: &[u8]) -> Result<Option<ScriptLine>, NoMemory>
+    ensures { IfOk result (Reads call_line IsReadLine line.now) }
 {
-    let Some((actor, call)) = words.split_first() else {
+    let Some((actor, call)) = cut_at_space(line) else {
         return Ok(None);
     };
     let Some(actor) = read_actor(actor) else {
@@ -35,14 +34,6 @@ fn read_words(alloc: Global, words: &[&[u8]]) -> Result<Option<ScriptLine>, NoMe
         return Ok(None);
     };
     Ok(Some(ScriptLine { actor, call }))
-}
-
-/// A line, without its line feed.
-fn read_line(alloc: Global, line: &[u8]) -> Result<Option<ScriptLine>, NoMemory>
-    ensures { IfOk result (Reads call_line IsReadLine line.now) }
-{
-    let words = pieces(alloc, line, b' ')?;
-    read_words(alloc, words.as_slice())
 }
 
 /// Lines, without their line feeds.

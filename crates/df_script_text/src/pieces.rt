@@ -1,5 +1,7 @@
-ghost use Rattle.std.specs.Prelude.{◌≡◌, ◌==◌, map, IfOk};
+//! Texts in pieces.
+ghost use Rattle.std.specs.Prelude.{◌≡◌, ◌==◌, map, IfOk, option_map};
 ghost use Rattle.std.specs.List.{slice_split};
+ghost use Rattle.df_script_text.specs.Cut.{IsCutAtSpace, IsNextPiece, call_pieces, cut_pieces};
 
 use df_label::NoMemory;
 use std::alloc::Global;
@@ -9,4 +11,50 @@ pub fn pieces(alloc: Global, bytes: &[u8], byte: u8) -> Result<Vec<&[u8]>, NoMem
     ensures { IfOk result (λ v. map (λ p. p.now) v.items ≡ slice_split (λ b. b == byte) bytes.now) }
 {
     Ok(bytes.split(|b| *b == byte).collect(alloc)?)
+}
+
+/// What stands before the first space and what stands behind it, if there is one.
+pub fn cut_at_space(text: &[u8]) -> Option<(&[u8], &[u8])>
+    ensures { IsCutAtSpace text.now (option_map (λ x. (x.0.now, x.1.now)) result) }
+{
+    let at = text.iter().position(|b| *b == b' ')?;
+    Some((&text[..at], &text[at + 1..]))
+}
+
+/// What stands before the first space and what stands behind it, if there is one and it may be cut.
+fn next_piece(text: &[u8], spaces: usize) -> Option<(&[u8], &[u8])>
+    ensures { IsNextPiece spaces text.now (option_map (λ x. (x.0.now, x.1.now)) result) }
+{
+    if spaces == 0 {
+        return None;
+    }
+    cut_at_space(text)
+}
+
+/// The pieces between the first spaces, of which there are at most `spaces`, and the rest in one
+/// piece.
+fn cut_pieces(alloc: Global, text: &[u8], spaces: usize) -> Result<Vec<&[u8]>, NoMemory>
+    ensures { IfOk result (λ v. map (λ p. p.now) v.items ≡ cut_pieces spaces text.now) }
+{
+    let mut pieces = Vec::new(alloc);
+    let mut rest = text;
+    let mut left = spaces;
+    'cuts: while let Some((piece, behind)) = next_piece(rest, left) {
+        pieces.push(piece)?;
+        rest = behind;
+        left -= 1;
+    }
+    pieces.push(rest)?;
+    Ok(pieces)
+}
+
+/// The pieces of a call. Only a filter and a value may have spaces.
+pub fn call_pieces(alloc: Global, text: &[u8]) -> Result<Vec<&[u8]>, NoMemory>
+    ensures { IfOk result (λ v. map (λ p. p.now) v.items ≡ call_pieces text.now) }
+{
+    if text.starts_with(b"sub ") {
+        cut_pieces(alloc, text, 1)
+    } else {
+        cut_pieces(alloc, text, 4)
+    }
 }

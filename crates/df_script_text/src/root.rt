@@ -1,48 +1,95 @@
 //! The lines of roots.
 
-ghost use Rattle.std.specs.Prelude.{◌∷◌, [], map, IfOk};
+ghost use Rattle.std.specs.Prelude.{◌≡◌, ◌↔◌, IsTrue, codes, decimal, map, option_map, IfOk};
+ghost use Rattle.std.specs.List.{All};
+ghost use Rattle.df_label.specs.Ascending.{IsAscending};
+ghost use Rattle.df_label.specs.Privilege.{privilege_cmp};
+ghost use Rattle.df_value_text.specs.Fits.{IsPrivilege};
+ghost use Rattle.df_value_text.specs.Label.{privilege_text};
 ghost use Rattle.df_script_text.specs.Lines.{numbered, root_line, root_words};
 ghost use Rattle.df_script_text.specs.Reads.{Reads};
-ghost use Rattle.df_script_text.specs.Script.{AreReadRoots, IsReadRoot};
+ghost use Rattle.df_script_text.specs.Script.{AreReadPrivileges, AreReadRoots, IsReadRoot};
 
 use crate::pieces::pieces;
-use crate::word::{read_label, read_number};
-use df_label::{NoMemory, Privileges};
+use crate::word::{read_label, read_number, read_privilege};
+use df_label::{NoMemory, Privilege, Privileges};
 use df_machine::{RootStart, Start};
 use std::alloc::Global;
 
-/// The three words of the line of the root that has this number.
-fn read_three(
-    alloc: Global,
-    number: u32,
-    keyword: &[u8],
-    place: &[u8],
-    label: &[u8],
-) -> Option<RootStart>
-    ensures { Reads (root_words number) IsReadRoot (keyword.now ∷ place.now ∷ label.now ∷ []) result }
+/// Whether each privilege is above all before it.
+fn are_ascending(privileges: &[Privilege]) -> bool
+    ensures { IsTrue result ↔ IsAscending privilege_cmp privileges.now }
 {
-    if keyword != b"unit".as_slice() {
-        return None;
+    for i in 1..privileges.len() {
+        if !privileges[i - 1].cmp(&privileges[i]).is_lt() {
+            return false;
+        }
     }
-    let place = read_number(place)?;
-    if place != number {
-        return None;
+    true
+}
+
+/// Privileges, whatever their order.
+fn read_each(alloc: Global, words: &[&[u8]]) -> Result<Option<Vec<Privilege>>, NoMemory>
+    ensures { IfOk result (λ o. Reads (map privilege_text) (All IsPrivilege) (map (λ w. w.now) words.now) (option_map (λ v. v.items) o)) }
+{
+    let mut read = Vec::new(alloc);
+    for word in words {
+        let Some(privilege) = read_privilege(alloc, word)? else {
+            return Ok(None);
+        };
+        read.push(privilege)?;
     }
-    let label = read_label(alloc, label)?;
-    Some(RootStart {
-        label,
-        privileges: Privileges::new(alloc),
-    })
+    Ok(Some(read))
+}
+
+/// Privileges in ascending order.
+fn read_privileges(alloc: Global, words: &[&[u8]]) -> Result<Option<Privileges>, NoMemory>
+    ensures { IfOk result (Reads (map privilege_text) AreReadPrivileges (map (λ w. w.now) words.now)) }
+{
+    let Some(read) = read_each(alloc, words)? else {
+        return Ok(None);
+    };
+    if !are_ascending(read.as_slice()) {
+        return Ok(None);
+    }
+    Ok(Some(Privileges::from_ascending(read)?))
+}
+
+/// Whether this number is spelled so.
+#[tactic(auto, using(crate::proofs::Literals::same_number))]
+fn is_number(word: &[u8], number: u32) -> bool
+    ensures { IsTrue result ↔ word.now ≡ decimal number }
+{
+    match read_number(word) {
+        Some(read) => read == number,
+        None => false,
+    }
+}
+
+/// Whether these are the first words of the line of the root that has this number.
+fn begins_root(number: u32, keyword: &[u8], place: &[u8]) -> bool
+    ensures { IsTrue result ↔ (keyword.now ≡ codes "unit") × (place.now ≡ decimal number) }
+{
+    keyword == b"unit".as_slice() && is_number(place, number)
 }
 
 /// The words of the line of the root that has this number.
-fn read_words(alloc: Global, number: u32, words: &[&[u8]]) -> Option<RootStart>
-    ensures { Reads (root_words number) IsReadRoot (map (λ w. w.now) words.now) result }
+fn read_words(alloc: Global, number: u32, words: &[&[u8]]) -> Result<Option<RootStart>, NoMemory>
+    ensures { IfOk result (Reads (root_words number) IsReadRoot (map (λ w. w.now) words.now)) }
 {
-    match words {
-        [keyword, place, label] => read_three(alloc, number, keyword, place, label),
-        _ => None,
+    let [keyword, place, label, privileges @ ..] = words else {
+        return Ok(None);
+    };
+    if !begins_root(number, keyword, place) {
+        return Ok(None);
     }
+    let Some(label) = read_label(alloc, label)? else {
+        return Ok(None);
+    };
+    let Some(privileges) = read_privileges(alloc, privileges)? else {
+        return Ok(None);
+    };
+    Ok(Some(RootStart { label, privileges }))
 }
 
 /// The line of the root that has this number, without its line feed.
@@ -50,7 +97,7 @@ fn read_root(alloc: Global, number: u32, line: &[u8]) -> Result<Option<RootStart
     ensures { IfOk result (Reads (root_line number) IsReadRoot line.now) }
 {
     let words = pieces(alloc, line, b' ')?;
-    Ok(read_words(alloc, number, words.as_slice()))
+    read_words(alloc, number, words.as_slice())
 }
 
 /// The lines of all roots, without their line feeds.

@@ -1,21 +1,25 @@
 //! Words: each is read where it is the one spelling of something.
 
-ghost use Rattle.std.specs.Prelude.{◌≡◌, ◌<◌, ◌^◌, decimal, IfOk, true};
-ghost use Rattle.std.specs.Fmt.{signed_decimal};
-ghost use Rattle.std.specs.Int.RustNames.{FitsSigned};
-ghost use mir.Syntax.{w64};
+ghost use Rattle.std.specs.Prelude.{◌≡◌, ◌<◌, ◌^◌, decimal, IfOk, length, true, ⊤};
 ghost use Rattle.df_frozen.specs.Name.{is_name};
-ghost use Rattle.df_value_text.specs.Label.{label_text};
+ghost use Rattle.df_value_text.specs.Fits.{IsLabel, IsPrivilege, IsTag, IsValue};
+ghost use Rattle.df_value_text.specs.Label.{label_text, privilege_text, tag_text};
 ghost use Rattle.df_value_text.specs.Value.{value_text};
 ghost use Rattle.df_filter_text.specs.Filter.{filter_text};
+ghost use Rattle.df_filter_text.specs.Fits.{IsFilter};
+ghost use Rattle.df_journal_text.specs.Call.{act_text, half_text};
 ghost use Rattle.df_journal_text.specs.Name.{unit_text};
 ghost use Rattle.df_script_text.specs.Reads.{Reads};
-ghost use Rattle.df_script_text.specs.Script.{IsReadActor, IsReadFilter, IsReadLabel, IsReadValue};
+ghost use Rattle.df_script_text.specs.Script.{IsReadActor};
+ghost use Rattle.df_script_text.specs.Whole.{IsWhole};
 
-use df_filter::{Clause, Filter, Test};
-use df_frozen::{Frozen, Name, Value};
-use df_label::{Label, NoMemory, TagSet};
+use df_filter::Filter;
+use df_filter_text::FilterTextRefused;
+use df_frozen::{Frozen, Name};
+use df_label::{Label, NoMemory, Privilege, Tag};
+use df_priv::{Act, Half};
 use df_unit::{Path, UnitName};
+use df_value_text::TextRefused;
 use itoa::Buffer;
 use std::alloc::Global;
 use std::str;
@@ -32,24 +36,6 @@ pub fn read_number(word: &[u8]) -> Option<u32>
     };
     let mut digits = Buffer::new();
     if digits.format(number).as_bytes() == word {
-        Some(number)
-    } else {
-        None
-    }
-}
-
-/// A number, or `-` and a number that isn't 0.
-pub fn read_whole(word: &[u8]) -> Option<i64>
-    ensures { Reads signed_decimal (FitsSigned w64) word.now result }
-{
-    let Ok(text) = str::from_utf8(word) else {
-        return None;
-    };
-    let Ok(number) = text.parse::<i64>() else {
-        return None;
-    };
-    let mut buffer = Buffer::new();
-    if buffer.format(number).as_bytes() == word {
         Some(number)
     } else {
         None
@@ -73,47 +59,80 @@ pub fn read_actor(word: &[u8]) -> Option<UnitName>
     Some(UnitName::Root(Path::root(number)))
 }
 
-/// The label without tags is the only one.
-pub fn read_label(alloc: Global, word: &[u8]) -> Option<Label>
-    ensures { Reads label_text IsReadLabel word.now result }
+/// `S` or `I`.
+pub fn read_half(word: &[u8]) -> Option<Half>
+    ensures { Reads half_text (λ _. ⊤) word.now result }
 {
-    if word == b"{|}".as_slice() {
-        Some(Label {
-            s: TagSet::new(alloc),
-            i: TagSet::new(alloc),
-        })
+    if word == b"S".as_slice() {
+        Some(Half::S)
+    } else if word == b"I".as_slice() {
+        Some(Half::I)
     } else {
         None
     }
 }
 
-/// A value, frozen. Whole numbers are the only ones.
-pub fn read_value(alloc: Global, word: &[u8]) -> Result<Option<Frozen>, NoMemory>
-    ensures { IfOk result (Reads value_text IsReadValue word.now) }
+/// `add` or `del`.
+pub fn read_act(word: &[u8]) -> Option<Act>
+    ensures { Reads act_text (λ _. ⊤) word.now result }
 {
-    let Some(number) = read_whole(word) else {
-        return Ok(None);
-    };
-    match Value::Int(number).freeze(alloc) {
-        Ok(value) => Ok(Some(value)),
-        Err(_) => Err(NoMemory),
+    if word == b"add".as_slice() {
+        Some(Act::Add)
+    } else if word == b"del".as_slice() {
+        Some(Act::Del)
+    } else {
+        None
     }
 }
 
-/// A filter of one clause.
-pub fn read_filter(alloc: Global, word: &[u8]) -> Result<Option<Filter>, NoMemory>
-    ensures { IfOk result (Reads filter_text IsReadFilter word.now) }
+/// What was read, if it ends where the word does.
+fn whole<X: Drop>(word: &[u8], read: Result<(X, usize), TextRefused>) -> Result<Option<X>, NoMemory>
+    ensures { IfOk result (IsWhole (length word.now) read) }
 {
-    let Some(name) = word.strip_suffix(b"?") else {
-        return Ok(None);
-    };
-    let Some(name) = read_name(name) else {
-        return Ok(None);
-    };
-    let mut clauses = Vec::new(alloc);
-    clauses.push(Clause {
-        name,
-        test: Test::Present,
-    })?;
-    Ok(Filter::new(clauses).ok())
+    match read {
+        Ok((literal, end)) => {
+            if end == word.len() {
+                Ok(Some(literal))
+            } else {
+                Ok(None)
+            }
+        }
+        Err(TextRefused::NoMemory) => Err(NoMemory),
+        Err(_) => Ok(None),
+    }
+}
+
+pub fn read_tag(alloc: Global, word: &[u8]) -> Result<Option<Tag>, NoMemory>
+    ensures { IfOk result (Reads tag_text IsTag word.now) }
+{
+    whole(word, df_value_text::read_tag(alloc, word, 0))
+}
+
+pub fn read_label(alloc: Global, word: &[u8]) -> Result<Option<Label>, NoMemory>
+    ensures { IfOk result (Reads label_text IsLabel word.now) }
+{
+    whole(word, df_value_text::read_label(alloc, word, 0))
+}
+
+pub fn read_privilege(alloc: Global, word: &[u8]) -> Result<Option<Privilege>, NoMemory>
+    ensures { IfOk result (Reads privilege_text IsPrivilege word.now) }
+{
+    whole(word, df_value_text::read_privilege(alloc, word, 0))
+}
+
+/// A value, frozen.
+pub fn read_value(alloc: Global, word: &[u8]) -> Result<Option<Frozen>, NoMemory>
+    ensures { IfOk result (Reads value_text IsValue word.now) }
+{
+    whole(word, df_value_text::read_value(alloc, word, 0))
+}
+
+pub fn read_filter(alloc: Global, word: &[u8]) -> Result<Option<Filter>, NoMemory>
+    ensures { IfOk result (Reads filter_text IsFilter word.now) }
+{
+    match df_filter_text::read_filter(alloc, word) {
+        Ok(filter) => Ok(Some(filter)),
+        Err(FilterTextRefused::NoMemory) => Err(NoMemory),
+        Err(_) => Ok(None),
+    }
 }

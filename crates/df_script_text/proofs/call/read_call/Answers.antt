@@ -1,10 +1,8 @@
-use Rattle.std.proofs.Common.{subst, sym, IfOk}
-use Rattle.df_journal_text.specs.Call.{call_words}
-use Rattle.df_script_text.specs.Reads.{Reads}
-use Rattle.df_script_text.specs.Script.{IsReadCall}
-use Rattle.df_script_text.proofs.Lists.{map-five}
+use Rattle.std.proofs.Common.{◌∙◌, ap, map}
+use Rattle.df_script_text.proofs.Calls.{Reads-call_text}
+use Rattle.df_script_text.proofs.Splits.{IfOk-weaker}
 use Rattle.df_script_text.proofs.call.read_call.Goals as goal
 
-pub returns-in-len5 : goal.returns-in-len5
-returns-in-len5 c =
-    subst (λ ws. IfOk c.read_add.result (Reads call_words IsReadCall ws)) (sym (map-five c.args.words.now _ _ _ _ _ c.in-len5.len_at_least c.in-len5.len_below)) c.read_add.ensures
+pub returns : goal.returns
+returns c =
+    IfOk-weaker _ (Reads-call_text c.args.text.now _ (ap (map (λ w. w.now)) c.as_slice.ensures.value ∙ c.in_ok-words.ensures)) c.read_words.ensures
