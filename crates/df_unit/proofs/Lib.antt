@@ -1,1 +1,2 @@
+pub mod OrderFacts
 pub mod SameFacts

@@ -8,3 +8,5 @@ pub mod OwnState
 pub mod Path
 pub mod Rows
 pub mod Served
+pub mod UnitOrder
+pub mod UnitOrderLaws

@@ -1,7 +1,12 @@
-ghost use Rattle.std.specs.Prelude.{◌≡◌, ◌↔◌, IsTrue, IfOk};
+ghost use Rattle.std.specs.Prelude.{◌≡◌, ◌↔◌, IsTrue, IfOk, Some, refl};
+ghost use Rattle.std.specs.Cmp.{partial_equiv_from_equiv};
+ghost use Rattle.df_unit.specs.Name.{same};
+ghost use Rattle.df_unit.specs.UnitOrder.{unit_cmp};
+ghost use Rattle.df_unit.specs.UnitOrderLaws.{same_equiv, unit_cmp_po, unit_cmp_ties, unit_cmp_total};
 
 use crate::Path;
 use df_label::{NoMemory, TagSet};
+use std::cmp::Ordering;
 
 /// A unit's name. A plain unit is named by its path. The instance of a managed subscription is
 /// named by its owner's path, the subscription's number, and the confidentiality tags of its
@@ -20,8 +25,6 @@ pub struct EventName {
 }
 
 impl UnitName {
-    ghost use Rattle.df_unit.specs.Name.{same};
-
     pub fn copy(&self) -> Result<UnitName, NoMemory>
         ensures { IfOk result (λ u. u ≡ self.now) }
     {
@@ -56,6 +59,60 @@ impl UnitName {
                 },
             ) => owner == other_owner && *sub == *other_sub && *s == *other_s,
             _ => false,
+        }
+    }
+}
+
+impl PartialEq for UnitName {
+    ghost eq = { same };
+
+    ghost laws = { partial_equiv_from_equiv same_equiv };
+
+    fn eq(&self, other: &UnitName) -> bool {
+        self.same(other)
+    }
+}
+
+impl Eq for UnitName {
+    ghost laws = { same_equiv };
+}
+
+impl PartialOrd for UnitName {
+    ghost partial_cmp = { λ a b. Some (unit_cmp a b) };
+
+    ghost laws = { unit_cmp_po };
+
+    fn partial_cmp(&self, other: &UnitName) -> Option<Ordering> {
+        Some(self.cmp(other))
+    }
+}
+
+/// Roots and the units that units made come first, by path. Instances follow, by owner, the
+/// subscription's number and tags.
+impl Ord for UnitName {
+    ghost cmp = { unit_cmp };
+
+    ghost total = { unit_cmp_total };
+
+    ghost matches_partial_cmp = { λ a b. refl };
+
+    ghost matches_eq = { unit_cmp_ties };
+
+    fn cmp(&self, other: &UnitName) -> Ordering {
+        match (self, other) {
+            (UnitName::Root(a), UnitName::Root(b)) => a.cmp(b),
+            (UnitName::Root(_), UnitName::Managed { .. }) => Ordering::Less,
+            (UnitName::Managed { .. }, UnitName::Root(_)) => Ordering::Greater,
+            (
+                UnitName::Managed { owner, sub, s },
+                UnitName::Managed {
+                    owner: other_owner,
+                    sub: other_sub,
+                    s: other_s,
+                },
+            ) => owner
+                .cmp(other_owner)
+                .then(sub.cmp(other_sub).then(s.cmp(other_s))),
         }
     }
 }
