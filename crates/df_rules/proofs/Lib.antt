@@ -25,4 +25,3 @@ pub mod Numbers
 pub mod Once
 pub mod Instances
 pub mod Matching
-pub mod BuiltCalls

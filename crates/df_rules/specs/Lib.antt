@@ -15,4 +15,3 @@ pub mod Follows
 pub mod Separates
 pub mod Grows
 pub mod Received
-pub mod Built
