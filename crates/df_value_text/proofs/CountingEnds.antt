@@ -72,7 +72,7 @@ within_counts p w e = (
   λ h. record { nodes = omega (arith, e.nodes, h.nodes); bytes = omega (arith, e.bytes, h.bytes); flat = omega (arith, e.deep, h.flat) },
 )
 
-not_both : (w : Walk) → AreWithin w → IsOver w → ⊥
+pub not_both : (w : Walk) → AreWithin w → IsOver w → ⊥
 not_both w h (inl over) = absurd (omega (arith, over, h.nodes))
 not_both w h (inr (inl over)) = absurd (omega (arith, over, h.bytes))
 not_both w h (inr (inr over)) = absurd (omega (arith, over, h.flat))
@@ -94,7 +94,7 @@ value_over p fits rest left over h =
     not_both (counts_of (over.front ++ over.first ∷ [])) (never_value p fits h rest (over.front ++ over.first ∷ []) over.more front) over.over
 
 -- a list that is no shorter in front goes on from the other
-goes_on : (a b c d : List ℕ) → a ++ b ≡ c ++ d → length d ≤ length b → (more : List ℕ) × (c ≡ a ++ more)
+pub goes_on : (a b c d : List ℕ) → a ++ b ≡ c ++ d → length d ≤ length b → (more : List ℕ) × (c ≡ a ++ more)
 goes_on [] b c d e le = (c, refl)
 goes_on (x ∷ a) b [] d e le = absurd (omega (arith, le, simp length-append at (ap (λ (u : List ℕ). length u) e)))
 goes_on (x ∷ a) b (y ∷ c) d e le =
@@ -127,13 +127,14 @@ over_longer text rest more over = record {
   over = over.over;
 }
 
+-- what stands in front of a place, and behind it
+pub front_whole : (text : List ℕ) (stop n : ℕ) → stop ≤ length text → n ≤ stop → drop n (take stop text) ++ drop stop text ≡ drop n text
+front_whole text stop n within below =
+    let short : length (take stop text) ≡ stop = length-take-le stop text within in
+    sym (drop-append-le n (take stop text) (drop stop text) (omega (arith, short, below))) ∙ ap (λ (u : List ℕ). drop n u) (take-append-drop stop text)
+
 -- the first byte by which a count is passed in front of a place is so of all bytes
 pub over_in_front : (text : List ℕ) (from stop here : ℕ) → from ≤ stop → stop ≤ length text → here ≤ stop → FirstOver (drop from (take stop text)) (drop here (take stop text)) → FirstOver (drop from text) (drop here text)
 over_in_front text from stop here le within below over =
-    subst (λ (u : List ℕ). FirstOver (drop from text) u) (whole here below)
-    (subst (λ (u : List ℕ). FirstOver u (drop here (take stop text) ++ drop stop text)) (whole from le) (over_longer (drop from (take stop text)) (drop here (take stop text)) (drop stop text) over))
-  where
-    whole : (n : ℕ) → n ≤ stop → drop n (take stop text) ++ drop stop text ≡ drop n text
-    whole n below =
-        let short : length (take stop text) ≡ stop = length-take-le stop text within in
-        sym (drop-append-le n (take stop text) (drop stop text) (omega (arith, short, below))) ∙ ap (λ (u : List ℕ). drop n u) (take-append-drop stop text)
+    subst (λ (u : List ℕ). FirstOver (drop from text) u) (front_whole text stop here within below)
+    (subst (λ (u : List ℕ). FirstOver u (drop here (take stop text) ++ drop stop text)) (front_whole text stop from within le) (over_longer (drop from (take stop text)) (drop here (take stop text)) (drop stop text) over))

@@ -247,7 +247,7 @@ beyond (p ∷ ps) (x ∷ xs) hp hx e =
           absurd (let no : Greater ≡ Less = ap (λ o. ordering_then o (name_cmp ps xs)) over ∙ e in cc)
     ]
 
-name_whole : (name : List ℕ) → IsName name → (list_all is_name_byte name ≡ true) × (length name ≤ 32)
+pub name_whole : (name : List ℕ) → IsName name → (list_all is_name_byte name ≡ true) × (length name ≤ 32)
 name_whole [] fits = absurd (let no : false ≡ true = fits in cc)
 name_whole (c ∷ cs) fits =
     let letter : is_letter c ≡ true = grind (arith, fits) in

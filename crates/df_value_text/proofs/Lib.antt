@@ -37,3 +37,4 @@ pub mod NestLaws
 pub mod ValueLaws
 pub mod ValueSteps
 pub mod ValueAnswers
+pub mod LimitLaws

@@ -6,11 +6,11 @@ use Rattle.df_format.specs.Reading.{Bad, Low}
 use Rattle.df_format.specs.Grammar.{CanGoOn, Stands, FirstBad}
 use Rattle.df_format.specs.Format.{Ends, IsViable}
 use Rattle.df_format.proofs.Laws.{ok_is, not_both, told, viable_map, can_go_on, no_longer}
-use Rattle.df_frozen.specs.Limits.{IsWithinLimits, IsTooLarge}
+use Rattle.df_frozen.specs.Limits.{IsWithinLimits}
 use Rattle.df_frozen.specs.Plain.{Plain, int, words, bytes, items, entries, node_count}
 use Rattle.df_value_text.specs.Answer.{Fails, refusal, IsFound, IsRead, FirstLow}
 use Rattle.df_value_text.specs.Fits.{IsSpelled, IsValue}
-use Rattle.df_value_text.specs.OrderNames.{IsLowName, NamesValueFault}
+use Rattle.df_value_text.specs.OrderNames.{IsLowName}
 use Rattle.df_value_text.specs.ReadValue.{value_within}
 use Rattle.df_value_text.specs.Value.{value_text}
 use Rattle.df_value_text.specs.declared.refused.Fault.{Fault}
@@ -89,18 +89,6 @@ only_fault text at (fault.Low place) h y rest s =
     let n : ℕ = suc (length text) + node_count y in
     not_both (y, rest) (Low (drop place text)) (sym (value_read n (drop at text) y rest (omega arith) s) ∙ (h n (omega arith)).1)
 
--- a value over the limits isn't one that is to be read
-pub not_large : (text : List ℕ) (at end : ℕ) (p : Plain) → IsTooLarge p → Enough text at (λ n. (end ≤ length text) × (value_within n (drop at text) ≡ Ok (p, drop end text))) → (y : Plain) (rest : List ℕ) → Stands value_text IsValue (drop at text) y rest → ⊥
-not_large text at end p large h y rest s =
-    let same = (same_value text at end p h y rest s).0 in
-    let limits : IsWithinLimits p = subst IsWithinLimits (sym same) s.fits.1 in
-    over p large limits
-  where
-    over : (p : Plain) → IsTooLarge p → IsWithinLimits p → ⊥
-    over p (inl h) limits = omega (arith, h, limits.nodes)
-    over p (inr (inl h)) limits = omega (arith, h, limits.bytes)
-    over p (inr (inr h)) limits = omega (arith, h, limits.flat)
-
 -- ---- a place that is refused
 
 zero_fits : IsSpelled (int (pos 0))
@@ -111,7 +99,7 @@ spelled_on n front v =
     can_go_on value_text IsSpelled (int (pos 0)) zero_fits front
     (viable_map value_text (LevelFits n) value_text IsSpelled front (λ on. record { some = on.some; fits = on.fits.0; more = on.more; is = on.is }) v)
 
-first_bad_value : (text : List ℕ) (at : ℕ) (rest : List ℕ) → Enough text at (λ n. value_within n (drop at text) ≡ Err (Bad rest)) → FirstBad value_text IsSpelled (drop at text) rest
+pub first_bad_value : (text : List ℕ) (at : ℕ) (rest : List ℕ) → Enough text at (λ n. value_within n (drop at text) ≡ Err (Bad rest)) → FirstBad value_text IsSpelled (drop at text) rest
 first_bad_value text at rest h =
     let m : ℕ = suc (length text) in
     let s = (value_format m).stuck (drop at text) (Bad rest) (h m (omega arith)) in
@@ -129,13 +117,8 @@ first_bad_value text at rest h =
           not_both (on.some, []) (Bad (c ∷ (on.more ++ []))) (sym good ∙ ap (value_within n) whole ∙ stays);
     }
 
-first_low_value : (text : List ℕ) (at : ℕ) (rest : List ℕ) → Enough text at (λ n. value_within n (drop at text) ≡ Err (Low rest)) → FirstLow IsLowName value_text IsSpelled (drop at text) rest
+pub first_low_value : (text : List ℕ) (at : ℕ) (rest : List ℕ) → Enough text at (λ n. value_within n (drop at text) ≡ Err (Low rest)) → FirstLow IsLowName value_text IsSpelled (drop at text) rest
 first_low_value text at rest h =
     let m : ℕ = suc (length text) in
     let s = (value_format m).stuck (drop at text) (Low rest) (h m (omega arith)) in
     record { front = s.front; parts = s.parts; viable = spelled_on m s.front s.viable; low = s.cause }
-
-pub names_fault : (text : List ℕ) (at : ℕ) (e : Fault) → Enough text at (λ n. Fails text e (value_within n (drop at text))) → NamesValueFault text at (refusal e)
-names_fault text at fault.NoMemory h = tt
-names_fault text at (fault.Bad place) h = ((h (suc (length text)) (omega arith)).0, inl (first_bad_value text at (drop place text) (λ n lt. (h n lt).1)))
-names_fault text at (fault.Low place) h = ((h (suc (length text)) (omega arith)).0, inr (first_low_value text at (drop place text) (λ n lt. (h n lt).1)))

@@ -17,3 +17,4 @@ pub mod ReadLabel
 pub mod ReadValue
 pub mod OrderNames
 pub mod Answer
+pub mod ValueFault

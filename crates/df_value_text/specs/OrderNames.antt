@@ -1,14 +1,10 @@
 -- The one place at which a map is refused though its bytes could go on.
-use Rattle.std.specs.Prelude.{◌≡◌, ◌≤◌, true, false, ℕ, List, ◌++◌, length, drop, codes, ⊤, ◌⊎◌}
+use Rattle.std.specs.Prelude.{◌≡◌, true, false, ℕ, List, ◌++◌, codes}
 use Rattle.std.specs.Ordering.{is_lt}
-use Rattle.df_format.specs.Grammar.{IsLongest, FirstBad}
+use Rattle.df_format.specs.Grammar.{IsLongest}
 use Rattle.df_frozen.specs.Name.{is_name, name_cmp}
 use Rattle.df_frozen.specs.Plain.{Plain}
-use Rattle.df_value_text.specs.Answer.{FirstLow}
-use Rattle.df_value_text.specs.Fits.{IsSpelled}
-use Rattle.df_value_text.specs.Value.{entry_text, value_text}
-use Rattle.df_value_text.specs.declared.refused.TextRefused.{TextRefused}
-use Rattle.df_value_text.specs.declared.refused.TextRefused.TheVariants as refused
+use Rattle.df_value_text.specs.Value.{entry_text}
 
 -- at rest stands a name that isn't above this one
 pub record NameStandsLow (prev rest : List ℕ) : Type 0 where
@@ -24,9 +20,3 @@ pub record IsLowName (front rest : List ℕ) : Type 0 where
   pub named : is_name prev.0 ≡ true
   pub is : front ≡ before ++ (entry_text prev ++ codes ",")
   pub low : NameStandsLow prev.0 rest
-
--- a Syntax names the first byte with which no value can go on, or a low name
-abbrev pub NamesValueFault : List ℕ → ℕ → TextRefused → Type 0
-NamesValueFault bytes at refused.NoMemory = ⊤
-NamesValueFault bytes at (refused.Syntax place) = (place ≤ length bytes) × (FirstBad value_text IsSpelled (drop at bytes) (drop place bytes) ⊎ FirstLow IsLowName value_text IsSpelled (drop at bytes) (drop place bytes))
-NamesValueFault bytes at (refused.TooLarge place) = ⊤

@@ -9,6 +9,7 @@ mod counting_laws;
 mod join;
 mod label;
 mod label_reader;
+mod limits;
 mod name_reader;
 mod number;
 mod number_reader;

@@ -8,14 +8,15 @@ ghost use Rattle.df_value_text.specs.Answer.{IsFound, IsRead, IsSyntaxAt, NamesB
 ghost use Rattle.df_value_text.specs.Fits.{IsLabel, IsPrivilege, IsTag, IsValue};
 ghost use Rattle.df_value_text.specs.Label.{label_text, privilege_text, tag_text};
 ghost use Rattle.df_value_text.specs.Order.{IsLowTag, LowInLabel};
-ghost use Rattle.df_value_text.specs.OrderNames.{NamesValueFault};
 ghost use Rattle.df_value_text.specs.Value.{value_text};
+ghost use Rattle.df_value_text.specs.ValueFault.{FirstTooLarge, IsTooLargeAt, NamesTooLarge, NamesValueFault, NoLowBefore};
 
 use crate::TextRefused;
+use crate::counting::over_at;
 use crate::label_reader::{label_at, privilege_at};
+use crate::limits::{over_fault, within_at};
 use crate::tag_reader::tag_at;
-use crate::value_reader::value_at;
-use df_frozen::{FreezeCause, Frozen};
+use df_frozen::Frozen;
 use df_label::{Label, Privilege, Tag};
 use std::alloc::Global;
 
@@ -60,13 +61,11 @@ pub fn read_value(alloc: Global, bytes: &[u8], at: usize) -> Result<(Frozen, usi
     ensures found { IfOk result (IsFound value_text IsValue bytes.now at) }
     ensures only { (value : Plain) (rest : List ℕ) → Stands value_text IsValue (drop at bytes.now) value rest → IsRead bytes.now value rest result }
     ensures syntax { IfErr result (NamesValueFault bytes.now at) }
+    ensures too_large { IfErr result (NamesTooLarge bytes.now at) }
+    ensures over { (rest : List ℕ) → FirstTooLarge (drop at bytes.now) rest → NoLowBefore (drop at bytes.now) rest → IsTooLargeAt bytes.now rest result }
 {
-    let (value, end) = value_at(alloc, bytes, at)?;
-    match value.freeze(alloc) {
-        Ok(frozen) => Ok((frozen, end)),
-        Err(unfrozen) => match unfrozen.cause {
-            FreezeCause::TooLarge { .. } => Err(TextRefused::TooLarge { offset: at }),
-            FreezeCause::NoMemory => Err(TextRefused::NoMemory),
-        },
+    match over_at(bytes, at) {
+        None => within_at(alloc, bytes, at),
+        Some(over) => Err(over_fault(alloc, bytes, at, over)),
     }
 }

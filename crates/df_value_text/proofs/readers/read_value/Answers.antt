@@ -1,29 +1,13 @@
-use Rattle.std.proofs.Common.{ℕ, suc, length, subst, arith}
-use Rattle.std.proofs.lemmas.Result.{err_from_is_err_and}
-use Rattle.df_frozen.specs.Limits.{IsFreezeCause}
-use Rattle.df_frozen.specs.Value.{plain}
-use Rattle.df_value_text.proofs.ValueAnswers.{found_value, only_value, only_fault, not_large, names_fault}
+use Rattle.std.proofs.Common.{drop}
+use Rattle.df_frozen.specs.declared.frozen.Frozen.{Frozen}
+use Rattle.df_value_text.proofs.LimitLaws.{large_told, never_large, no_value}
 use Rattle.df_value_text.proofs.readers.read_value.Goals as goal
 
-pub returns-in-Ok-clause-found : goal.returns-in-Ok-clause-found
-returns-in-Ok-clause-found c =
-    let n : ℕ = suc (length c.args.bytes.now) in
-    found_value n c.args.bytes.now c.args.at c.in_ok-value.end (plain c.in_ok-value.value) c.in-Ok.frozen c.in-Ok.ensures.frozen c.in-Ok.ensures.within (c.in_ok-value.ensures.exact n (omega arith))
+pub returns-in-None-clause-over : goal.returns-in-None-clause-over
+returns-in-None-clause-over c rest large high = absurd (never_large (drop c.args.at c.args.bytes.now) rest c.in-None.ensures large)
 
-pub returns-in-Ok-clause-only : goal.returns-in-Ok-clause-only
-returns-in-Ok-clause-only c = only_value c.args.bytes.now c.args.at c.in_ok-value.end (plain c.in_ok-value.value) c.in-Ok.frozen c.in-Ok.ensures.frozen c.in_ok-value.ensures.exact
+pub returns-in-Some-clause-only : goal.returns-in-Some-clause-only
+returns-in-Some-clause-only c value rest stands = absurd (no_value (drop c.args.at c.args.bytes.now) (drop c.in-Some.over c.args.bytes.now) c.in-Some.ensures.1 value rest stands)
 
-pub returns-in_err-value-clause-only : goal.returns-in_err-value-clause-only
-returns-in_err-value-clause-only c =
-    let p = err_from_is_err_and c.from_residual.result c.from_residual.ensures.1 in
-    rw (p.1, p.2) (only_fault c.args.bytes.now c.args.at c.in_err-value.field-0.0 c.in_err-value.ensures.exact)
-
-pub returns-in_err-value-clause-syntax : goal.returns-in_err-value-clause-syntax
-returns-in_err-value-clause-syntax c =
-    let p = err_from_is_err_and c.from_residual.result c.from_residual.ensures.1 in
-    rw (p.1, p.2) (names_fault c.args.bytes.now c.args.at c.in_err-value.field-0.0 c.in_err-value.ensures.exact)
-
-pub returns-in-TooLarge-clause-only : goal.returns-in-TooLarge-clause-only
-returns-in-TooLarge-clause-only c value rest stands =
-    let cause = subst (IsFreezeCause (plain c.in_ok-value.value)) c.in-TooLarge.is c.in-Err.ensures.cause in
-    absurd (not_large c.args.bytes.now c.args.at c.in_ok-value.end (plain c.in_ok-value.value) cause.0 c.in_ok-value.ensures.exact value rest stands)
+pub returns-in-Some-clause-over : goal.returns-in-Some-clause-over
+returns-in-Some-clause-over c rest large high = large_told Frozen c.args.bytes.now c.args.at c.over_fault.result c.over_fault.ensures.syntax c.over_fault.ensures.too_large rest large high

@@ -1,0 +1,328 @@
+-- Reading up to the first byte by which a count of freezing is passed, and what it says of all bytes.
+use Rattle.std.proofs.Common.{◌≡◌, None, Result, Some, ℕ, suc, ◌+◌, ◌<◌, ◌≤◌, min, List, [], ◌∷◌, ◌++◌, length, length-append, take, drop, Ok, Err, refl, sym, ap, subst, ◌∙◌, append_assoc, arith, ◌⊎◌, inl, inr}
+use Rattle.std.specs.Prelude.{nat_le, nat_lt}
+use Rattle.std.specs.Result.{result_err}
+use Rattle.std.proofs.lemmas.Bool.Decides.{nat_tests}
+use Rattle.std.proofs.lemmas.List.{append_cancel_left, append_cancel_right, append-nil, drop_all, length-drop, length-take-le}
+use Rattle.df_format.specs.Grammar.{CanGoOn, Stands, IsLongest}
+use Rattle.df_format.proofs.Laws.{told}
+use Rattle.df_format.proofs.Texts.{own}
+use Rattle.df_frozen.specs.Plain.{Plain}
+use Rattle.df_value_text.specs.Answer.{Fails, Gives, refusal}
+use Rattle.df_value_text.specs.Counting.{AreWithin, FirstOver, IsOver, NeverOver, counts_of}
+use Rattle.df_value_text.specs.Fits.{IsSpelled, IsValue}
+use Rattle.df_value_text.specs.ReadValue.{value_within}
+use Rattle.df_value_text.specs.Value.{value_text}
+use Rattle.df_value_text.specs.ValueFault.{FirstBadValue, FirstLowName, FirstTooLarge, IsTooLargeAt, IsWithinBefore, NamesTooLarge, NamesValueFault, NoLowBefore, up_to}
+use Rattle.df_value_text.specs.declared.refused.Fault.{Fault}
+use Rattle.df_value_text.specs.declared.refused.Fault.TheVariants as fault
+use Rattle.df_value_text.specs.declared.refused.TextRefused.{TextRefused}
+use Rattle.df_value_text.specs.declared.refused.TextRefused.TheVariants as refused
+use Rattle.df_value_text.proofs.CountingEnds.{front_whole, goes_on, not_both, over_inside, value_over}
+use Rattle.df_value_text.proofs.CountingFronts.{never_over}
+use Rattle.df_value_text.proofs.HigherLaws.{name_whole}
+use Rattle.df_value_text.proofs.NameLaws.{IsName}
+use Rattle.df_value_text.proofs.ValueAnswers.{Enough, first_bad_value, first_low_value}
+use Rattle.df_value_text.proofs.ValueLaws.{value_format}
+
+-- ---- fronts
+
+-- what begins a front that can go on can go on
+viable_front : (front more : List ℕ) → CanGoOn value_text IsSpelled (front ++ more) → CanGoOn value_text IsSpelled front
+viable_front front more on = record { some = on.some; fits = on.fits; more = more ++ on.more; is = on.is ∙ append_assoc front more on.more }
+
+-- a longer front that can go on makes the shorter one do so
+viable_before : (front rest longer behind : List ℕ) → front ++ rest ≡ longer ++ behind → length behind ≤ length rest → CanGoOn value_text IsSpelled longer → CanGoOn value_text IsSpelled front
+viable_before front rest longer behind e le on =
+    let more = goes_on front rest longer behind e le in
+    viable_front front more.0 (subst (CanGoOn value_text IsSpelled) more.1 on)
+
+-- the bytes with the first byte over among those in front
+with_over : (text rest : List ℕ) → (over : FirstOver text rest) → (over.front ++ over.first ∷ []) ++ over.more ≡ text
+with_over text rest over = append_assoc over.front (over.first ∷ []) over.more ∙ sym over.parts
+
+over_length : (text rest : List ℕ) → (over : FirstOver text rest) → length rest ≡ suc (length over.more)
+over_length text rest over = ap (λ (u : List ℕ). length u) over.is
+
+over_parts : (text rest : List ℕ) → (over : FirstOver text rest) → text ≡ over.front ++ rest
+over_parts text rest over = over.parts ∙ ap (λ (u : List ℕ). over.front ++ u) (sym over.is)
+
+-- no count is passed in front of a place that isn't behind the first byte over
+within_in_front : (text rest here : List ℕ) → FirstOver text rest → length rest ≤ length here → IsWithinBefore text here
+within_in_front text rest here over le front e =
+    let on = goes_on front here over.front rest (sym e ∙ over_parts text rest over) le in
+    never_over over.front over.within front on.0 on.1
+
+-- a count is passed in front of a place behind the first byte over
+over_behind : (text rest here front : List ℕ) → FirstOver text rest → length here < length rest → text ≡ front ++ here → AreWithin (counts_of front) → ⊥
+over_behind text rest here front over lt e within =
+    let long = over_length text rest over in
+    let on = goes_on (over.front ++ over.first ∷ []) over.more front here (with_over text rest over ∙ e) (omega (arith, long, lt)) in
+    not_both (counts_of (over.front ++ over.first ∷ [])) (never_over front within (over.front ++ over.first ∷ []) on.0 on.1) over.over
+
+-- with the first byte over a value can go on, where one goes on behind it
+first_too_large : (text rest here front : List ℕ) → FirstOver text rest → length here < length rest → text ≡ front ++ here → CanGoOn value_text IsSpelled front → FirstTooLarge text rest
+first_too_large text rest here front over lt e on =
+    let long = over_length text rest over in
+    record { over = over; viable = viable_before (over.front ++ over.first ∷ []) over.more front here (with_over text rest over ∙ e) (omega (arith, long, lt)) on }
+
+-- there is only one first byte over
+nothing_left : (xs ys zs : List ℕ) → xs ≡ zs ++ ys → length xs ≤ length ys → xs ≡ ys
+nothing_left xs ys [] e le = e
+nothing_left xs ys (z ∷ zs) e le = absurd (omega (arith, le, length-append zs ys, ap (λ (u : List ℕ). length u) e))
+
+over_once : (text rest other : List ℕ) → FirstOver text rest → FirstOver text other → other ≡ rest
+over_once text rest other over again =
+    elim (told (nat_lt (length other) (length rest))) [
+      | inl h ↦ absurd (over_behind text rest other again.front over (grind (arith, nat_tests)) (over_parts text other again) again.within)
+      | inr h ↦ elim (told (nat_lt (length rest) (length other))) [
+        | inl k ↦ absurd (over_behind text other rest over.front again (grind (arith, nat_tests)) (over_parts text rest over) over.within)
+        | inr k ↦
+            let le : length rest ≤ length other = grind (arith, nat_tests) in
+            let ge : length other ≤ length rest = grind (arith, nat_tests) in
+            let same : again.front ++ other ≡ over.front ++ rest = sym (over_parts text other again) ∙ over_parts text rest over in
+            let on = goes_on again.front other over.front rest same le in
+            let left : again.front ++ other ≡ again.front ++ (on.0 ++ rest) = same ∙ ap (λ (u : List ℕ). u ++ rest) on.1 ∙ append_assoc again.front on.0 rest in
+            nothing_left other rest on.0 (append_cancel_left again.front other (on.0 ++ rest) left) ge
+      ]
+    ]
+
+-- ---- bytes that are cut behind a place
+
+-- the first byte over stays so where the bytes are cut behind it
+over_shorter : (text here behind : List ℕ) → 0 < length here → FirstOver (text ++ behind) (here ++ behind) → FirstOver text here
+over_shorter text [] behind lt over = absurd (omega (arith, lt))
+over_shorter text (c ∷ here) behind lt over =
+    let first : over.first ≡ c = let e = over.is in cc in
+    record {
+      front = over.front;
+      first = c;
+      more = here;
+      parts = append_cancel_right text (over.front ++ c ∷ here) behind (over_parts (text ++ behind) ((c ∷ here) ++ behind) over ∙ sym (append_assoc over.front (c ∷ here) behind));
+      is = refl;
+      within = over.within;
+      over = subst (λ (b : ℕ). IsOver (counts_of (over.front ++ b ∷ []))) first over.over;
+    }
+
+longer_parts : (text front here behind : List ℕ) → text ≡ front ++ here → text ++ behind ≡ front ++ (here ++ behind)
+longer_parts text front here behind e = ap (λ (u : List ℕ). u ++ behind) e ∙ append_assoc front here behind
+
+-- a bad byte stays bad, whatever stands behind it
+bad_longer : (text here behind : List ℕ) → 0 < length here → FirstBadValue text here → FirstBadValue (text ++ behind) (here ++ behind)
+bad_longer text [] behind lt bad = absurd (omega (arith, lt))
+bad_longer text (c ∷ here) behind lt bad = record {
+  front = bad.front;
+  parts = longer_parts text bad.front (c ∷ here) behind bad.parts;
+  viable = bad.viable;
+  dead = λ t tail e on.
+      let first : t ≡ c = cc in
+      bad.dead c here refl (subst (λ (b : ℕ). CanGoOn value_text IsSpelled (bad.front ++ b ∷ [])) first on);
+}
+
+-- the longest name stays so, where more bytes stand here than a name has
+longest_longer : (here name more behind : List ℕ) → (behind ≡ []) ⊎ (32 ≤ length here) → IsLongest own IsName here name more → IsLongest own IsName (here ++ behind) name (more ++ behind)
+longest_longer here name more behind room l = record {
+  parts = longer_parts here name more behind l.parts;
+  fits = l.fits;
+  longest = λ other tail fits e.
+      let few : length other ≤ 32 = (name_whole other fits).1 in
+      let sizes : length here + length behind ≡ length other + length tail = sym (length-append here behind) ∙ ap (λ (u : List ℕ). length u) e ∙ length-append other tail in
+      let short : length behind ≤ length tail = shorter here behind other tail room few sizes in
+      let on = goes_on other tail here behind (sym e) short in
+      let left : other ++ tail ≡ other ++ (on.0 ++ behind) = sym e ∙ ap (λ (u : List ℕ). u ++ behind) on.1 ∙ append_assoc other on.0 behind in
+      let is : tail ≡ on.0 ++ behind = append_cancel_left other tail (on.0 ++ behind) left in
+      let le : length more ≤ length on.0 = l.longest other on.0 fits on.1 in
+      subst (λ (u : List ℕ). length (more ++ behind) ≤ length u) (sym is) (omega (arith, le, length-append more behind, length-append on.0 behind));
+}
+  where
+    shorter : (here behind other tail : List ℕ) → (behind ≡ []) ⊎ (32 ≤ length here) → length other ≤ 32 → length here + length behind ≡ length other + length tail → length behind ≤ length tail
+    shorter here behind other tail (inl none) few sizes = omega (arith, ap (λ (u : List ℕ). length u) none)
+    shorter here behind other tail (inr many) few sizes = omega (arith, many, few, sizes)
+
+-- a low name stays low
+low_longer : (text here behind : List ℕ) → (behind ≡ []) ⊎ (32 ≤ length here) → FirstLowName text here → FirstLowName (text ++ behind) (here ++ behind)
+low_longer text here behind room low =
+    let stands = low.low.low in
+    record {
+      front = low.front;
+      parts = longer_parts text low.front here behind low.parts;
+      viable = low.viable;
+      low = record {
+        before = low.low.before;
+        prev = low.low.prev;
+        named = low.low.named;
+        is = low.low.is;
+        low = record { name = stands.name; more = stands.more ++ behind; longest = longest_longer here stands.name stands.more behind room stands.longest; low = stands.low };
+      };
+    }
+
+-- ---- a value that is over the limits
+
+-- the first byte over isn't before the place
+pub over_from : (text : List ℕ) (at over : ℕ) → at ≤ length text → over < length text → FirstOver (drop at text) (drop over text) → at ≤ over
+over_from text at over le lt first =
+    let whole = ap (λ (u : List ℕ). length u) (over_parts (drop at text) (drop over text) first) ∙ length-append first.front (drop over text) in
+    omega (arith, le, lt, whole, length-drop at text, length-drop over text)
+
+-- the cut is behind the first byte over, and at the end or a name behind it
+pub record IsCut (text : List ℕ) (at over end : ℕ) : Type 0 where
+  pub start : at ≤ over
+  pub before : over < end
+  pub within : end ≤ length text
+  pub room : (end ≡ length text) ⊎ (over + 33 ≤ end)
+  pub first : FirstOver (drop at text) (drop over text)
+
+pub is_cut : (text : List ℕ) (at over end : ℕ) → at ≤ length text → over < length text → FirstOver (drop at text) (drop over text) → end ≡ min (length text) (over + 1 + 32) → IsCut text at over end
+is_cut text at over end le lt first e = record {
+  start = over_from text at over le lt first;
+  before = omega (arith, e, lt);
+  within = omega (arith, e);
+  room = elim (told (nat_le (length text) (over + 33))) [ inl h ↦ inl (grind (arith, nat_tests)) | inr h ↦ inr (grind (arith, nat_tests)) ];
+  first = first;
+}
+
+module _ (text : List ℕ) (at over end : ℕ) (c : IsCut text at over end) where
+  abbrev pub cut : List ℕ
+  cut = take end text
+
+  cut_length : length cut ≡ end
+  cut_length = length-take-le end text c.within
+
+  -- behind a place in the cut stands what stands behind it in the whole
+  whole : (n : ℕ) → n ≤ end → drop n cut ++ drop end text ≡ drop n text
+  whole n le = front_whole text end n c.within le
+
+  whole_parts : (front : List ℕ) (n : ℕ) → n ≤ end → drop at cut ≡ front ++ drop n cut → drop at text ≡ front ++ drop n text
+  whole_parts front n le e =
+      sym (whole at (omega (arith, c.start, c.before))) ∙ longer_parts (drop at cut) front (drop n cut) (drop end text) e ∙ ap (λ (u : List ℕ). front ++ u) (whole n le)
+
+  -- the cut goes on in front of its end
+  cut_goes : (n : ℕ) → n ≤ over → 0 < length (drop n cut)
+  cut_goes n le = omega (arith, le, c.before, length-drop n cut, cut_length)
+
+  further : (n : ℕ) → n ≤ end → over < n → length (drop n text) < length (drop over text)
+  further n le lt = omega (arith, le, lt, c.within, c.before, length-drop n text, length-drop over text)
+
+  no_further : (n : ℕ) → n ≤ over → length (drop over text) ≤ length (drop n text)
+  no_further n le = omega (arith, le, c.within, c.before, length-drop n text, length-drop over text)
+
+  -- a value can go on with the byte over, where one does so behind it
+  large_by : (front : List ℕ) (n : ℕ) → n ≤ end → over < n → drop at cut ≡ front ++ drop n cut → CanGoOn value_text IsSpelled front → NamesTooLarge text at (refused.TooLarge over)
+  large_by front n le lt e on =
+      (omega (arith, c.before, c.within), first_too_large (drop at text) (drop over text) (drop n text) front c.first (further n le lt) (whole_parts front n le e) on)
+
+  -- where a name begins in front of the byte over, all of it stands in the cut
+  name_room : (n : ℕ) → n ≤ over → (drop end text ≡ []) ⊎ (32 ≤ length (drop n cut))
+  name_room n le = elim c.room [
+    | inl h ↦ inl (drop_all end text (omega (arith, h)))
+    | inr h ↦ inr (omega (arith, h, le, length-drop n cut, cut_length))
+  ]
+
+  bad_whole : (n : ℕ) → n ≤ over → FirstBadValue (drop at cut) (drop n cut) → FirstBadValue (drop at text) (drop n text)
+  bad_whole n le bad =
+      let long = bad_longer (drop at cut) (drop n cut) (drop end text) (cut_goes n le) bad in
+      subst (λ (u : List ℕ). FirstBadValue u (drop n text)) (whole at (omega (arith, c.start, c.before)))
+      (subst (λ (u : List ℕ). FirstBadValue (drop at cut ++ drop end text) u) (whole n (omega (arith, le, c.before))) long)
+
+  low_whole : (n : ℕ) → n ≤ over → FirstLowName (drop at cut) (drop n cut) → FirstLowName (drop at text) (drop n text)
+  low_whole n le low =
+      let long = low_longer (drop at cut) (drop n cut) (drop end text) (name_room n le) low in
+      subst (λ (u : List ℕ). FirstLowName u (drop n text)) (whole at (omega (arith, c.start, c.before)))
+      (subst (λ (u : List ℕ). FirstLowName (drop at cut ++ drop end text) u) (whole n (omega (arith, le, c.before))) long)
+
+  -- a value that stands in the cut
+  pub value_cut : (p : Plain) (stop : ℕ) → Enough cut at (λ n. (stop ≤ length cut) × (value_within n (drop at cut) ≡ Ok (p, drop stop cut))) → NamesTooLarge text at (refused.TooLarge over)
+  value_cut p stop h =
+      let n : ℕ = suc (length cut) in
+      let read = h n (omega arith) in
+      let f = (value_format n).found (drop at cut) p (drop stop cut) read.1 in
+      let first : FirstOver (drop at cut) (drop over cut) =
+      over_shorter (drop at cut) (drop over cut) (drop end text) (cut_goes over (omega arith))
+      (subst (λ (u : List ℕ). FirstOver u (drop over cut ++ drop end text)) (sym (whole at (omega (arith, c.start, c.before))))
+      (subst (λ (u : List ℕ). FirstOver (drop at text) u) (sym (whole over (omega (arith, c.before)))) c.first)) in
+      let inside = over_inside p f.fits.0 (drop stop cut) (drop over cut) (subst (λ (u : List ℕ). FirstOver u (drop over cut)) f.parts first) in
+      large_by (value_text p) stop (omega (arith, read.0, cut_length)) (omega (arith, inside, read.0, length-drop stop cut, length-drop over cut)) f.parts
+      (record { some = p; fits = f.fits.0; more = []; is = sym (append-nil (value_text p)) })
+
+  -- a fault in the cut, told where it isn't behind the byte over
+  pub fault_cut : (e : Fault) → Enough cut at (λ n. Fails cut e (value_within n (drop at cut))) → NamesValueFault text at (up_to over e) × NamesTooLarge text at (up_to over e)
+  fault_cut fault.NoMemory h = (tt, tt)
+  fault_cut (fault.Bad place) h =
+      let below = (h (suc (length cut)) (omega arith)).0 in
+      let bad = first_bad_value cut at (drop place cut) (λ n lt. (h n lt).1) in
+      elim (told (nat_le place over)) [
+        | inl k ↦
+            let le : place ≤ over = grind (arith, nat_tests) in
+            rw k ((omega (arith, le, c.before, c.within), inl (bad_whole place le bad), within_in_front (drop at text) (drop over text) (drop place text) c.first (no_further place le)), tt)
+        | inr k ↦
+            let lt : over < place = grind (arith, nat_tests) in
+            rw k (tt, large_by bad.front place (omega (arith, below, cut_length)) lt bad.parts bad.viable)
+      ]
+  fault_cut (fault.Low place) h =
+      let below = (h (suc (length cut)) (omega arith)).0 in
+      let low = first_low_value cut at (drop place cut) (λ n lt. (h n lt).1) in
+      elim (told (nat_le place over)) [
+        | inl k ↦
+            let le : place ≤ over = grind (arith, nat_tests) in
+            rw k ((omega (arith, le, c.before, c.within), inr (low_whole place le low), within_in_front (drop at text) (drop over text) (drop place text) c.first (no_further place le)), tt)
+        | inr k ↦
+            let lt : over < place = grind (arith, nat_tests) in
+            rw k (tt, large_by low.front place (omega (arith, below, cut_length)) lt low.parts low.viable)
+      ]
+
+-- ---- all answers
+
+-- where no count is passed, a fault is told as it stands
+pub fault_within : (text : List ℕ) (at : ℕ) (e : Fault) → NeverOver (drop at text) → Enough text at (λ n. Fails text e (value_within n (drop at text))) → NamesValueFault text at (refusal e) × NamesTooLarge text at (refusal e)
+fault_within text at fault.NoMemory never h = (tt, tt)
+fault_within text at (fault.Bad place) never h = (((h (suc (length text)) (omega arith)).0, inl (first_bad_value text at (drop place text) (λ n lt. (h n lt).1)), λ front e. never front (drop place text) e), tt)
+fault_within text at (fault.Low place) never h = (((h (suc (length text)) (omega arith)).0, inr (first_low_value text at (drop place text) (λ n lt. (h n lt).1)), λ front e. never front (drop place text) e), tt)
+
+-- a byte over stands in no value that may be frozen
+pub no_value : (text rest : List ℕ) → FirstOver text rest → (p : Plain) (behind : List ℕ) → Stands value_text IsValue text p behind → ⊥
+no_value text rest over p behind s = value_over p s.fits.0 behind rest (subst (λ (u : List ℕ). FirstOver u rest) s.parts over) s.fits.1
+
+-- where no count is passed none is told
+pub never_large : (text rest : List ℕ) → NeverOver text → FirstTooLarge text rest → ⊥
+never_large text rest never large =
+    let over = large.over in
+    not_both (counts_of (over.front ++ over.first ∷ [])) (never (over.front ++ over.first ∷ []) over.more (sym (with_over text rest over))) over.over
+
+-- what is bad in front of a place with which a value can go on
+no_bad : (text rest here : List ℕ) → FirstTooLarge text rest → length rest ≤ length here → FirstBadValue text here → ⊥
+no_bad text rest [] large le bad = let long = over_length text rest large.over in absurd (omega (arith, long, le))
+no_bad text rest (t ∷ tail) large le bad =
+    let over = large.over in
+    let long = over_length text rest over in
+    let parts : (bad.front ++ t ∷ []) ++ tail ≡ (over.front ++ over.first ∷ []) ++ over.more = append_assoc bad.front (t ∷ []) tail ∙ sym bad.parts ∙ sym (with_over text rest over) in
+    bad.dead t tail refl (viable_before (bad.front ++ t ∷ []) tail (over.front ++ over.first ∷ []) over.more parts (omega (arith, long, le)) large.viable)
+
+-- a Syntax isn't told where a count is passed
+no_syntax : (text rest here : List ℕ) → FirstTooLarge text rest → NoLowBefore text rest → FirstBadValue text here ⊎ FirstLowName text here → IsWithinBefore text here → ⊥
+no_syntax text rest here large high faulty within =
+    elim (told (nat_lt (length here) (length rest))) [
+      | inl h ↦ elim faulty [
+        | inl bad ↦ over_behind text rest here bad.front large.over (grind (arith, nat_tests)) bad.parts (within bad.front bad.parts)
+        | inr low ↦ over_behind text rest here low.front large.over (grind (arith, nat_tests)) low.parts (within low.front low.parts)
+      ]
+      | inr h ↦ elim faulty [
+        | inl bad ↦ no_bad text rest here large (grind (arith, nat_tests)) bad
+        | inr low ↦ let lt = high here low in absurd (grind (arith, nat_tests))
+      ]
+    ]
+
+-- a fault is told as TooLarge where one is to be told
+pub large_told : (X : Type 0) (text : List ℕ) (at : ℕ) (e : TextRefused) → NamesValueFault text at e → NamesTooLarge text at e → (rest : List ℕ) → FirstTooLarge (drop at text) rest → NoLowBefore (drop at text) rest → IsTooLargeAt {X = X} text rest (Err e)
+large_told X text at refused.NoMemory s t rest large high = tt
+large_told X text at (refused.Syntax place) s t rest large high = no_syntax (drop at text) rest (drop place text) large high s.1 s.2
+large_told X text at (refused.TooLarge place) s t rest large high = over_once (drop at text) rest (drop place text) large.over t.1.over
+
+-- ---- what reading the cut gives
+
+pub value_answer : {X : Type 0} (view : X → Plain) (text : List ℕ) (at over end : ℕ) → IsCut text at over end → (read : Result (X × ℕ) Fault) → result_err read ≡ None → Enough (take end text) at (λ n. Gives view (take end text) read (value_within n (drop at (take end text)))) → NamesTooLarge text at (refused.TooLarge over)
+value_answer view text at over end c (Ok x) e h = value_cut text at over end c (view x.0) x.1 h
+value_answer view text at over end c (Err f) e h = absurd cc
+
+pub fault_answer : {X : Type 0} (view : X → Plain) (text : List ℕ) (at over end : ℕ) → IsCut text at over end → (read : Result (X × ℕ) Fault) (f : Fault) → result_err read ≡ Some f → Enough (take end text) at (λ n. Gives view (take end text) read (value_within n (drop at (take end text)))) → NamesValueFault text at (up_to over f) × NamesTooLarge text at (up_to over f)
+fault_answer view text at over end c (Ok x) f e h = absurd cc
+fault_answer view text at over end c (Err g) f e h = let same : g ≡ f = cc in subst (λ (f : Fault). NamesValueFault text at (up_to over f) × NamesTooLarge text at (up_to over f)) same (fault_cut text at over end c g h)

@@ -1,0 +1,25 @@
+use Rattle.std.proofs.Common.{sym, ◌∙◌, arith}
+use Rattle.std.proofs.lemmas.List.{length-take-le}
+use Rattle.df_frozen.specs.Value.{plain}
+use Rattle.df_value_text.proofs.LimitLaws.{is_cut, value_answer, fault_answer}
+use Rattle.df_value_text.proofs.limits.over_fault.Goals as goal
+
+pub value_at-requires : goal.value_at-requires
+value_at-requires c =
+    let cut = is_cut c.args.bytes.now c.args.at c.args.over c.min-end.result c.requires.start c.requires.below c.requires.first c.min-end.ensures in
+    omega (arith, cut.start, cut.before, length-take-le c.min-end.result c.args.bytes.now cut.within)
+
+pub returns-in-None-clause-too_large : goal.returns-in-None-clause-too_large
+returns-in-None-clause-too_large c =
+    let cut = is_cut c.args.bytes.now c.args.at c.args.over c.min-end.result c.requires.start c.requires.below c.requires.first c.min-end.ensures in
+    value_answer plain c.args.bytes.now c.args.at c.args.over c.min-end.result cut c.value_at.result (sym c.err.ensures.value ∙ c.in-None.is) c.value_at.ensures.exact
+
+pub returns-in-Some-clause-syntax : goal.returns-in-Some-clause-syntax
+returns-in-Some-clause-syntax c =
+    let cut = is_cut c.args.bytes.now c.args.at c.args.over c.min-end.result c.requires.start c.requires.below c.requires.first c.min-end.ensures in
+    rw c.up_to.ensures (fault_answer plain c.args.bytes.now c.args.at c.args.over c.min-end.result cut c.value_at.result c.in-Some.fault (sym c.err.ensures.value ∙ c.in-Some.is) c.value_at.ensures.exact).0
+
+pub returns-in-Some-clause-too_large : goal.returns-in-Some-clause-too_large
+returns-in-Some-clause-too_large c =
+    let cut = is_cut c.args.bytes.now c.args.at c.args.over c.min-end.result c.requires.start c.requires.below c.requires.first c.min-end.ensures in
+    rw c.up_to.ensures (fault_answer plain c.args.bytes.now c.args.at c.args.over c.min-end.result cut c.value_at.result c.in-Some.fault (sym c.err.ensures.value ∙ c.in-Some.is) c.value_at.ensures.exact).1

@@ -1,0 +1,29 @@
+use Rattle.std.proofs.Common.{ℕ, suc, length, arith}
+use Rattle.std.proofs.lemmas.Result.{err_from_is_err_and}
+use Rattle.df_frozen.specs.Value.{plain}
+use Rattle.df_value_text.proofs.LimitLaws.{fault_within}
+use Rattle.df_value_text.proofs.ValueAnswers.{found_value, only_value, only_fault}
+use Rattle.df_value_text.proofs.limits.within_at.Goals as goal
+
+pub returns-in-Ok-clause-found : goal.returns-in-Ok-clause-found
+returns-in-Ok-clause-found c =
+    let n : ℕ = suc (length c.args.bytes.now) in
+    found_value n c.args.bytes.now c.args.at c.in_ok-value.end (plain c.in_ok-value.value) c.in-Ok.frozen c.in-Ok.ensures.frozen c.in-Ok.ensures.within (c.in_ok-value.ensures.exact n (omega arith))
+
+pub returns-in-Ok-clause-only : goal.returns-in-Ok-clause-only
+returns-in-Ok-clause-only c = only_value c.args.bytes.now c.args.at c.in_ok-value.end (plain c.in_ok-value.value) c.in-Ok.frozen c.in-Ok.ensures.frozen c.in_ok-value.ensures.exact
+
+pub returns-in_err-value-clause-only : goal.returns-in_err-value-clause-only
+returns-in_err-value-clause-only c =
+    let p = err_from_is_err_and c.from_residual.result c.from_residual.ensures.1 in
+    rw (p.1, p.2) (only_fault c.args.bytes.now c.args.at c.in_err-value.field-0.0 c.in_err-value.ensures.exact)
+
+pub returns-in_err-value-clause-syntax : goal.returns-in_err-value-clause-syntax
+returns-in_err-value-clause-syntax c =
+    let p = err_from_is_err_and c.from_residual.result c.from_residual.ensures.1 in
+    rw (p.1, p.2) (fault_within c.args.bytes.now c.args.at c.in_err-value.field-0.0 c.requires.within c.in_err-value.ensures.exact).0
+
+pub returns-in_err-value-clause-too_large : goal.returns-in_err-value-clause-too_large
+returns-in_err-value-clause-too_large c =
+    let p = err_from_is_err_and c.from_residual.result c.from_residual.ensures.1 in
+    rw (p.1, p.2) (fault_within c.args.bytes.now c.args.at c.in_err-value.field-0.0 c.requires.within c.in_err-value.ensures.exact).1
