@@ -12,6 +12,7 @@ use Rattle.df_unit.specs.declared.name.UnitName.TheVariants.{Root, Managed}
 use Rattle.df_tables.specs.Agree.{IsSeat, Agrees}
 use Rattle.df_tables.specs.Table.{find, first_row, rows_from}
 use Rattle.df_tables.specs.declared.units.Unit.{Unit}
+use Rattle.df_tables.proofs.Order.{order_first}
 
 abbrev Starts : Type 0
 Starts = List (Label × List Privilege)
@@ -64,6 +65,7 @@ pub agrees_first : (rs : Starts) → Agrees rows (roots rs) [] (rows_from 0 rs) 
 agrees_first rs = record {
   legal = tt;
   seats = seat_first rs;
+  order = order_first 0 rs;
   parts = λ ev. refl;
   unmanaged = λ o n. refl;
   no_instances = λ o n t. refl;

@@ -1,10 +1,22 @@
 -- What is found in a changed table.
-use Rattle.std.proofs.Common.{◌≡◌, List, [], ◌∷◌, Option, Some, None, Bool, true, false, if◌then◌else◌, map, option_map, refl, ap, sym, ◌∙◌}
+use Rattle.std.proofs.Common.{◌≡◌, List, [], ◌∷◌, Option, Some, None, Bool, true, false, if◌then◌else◌, map, option_map, is_some, ◌||◌, refl, ap, sym, ◌∙◌}
+use Rattle.df_label.specs.Ascending.{contains_by}
 use Rattle.df_unit.specs.Name.{same}
+use Rattle.df_unit.specs.UnitOrder.{unit_cmp}
+use Rattle.df_unit.specs.UnitOrderLaws.{unit_cmp_ties}
 use Rattle.df_unit.specs.declared.name.UnitName.{UnitName}
 use Rattle.df_unit.proofs.SameFacts.{same_name-exact, same_name_decides}
-use Rattle.df_tables.specs.Table.{find, moved_at}
+use Rattle.df_tables.specs.Table.{find, moved_at, names_of}
 use Rattle.df_tables.specs.declared.units.Unit.{Unit}
+
+-- a row is found exactly where the rows have the name
+pub find_some : (n : UnitName) (us : List Unit) → contains_by unit_cmp (names_of us) n ≡ is_some (find n us)
+find_some n [] = refl
+find_some n (u ∷ us) = ap (λ (b : Bool). b || contains_by unit_cmp (names_of us) n) (sym (unit_cmp_ties u.local.unit n)) ∙ by (same u.local.unit n) (find_some n us)
+  where
+    by : (b : Bool) → contains_by unit_cmp (names_of us) n ≡ is_some (find n us) → (b || contains_by unit_cmp (names_of us) n) ≡ is_some (if b then Some u else find n us)
+    by true rest = refl
+    by false rest = rest
 
 pub find-map : (g : Unit → Unit) → ((u : Unit) → (g u).local.unit ≡ u.local.unit) → (n : UnitName) (us : List Unit) → find n (map g us) ≡ option_map g (find n us)
 find-map g kept n [] = refl

@@ -1,5 +1,7 @@
 pub mod Places
 pub mod Finds
+pub mod Order
+pub mod Search
 pub mod Rows
 pub mod Steps
 pub mod Tells

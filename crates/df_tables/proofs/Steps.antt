@@ -28,10 +28,11 @@ use Rattle.df_unit.specs.declared.name.UnitName.TheVariants.{Root, Managed}
 use Rattle.df_unit.specs.declared.reply.Reply.{Reply}
 use Rattle.df_unit.proofs.SameFacts.{same_name-exact, same_event_decides}
 use Rattle.df_tables.specs.Agree.{IsRow, IsSeat, Agrees, MakesNoUnit}
-use Rattle.df_tables.specs.Table.{find, parts_of, moved_at, moved_row, with_news, settled_row, quieted}
+use Rattle.df_tables.specs.Table.{find, names_of, parts_of, moved_at, moved_row, with_news, settled_row, quieted}
 use Rattle.df_tables.specs.declared.events.EventRow.{EventRow}
 use Rattle.df_tables.specs.declared.units.Unit.{Unit}
 use Rattle.df_tables.proofs.Finds.{find-map, find-moved}
+use Rattle.df_tables.proofs.Order.{names-map, names-moved, order_like}
 use Rattle.df_tables.proofs.Rows.{row_plain, row_news, row_commit}
 
 or_none : {A : Type 0} (o : Option A) → option_or o None ≡ o
@@ -124,6 +125,7 @@ module _ (R : Rules) (s : List OwnState) (laws : TakingLaws R s) where
         (find-moved a (moved_row R c r f) (λ u. refl) n us)
         (seat_plain n (same a n) (own R s past n) (subscriptions R s past n) (deliveries R s past n) (find n us) c r f quiet
         (λ e. subst (λ (m : UnitName). answer R s past m c ≡ (r, f)) (same_name-exact a n e) right) (agree.seats n));
+    order = order_like us (moved_at a (moved_row R c r f) us) (names-moved a (moved_row R c r f) (λ u. refl) us) agree.order;
     parts = λ ev. agree.parts ev ∙ sym (ap (λ k. committed ev k (contents past ev)) quiet);
     unmanaged = unmanaged_step R s past a c r f none agree.unmanaged;
     no_instances = no_instances_step R s past a c r f agree.unmanaged agree.no_instances;
@@ -170,6 +172,9 @@ module _ (R : Rules) (s : List OwnState) (laws : TakingLaws R s) where
             (deliveries_step R s past a c r (Effect.Commit k) agree.unmanaged n)
             (find-map settled_row (λ u. refl) n _ ∙ ap (option_map settled_row) (find-moved a (moved_row R c r (Effect.Commit k)) (λ u. refl) n _ ∙ ap (λ (p : Option Unit). if same a n then option_map (moved_row R c r (Effect.Commit k)) p else p) (find-map (with_news k parts) (λ u. refl) n us)))
             (seat_after past n (same a n) (find n us) c r k parts agree.no_instances is' (λ e. subst (λ (m : UnitName). answer R s past m c ≡ (r, Effect.Commit k)) (same_name-exact a n e) right) (agree.seats n));
+        order = order_like us (map settled_row (moved_at a (moved_row R c r (Effect.Commit k)) (map (with_news k parts) us)))
+            (names-map settled_row (λ u. refl) (moved_at a (moved_row R c r (Effect.Commit k)) (map (with_news k parts) us)) ∙ names-moved a (moved_row R c r (Effect.Commit k)) (λ u. refl) (map (with_news k parts) us) ∙ names-map (with_news k parts) (λ u. refl) us)
+            agree.order;
         parts = λ ev. put ev ∙ by ev (same_event k.event ev) refl is';
         unmanaged = unmanaged_step R s past a c r (Effect.Commit k) none agree.unmanaged;
         no_instances = no_instances_step R s past a c r (Effect.Commit k) agree.unmanaged agree.no_instances;
@@ -200,6 +205,7 @@ pub agrees_like : (R : Rules) (s : List OwnState) (past : List Entry) (us us' : 
 agrees_like R s past us us' evs e agree = record {
   legal = agree.legal;
   seats = λ n. seat_like n _ _ _ (find n us) (find n us') (sym (find-map quieted (λ u. refl) n us') ∙ ap (find n) e ∙ find-map quieted (λ u. refl) n us) (agree.seats n);
+  order = order_like us us' (sym (names-map quieted (λ u. refl) us') ∙ ap names_of e ∙ names-map quieted (λ u. refl) us) agree.order;
   parts = agree.parts;
   unmanaged = agree.unmanaged;
   no_instances = agree.no_instances;

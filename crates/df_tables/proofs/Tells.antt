@@ -1,15 +1,17 @@
 -- What the tables tell of units and of answers.
-use Rattle.std.proofs.Common.{◌≡◌, List, [], ◌∷◌, Option, Some, None, map, refl, ap, sym, subst, ◌∙◌}
+use Rattle.std.proofs.Common.{◌≡◌, List, [], ◌∷◌, Option, Some, None, map, is_some, refl, ap, sym, subst, ◌∙◌}
 use Rattle.std.specs.Prelude.{option_to_list, slice_get}
 use Rattle.std.proofs.lemmas.List.{append-nil}
+use Rattle.df_label.specs.Ascending.{contains_by}
 use Rattle.df_local.specs.LocalState.{LocalState}
 use Rattle.df_part.specs.declared.part.Part.{Part}
 use Rattle.df_rules.specs.Deliveries.{deliveries}
 use Rattle.df_rules.specs.Legal.{answer, answer_of}
-use Rattle.df_rules.specs.Own.{own}
+use Rattle.df_rules.specs.Own.{exists, own}
 use Rattle.df_rules.specs.Rules.{Rules}
 use Rattle.df_rules.specs.Subscriptions.{subscriptions}
 use Rattle.df_unit.specs.OwnState.{OwnState}
+use Rattle.df_unit.specs.UnitOrder.{unit_cmp}
 use Rattle.df_unit.specs.declared.call.Call.{Call}
 use Rattle.df_unit.specs.declared.call.Call.TheVariants.{Get}
 use Rattle.df_unit.specs.declared.commit.Commit.{Commit}
@@ -20,9 +22,10 @@ use Rattle.df_unit.specs.declared.name.UnitName.{UnitName}
 use Rattle.df_unit.specs.declared.reply.Reply.{Reply}
 use Rattle.df_tables.specs.Agree.{IsRow, IsSeat, Agrees}
 use Rattle.df_tables.specs.Moves.{row_answer}
-use Rattle.df_tables.specs.Table.{find, quieted, with_news}
+use Rattle.df_tables.specs.Table.{find, names_of, quieted, with_news}
 use Rattle.df_tables.specs.declared.events.EventRow.{EventRow}
 use Rattle.df_tables.specs.declared.units.Unit.{Unit}
+use Rattle.df_tables.proofs.Finds.{find_some}
 use Rattle.df_tables.proofs.Places.{quiet_part}
 
 module _ (R : Rules) (s : List OwnState) (past : List Entry) (us : List Unit) (evs : List EventRow) (agree : Agrees R s past us evs) (a : UnitName) where
@@ -41,6 +44,16 @@ module _ (R : Rules) (s : List OwnState) (past : List Entry) (us : List Unit) (e
       by : (o : Option OwnState) → IsSeat a o (subscriptions R s past a) (deliveries R s past a) None → o ≡ None
       by None seat = refl
       by (Some st) seat = absurd seat
+
+  -- a unit has a row exactly where it exists
+  pub named_at : contains_by unit_cmp (names_of us) a ≡ exists R s past a
+  named_at = find_some a us ∙ by (own R s past a) (find a us) (agree.seats a)
+    where
+      by : (o : Option OwnState) (p : Option Unit) → IsSeat a o (subscriptions R s past a) (deliveries R s past a) p → is_some p ≡ is_some o
+      by None None seat = refl
+      by None (Some u) seat = absurd seat
+      by (Some st) None seat = absurd seat
+      by (Some st) (Some u) seat = refl
 
   pub answer_none : (c : Call) → find a us ≡ None → answer R s past a c ≡ (Reply.NoSuchUnit, Effect.Nothing)
   answer_none c e = ap (λ (o : Option OwnState). answer_of R a o (deliveries R s past a) c) (none_at e)

@@ -15,7 +15,7 @@ use Rattle.df_unit.specs.declared.name.EventName.{EventName}
 use Rattle.df_unit.specs.declared.name.UnitName.{UnitName}
 use Rattle.df_unit.specs.declared.reply.Reply.{Reply}
 use Rattle.df_tables.specs.Line.{mark_of}
-use Rattle.df_tables.specs.Table.{find, parts_of}
+use Rattle.df_tables.specs.Table.{IsInOrder, find, parts_of}
 use Rattle.df_tables.specs.declared.events.EventRow.{EventRow}
 use Rattle.df_tables.specs.declared.units.Unit.{Unit}
 
@@ -35,11 +35,12 @@ IsSeat n (Some st) subs ds (Some u) = IsRow n st subs ds u
 IsSeat n None subs ds (Some u) = ⊥
 IsSeat n (Some st) subs ds None = ⊥
 
--- the journal is legal, each unit's row tells of its own state, its subscriptions and its deliveries, and each event's row of
--- its parts
+-- the journal is legal, each unit's row tells of its own state, its subscriptions and its deliveries, the rows stand in the
+-- order of units, and each event's row tells of its parts
 pub record Agrees (R : Rules) (s : List OwnState) (past : List Entry) (units : List Unit) (events : List EventRow) : Type 0 where
   pub legal : Legal R s past
   pub seats : (n : UnitName) → IsSeat n (own R s past n) (subscriptions R s past n) (deliveries R s past n) (find n units)
+  pub order : IsInOrder units
   pub parts : (event : EventName) → parts_of event events ≡ contents past event
   -- no call so far made a managed subscription, so there is no instance
   pub unmanaged : (o : List ℕ) (n : ℕ) → fixed R s past o n ≡ None

@@ -1,7 +1,8 @@
 -- The tables of units and of events, and what an entry makes of them.
-use Rattle.std.specs.Prelude.{ℕ, ◌+◌, Option, Some, None, List, [], ◌∷◌, ◌++◌, not, ◌&&◌, if◌then◌else◌, drop, option_to_list}
+use Rattle.std.specs.Prelude.{ℕ, ◌+◌, Option, Some, None, List, [], ◌∷◌, ◌++◌, not, ◌&&◌, if◌then◌else◌, drop, map, option_to_list}
 use Rattle.std.specs.List.{flat_map}
 use Rattle.df_filter.specs.declared.clause.Clause.{Clause}
+use Rattle.df_label.specs.Ascending.{IsAscending}
 use Rattle.df_label.specs.declared.label.Label.{Label}
 use Rattle.df_label.specs.declared.privilege.Privilege.{Privilege}
 use Rattle.df_local.specs.Locally.{root_at}
@@ -12,6 +13,7 @@ use Rattle.df_rules.specs.Rules.{Rules}
 use Rattle.df_unit.specs.Name.{same, same_event}
 use Rattle.df_unit.specs.OwnState.{OwnState}
 use Rattle.df_unit.specs.Rows.{is_nil}
+use Rattle.df_unit.specs.UnitOrder.{unit_cmp}
 use Rattle.df_unit.specs.declared.call.Call.{Call}
 use Rattle.df_unit.specs.declared.commit.Commit.{Commit}
 use Rattle.df_unit.specs.declared.commit.Given.{Given}
@@ -28,6 +30,14 @@ use Rattle.df_tables.specs.declared.units.Unit.{Unit}
 abbrev pub find : UnitName → List Unit → Option Unit
 find n [] = None
 find n (u ∷ us) = if same u.local.unit n then Some u else find n us
+
+-- the units that have a row
+abbrev pub names_of : List Unit → List UnitName
+names_of us = map (λ u. u.local.unit) us
+
+-- the rows stand in the order of units, one for each unit
+abbrev pub IsInOrder : List Unit → Type 0
+IsInOrder us = IsAscending unit_cmp (names_of us)
 
 -- the parts of an event; none where it has no row
 abbrev pub parts_of : EventName → List EventRow → List Part

@@ -7,7 +7,7 @@ ghost use Rattle.df_unit.specs.Rows.{subscribes};
 ghost use Rattle.df_unit.specs.Served.{IsBuilt};
 ghost use Rattle.df_unit.specs.declared.entry.Effect.{Effect};
 ghost use Rattle.df_tables.specs.Moves.{IsAnswered, IsRight, made_by};
-ghost use Rattle.df_tables.specs.Table.{moved_at, moved_row, parts_of, quieted, settled_row, taken, with_news};
+ghost use Rattle.df_tables.specs.Table.{IsInOrder, moved_at, moved_row, parts_of, quieted, settled_row, taken, with_news};
 
 use crate::events::{EventRow, contents_after};
 use crate::line::Line;
@@ -106,6 +106,7 @@ fn move_at(
     effect: &Effect,
 ) -> Result<(), NoMemory>
     requires built { IsBuilt call.now }
+    requires order { IsInOrder units.old }
     requires right { IsRight actor.now call.now reply.now effect.now units.old }
     ensures ok { OnOk result (units.new ≡ moved_at actor.now (moved_row rows call.now reply.now effect.now) units.old) }
     ensures unchanged { OnErr result (units.new ≡ units.old) }
@@ -128,6 +129,7 @@ pub fn move_unit(
     effect: &Effect,
 ) -> Result<(), NoMemory>
     requires built { IsBuilt call.now }
+    requires order { IsInOrder units.old.items }
     requires right { IsRight actor.now call.now reply.now effect.now units.old.items }
     ensures ok { OnOk result (units.new.items ≡ moved_at actor.now (moved_row rows call.now reply.now effect.now) units.old.items) }
     ensures unchanged { OnErr result (units.new.items ≡ units.old.items) }
@@ -170,6 +172,7 @@ pub fn hand_over(
     after: &Contents,
 ) -> Result<Effect, NoMemory>
     requires built { IsBuilt call.now }
+    requires order { IsInOrder units.old.items }
     requires right { IsRight actor.now call.now reply.now (Effect.Commit commit) units.old.items }
     ensures effect { IfOk result (λ f. f ≡ Effect.Commit commit) }
     ensures ok { OnOk result (units.new.items ≡ map settled_row (moved_at actor.now (moved_row rows call.now reply.now (Effect.Commit commit)) (map (with_news commit after.now) units.old.items))) }

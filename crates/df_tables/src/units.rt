@@ -3,7 +3,8 @@
 ghost use Rattle.std.specs.Prelude.{◌≡◌, ◌<◌, ◌∷◌, [], ◌++◌, ◌-◌, length, take, map, IfOk, IfSome, OnOk, OnErr, option_copied};
 ghost use Rattle.std.specs.List.{position_from};
 ghost use Rattle.df_unit.specs.Name.{same};
-ghost use Rattle.df_tables.specs.Table.{find, first_row, quieted, settled_row, with_news};
+ghost use Rattle.df_unit.specs.UnitOrder.{unit_cmp};
+ghost use Rattle.df_tables.specs.Table.{IsInOrder, find, first_row, quieted, settled_row, with_news};
 
 use crate::line::Line;
 use crate::news::news;
@@ -13,6 +14,7 @@ use df_local::Local;
 use df_part::Contents;
 use df_unit::{Commit, UnitName};
 use std::alloc::Global;
+use std::cmp::Ordering;
 use std::marker::Model;
 
 /// A unit's ordinary subscriptions, each a number and a filter, the oldest first.
@@ -75,30 +77,31 @@ pub struct Unit {
     pub line: Line,
 }
 
-fn is_named(unit: &Unit, name: &UnitName) -> bool
-    ensures { result ≡ same unit.now.local.unit name.now }
+/// How a row's unit and a unit stand to each other.
+fn compare(unit: &Unit, name: &UnitName) -> Ordering
+    ensures { result ≡ unit_cmp unit.now.local.unit name.now }
 {
-    unit.local.name().same(name)
+    unit.local.name().cmp(name)
 }
 
 /// The place of a unit.
 pub fn place(units: &[Unit], name: &UnitName) -> Option<usize>
+    requires order { IsInOrder units.now }
     ensures place { result ≡ position_from (λ u. same u.local.unit name.now) 0 units.now }
     ensures within { IfSome result (λ k. k < length units.now) }
 {
-    units.iter().position(|unit| is_named(unit, name))
+    units.binary_search_by(|unit| compare(unit, name)).ok()
 }
 
 /// The row of a unit.
 pub fn find<'a>(units: &'a [Unit], name: &UnitName) -> Option<&'a Unit>
+    requires order { IsInOrder units.now }
     ensures { option_copied result ≡ find name.now units.now }
 {
-    for unit in units {
-        if is_named(unit, name) {
-            return Some(unit);
-        }
+    match place(units, name) {
+        Some(k) => Some(&units[k]),
+        None => None,
     }
-    None
 }
 
 /// A root's row as it begins.

@@ -24,6 +24,9 @@ hand_over-requires-clause-right c u e =
     let right = rw (← c.self.view_is) at c.requires.right in
     answer_at rows (firsts c.self.inside.start) (reverse c.self.inside.journal.items) c.self.inside.units.items c.self.inside.events.items c.self.invariant c.args.actor.now c.args.call u e ∙ right
 
+pub hand_over-requires-clause-order : goal.hand_over-requires-clause-order
+hand_over-requires-clause-order c = c.self.invariant.order
+
 pub invariant_of-self-in_default-hand_over : goal.invariant_of-self-in_default-hand_over
 invariant_of-self-in_default-hand_over c =
     let s = firsts c.self.inside.start in

@@ -17,6 +17,9 @@ move_unit-requires-clause-right c u e =
     let right = rw (← c.self.view_is) at c.requires.right in
     answer_at rows (firsts c.self.inside.start) (reverse c.self.inside.journal.items) c.self.inside.units.items c.self.inside.events.items c.self.invariant c.args.actor.now c.args.call u e ∙ right
 
+pub move_unit-requires-clause-order : goal.move_unit-requires-clause-order
+move_unit-requires-clause-order c = c.self.invariant.order
+
 pub invariant_of-self-2 : goal.invariant_of-self-2
 invariant_of-self-2 c =
     let right = rw (← c.self.view_is) at c.requires.right in

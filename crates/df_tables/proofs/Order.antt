@@ -1,0 +1,45 @@
+-- The order of the rows, in the beginning and after an entry.
+use Rattle.std.proofs.Common.{◌≡◌, ℕ, ◌+◌, ◌<◌, List, [], ◌∷◌, Bool, true, false, if◌then◌else◌, map, refl, ap, sym, subst, arith}
+use Rattle.std.specs.Cmp.{nat_cmp_is}
+use Rattle.std.specs.Ordering.{ordering_then}
+use Rattle.std.specs.declared.cmp.Ordering.{Ordering}
+use Rattle.std.specs.declared.cmp.Ordering.TheVariants.{Less, Equal}
+use Rattle.df_label.specs.Ascending.{IsAscending, IsBelow}
+use Rattle.df_label.specs.declared.label.Label.{Label}
+use Rattle.df_label.specs.declared.privilege.Privilege.{Privilege}
+use Rattle.df_unit.specs.Name.{same}
+use Rattle.df_unit.specs.UnitOrder.{unit_cmp}
+use Rattle.df_unit.specs.declared.name.UnitName.{UnitName}
+use Rattle.df_unit.specs.declared.name.UnitName.TheVariants.{Root}
+use Rattle.df_tables.specs.Table.{IsInOrder, moved_at, names_of, rows_from}
+use Rattle.df_tables.specs.declared.units.Unit.{Unit}
+
+-- no change of rows that keeps their names changes the names
+
+pub names-map : (g : Unit → Unit) → ((u : Unit) → (g u).local.unit ≡ u.local.unit) → (us : List Unit) → names_of (map g us) ≡ names_of us
+names-map g kept [] = refl
+names-map g kept (u ∷ us) = let first = kept u in let rest = names-map g kept us in cc
+
+pub names-moved : (a : UnitName) (g : Unit → Unit) → ((u : Unit) → (g u).local.unit ≡ u.local.unit) → (us : List Unit) → names_of (moved_at a g us) ≡ names_of us
+names-moved a g kept [] = refl
+names-moved a g kept (u ∷ us) = by (same u.local.unit a) (names-moved a g kept us)
+  where
+    by : (b : Bool) → names_of (moved_at a g us) ≡ names_of us → names_of (if b then g u ∷ us else u ∷ moved_at a g us) ≡ u.local.unit ∷ names_of us
+    by true rest = ap (λ (n : UnitName). n ∷ names_of us) (kept u)
+    by false rest = ap (λ (ns : List UnitName). u.local.unit ∷ ns) rest
+
+pub order_like : (us us' : List Unit) → names_of us' ≡ names_of us → IsInOrder us → IsInOrder us'
+order_like us us' e order = subst (IsAscending unit_cmp) (sym e) order
+
+-- roots stand by their numbers
+
+root_below : (j k : ℕ) → j < k → unit_cmp (Root (j ∷ [])) (Root (k ∷ [])) ≡ Less
+root_below j k h = ap (λ (o : Ordering). ordering_then o Equal) (sym (nat_cmp_is j k Less h))
+
+below_rows : (j k : ℕ) (rs : List (Label × List Privilege)) → j < k → IsBelow unit_cmp (Root (j ∷ [])) (names_of (rows_from k rs))
+below_rows j k [] h = tt
+below_rows j k (r ∷ rs) h = (root_below j k h, below_rows j (k + 1) rs (omega arith))
+
+pub order_first : (k : ℕ) (rs : List (Label × List Privilege)) → IsInOrder (rows_from k rs)
+order_first k [] = tt
+order_first k (r ∷ rs) = (below_rows k (k + 1) rs (omega arith), order_first (k + 1) rs)
