@@ -169,15 +169,15 @@ pub record IsCut (text : List ℕ) (at over end : ℕ) : Type 0 where
   pub start : at ≤ over
   pub before : over < end
   pub within : end ≤ length text
-  pub room : (end ≡ length text) ⊎ (over + 33 ≤ end)
+  pub room : (end ≡ length text) ⊎ (over + 32 ≤ end)
   pub first : FirstOver (drop at text) (drop over text)
 
-pub is_cut : (text : List ℕ) (at over end : ℕ) → at ≤ length text → over < length text → FirstOver (drop at text) (drop over text) → end ≡ min (length text) (over + 1 + 32) → IsCut text at over end
+pub is_cut : (text : List ℕ) (at over end : ℕ) → at ≤ length text → over < length text → FirstOver (drop at text) (drop over text) → end ≡ min (length text) (over + 32) → IsCut text at over end
 is_cut text at over end le lt first e = record {
   start = over_from text at over le lt first;
   before = omega (arith, e, lt);
   within = omega (arith, e);
-  room = elim (told (nat_le (length text) (over + 33))) [ inl h ↦ inl (grind (arith, nat_tests)) | inr h ↦ inr (grind (arith, nat_tests)) ];
+  room = elim (told (nat_le (length text) (over + 32))) [ inl h ↦ inl (grind (arith, nat_tests)) | inr h ↦ inr (grind (arith, nat_tests)) ];
   first = first;
 }
 

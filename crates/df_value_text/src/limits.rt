@@ -63,7 +63,7 @@ pub(crate) fn over_fault(alloc: Global, bytes: &[u8], at: usize, over: usize) ->
     ensures syntax { NamesValueFault bytes.now at result }
     ensures too_large { NamesTooLarge bytes.now at result }
 {
-    let end = bytes.len().min(over + 1 + LONGEST_NAME);
+    let end = bytes.len().min(over + LONGEST_NAME);
     match value_at(alloc, &bytes[..end], at).err() {
         None => TextRefused::TooLarge { offset: over },
         Some(fault) => up_to(fault, over),

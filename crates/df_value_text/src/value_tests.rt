@@ -1,9 +1,44 @@
 //! Values on literals, whole and damaged, with the offset by hand.
 use crate::{TextRefused, read_value, write_value};
+use std::alloc::Global;
 use std::test::Fail;
 
 const fn bad(offset: usize) -> Result<usize, TextRefused> {
     Err(TextRefused::Syntax { offset })
+}
+
+const fn large(offset: usize) -> Result<usize, TextRefused> {
+    Err(TextRefused::TooLarge { offset })
+}
+
+/// A text in which a part stands many times.
+#[derive(Clone, Copy)]
+struct Long<'a> {
+    front: &'a [u8],
+    part: &'a [u8],
+    count: usize,
+    behind: &'a [u8],
+}
+
+impl<'a> Long<'a> {
+    const fn new(front: &'a [u8], part: &'a [u8], count: usize, behind: &'a [u8]) -> Long<'a> {
+        Long {
+            front,
+            part,
+            count,
+            behind,
+        }
+    }
+
+    fn text(&self, alloc: Global) -> Result<Vec<u8>, Fail> {
+        let mut text = Vec::new(alloc);
+        text.extend_from_slice(self.front)?;
+        for _ in 0..self.count {
+            text.extend_from_slice(self.part)?;
+        }
+        text.extend_from_slice(self.behind)?;
+        Ok(text)
+    }
 }
 
 #[test]
@@ -70,5 +105,49 @@ fn values_are_read_to_their_end(rt: HostRuntime) -> Result<(), Fail> {
         }
     }
     assert!(rt; read_value(alloc, b"x[]", 1).is_ok());
+    Ok(())
+}
+
+#[test]
+fn values_are_read_up_to_the_limits(rt: HostRuntime) -> Result<(), Fail> {
+    let alloc = rt.alloc();
+    let rows: [(Long, Result<usize, TextRefused>); 25] = [
+        // 4,096 nodes, and one more
+        (Long::new(b"[0", b",0", 4094, b"]"), Ok(8191)),
+        (Long::new(b"[0", b",0", 4095, b"]"), large(8191)),
+        (Long::new(b"[0", b",0", 4094, b",-1]"), large(8191)),
+        (Long::new(b"[0", b",0", 4094, b",-,"), large(8191)),
+        (Long::new(b"[0", b",0", 4094, b",%"), bad(8191)),
+        // 32 levels, and one more
+        (Long::new(b"", b"[", 32, b"%"), bad(32)),
+        (Long::new(b"", b"[", 30, b"[1,2]%"), bad(35)),
+        (Long::new(b"", b"[", 32, b"0"), large(32)),
+        (Long::new(b"", b"[", 100, b""), large(32)),
+        (Long::new(b"", b"(a=", 32, b"()"), large(96)),
+        // 65,536 bytes, and one more
+        (Long::new(b"\"", b"w", 65536, b"\""), Ok(65538)),
+        (Long::new(b"\"", b"w", 65537, b"\""), large(65537)),
+        (Long::new(b"\"", b"w", 65536, b"\\\""), large(65537)),
+        (Long::new(b"x\"", b"0f", 65536, b"\""), Ok(131075)),
+        (Long::new(b"x\"", b"0f", 65536, b"0"), large(131074)),
+        // a byte with which nothing goes on counts nothing
+        (Long::new(b"\"", b"w", 65536, b"\n"), bad(65537)),
+        // a character counts all its bytes at the first
+        (Long::new(b"\"", b"w", 65534, b"\xc3\xa9\""), Ok(65538)),
+        (Long::new(b"\"", b"w", 65535, b"\xc3\xa9\""), large(65536)),
+        (Long::new(b"\"", b"w", 65535, b"\xc3\""), large(65536)),
+        (Long::new(b"\"", b"w", 65534, b"\xc3\""), bad(65536)),
+        // a name that isn't above the one before it counts nothing, also where more of it follows
+        (Long::new(b"(b=\"", b"w", 65535, b"\",a=1)"), bad(65541)),
+        (Long::new(b"(b=\"", b"w", 65534, b"\",aa=1)"), bad(65540)),
+        (Long::new(b"(b=\"", b"w", 65534, b"\",ba=1)"), large(65541)),
+        (Long::new(b"(ab=\"", b"w", 65534, b"\",a=1)"), bad(65541)),
+        // nor does one that stands behind the byte over
+        (Long::new(b"(b=\"", b"w", 65536, b"\",a=1)"), large(65539)),
+    ];
+    for (long, expected) in rows {
+        let read = read_value(alloc, &long.text(alloc)?, 0);
+        assert_eq!(rt; read.map(|(_, end)| end), expected);
+    }
     Ok(())
 }
