@@ -1,14 +1,19 @@
 -- What a machine's journal tells, and how it grows.
-use Rattle.std.specs.Prelude.{List, ◌∷◌, Option, map}
+use Rattle.std.specs.Prelude.{◌≡◌, Bool, false, not, List, ◌∷◌, Option, Some, None, map}
 use Rattle.std.specs.Option.{option_map}
+use Rattle.df_label.specs.Ascending.{IsAscending, contains_by}
 use Rattle.df_label.specs.declared.label.Label.{Label}
 use Rattle.df_label.specs.declared.privilege.Privilege.{Privilege}
 use Rattle.df_local.specs.LocalState.{LocalState}
-use Rattle.df_rules.specs.Legal.{Legal, answer, answered}
-use Rattle.df_rules.specs.Own.{own}
+use Rattle.df_rules.specs.Deliveries.{deliveries}
+use Rattle.df_rules.specs.Legal.{Legal, answer, answered, left}
+use Rattle.df_rules.specs.Own.{exists, own}
 use Rattle.df_rules.specs.Start.{rows, roots}
 use Rattle.df_unit.specs.OwnState.{OwnState}
+use Rattle.df_unit.specs.Rows.{is_nil}
+use Rattle.df_unit.specs.UnitOrder.{unit_cmp}
 use Rattle.df_unit.specs.declared.call.Call.{Call}
+use Rattle.df_unit.specs.declared.commit.Given.{Given}
 use Rattle.df_unit.specs.declared.entry.Effect.{Effect}
 use Rattle.df_unit.specs.declared.entry.Entry.{Entry}
 use Rattle.df_unit.specs.declared.name.UnitName.{UnitName}
@@ -41,3 +46,17 @@ appended actor call core = (core.0, answered rows (firsts core.0) core.1 actor c
 -- a unit with its own state, where it exists
 abbrev pub local_of : State → UnitName → Option LocalState
 local_of core name = option_map (λ st. record { unit = name; own = st }) (own rows (firsts core.0) core.1 name)
+
+-- whether some of these deliveries are left to a unit with this own state, if it exists
+abbrev pub is_due : Option OwnState → List Given → Bool
+is_due None ds = false
+is_due (Some st) ds = not (is_nil (left st ds))
+
+-- whether the unit exists and a delivery is left to it
+abbrev pub has_delivery_in : State → UnitName → Bool
+has_delivery_in core name = is_due (own rows (firsts core.0) core.1 name) (deliveries rows (firsts core.0) core.1 name)
+
+-- the names of the units that exist, in the order of units
+pub record IsRoll (core : State) (names : List UnitName) : Type 0 where
+  pub order : IsAscending unit_cmp names
+  pub units : (name : UnitName) → contains_by unit_cmp names name ≡ exists rows (firsts core.0) core.1 name

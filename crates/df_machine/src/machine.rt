@@ -1,10 +1,11 @@
-ghost use Rattle.std.specs.Prelude.{◌≡◌, ◌^◌, ◌<◌, ◌∷◌, [], length, IfErr, IfOk, None, OnErr, OnOk, map, option_copied, reverse, slice_get};
+ghost use Rattle.std.specs.Prelude.{◌≡◌, ◌^◌, ◌<◌, ◌∷◌, [], length, IfErr, IfOk, List, None, OnErr, OnOk, map, option_copied, reverse, slice_get};
 ghost use Rattle.df_rules.specs.Commits.{commit_in};
 ghost use Rattle.df_tables.specs.Table.{rows_from};
 ghost use Rattle.df_unit.specs.Served.{IsBuilt};
 ghost use Rattle.df_unit.specs.declared.entry.Effect.{Effect};
 ghost use Rattle.df_unit.specs.declared.entry.Entry.TheVariants.{Done};
-ghost use Rattle.df_machine.specs.Journal.{IsLegal, answer_in, appended, begun, local_of};
+ghost use Rattle.df_unit.specs.declared.name.UnitName.{UnitName};
+ghost use Rattle.df_machine.specs.Journal.{IsLegal, IsRoll, answer_in, appended, begun, has_delivery_in, local_of};
 
 use crate::start::{RootStart, Start};
 use df_label::NoMemory;
@@ -106,6 +107,27 @@ impl Core {
     {
         match find(self.units.as_slice(), name) {
             Some(unit) => Some(&unit.local),
+            None => None,
+        }
+    }
+
+    /// Whether a unit exists and a delivery is left to it.
+    pub fn has_delivery(&self, name: &UnitName) -> bool
+        ensures { result ≡ has_delivery_in self.now name.now }
+    {
+        match find(self.units.as_slice(), name) {
+            Some(unit) => !unit.line.is_empty(),
+            None => false,
+        }
+    }
+
+    /// The unit at a place, from 0, among those that exist, in the order of units.
+    pub fn unit_at(&self, k: usize) -> Option<&UnitName>
+        ensures place { (names : List UnitName) → IsRoll self.now names → option_copied result ≡ slice_get names k }
+        ensures roll { (names : List UnitName) × IsRoll self.now names }
+    {
+        match self.units.get(k) {
+            Some(unit) => Some(unit.local.name()),
             None => None,
         }
     }

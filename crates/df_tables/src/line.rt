@@ -3,6 +3,7 @@
 
 ghost use Rattle.std.specs.Prelude.{◌≡◌, ◌==◌, ◌&&◌, [], IfOk, OnOk, OnErr, slice_get, drop, map, length, option_copied};
 ghost use Rattle.df_unit.specs.Name.{same_event};
+ghost use Rattle.df_unit.specs.Rows.{is_nil};
 ghost use Rattle.df_tables.specs.Line.{mark_of, settled, was_marked};
 
 use df_label::NoMemory;
@@ -80,6 +81,13 @@ impl Line {
         ensures { option_copied result ≡ slice_get self.now.left 0 }
     {
         self.left.first()
+    }
+
+    /// Whether no delivery is left.
+    pub fn is_empty(&self) -> bool
+        ensures { result ≡ is_nil self.now.left }
+    {
+        self.left.is_empty()
     }
 
     /// Takes the first delivery that is left.
