@@ -1,6 +1,7 @@
-ghost use Rattle.std.specs.Prelude.{◌≡◌, ◌^◌, ◌<◌, ◌∷◌, [], length, IfErr, IfOk, List, None, OnErr, OnOk, map, option_copied, reverse, slice_get};
+ghost use Rattle.std.specs.Prelude.{◌≡◌, ◌^◌, ◌<◌, ◌∷◌, [], length, IfErr, IfOk, List, None, OnErr, OnOk, map, option_copied, reverse, slice_get, vec_len, vec_capacity};
+ghost use Rattle.df_part.specs.Contents.{apply};
 ghost use Rattle.df_rules.specs.Commits.{commit_in};
-ghost use Rattle.df_tables.specs.Table.{rows_from};
+ghost use Rattle.df_tables.specs.Table.{parts_of, rows_from};
 ghost use Rattle.df_unit.specs.Served.{IsBuilt};
 ghost use Rattle.df_unit.specs.declared.entry.Effect.{Effect};
 ghost use Rattle.df_unit.specs.declared.entry.Entry.TheVariants.{Done};
@@ -10,7 +11,9 @@ ghost use Rattle.df_machine.specs.Journal.{IsLegal, IsRoll, answer_in, appended,
 use crate::start::{RootStart, Start};
 use df_label::NoMemory;
 use df_local::{Answer, Local};
-use df_tables::{EventRow, Unit, find, first_unit, hand_over, move_unit, prepare, put_contents};
+use df_tables::{
+    EventRow, Ready, Unit, find, first_unit, hand_over, move_unit, prepare, put_contents,
+};
 use df_unit::{Call, Commit, Effect, Entry, Reply, UnitName};
 use std::alloc::Global;
 use std::marker::Model;
@@ -61,6 +64,49 @@ fn first_units(alloc: Global, roots: &[RootStart]) -> Result<Vec<Unit>, NoMemory
         units.push(first_unit(alloc, number as u32, label, privileges)?)?;
     }
     Ok(units)
+}
+
+/// What an entry without a commit needs a second time.
+#[derive(Drop)]
+struct Copies {
+    actor: UnitName,
+    kept: Reply,
+}
+
+/// Makes room in the journal, and ready what an entry without a commit needs.
+fn prepare_plain(
+    journal: &mut Vec<Entry>,
+    actor: &UnitName,
+    reply: &Reply,
+) -> Result<Copies, NoMemory>
+    ensures copies { IfOk result (λ c. c ≡ record { actor = actor.now; kept = reply.now }) }
+    ensures room { OnOk result (vec_len journal.new < vec_capacity journal.new) }
+    ensures journal { journal.new.items ≡ journal.old.items }
+{
+    journal.reserve(1)?;
+    let actor = actor.copy()?;
+    let kept = reply.copy()?;
+    Ok(Copies { actor, kept })
+}
+
+/// Makes room in both tables, and ready what an entry with a commit needs.
+fn prepare_commit(
+    alloc: Global,
+    journal: &mut Vec<Entry>,
+    events: &mut Vec<EventRow>,
+    actor: &UnitName,
+    reply: &Reply,
+    commit: &Commit,
+) -> Result<Ready, NoMemory>
+    ensures ready { IfOk result (λ r. r ≡ record { actor = actor.now; kept = reply.now; event = commit.now.event; after = apply commit.now.edit (parts_of commit.now.event events.old.items) }) }
+    ensures room { OnOk result (vec_len journal.new < vec_capacity journal.new) }
+    ensures events_room { OnOk result (vec_len events.new < vec_capacity events.new) }
+    ensures journal { journal.new.items ≡ journal.old.items }
+    ensures events { events.new.items ≡ events.old.items }
+{
+    journal.reserve(1)?;
+    events.reserve(1)?;
+    prepare(alloc, events.as_slice(), actor, reply, commit)
 }
 
 impl Core {
@@ -165,25 +211,19 @@ impl Core {
         ensures unchanged { OnErr result (self.new ≡ self.old) }
         ensures back { IfErr result (λ e. e.call ≡ call) }
     {
-        let Ok(kept) = reply.copy() else {
-            return Err(NotStepped { call });
-        };
-        let Ok(name) = actor.copy() else {
-            return Err(NotStepped { call });
-        };
-        let Ok(()) = self.journal.reserve(1) else {
+        let Ok(copies) = prepare_plain(&mut self.journal, actor, &reply) else {
             return Err(NotStepped { call });
         };
         let Ok(()) = move_unit(&mut self.units, actor, &call, &reply, &effect) else {
             return Err(NotStepped { call });
         };
         self.journal.push_reserved(Entry::Done {
-            actor: name,
+            actor: copies.actor,
             call,
             reply,
             effect,
         });
-        Ok(kept)
+        Ok(copies.kept)
     }
 
     /// Appends the entry of a call that makes a commit.
@@ -201,13 +241,14 @@ impl Core {
         ensures unchanged { OnErr result (self.new ≡ self.old) }
         ensures back { IfErr result (λ e. e.call ≡ call) }
     {
-        let Ok(()) = self.events.reserve(1) else {
-            return Err(NotStepped { call });
-        };
-        let Ok(()) = self.journal.reserve(1) else {
-            return Err(NotStepped { call });
-        };
-        let Ok(ready) = prepare(self.alloc, self.events.as_slice(), actor, &reply, &commit) else {
+        let Ok(ready) = prepare_commit(
+            self.alloc,
+            &mut self.journal,
+            &mut self.events,
+            actor,
+            &reply,
+            &commit,
+        ) else {
             return Err(NotStepped { call });
         };
         let Ok(effect) = hand_over(

@@ -32,8 +32,8 @@ invariant_of-self-in_default-hand_over c =
     let s = firsts c.self.inside.start in
     let past = reverse c.self.inside.journal.items in
     let us = c.hand_over.new.units.items in
-    subst (λ (j : List Entry). Agrees rows s (reverse j) us c.reserve.new.self.items) (sym c.reserve-2.ensures.items)
-    (subst (λ (es : List EventRow). Agrees rows s past us es) (sym c.reserve.ensures.items)
+    subst (λ (j : List Entry). Agrees rows s (reverse j) us c.prepare_commit.new.events.items) (sym c.prepare_commit.ensures.journal)
+    (subst (λ (es : List EventRow). Agrees rows s past us es) (sym c.prepare_commit.ensures.events)
     (agrees_like rows s past c.self.inside.units.items us c.self.inside.events.items c.in_default-hand_over.ensures.quiet c.self.invariant))
 
 pub invariant_of-self-2 : goal.invariant_of-self-2
@@ -44,17 +44,17 @@ invariant_of-self-2 c =
     let us = c.self.inside.units.items in
     let evs = c.self.inside.events.items in
     let k = c.args.commit in
-    let ready = c.in-Ok-prepare.ready in
+    let ready = c.in-Ok.ready in
     let is : ready.after ≡ apply k.edit (parts_of k.event evs) =
-    ap (λ (r : Ready). r.after) c.in-Ok-prepare.ensures ∙ ap (λ (rows : List EventRow). apply k.edit (parts_of k.event rows)) (c.as_slice.ensures.value ∙ c.reserve.ensures.items) in
-    let event : ready.event ≡ k.event = ap (λ (r : Ready). r.event) c.in-Ok-prepare.ensures in
-    let name : ready.actor ≡ c.args.actor.now = ap (λ (r : Ready). r.actor) c.in-Ok-prepare.ensures in
+    ap (λ (r : Ready). r.after) c.in-Ok.ensures.ready in
+    let event : ready.event ≡ k.event = ap (λ (r : Ready). r.event) c.in-Ok.ensures.ready in
+    let name : ready.actor ≡ c.args.actor.now = ap (λ (r : Ready). r.actor) c.in-Ok.ensures.ready in
     let put : (e : EventName) → parts_of e c.put_contents.new.rows.items ≡ (if same_event k.event e then ready.after else parts_of e evs) =
     λ e. c.put_contents.ensures e
-    ∙ ap (λ (x : EventName). if same_event x e then ready.after else parts_of e c.reserve.new.self.items) event
-    ∙ ap (λ (rows : List EventRow). if same_event k.event e then ready.after else parts_of e rows) c.reserve.ensures.items in
-    let now = journal_more c.self.inside.journal.items c.reserve-2.new.self.items c.push_reserved.new.self.items ready.actor c.args.actor.now c.args.call c.args.reply (Effect.Commit k) c.reserve-2.ensures.items
-    (c.push_reserved.ensures.items ∙ ap (λ (f : Effect). c.reserve-2.new.self.items ++ Done ready.actor c.args.call c.args.reply f ∷ []) c.in-Ok-hand_over.ensures.effect) name in
+    ∙ ap (λ (x : EventName). if same_event x e then ready.after else parts_of e c.prepare_commit.new.events.items) event
+    ∙ ap (λ (rows : List EventRow). if same_event k.event e then ready.after else parts_of e rows) c.prepare_commit.ensures.events in
+    let now = journal_more c.self.inside.journal.items c.prepare_commit.new.journal.items c.push_reserved.new.self.items ready.actor c.args.actor.now c.args.call c.args.reply (Effect.Commit k) c.prepare_commit.ensures.journal
+    (c.push_reserved.ensures.items ∙ ap (λ (f : Effect). c.prepare_commit.new.journal.items ++ Done ready.actor c.args.call c.args.reply f ∷ []) c.in-Ok-hand_over.ensures.effect) name in
     subst (λ (j : List Entry). Agrees rows s j c.hand_over.new.units.items c.put_contents.new.rows.items) (sym now)
     (subst (λ (xs : List Unit). Agrees rows s (Done c.args.actor.now c.args.call c.args.reply (Effect.Commit k) ∷ past) xs c.put_contents.new.rows.items) (sym c.in-Ok-hand_over.ensures.ok)
     (agrees_commit rows s (row_taking_laws (map begun c.self.inside.start)) past us evs c.put_contents.new.rows.items c.args.actor.now c.args.call c.args.reply k ready.after c.self.invariant (built_makes_none c.args.call c.args.reply c.requires.built) right is put))
