@@ -9,6 +9,6 @@ mod news;
 mod units;
 
 pub use events::{EventRow, put_contents};
-pub use line::{Line, Mark};
+pub use line::Line;
 pub use moves::{Ready, hand_over, move_unit, prepare};
 pub use units::{Subscriptions, Unit, find, first_unit};

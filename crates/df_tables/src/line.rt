@@ -13,7 +13,7 @@ use std::marker::Model;
 
 /// An event that was handed to a subscription.
 #[derive(Drop)]
-pub struct Mark {
+pub(crate) struct Mark {
     pub event: EventName,
     pub sub: u32,
 }

@@ -53,7 +53,7 @@ impl Subscriptions {
     }
 
     /// One more, the newest.
-    pub fn push(&mut self, number: u32, filter: Filter) -> Result<(), NoMemory>
+    pub(crate) fn push(&mut self, number: u32, filter: Filter) -> Result<(), NoMemory>
         ensures ok { OnOk result (self.new ≡ self.old ++ (number, filter) ∷ []) }
         ensures unchanged { OnErr result (self.new ≡ self.old) }
     {
