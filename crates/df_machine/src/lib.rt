@@ -6,3 +6,6 @@ mod start;
 
 pub use machine::{Core, NotStepped};
 pub use start::{RootStart, Start};
+
+#[cfg(test)]
+mod tests;
