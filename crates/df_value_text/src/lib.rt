@@ -45,3 +45,5 @@ pub use writers::{write_label, write_privilege, write_tag, write_value};
 mod tests;
 #[cfg(test)]
 mod value_tests;
+#[cfg(test)]
+mod words_tests;
