@@ -7,6 +7,8 @@ mod steps;
 #[cfg(test)]
 mod tests;
 mod words;
+#[cfg(test)]
+mod worked;
 
 use df_io::{FileShelf, OutSink};
 use run::run_main;

@@ -1,0 +1,746 @@
+//! Worked examples: scripts, and the journals that are right for them.
+
+/// A script and its journal.
+#[derive(Clone, Copy)]
+pub struct Worked {
+    pub name: &'static str,
+    pub script: &'static [u8],
+    pub journal: &'static [u8],
+}
+
+pub const FIRST: &[u8] = b"defcon-script 1
+unit 0 {|}
+unit 1 {|}
+run
+1 sub price?
+0 create
+0 add 0 {|} price 5
+0 publish 0
+1 get
+1 read 0 price
+";
+
+pub const FIRST_JOURNAL: &[u8] = b"defcon-journal 2
+unit 0 {|}
+unit 1 {|}
+run
+1 sub price? -> sub 0
+@ {|}
+0 create -> handle 0
+@ {|}
+0 add 0 {|} price 5 -> ok
+@ {|}
+0 publish 0 -> ok
+@ {|}
+= 0!0
++ {|} price 5
+1 get -> event 0 0
+@ {|}
+< 0!0
+. {|} price 5
+1 read 0 price -> parts
+@ {|}
+: {|} 5
+";
+
+pub static WORKED: [Worked; 15] = [
+    Worked {
+        name: "first script",
+        script: FIRST,
+        journal: FIRST_JOURNAL,
+    },
+    Worked {
+        name: "hidden part is cut",
+        script: b"defcon-script 1
+unit 0 {|}
+unit 1 {|}
+unit 2 {#0|}
+run
+1 sub a?
+2 sub a?
+0 create
+0 add 0 {|} a 1
+0 add 0 {#0|} b 2
+0 publish 0
+1 get
+2 get
+",
+        journal: b"defcon-journal 2
+unit 0 {|}
+unit 1 {|}
+unit 2 {#0|}
+run
+1 sub a? -> sub 0
+@ {|}
+2 sub a? -> sub 0
+@ {#0|}
+0 create -> handle 0
+@ {|}
+0 add 0 {|} a 1 -> ok
+@ {|}
+0 add 0 {#0|} b 2 -> ok
+@ {|}
+0 publish 0 -> ok
+@ {|}
+= 0!0
++ {|} a 1
++ {#0|} b 2
+1 get -> event 0 0
+@ {|}
+< 0!0
+. {|} a 1
+2 get -> event 0 0
+@ {#0|}
+< 0!0
+. {|} a 1
+. {#0|} b 2
+",
+    },
+    Worked {
+        name: "integrity is cut",
+        script: b"defcon-script 1
+unit 0 {|}
+unit 1 {|}
+unit 2 {|#1}
+run
+1 sub a?
+2 sub a?
+0 create
+0 add 0 {|#1} a 1
+0 publish 0
+1 get
+2 get
+",
+        journal: b"defcon-journal 2
+unit 0 {|}
+unit 1 {|}
+unit 2 {|#1}
+run
+1 sub a? -> sub 0
+@ {|}
+2 sub a? -> sub 0
+@ {|#1}
+0 create -> handle 0
+@ {|}
+0 add 0 {|#1} a 1 -> ok
+@ {|}
+0 publish 0 -> ok
+@ {|}
+= 0!0
++ {|} a 1
+1 get -> event 0 0
+@ {|}
+< 0!0
+. {|} a 1
+2 get -> nothing
+@ {|#1}
+",
+    },
+    Worked {
+        name: "in order",
+        script: b"defcon-script 1
+unit 0 {|}
+unit 1 {|}
+run
+1 sub a?
+0 create
+0 add 0 {|} a 1
+0 publish 0
+0 create
+0 add 0 {|} a 2
+0 publish 0
+1 get
+1 get
+1 get
+",
+        journal: b"defcon-journal 2
+unit 0 {|}
+unit 1 {|}
+run
+1 sub a? -> sub 0
+@ {|}
+0 create -> handle 0
+@ {|}
+0 add 0 {|} a 1 -> ok
+@ {|}
+0 publish 0 -> ok
+@ {|}
+= 0!0
++ {|} a 1
+0 create -> handle 0
+@ {|}
+0 add 0 {|} a 2 -> ok
+@ {|}
+0 publish 0 -> ok
+@ {|}
+= 0!1
++ {|} a 2
+1 get -> event 0 0
+@ {|}
+< 0!0
+. {|} a 1
+1 get -> event 1 0
+@ {|}
+< 0!1
+. {|} a 2
+1 get -> nothing
+@ {|}
+",
+    },
+    Worked {
+        name: "filters",
+        script: b"defcon-script 1
+unit 0 {|}
+unit 1 {|}
+run
+1 sub t.symbol=\"AAA\"&t.price:1..9
+0 create
+0 add 0 {|} t (price=5,symbol=\"AAA\")
+0 publish 0
+0 create
+0 add 0 {|} t (price=10,symbol=\"AAA\")
+0 publish 0
+0 create
+0 add 0 {|} t (price=10,symbol=\"AAA\")
+0 add 0 {|} t (price=3,symbol=\"BBB\")
+0 publish 0
+1 get
+1 get
+1 get
+",
+        journal: b"defcon-journal 2
+unit 0 {|}
+unit 1 {|}
+run
+1 sub t.symbol=\"AAA\"&t.price:1..9 -> sub 0
+@ {|}
+0 create -> handle 0
+@ {|}
+0 add 0 {|} t (price=5,symbol=\"AAA\") -> ok
+@ {|}
+0 publish 0 -> ok
+@ {|}
+= 0!0
++ {|} t (price=5,symbol=\"AAA\")
+0 create -> handle 0
+@ {|}
+0 add 0 {|} t (price=10,symbol=\"AAA\") -> ok
+@ {|}
+0 publish 0 -> ok
+@ {|}
+= 0!1
++ {|} t (price=10,symbol=\"AAA\")
+0 create -> handle 0
+@ {|}
+0 add 0 {|} t (price=10,symbol=\"AAA\") -> ok
+@ {|}
+0 add 0 {|} t (price=3,symbol=\"BBB\") -> ok
+@ {|}
+0 publish 0 -> ok
+@ {|}
+= 0!2
++ {|} t (price=10,symbol=\"AAA\")
++ {|} t (price=3,symbol=\"BBB\")
+1 get -> event 0 0
+@ {|}
+< 0!0
+. {|} t (price=5,symbol=\"AAA\")
+1 get -> event 1 0
+@ {|}
+< 0!2
+. {|} t (price=10,symbol=\"AAA\")
+. {|} t (price=3,symbol=\"BBB\")
+1 get -> nothing
+@ {|}
+",
+    },
+    Worked {
+        name: "once per subscription",
+        script: b"defcon-script 1
+unit 0 {|}
+unit 1 {|}
+unit 2 {|}
+run
+1 sub a?
+1 sub a?
+2 sub a?
+0 create
+0 add 0 {|} a 1
+0 publish 0
+1 get
+1 get
+1 get
+2 get
+2 add 0 {|} a 2
+2 release 0
+1 get
+2 get
+",
+        journal: b"defcon-journal 2
+unit 0 {|}
+unit 1 {|}
+unit 2 {|}
+run
+1 sub a? -> sub 0
+@ {|}
+1 sub a? -> sub 1
+@ {|}
+2 sub a? -> sub 0
+@ {|}
+0 create -> handle 0
+@ {|}
+0 add 0 {|} a 1 -> ok
+@ {|}
+0 publish 0 -> ok
+@ {|}
+= 0!0
++ {|} a 1
+1 get -> event 0 0
+@ {|}
+< 0!0
+. {|} a 1
+1 get -> event 1 1
+@ {|}
+< 0!0
+. {|} a 1
+1 get -> nothing
+@ {|}
+2 get -> event 0 0
+@ {|}
+< 0!0
+. {|} a 1
+2 add 0 {|} a 2 -> ok
+@ {|}
+2 release 0 -> ok
+@ {|}
+= 0!0
++ {|} a 2
+1 get -> nothing
+@ {|}
+2 get -> nothing
+@ {|}
+",
+    },
+    Worked {
+        name: "commit must add readable",
+        script: b"defcon-script 1
+unit 0 {|}
+unit 1 {#0|}
+unit 2 {|}
+run
+1 sub a?
+0 create
+0 add 0 {|} a 1
+0 publish 0
+1 get
+2 sub a?
+1 add 0 {|} b 2
+1 release 0
+2 get
+",
+        journal: b"defcon-journal 2
+unit 0 {|}
+unit 1 {#0|}
+unit 2 {|}
+run
+1 sub a? -> sub 0
+@ {#0|}
+0 create -> handle 0
+@ {|}
+0 add 0 {|} a 1 -> ok
+@ {|}
+0 publish 0 -> ok
+@ {|}
+= 0!0
++ {|} a 1
+1 get -> event 0 0
+@ {#0|}
+< 0!0
+. {|} a 1
+2 sub a? -> sub 0
+@ {|}
+1 add 0 {|} b 2 -> ok
+@ {#0|}
+1 release 0 -> ok
+@ {#0|}
+= 0!0
++ {#0|} b 2
+2 get -> nothing
+@ {|}
+",
+    },
+    Worked {
+        name: "match over several commits",
+        script: b"defcon-script 1
+unit 0 {|}
+unit 1 {|}
+unit 2 {|}
+run
+1 sub a?&b?
+2 sub a?
+0 create
+0 add 0 {|} a 1
+0 add 0 {#0|} b 2
+0 publish 0
+1 get
+2 get
+2 add 0 {|} b 3
+2 release 0
+1 get
+2 get
+",
+        journal: b"defcon-journal 2
+unit 0 {|}
+unit 1 {|}
+unit 2 {|}
+run
+1 sub a?&b? -> sub 0
+@ {|}
+2 sub a? -> sub 0
+@ {|}
+0 create -> handle 0
+@ {|}
+0 add 0 {|} a 1 -> ok
+@ {|}
+0 add 0 {#0|} b 2 -> ok
+@ {|}
+0 publish 0 -> ok
+@ {|}
+= 0!0
++ {|} a 1
++ {#0|} b 2
+1 get -> nothing
+@ {|}
+2 get -> event 0 0
+@ {|}
+< 0!0
+. {|} a 1
+2 add 0 {|} b 3 -> ok
+@ {|}
+2 release 0 -> ok
+@ {|}
+= 0!0
++ {|} b 3
+1 get -> event 0 0
+@ {|}
+< 0!0
+. {|} a 1
+. {|} b 3
+2 get -> nothing
+@ {|}
+",
+    },
+    Worked {
+        name: "privileges by parts",
+        script: b"defcon-script 1
+unit 0 {#0|}
+unit 1 {|} #0-auth
+run
+0 out S del #0
+0 sub grant?
+1 create
+1 add 0 {|} grant 1
+1 attach 0 {|} grant #0+
+1 attach 0 {|} grant #0-
+1 publish 0
+0 get
+0 read 0 grant
+0 out S del #0
+1 tag
+",
+        journal: b"defcon-journal 2
+unit 0 {#0|}
+unit 1 {|} #0-auth
+run
+0 out S del #0 -> lacks #0-
+@ {#0|}
+0 sub grant? -> sub 0
+@ {#0|}
+1 create -> handle 0
+@ {|}
+1 add 0 {|} grant 1 -> ok
+@ {|}
+1 attach 0 {|} grant #0+ -> lacks #0+auth
+@ {|}
+1 attach 0 {|} grant #0- -> ok
+@ {|}
+1 publish 0 -> ok
+@ {|}
+= 1!0
++ {|} grant 1 #0-
+0 get -> event 0 0
+@ {#0|}
+< 1!0
+. {|} grant 1 #0-
+0 read 0 grant -> parts
+@ {#0|}
+: {|} 1 #0-
+0 out S del #0 -> ok
+@ {#0|}
+1 tag -> tag #1.0
+@ {|}
+",
+    },
+    Worked {
+        name: "declassified by privilege",
+        script: b"defcon-script 1
+unit 0 {|}
+unit 1 {#0|} #0-
+unit 2 {|}
+run
+1 sub s?
+2 sub t?
+0 create
+0 add 0 {#0|} s 7
+0 publish 0
+1 get
+1 read 0 s
+1 inout S del #0
+1 create
+1 add 1 {|} t 7
+1 publish 1
+2 get
+",
+        journal: b"defcon-journal 2
+unit 0 {|}
+unit 1 {#0|} #0-
+unit 2 {|}
+run
+1 sub s? -> sub 0
+@ {#0|}
+2 sub t? -> sub 0
+@ {|}
+0 create -> handle 0
+@ {|}
+0 add 0 {#0|} s 7 -> ok
+@ {|}
+0 publish 0 -> ok
+@ {|}
+= 0!0
++ {#0|} s 7
+1 get -> event 0 0
+@ {#0|}
+< 0!0
+. {#0|} s 7
+1 read 0 s -> parts
+@ {#0|}
+: {#0|} 7
+1 inout S del #0 -> ok
+@ {#0|}
+1 create -> handle 1
+@ {#0|}
+1 add 1 {|} t 7 -> ok
+@ {#0|}
+1 publish 1 -> ok
+@ {#0|}
+= 1!0
++ {|} t 7
+2 get -> event 0 0
+@ {|}
+< 1!0
+. {|} t 7
+",
+    },
+    Worked {
+        name: "delete and clone",
+        script: b"defcon-script 1
+unit 0 {|}
+unit 1 {|}
+unit 2 {#0,#1|}
+run
+1 sub a?
+2 sub a?
+0 create
+0 add 0 {|} a 1
+0 add 0 {#0|} b 2
+0 publish 0
+1 get
+2 get
+1 del 0 {#0|} b
+1 read 0 b
+2 del 0 {#0|} b
+1 del 0 {|} a
+1 read 0 a
+1 release 0
+2 clone 0 {|}
+2 publish 1
+",
+        journal: b"defcon-journal 2
+unit 0 {|}
+unit 1 {|}
+unit 2 {#0,#1|}
+run
+1 sub a? -> sub 0
+@ {|}
+2 sub a? -> sub 0
+@ {#0,#1|}
+0 create -> handle 0
+@ {|}
+0 add 0 {|} a 1 -> ok
+@ {|}
+0 add 0 {#0|} b 2 -> ok
+@ {|}
+0 publish 0 -> ok
+@ {|}
+= 0!0
++ {|} a 1
++ {#0|} b 2
+1 get -> event 0 0
+@ {|}
+< 0!0
+. {|} a 1
+2 get -> event 0 0
+@ {#0,#1|}
+< 0!0
+. {|} a 1
+. {#0|} b 2
+1 del 0 {#0|} b -> no part
+@ {|}
+1 read 0 b -> no part
+@ {|}
+2 del 0 {#0|} b -> cannot write {#0,#1|} {#0|}
+@ {#0,#1|}
+1 del 0 {|} a -> ok
+@ {|}
+1 read 0 a -> no part
+@ {|}
+1 release 0 -> ok
+@ {|}
+= 0!0
+- {|} a
+2 clone 0 {|} -> handle 1
+@ {#0,#1|}
+2 publish 1 -> ok
+@ {#0,#1|}
+= 2!0
++ {#0,#1|} a 1
++ {#0,#1|} b 2
+",
+    },
+    Worked {
+        name: "label of the publish",
+        script: b"defcon-script 1
+unit 0 {|} #0+
+run
+0 create
+0 add 0 {|} a 1
+0 inout S add #0
+0 publish 0
+",
+        journal: b"defcon-journal 2
+unit 0 {|} #0+
+run
+0 create -> handle 0
+@ {|}
+0 add 0 {|} a 1 -> ok
+@ {|}
+0 inout S add #0 -> ok
+@ {|}
+0 publish 0 -> ok
+@ {#0|}
+= 0!0
++ {#0|} a 1
+",
+    },
+    Worked {
+        name: "refused kinds",
+        script: b"defcon-script 1
+unit 0 {|}
+unit 1 {|}
+run
+1 sub a?
+0 create
+0 release 0
+0 add 0 {|} a 1
+0 publish 0
+1 get
+1 publish 0
+1 release 0
+9 get
+",
+        journal: b"defcon-journal 2
+unit 0 {|}
+unit 1 {|}
+run
+1 sub a? -> sub 0
+@ {|}
+0 create -> handle 0
+@ {|}
+0 release 0 -> not received
+@ {|}
+0 add 0 {|} a 1 -> ok
+@ {|}
+0 publish 0 -> ok
+@ {|}
+= 0!0
++ {|} a 1
+1 get -> event 0 0
+@ {|}
+< 0!0
+. {|} a 1
+1 publish 0 -> not draft
+@ {|}
+1 release 0 -> ok
+@ {|}
+9 get -> no unit
+",
+    },
+    Worked {
+        name: "tags of others",
+        script: b"defcon-script 1
+unit 0 {|}
+unit 1 {|}
+run
+0 create
+0 add 0 {#1.0|} a 1
+1 tag
+0 out S add #1.0
+0 out S del #1.0
+0 attach 0 {#1.0|} a #1.0+
+0 publish 0
+",
+        journal: b"defcon-journal 2
+unit 0 {|}
+unit 1 {|}
+run
+0 create -> handle 0
+@ {|}
+0 add 0 {#1.0|} a 1 -> ok
+@ {|}
+1 tag -> tag #1.0
+@ {|}
+0 out S add #1.0 -> lacks #1.0+
+@ {|}
+0 out S del #1.0 -> lacks #1.0-
+@ {|}
+0 attach 0 {#1.0|} a #1.0+ -> lacks #1.0+auth
+@ {|}
+0 publish 0 -> ok
+@ {|}
+= 0!0
++ {#1.0|} a 1
+",
+    },
+    Worked {
+        name: "value literals",
+        script: b"defcon-script 1
+unit 0 {|}
+run
+0 create
+0 add 0 {|} a (k=[1,\"x\\\"y\"],z=x\"00ff\")
+0 publish 0
+",
+        journal: b"defcon-journal 2
+unit 0 {|}
+run
+0 create -> handle 0
+@ {|}
+0 add 0 {|} a (k=[1,\"x\\\"y\"],z=x\"00ff\") -> ok
+@ {|}
+0 publish 0 -> ok
+@ {|}
+= 0!0
++ {|} a (k=[1,\"x\\\"y\"],z=x\"00ff\")
+",
+    },
+];
