@@ -98,6 +98,16 @@ fn roots_are_read_or_refused(rt: HostRuntime) -> Result<(), Fail> {
     Ok(())
 }
 
+/// Whether a script with this line is read, or else refused in line 0.
+fn is_read(alloc: Global, line: &[u8]) -> Result<Option<bool>, AllocError> {
+    let text = with_line(alloc, line)?;
+    Ok(match read_script(alloc, text.as_slice()) {
+        Ok((_start, lines)) => Some(lines.len() == 1),
+        Err(FileRefused::Syntax { line: 0 }) => Some(false),
+        Err(_) => None,
+    })
+}
+
 #[test]
 fn lines_are_read_or_refused(rt: HostRuntime) -> Result<(), Fail> {
     let lines: [(&[u8], bool); 51] = [
@@ -153,15 +163,49 @@ fn lines_are_read_or_refused(rt: HostRuntime) -> Result<(), Fail> {
         (b"0 inout S add #", false),
         (b"0 spawn {}", false),
     ];
-    for (line, is_read) in lines {
-        let text = with_line(rt.alloc(), line)?;
-        match read_script(rt.alloc(), text.as_slice()) {
-            Ok((_start, lines)) => assert_eq!(rt; (lines.len(), is_read), (1, true)),
-            Err(refused) => assert_eq!(rt;
-                (refused, is_read),
-                (FileRefused::Syntax { line: 0 }, false)
-            ),
-        }
+    for (line, told) in lines {
+        assert_eq!(rt; is_read(rt.alloc(), line)?, Some(told));
+    }
+    Ok(())
+}
+
+#[test]
+fn values_and_filters_are_read_or_refused(rt: HostRuntime) -> Result<(), Fail> {
+    let lines: [(&[u8], bool); 31] = [
+        (b"0 add 0 {|} a 9223372036854775807", true),
+        (b"0 add 0 {|} a -9223372036854775808", true),
+        (b"0 add 0 {|} a 0", true),
+        (b"0 add 0 {|} a \"a b\"", true),
+        (b"0 add 0 {|} a \" \"", true),
+        (b"0 add 0 {|} a \"\\0a\"", true),
+        (b"0 add 0 {|} a ()", true),
+        (b"0 add 0 {|} a [1,\"x y\",x\"00ff\"]", true),
+        (b"0 add 0 {#0|#1} t (price=10,symbol=\"AAA\")", true),
+        (b"0 sub a?&b?", true),
+        (b"0 sub a=\"b c\"", true),
+        (b"0 sub t.symbol=\"AAA\"&t.price:1..9", true),
+        (b"0 sub aaaaaaaaaaaaaaaaaaaaaaaaaaaaaaaa?", true),
+        (b"0 add 0 {|} a 05", false),
+        (b"0 add 0 {|} a +5", false),
+        (b"0 add 0 {|} a -0", false),
+        (b"0 add 0 {|} a 9223372036854775808", false),
+        (b"0 add 0 {|} a -9223372036854775809", false),
+        (b"0 add 0 {|} a 5 ", false),
+        (b"0 add 0 {|} a 5 6", false),
+        (b"0 add 0 {|} a \"a", false),
+        (b"0 add 0 {|} a", false),
+        (b"0 add 0 {|} A 5", false),
+        (b"0 add 0 {|}  a 5", false),
+        (b"0 sub", false),
+        (b"0 sub ", false),
+        (b"0 sub a", false),
+        (b"0 sub a? ", false),
+        (b"0 sub a?&b?&c?&d?&e?", false),
+        (b"0 sub aaaaaaaaaaaaaaaaaaaaaaaaaaaaaaaaa?", false),
+        (b"0 msub a?", false),
+    ];
+    for (line, told) in lines {
+        assert_eq!(rt; is_read(rt.alloc(), line)?, Some(told));
     }
     Ok(())
 }
