@@ -94,7 +94,7 @@ pub low_is_local : IsLocal IsLowName
 low_is_local before front rest low = record { before = before ++ low.before; prev = low.prev; named = low.named; is = ap (λ (u : List ℕ). before ++ u) low.is ∙ sym (append_assoc before low.before (entry_text low.prev ++ 44 ∷ [])); low = low.low }
 
 -- a name ends before `=`
-name_apart : (name : List ℕ) → name_goes name 61 ≡ false
+pub name_apart : (name : List ℕ) → name_goes name 61 ≡ false
 name_apart name = grind (arith, nat_tests)
 
 -- low behind an entry and a comma: the name itself, or some place in the value
@@ -118,16 +118,16 @@ module _ (Fits : Plain → Type 0) (goes : Plain → ℕ → Bool) (inner : List
   given_format : Format IsLowName given_text Fits goes (given_at inner)
   given_format = behind_format IsLowName low_is_local (61 ∷ []) value_text Fits goes inner some some_fits f
 
-  entry_format : Format IsLowName entry_text EntryFits entry_goes (entry_at inner)
+  pub entry_format : Format IsLowName entry_text EntryFits entry_goes (entry_at inner)
   entry_format = then_format IsLowName low_is_local own IsName name_goes name_at given_text Fits goes (given_at inner) (name_format IsLowName) given_format some some_fits (λ name p rest fits fits_p ends. name_apart name)
 
-  next_format : (prev : List ℕ × Plain) → Format (NearEntry prev) entry_text (AfterEntry prev) entry_goes (next_entry_at inner prev.0)
+  pub next_format : (prev : List ℕ × Plain) → Format (NearEntry prev) entry_text (AfterEntry prev) entry_goes (next_entry_at inner prev.0)
   next_format prev =
       then_near_format (NearName prev.0) IsLowName (NearEntry prev) own (AfterName prev.0) name_goes (higher_at prev.0) given_text Fits goes (given_at inner)
       (λ front rest low. inl low) (λ name front rest fits low. inr (low_is_local name front rest low))
       (higher_format prev.0) given_format some some_fits (λ name p rest fits fits_p ends. name_apart name)
 
-  entries_parts : Parts NearEntry leads_entry 44 entry_text EntryFits AfterEntry entry_goes (λ prev. next_entry_at inner prev.0)
+  pub entries_parts : Parts NearEntry leads_entry 44 entry_text EntryFits AfterEntry entry_goes (λ prev. next_entry_at inner prev.0)
   entries_parts = record {
     item = λ prev fits. next_format prev;
     shrinks = λ prev. format_shrinks (NearEntry prev) entry_text (AfterEntry prev) entry_goes (next_entry_at inner prev.0) (next_format prev);

@@ -36,5 +36,6 @@ pub mod PutSteps
 pub mod NestLaws
 pub mod ValueLaws
 pub mod ValueSteps
+pub mod LowLaws
 pub mod ValueAnswers
 pub mod LimitLaws

@@ -1,19 +1,21 @@
 -- Reading up to the first byte by which a count of freezing is passed, and what it says of all bytes.
 use Rattle.std.proofs.Common.{◌≡◌, None, Result, Some, ℕ, suc, ◌+◌, ◌<◌, ◌≤◌, min, List, [], ◌∷◌, ◌++◌, length, length-append, take, drop, Ok, Err, refl, sym, ap, subst, ◌∙◌, append_assoc, arith, ◌⊎◌, inl, inr}
-use Rattle.std.specs.Prelude.{nat_le, nat_lt}
+use Rattle.std.specs.Prelude.{true, nat_le, nat_lt}
 use Rattle.std.specs.Result.{result_err}
 use Rattle.std.proofs.lemmas.Bool.Decides.{nat_tests}
 use Rattle.std.proofs.lemmas.List.{append_cancel_left, append_cancel_right, append-nil, drop_all, length-drop, length-take-le}
 use Rattle.df_format.specs.Grammar.{CanGoOn, Stands, IsLongest}
+use Rattle.df_format.specs.Reading.{Bad, Low}
 use Rattle.df_format.proofs.Laws.{told}
 use Rattle.df_format.proofs.Texts.{own}
 use Rattle.df_frozen.specs.Plain.{Plain}
-use Rattle.df_value_text.specs.Answer.{Fails, Gives, refusal}
+use Rattle.df_value_text.specs.Answer.{Fails, Gives, IsSyntaxAt, refusal}
 use Rattle.df_value_text.specs.Counting.{AreWithin, FirstOver, IsOver, NeverOver, counts_of}
 use Rattle.df_value_text.specs.Fits.{IsSpelled, IsValue}
+use Rattle.df_value_text.specs.OrderNames.{NameStandsLow, LowInValue}
 use Rattle.df_value_text.specs.ReadValue.{value_within}
 use Rattle.df_value_text.specs.Value.{value_text}
-use Rattle.df_value_text.specs.ValueFault.{FirstBadValue, FirstLowName, FirstTooLarge, IsTooLargeAt, IsWithinBefore, NamesTooLarge, NamesValueFault, NoLowBefore, up_to}
+use Rattle.df_value_text.specs.ValueFault.{FirstBadValue, FirstLowName, FirstTooLarge, IsTooLargeAt, IsWithinBefore, NamesTooLarge, NamesValueFault, NoLowBefore, TellsSyntaxAt, up_to}
 use Rattle.df_value_text.specs.declared.refused.Fault.{Fault}
 use Rattle.df_value_text.specs.declared.refused.Fault.TheVariants as fault
 use Rattle.df_value_text.specs.declared.refused.TextRefused.{TextRefused}
@@ -22,7 +24,7 @@ use Rattle.df_value_text.proofs.CountingEnds.{front_whole, goes_on, not_both, ov
 use Rattle.df_value_text.proofs.CountingFronts.{never_over}
 use Rattle.df_value_text.proofs.HigherLaws.{name_whole}
 use Rattle.df_value_text.proofs.NameLaws.{IsName}
-use Rattle.df_value_text.proofs.ValueAnswers.{Enough, first_bad_value, first_low_value}
+use Rattle.df_value_text.proofs.ValueAnswers.{Enough, first_bad_value, first_low_value, no_low_name, stops_low}
 use Rattle.df_value_text.proofs.ValueLaws.{value_format}
 
 -- ---- fronts
@@ -119,25 +121,52 @@ bad_longer text (c ∷ here) behind lt bad = record {
       bad.dead c here refl (subst (λ (b : ℕ). CanGoOn value_text IsSpelled (bad.front ++ b ∷ [])) first on);
 }
 
+-- a name that begins here ends in front of what stands behind
+name_inside : (here behind name tail : List ℕ) → (behind ≡ []) ⊎ (32 ≤ length here) → IsName name → here ++ behind ≡ name ++ tail → length behind ≤ length tail
+name_inside here behind name tail room fits e = shorter room (name_whole name fits).1 (sym (length-append here behind) ∙ ap (λ (u : List ℕ). length u) e ∙ length-append name tail)
+  where
+    shorter : (behind ≡ []) ⊎ (32 ≤ length here) → length name ≤ 32 → length here + length behind ≡ length name + length tail → length behind ≤ length tail
+    shorter (inl none) few sizes = omega (arith, ap (λ (u : List ℕ). length u) none)
+    shorter (inr many) few sizes = omega (arith, many, few, sizes)
+
+record Inside (here behind name tail : List ℕ) : Type 0 where
+  pub more : List ℕ
+  pub parts : here ≡ name ++ more
+  pub is : tail ≡ more ++ behind
+
+inside_of : (here behind name tail : List ℕ) → length behind ≤ length tail → here ++ behind ≡ name ++ tail → Inside here behind name tail
+inside_of here behind name tail short e =
+    let on = goes_on name tail here behind (sym e) short in
+    record { more = on.0; parts = on.1; is = append_cancel_left name tail (on.0 ++ behind) (sym e ∙ ap (λ (u : List ℕ). u ++ behind) on.1 ∙ append_assoc name on.0 behind) }
+
 -- the longest name stays so, where more bytes stand here than a name has
 longest_longer : (here name more behind : List ℕ) → (behind ≡ []) ⊎ (32 ≤ length here) → IsLongest own IsName here name more → IsLongest own IsName (here ++ behind) name (more ++ behind)
 longest_longer here name more behind room l = record {
   parts = longer_parts here name more behind l.parts;
   fits = l.fits;
   longest = λ other tail fits e.
-      let few : length other ≤ 32 = (name_whole other fits).1 in
-      let sizes : length here + length behind ≡ length other + length tail = sym (length-append here behind) ∙ ap (λ (u : List ℕ). length u) e ∙ length-append other tail in
-      let short : length behind ≤ length tail = shorter here behind other tail room few sizes in
-      let on = goes_on other tail here behind (sym e) short in
-      let left : other ++ tail ≡ other ++ (on.0 ++ behind) = sym e ∙ ap (λ (u : List ℕ). u ++ behind) on.1 ∙ append_assoc other on.0 behind in
-      let is : tail ≡ on.0 ++ behind = append_cancel_left other tail (on.0 ++ behind) left in
-      let le : length more ≤ length on.0 = l.longest other on.0 fits on.1 in
-      subst (λ (u : List ℕ). length (more ++ behind) ≤ length u) (sym is) (omega (arith, le, length-append more behind, length-append on.0 behind));
+      let i = inside_of here behind other tail (name_inside here behind other tail room fits e) e in
+      let le : length more ≤ length i.more = l.longest other i.more fits i.parts in
+      subst (λ (u : List ℕ). length (more ++ behind) ≤ length u) (sym i.is) (omega (arith, le, length-append more behind, length-append i.more behind));
 }
-  where
-    shorter : (here behind other tail : List ℕ) → (behind ≡ []) ⊎ (32 ≤ length here) → length other ≤ 32 → length here + length behind ≡ length other + length tail → length behind ≤ length tail
-    shorter here behind other tail (inl none) few sizes = omega (arith, ap (λ (u : List ℕ). length u) none)
-    shorter here behind other tail (inr many) few sizes = omega (arith, many, few, sizes)
+
+-- and so it is without what stands behind
+low_shorter : (prev here behind : List ℕ) → (behind ≡ []) ⊎ (32 ≤ length here) → NameStandsLow prev (here ++ behind) → NameStandsLow prev here
+low_shorter prev here behind room low =
+    let l = low.longest in
+    let i = inside_of here behind low.name low.more (name_inside here behind low.name low.more room l.fits l.parts) l.parts in
+    record {
+      name = low.name;
+      more = i.more;
+      longest = record {
+        parts = i.parts;
+        fits = l.fits;
+        longest = λ other tail fits e.
+            let le : length low.more ≤ length (tail ++ behind) = l.longest other (tail ++ behind) fits (longer_parts here other tail behind e) in
+            omega (arith, le, length-append tail behind, length-append i.more behind, ap (λ (u : List ℕ). length u) i.is);
+      };
+      low = low.low;
+    }
 
 -- a low name stays low
 low_longer : (text here behind : List ℕ) → (behind ≡ []) ⊎ (32 ≤ length here) → FirstLowName text here → FirstLowName (text ++ behind) (here ++ behind)
@@ -148,9 +177,12 @@ low_longer text here behind room low =
       parts = longer_parts text low.front here behind low.parts;
       viable = low.viable;
       low = record {
-        before = low.low.before;
-        prev = low.low.prev;
-        named = low.low.named;
+        opened = low.low.opened;
+        are = low.low.are;
+        es = low.low.es;
+        last = low.low.last;
+        other = low.low.other;
+        may = low.low.may;
         is = low.low.is;
         low = record { name = stands.name; more = stands.more ++ behind; longest = longest_longer here stands.name stands.more behind room stands.longest; low = stands.low };
       };
@@ -270,6 +302,70 @@ module _ (text : List ℕ) (at over end : ℕ) (c : IsCut text at over end) wher
             rw k (tt, large_by low.front place (omega (arith, below, cut_length)) lt low.parts low.viable)
       ]
 
+  -- a low name in front of which no count is passed is one in the cut
+  record LowInCut (rest : List ℕ) : Type 0 where
+    pub more : List ℕ
+    pub is : rest ≡ more ++ drop end text
+    pub long : length (drop over text) ≤ length rest
+    pub low : LowInValue (drop at cut) more
+
+  low_in_cut : (rest : List ℕ) → LowInValue (drop at text) rest → IsWithinBefore (drop at text) rest → LowInCut rest
+  low_in_cut rest low within =
+      elim (told (nat_lt (length rest) (length (drop over text)))) [
+        | inl h ↦ absurd (over_behind (drop at text) (drop over text) rest low.0 c.first (grind (arith, nat_tests)) low.1 (within low.0 low.1))
+        | inr h ↦
+            let long : length (drop over text) ≤ length rest = grind (arith, nat_tests) in
+            let short : length (drop end text) ≤ length rest = omega (arith, long, c.before, length-drop end text, length-drop over text) in
+            let parts : drop at cut ++ drop end text ≡ low.0 ++ rest = whole at (omega (arith, c.start, c.before)) ∙ low.1 in
+            let i = inside_of (drop at cut) (drop end text) low.0 rest short parts in
+            let size : length rest ≡ length i.more + length (drop end text) = ap (λ (u : List ℕ). length u) i.is ∙ length-append i.more (drop end text) in
+            record {
+              more = i.more;
+              is = i.is;
+              long = long;
+              low = (
+                low.0,
+                i.parts,
+                record {
+                  opened = low.2.opened;
+                  are = low.2.are;
+                  es = low.2.es;
+                  last = low.2.last;
+                  other = low.2.other;
+                  may = low.2.may;
+                  is = low.2.is;
+                  low = low_shorter low.2.last.0 i.more (drop end text) (more_room i.more (omega (arith, size, long, c.before, c.within, length-drop end text, length-drop over text))) (subst (NameStandsLow low.2.last.0) i.is low.2.low);
+                },
+              );
+            }
+      ]
+    where
+      more_room : (more : List ℕ) → end ≤ over + length more → (drop end text ≡ []) ⊎ (32 ≤ length more)
+      more_room more le = elim c.room [
+        | inl h ↦ inl (drop_all end text (omega (arith, h)))
+        | inr h ↦ inr (omega (arith, h, le))
+      ]
+
+  -- where such a name stands, a fault in the cut is told as its place
+  pub order_cut : (e : Fault) → Enough cut at (λ n. Fails cut e (value_within n (drop at cut))) → (rest : List ℕ) → LowInValue (drop at text) rest → IsWithinBefore (drop at text) rest → TellsSyntaxAt text rest (up_to over e)
+  order_cut fault.NoMemory h rest low within = tt
+  order_cut (fault.Bad place) h rest low within =
+      let l = low_in_cut rest low within in
+      absurd (let no : Bad (drop place cut) ≡ Low l.more = stops_low cut at (Bad (drop place cut)) (λ n lt. (h n lt).1) l.more l.low in cc)
+  order_cut (fault.Low place) h rest low within =
+      let below = (h (suc (length cut)) (omega arith)).0 in
+      let l = low_in_cut rest low within in
+      let stop : Low (drop place cut) ≡ Low l.more = stops_low cut at (Low (drop place cut)) (λ n lt. (h n lt).1) l.more l.low in
+      let same : drop place cut ≡ l.more = cc in
+      let size : length rest ≡ length (drop place cut) + length (drop end text) = ap (λ (u : List ℕ). length u) (l.is ∙ ap (λ (u : List ℕ). u ++ drop end text) (sym same)) ∙ length-append (drop place cut) (drop end text) in
+      let le : place ≤ over = omega (arith, below, size, l.long, c.before, c.within, cut_length, length-drop place cut, length-drop end text, length-drop over text) in
+      let first : nat_le place over ≡ true = grind (arith, nat_tests) in
+      rw first (sym (whole place (omega (arith, le, c.before))) ∙ ap (λ (u : List ℕ). u ++ drop end text) same ∙ sym l.is)
+
+  -- a value isn't read where one stands
+  pub no_low_cut : (p : Plain) (stop : ℕ) → Enough cut at (λ n. (stop ≤ length cut) × (value_within n (drop at cut) ≡ Ok (p, drop stop cut))) → (rest : List ℕ) → LowInValue (drop at text) rest → IsWithinBefore (drop at text) rest → ⊥
+  no_low_cut p stop h rest low within = let l = low_in_cut rest low within in no_low_name cut at (p, drop stop cut) (λ n lt. (h n lt).1) l.more l.low
+
 -- ---- all answers
 
 -- where no count is passed, a fault is told as it stands
@@ -277,6 +373,17 @@ pub fault_within : (text : List ℕ) (at : ℕ) (e : Fault) → NeverOver (drop 
 fault_within text at fault.NoMemory never h = (tt, tt)
 fault_within text at (fault.Bad place) never h = (((h (suc (length text)) (omega arith)).0, inl (first_bad_value text at (drop place text) (λ n lt. (h n lt).1)), λ front e. never front (drop place text) e), tt)
 fault_within text at (fault.Low place) never h = (((h (suc (length text)) (omega arith)).0, inr (first_low_value text at (drop place text) (λ n lt. (h n lt).1)), λ front e. never front (drop place text) e), tt)
+
+-- and a low name is told
+pub order_within : (text : List ℕ) (at : ℕ) (e : Fault) → Enough text at (λ n. Fails text e (value_within n (drop at text))) → (rest : List ℕ) → LowInValue (drop at text) rest → TellsSyntaxAt text rest (refusal e)
+order_within text at fault.NoMemory h rest low = tt
+order_within text at (fault.Bad place) h rest low = absurd (let no : Bad (drop place text) ≡ Low rest = stops_low text at (Bad (drop place text)) (λ n lt. (h n lt).1) rest low in cc)
+order_within text at (fault.Low place) h rest low = let same : Low (drop place text) ≡ Low rest = stops_low text at (Low (drop place text)) (λ n lt. (h n lt).1) rest low in cc
+
+pub syntax_told : (X : Type 0) (text rest : List ℕ) (e : TextRefused) → TellsSyntaxAt text rest e → IsSyntaxAt {X = X} text rest (Err e)
+syntax_told X text rest refused.NoMemory h = tt
+syntax_told X text rest (refused.Syntax place) h = h
+syntax_told X text rest (refused.TooLarge place) h = h
 
 -- a byte over stands in no value that may be frozen
 pub no_value : (text rest : List ℕ) → FirstOver text rest → (p : Plain) (behind : List ℕ) → Stands value_text IsValue text p behind → ⊥
@@ -326,3 +433,11 @@ value_answer view text at over end c (Err f) e h = absurd cc
 pub fault_answer : {X : Type 0} (view : X → Plain) (text : List ℕ) (at over end : ℕ) → IsCut text at over end → (read : Result (X × ℕ) Fault) (f : Fault) → result_err read ≡ Some f → Enough (take end text) at (λ n. Gives view (take end text) read (value_within n (drop at (take end text)))) → NamesValueFault text at (up_to over f) × NamesTooLarge text at (up_to over f)
 fault_answer view text at over end c (Ok x) f e h = absurd cc
 fault_answer view text at over end c (Err g) f e h = let same : g ≡ f = cc in subst (λ (f : Fault). NamesValueFault text at (up_to over f) × NamesTooLarge text at (up_to over f)) same (fault_cut text at over end c g h)
+
+pub value_order : {X : Type 0} (view : X → Plain) (text : List ℕ) (at over end : ℕ) → IsCut text at over end → (read : Result (X × ℕ) Fault) → result_err read ≡ None → Enough (take end text) at (λ n. Gives view (take end text) read (value_within n (drop at (take end text)))) → (rest : List ℕ) → LowInValue (drop at text) rest → IsWithinBefore (drop at text) rest → ⊥
+value_order view text at over end c (Ok x) e h rest low within = no_low_cut text at over end c (view x.0) x.1 h rest low within
+value_order view text at over end c (Err f) e h rest low within = absurd cc
+
+pub fault_order : {X : Type 0} (view : X → Plain) (text : List ℕ) (at over end : ℕ) → IsCut text at over end → (read : Result (X × ℕ) Fault) (f : Fault) → result_err read ≡ Some f → Enough (take end text) at (λ n. Gives view (take end text) read (value_within n (drop at (take end text)))) → (rest : List ℕ) → LowInValue (drop at text) rest → IsWithinBefore (drop at text) rest → TellsSyntaxAt text rest (up_to over f)
+fault_order view text at over end c (Ok x) f e h rest low within = absurd cc
+fault_order view text at over end c (Err g) f e h rest low within = let same : g ≡ f = cc in subst (λ (f : Fault). TellsSyntaxAt text rest (up_to over f)) same (order_cut text at over end c g h rest low within)

@@ -16,7 +16,7 @@ use Rattle.df_value_text.proofs.TagLaws.{nowhere, nowhere_is_local, digit_first,
 use Rattle.df_value_text.proofs.TagSetLaws.{numbers_stop, digit_reads, AfterTag, next_again, next_shrinks, tags_apart, follow_tags, tags_format}
 use Rattle.df_value_text.proofs.LabelLaws.{tags_end_at}
 
-same_split : (xs ys m n : List ℕ) → xs ++ m ≡ ys ++ n → length m ≡ length n → (xs ≡ ys) × (m ≡ n)
+pub same_split : (xs ys m n : List ℕ) → xs ++ m ≡ ys ++ n → length m ≡ length n → (xs ≡ ys) × (m ≡ n)
 same_split [] [] m n e l = (refl, e)
 same_split [] (y ∷ ys) m n e l = absurd (omega (arith, ap length e, l, length-append ys n))
 same_split (x ∷ xs) [] m n e l = absurd (omega (arith, ap length e, l, length-append xs m))

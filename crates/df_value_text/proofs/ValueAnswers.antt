@@ -2,20 +2,21 @@
 use Rattle.std.proofs.Common.{◌≡◌, ℕ, suc, ◌+◌, ◌<◌, ◌≤◌, true, false, List, [], ◌∷◌, ◌++◌, length, drop, Ok, Err, refl, sym, ap, subst, ◌∙◌, append_assoc, arith, inl, inr}
 use Rattle.std.specs.Prelude.{pos}
 use Rattle.std.proofs.lemmas.List.{append_cancel_right}
-use Rattle.df_format.specs.Reading.{Bad, Low}
+use Rattle.df_format.specs.Reading.{Stop, Bad, Low}
 use Rattle.df_format.specs.Grammar.{CanGoOn, Stands, FirstBad}
 use Rattle.df_format.specs.Format.{Ends, IsViable}
-use Rattle.df_format.proofs.Laws.{ok_is, not_both, told, viable_map, can_go_on, no_longer}
+use Rattle.df_format.proofs.Laws.{ok_is, err_is, not_both, told, viable_map, can_go_on, no_longer}
 use Rattle.df_frozen.specs.Limits.{IsWithinLimits}
 use Rattle.df_frozen.specs.Plain.{Plain, int, words, bytes, items, entries, node_count}
 use Rattle.df_value_text.specs.Answer.{Fails, refusal, IsFound, IsRead, FirstLow}
 use Rattle.df_value_text.specs.Fits.{IsSpelled, IsValue}
-use Rattle.df_value_text.specs.OrderNames.{IsLowName}
+use Rattle.df_value_text.specs.OrderNames.{IsLowName, LowWithin, LowInValue}
 use Rattle.df_value_text.specs.ReadValue.{value_within}
 use Rattle.df_value_text.specs.Value.{value_text}
 use Rattle.df_value_text.specs.declared.refused.Fault.{Fault}
 use Rattle.df_value_text.specs.declared.refused.Fault.TheVariants as fault
 use Rattle.df_value_text.specs.declared.refused.TextRefused.TheVariants as refused
+use Rattle.df_value_text.proofs.LowLaws.{low_found, low_read}
 use Rattle.df_value_text.proofs.NestLaws.{nests_more, nests_all, LevelFits}
 use Rattle.df_value_text.proofs.TagLaws.{nowhere, nowhere_is_local}
 use Rattle.df_value_text.proofs.ValueLaws.{value_goes, value_format}
@@ -117,8 +118,26 @@ first_bad_value text at rest h =
           not_both (on.some, []) (Bad (c ∷ (on.more ++ []))) (sym good ∙ ap (value_within n) whole ∙ stays);
     }
 
-pub first_low_value : (text : List ℕ) (at : ℕ) (rest : List ℕ) → Enough text at (λ n. value_within n (drop at text) ≡ Err (Low rest)) → FirstLow IsLowName value_text IsSpelled (drop at text) rest
+pub first_low_value : (text : List ℕ) (at : ℕ) (rest : List ℕ) → Enough text at (λ n. value_within n (drop at text) ≡ Err (Low rest)) → FirstLow LowWithin value_text IsSpelled (drop at text) rest
 first_low_value text at rest h =
     let m : ℕ = suc (length text) in
     let s = (value_format m).stuck (drop at text) (Low rest) (h m (omega arith)) in
-    record { front = s.front; parts = s.parts; viable = spelled_on m s.front s.viable; low = s.cause }
+    let l = low_found m (drop at text) rest (h m (omega arith)) in
+    let same : l.0 ≡ s.front = append_cancel_right l.0 s.front rest (sym l.1 ∙ s.parts) in
+    record { front = s.front; parts = s.parts; viable = spelled_on m s.front s.viable; low = subst (λ (u : List ℕ). LowWithin u rest) same l.2 }
+
+-- ---- a low name
+
+-- where a value is read, none stands
+pub no_low_name : (text : List ℕ) (at : ℕ) (x : Plain × List ℕ) → Enough text at (λ n. value_within n (drop at text) ≡ Ok x) → (rest : List ℕ) → LowInValue (drop at text) rest → ⊥
+no_low_name text at x h rest low =
+    let l = low_read (drop at text) rest low in
+    let n : ℕ = suc (length text) + l.0 in
+    not_both x (Low rest) (sym (h n (omega arith)) ∙ l.1 n (omega arith))
+
+-- where reading stops, it does so there
+pub stops_low : (text : List ℕ) (at : ℕ) (stop : Stop ℕ) → Enough text at (λ n. value_within n (drop at text) ≡ Err stop) → (rest : List ℕ) → LowInValue (drop at text) rest → stop ≡ Low rest
+stops_low text at stop h rest low =
+    let l = low_read (drop at text) rest low in
+    let n : ℕ = suc (length text) + l.0 in
+    err_is stop (Low rest) (sym (h n (omega arith)) ∙ l.1 n (omega arith))

@@ -195,7 +195,7 @@ whole_apart (negsuc n) c (inl h) = grind (arith, nat_tests)
 whole_apart (negsuc n) c (inr (inl h)) = grind (arith, nat_tests)
 whole_apart (negsuc n) c (inr (inr h)) = grind (arith, nat_tests)
 
-value_apart : (p : Plain) (c : ℕ) → (c ≡ 44) ⊎ ((c ≡ 93) ⊎ (c ≡ 41)) → value_goes p c ≡ false
+pub value_apart : (p : Plain) (c : ℕ) → (c ≡ 44) ⊎ ((c ≡ 93) ⊎ (c ≡ 41)) → value_goes p c ≡ false
 value_apart (int z) c h = whole_apart z c h
 value_apart (words s) c h = refl
 value_apart (bytes s) c h = refl
@@ -315,10 +315,10 @@ others_begin n p (inr h) = leaf_no 91 (inl refl) p h
 
 -- ---- items with commas between them
 
-abbrev items_parts_of : ℕ → (List ℕ → Read ℕ Plain) → Type 0
+abbrev pub items_parts_of : ℕ → (List ℕ → Read ℕ Plain) → Type 0
 items_parts_of n inner = Parts (λ prev. IsLowName) leads_value 44 value_text (LevelFits n) (λ prev. LevelFits n) value_goes (λ prev. inner)
 
-items_parts : (n : ℕ) (inner : List ℕ → Read ℕ Plain) → Format IsLowName value_text (LevelFits n) value_goes inner → items_parts_of n inner
+pub items_parts : (n : ℕ) (inner : List ℕ → Read ℕ Plain) → Format IsLowName value_text (LevelFits n) value_goes inner → items_parts_of n inner
 items_parts n inner f = record {
   item = λ prev fits. f;
   shrinks = λ prev. format_shrinks IsLowName value_text (LevelFits n) value_goes inner f;

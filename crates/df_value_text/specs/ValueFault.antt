@@ -4,7 +4,7 @@ use Rattle.df_format.specs.Grammar.{CanGoOn, FirstBad}
 use Rattle.df_value_text.specs.Answer.{FirstLow}
 use Rattle.df_value_text.specs.Counting.{AreWithin, FirstOver, counts_of}
 use Rattle.df_value_text.specs.Fits.{IsSpelled}
-use Rattle.df_value_text.specs.OrderNames.{IsLowName}
+use Rattle.df_value_text.specs.OrderNames.{LowWithin}
 use Rattle.df_value_text.specs.Value.{value_text}
 use Rattle.df_value_text.specs.declared.refused.Fault.{Fault}
 use Rattle.df_value_text.specs.declared.refused.Fault.TheVariants as fault
@@ -15,9 +15,9 @@ use Rattle.df_value_text.specs.declared.refused.TextRefused.TheVariants as refus
 abbrev pub FirstBadValue : List ℕ → List ℕ → Type 0
 FirstBadValue bytes rest = FirstBad value_text IsSpelled bytes rest
 
--- at rest stands a name that isn't above the one before it
+-- at rest stands a name that isn't above the one before it in its map
 abbrev pub FirstLowName : List ℕ → List ℕ → Type 0
-FirstLowName bytes rest = FirstLow IsLowName value_text IsSpelled bytes rest
+FirstLowName bytes rest = FirstLow LowWithin value_text IsSpelled bytes rest
 
 -- in front of rest no count of freezing is passed
 abbrev pub IsWithinBefore : List ℕ → List ℕ → Type 0
@@ -56,3 +56,9 @@ IsTooLargeAt bytes rest (Ok read) = ⊥
 IsTooLargeAt bytes rest (Err refused.NoMemory) = ⊤
 IsTooLargeAt bytes rest (Err (refused.Syntax place)) = ⊥
 IsTooLargeAt bytes rest (Err (refused.TooLarge place)) = drop place bytes ≡ rest
+
+-- the refusal is Syntax at the place before these bytes, unless there was no memory
+abbrev pub TellsSyntaxAt : List ℕ → List ℕ → TextRefused → Type 0
+TellsSyntaxAt bytes rest refused.NoMemory = ⊤
+TellsSyntaxAt bytes rest (refused.Syntax place) = drop place bytes ≡ rest
+TellsSyntaxAt bytes rest (refused.TooLarge place) = ⊥

@@ -1,0 +1,513 @@
+-- A value is refused at a low name exactly where the path of what is open leads to it.
+use Rattle.std.proofs.Common.{◌≡◌, ℕ, zero, suc, ◌+◌, ◌≤◌, Bool, true, false, cond, ◌&&◌, eqb, List, [], ◌∷◌, ◌++◌, length, take, drop, Ok, Err, refl, sym, ap, subst, ◌∙◌, append_assoc, length-append, arith, inl, inr}
+use Rattle.std.specs.Prelude.{pos, not, codes}
+use Rattle.std.specs.List.{flat_map}
+use Rattle.std.specs.Ordering.{is_lt}
+use Rattle.std.proofs.lemmas.Bool.{eqb-true, and_parts}
+use Rattle.std.proofs.lemmas.Bool.Decides.{nat_tests}
+use Rattle.df_format.specs.Reading.{Stop, Bad, Low, Read, ◌>>=◌, as_at, either_at, behind_at, closed_at, more_of, items_at, text_at}
+use Rattle.df_format.specs.Grammar.{IsLongest}
+use Rattle.df_format.specs.Format.{Format}
+use Rattle.df_format.proofs.Laws.{ok_is, err_is, not_both, bind_ok, bind_err, told, chosen}
+use Rattle.df_format.proofs.Items.{Follow, Parts, onto, more_step, more_stop}
+use Rattle.df_format.proofs.Texts.{own, text_found, text_format}
+use Rattle.df_frozen.specs.Name.{is_letter, name_cmp}
+use Rattle.df_frozen.specs.Plain.{Plain, Plains, Pairs, int, words, bytes, items, entries, from_list, from_pairs, items_node_count, entries_node_count}
+use Rattle.df_value_text.specs.Fits.{AreSpelled, AreEntries, AreBehind}
+use Rattle.df_value_text.specs.OrderNames.{IsLowName, NameStandsLow, Open, in_list, in_map, values_led, entries_led, open_text, MayFollow, IsOpen, AreOpen, LowInValue}
+use Rattle.df_value_text.specs.ReadBytes.{bytes_at}
+use Rattle.df_value_text.specs.ReadName.{name_bytes, name_at}
+use Rattle.df_value_text.specs.ReadTag.{listed}
+use Rattle.df_value_text.specs.ReadValue.{none_listed, ended_at, leads_value, list_of, list_at, is_greatest, leads_entry, higher_at, given_at, entry_at, next_entry_at, map_of, map_at, leaf_at, node_at, value_within}
+use Rattle.df_value_text.specs.ReadWhole.{whole_at}
+use Rattle.df_value_text.specs.ReadWords.{words_at}
+use Rattle.df_value_text.specs.Value.{value_text, entry_text}
+use Rattle.df_value_text.proofs.BytesLaws.{bytes_format}
+use Rattle.df_value_text.proofs.EndedLaws.{Chain}
+use Rattle.df_value_text.proofs.EntryLaws.{NearEntry, entry_format, entries_parts, name_apart}
+use Rattle.df_value_text.proofs.HigherLaws.{AfterName, higher_format, above_of, above_fits, not_greatest, name_is_longest}
+use Rattle.df_value_text.proofs.NameLaws.{IsName, name_goes, name_format}
+use Rattle.df_value_text.proofs.NestLaws.{ItemsNest, EntriesNest, LevelFits, LevelEntry, LevelAfter, nests_more, nests_all, items_to, entries_to}
+use Rattle.df_value_text.proofs.OrderLaws.{same_split}
+use Rattle.df_value_text.proofs.TagLaws.{nowhere, nowhere_is_local}
+use Rattle.df_value_text.proofs.ValueLaws.{value_apart, value_goes, items_parts, value_format}
+use Rattle.df_value_text.proofs.WholeLaws.{whole_format}
+use Rattle.df_value_text.proofs.WordsLaws.{words_format}
+
+-- ---- items, of which the next stops
+
+-- items, each with a comma behind it
+abbrev led : {X : Type 0} → (X → List ℕ) → List X → List ℕ
+led spell xs = flat_map (λ x. spell x ++ 44 ∷ []) xs
+
+-- a comma leads on from the last of these, and what stands behind it stops so
+abbrev NextStops : {X : Type 0} → (X → ℕ → List ℕ → Bool) → (X → List ℕ → Read ℕ X) → X → List X → List ℕ → Stop ℕ → Type 0
+NextStops leads next x [] inner stop = (leads x 44 inner ≡ true) × (next x inner ≡ Err stop)
+NextStops leads next x (y ∷ ys) inner stop = NextStops leads next y ys inner stop
+
+-- what stands behind these items stops so
+abbrev StopsAt : {X : Type 0} → (X → ℕ → List ℕ → Bool) → (List ℕ → Read ℕ X) → (X → List ℕ → Read ℕ X) → List X → List ℕ → Stop ℕ → Type 0
+StopsAt leads first next [] inner stop = first inner ≡ Err stop
+StopsAt leads first next (x ∷ xs) inner stop = NextStops leads next x xs inner stop
+
+record MoreStops {X : Type 0} (leads : X → ℕ → List ℕ → Bool) (spell : X → List ℕ) (After : X → X → Type 0) (next : X → List ℕ → Read ℕ X) (prev : X) (tokens : List ℕ) (stop : Stop ℕ) : Type 0 where
+  pub xs : List X
+  pub inner : List ℕ
+  pub parts : tokens ≡ 44 ∷ (led spell xs ++ inner)
+  pub follow : Follow After prev xs
+  pub stops : NextStops leads next prev xs inner stop
+
+record ItemsStop {X : Type 0} (leads : X → ℕ → List ℕ → Bool) (spell : X → List ℕ) (Fits : X → Type 0) (After : X → X → Type 0) (first : List ℕ → Read ℕ X) (next : X → List ℕ → Read ℕ X) (tokens : List ℕ) (stop : Stop ℕ) : Type 0 where
+  pub xs : List X
+  pub inner : List ℕ
+  pub parts : tokens ≡ led spell xs ++ inner
+  pub chain : Chain Fits After xs
+  pub stops : StopsAt leads first next xs inner stop
+
+record LastOf {X : Type 0} (leads : X → ℕ → List ℕ → Bool) (Fits : X → Type 0) (After : X → X → Type 0) (next : X → List ℕ → Read ℕ X) (x : X) (xs : List X) (inner : List ℕ) (stop : Stop ℕ) : Type 0 where
+  pub before : List X
+  pub last : X
+  pub is : x ∷ xs ≡ before ++ last ∷ []
+  pub fits : Fits last
+  pub stops : (leads last 44 inner ≡ true) × (next last inner ≡ Err stop)
+  pub after : (y : X) → After last y → Follow After x (xs ++ y ∷ [])
+
+-- one more in front of these
+led_one : {X : Type 0} (spell : X → List ℕ) (x : X) (xs : List X) (inner : List ℕ) → led spell (x ∷ xs) ++ inner ≡ spell x ++ (44 ∷ (led spell xs ++ inner))
+led_one spell x xs inner = append_assoc (spell x ++ 44 ∷ []) (led spell xs) inner ∙ append_assoc (spell x) (44 ∷ []) (led spell xs ++ inner)
+
+module _ {X : Type 0} {Near : X → List ℕ → List ℕ → Type 0} {leads : X → ℕ → List ℕ → Bool} {spell : X → List ℕ} {Fits : X → Type 0} {After : X → X → Type 0} {goes : X → ℕ → Bool} {next : X → List ℕ → Read ℕ X} (p : Parts Near leads 44 spell Fits After goes next) where
+  more_stops : (n : ℕ) (prev : X) (tokens : List ℕ) (stop : Stop ℕ) → Fits prev → length tokens ≤ n → more_of leads next prev tokens ≡ Err stop → MoreStops leads spell After next prev tokens stop
+  more_stops n prev [] stop fits le e = not_both ([], []) stop e
+  more_stops zero prev (t ∷ ts) stop fits le e = absurd (omega (arith, le))
+  more_stops (suc n) prev (t ∷ ts) stop fits le e =
+      elim (told (leads prev t ts)) [
+        | inr h ↦ not_both ([], t ∷ ts) stop (sym (more_stop leads next prev t ts h) ∙ e)
+        | inl h ↦
+            let same : t ≡ 44 = p.only prev t ts h in
+            elim (bind_err (next prev ts) (λ x. more_of leads next x.0 x.1 >>= onto x.0) stop (sym (more_step leads next p.shrinks prev t ts h) ∙ e)) [
+              | inl k ↦ record { xs = []; inner = ts; parts = ap (λ (v : ℕ). v ∷ ts) same; follow = tt; stops = (ap (λ (v : ℕ). leads prev v ts) (sym same) ∙ h, k) }
+              | inr k ↦ elim (bind_err (more_of leads next k.0.0 k.0.1) (onto k.0.0) stop k.2) [
+                | inr j ↦ not_both (k.0.0 ∷ j.0.0, j.0.1) stop j.2
+                | inl j ↦
+                    let f = (p.item prev fits).found ts k.0.0 k.0.1 k.1 in
+                    let shorter = p.shrinks prev ts k.0.0 k.0.1 k.1 in
+                    let r = more_stops n k.0.0 k.0.1 stop (p.fits prev k.0.0 fits f.fits) (omega (arith, shorter, le)) j in
+                    record {
+                      xs = k.0.0 ∷ r.xs;
+                      inner = r.inner;
+                      parts = ap (λ (v : ℕ). v ∷ ts) same ∙ ap (λ (u : List ℕ). 44 ∷ u) (f.parts ∙ ap (λ (u : List ℕ). spell k.0.0 ++ u) r.parts ∙ sym (led_one spell k.0.0 r.xs r.inner));
+                      follow = (f.fits, r.follow);
+                      stops = r.stops;
+                    }
+              ]
+            ]
+      ]
+
+  items_stop : (IsLow : List ℕ → List ℕ → Type 0) (first : List ℕ → Read ℕ X) → Format IsLow spell Fits goes first → (tokens : List ℕ) (stop : Stop ℕ) → items_at leads first next tokens ≡ Err stop → ItemsStop leads spell Fits After first next tokens stop
+  items_stop IsLow first fx tokens stop e =
+      elim (bind_err (first tokens) (λ x. more_of leads next x.0 x.1 >>= λ xs. Ok ((x.0, xs.0), xs.1)) stop e) [
+        | inl h ↦ record { xs = []; inner = tokens; parts = refl; chain = tt; stops = h }
+        | inr h ↦ elim (bind_err (more_of leads next h.0.0 h.0.1) (λ xs. Ok ((h.0.0, xs.0), xs.1)) stop h.2) [
+          | inr k ↦ not_both ((h.0.0, k.0.0), k.0.1) stop k.2
+          | inl k ↦
+              let f = fx.found tokens h.0.0 h.0.1 h.1 in
+              let r = more_stops (length h.0.1) h.0.0 h.0.1 stop f.fits (omega arith) k in
+              record {
+                xs = h.0.0 ∷ r.xs;
+                inner = r.inner;
+                parts = f.parts ∙ ap (λ (u : List ℕ). spell h.0.0 ++ u) r.parts ∙ sym (led_one spell h.0.0 r.xs r.inner);
+                chain = (f.fits, r.follow);
+                stops = r.stops;
+              }
+        ]
+      ]
+
+  more_stopped : (prev : X) (xs : List X) (inner : List ℕ) (stop : Stop ℕ) → Fits prev → Follow After prev xs → NextStops leads next prev xs inner stop → more_of leads next prev (44 ∷ (led spell xs ++ inner)) ≡ Err stop
+  more_stopped prev [] inner stop fits each s = more_step leads next p.shrinks prev 44 inner s.0 ∙ rw (s.1) refl
+  more_stopped prev (x ∷ xs) inner stop fits each s =
+      let others : List ℕ = 44 ∷ (led spell xs ++ inner) in
+      let fits_x = p.fits prev x fits each.0 in
+      let one : next prev (spell x ++ others) ≡ Ok (x, others) = (p.item prev fits).again x others each.0 (p.at_sep x fits_x) in
+      let more = more_stopped x xs inner stop fits_x each.1 s in
+      ap (λ (u : List ℕ). more_of leads next prev (44 ∷ u)) (led_one spell x xs inner) ∙ more_step leads next p.shrinks prev 44 (spell x ++ others) (p.led prev x others fits each.0) ∙ rw (one, more) refl
+
+  items_stopped : (IsLow : List ℕ → List ℕ → Type 0) (first : List ℕ → Read ℕ X) → Format IsLow spell Fits goes first → (xs : List X) (inner : List ℕ) (stop : Stop ℕ) → Chain Fits After xs → StopsAt leads first next xs inner stop → items_at leads first next (led spell xs ++ inner) ≡ Err stop
+  items_stopped IsLow first fx [] inner stop chain s = rw s refl
+  items_stopped IsLow first fx (x ∷ xs) inner stop chain s =
+      let others : List ℕ = 44 ∷ (led spell xs ++ inner) in
+      let one : first (spell x ++ others) ≡ Ok (x, others) = fx.again x others chain.0 (p.at_sep x chain.0) in
+      let more = more_stopped x xs inner stop chain.0 chain.1 s in
+      ap (items_at leads first next) (led_one spell x xs inner) ∙ rw (one, more) refl
+
+  -- the last of these, behind which what stands stops so
+  last_of : (x : X) (xs : List X) (inner : List ℕ) (stop : Stop ℕ) → Fits x → Follow After x xs → NextStops leads next x xs inner stop → LastOf leads Fits After next x xs inner stop
+  last_of x [] inner stop fits each s = record { before = []; last = x; is = refl; fits = fits; stops = s; after = λ y after. (after, tt) }
+  last_of x (y ∷ ys) inner stop fits each s =
+      let r = last_of y ys inner stop (p.fits x y fits each.0) each.1 s in
+      record { before = x ∷ r.before; last = r.last; is = ap (λ (u : List X). x ∷ u) r.is; fits = r.fits; stops = r.stops; after = λ z after. (each.0, r.after z after) }
+
+  -- what stands behind these stops so, where it does so behind each in front of which one more stands
+  follow_stops : (x : X) (xs : List X) (y : X) (inner : List ℕ) (stop : Stop ℕ) → Fits x → Follow After x (xs ++ y ∷ []) → ((l : X) → Fits l → After l y → (leads l 44 inner ≡ true) × (next l inner ≡ Err stop)) → NextStops leads next x xs inner stop
+  follow_stops x [] y inner stop fits each g = g x fits each.0
+  follow_stops x (z ∷ zs) y inner stop fits each g = follow_stops z zs y inner stop (p.fits x z fits each.0) each.1 g
+
+  last_stops : (x : X) (xs : List X) (last y : X) (inner : List ℕ) (stop : Stop ℕ) → Follow After x ((xs ++ last ∷ []) ++ y ∷ []) → (After last y → (leads last 44 inner ≡ true) × (next last inner ≡ Err stop)) → NextStops leads next x (xs ++ last ∷ []) inner stop
+  last_stops x [] last y inner stop each g = g each.1.0
+  last_stops x (z ∷ zs) last y inner stop each g = last_stops z zs last y inner stop each.1 g
+
+  follow_front : (x : X) (xs ys : List X) → Follow After x (xs ++ ys) → Follow After x xs
+  follow_front x [] ys each = tt
+  follow_front x (z ∷ zs) ys each = (each.0, follow_front z zs ys each.1)
+
+  chain_front : (xs ys : List X) → Chain Fits After (xs ++ ys) → Chain Fits After xs
+  chain_front [] ys chain = tt
+  chain_front (x ∷ xs) ys chain = (chain.0, follow_front x xs ys chain.1)
+
+-- ---- what never stops at a low place
+
+as_stops : {X Y : Type 0} (make : X → Y) (read : List ℕ → Read ℕ X) (tokens : List ℕ) (stop : Stop ℕ) → as_at make read tokens ≡ Err stop → read tokens ≡ Err stop
+as_stops make read tokens stop e =
+    elim (bind_err (read tokens) (λ x. Ok (make x.0, x.1)) stop e) [
+      | inl h ↦ h
+      | inr h ↦ not_both (make h.0.0, h.0.1) stop h.2
+    ]
+
+text_no_low : (ws tokens rest : List ℕ) → text_at ws tokens ≡ Err (Low rest) → ⊥
+text_no_low ws tokens rest e = ((text_format nowhere ws).stuck tokens (Low rest) e).cause
+
+name_no_low : (tokens rest : List ℕ) → name_at tokens ≡ Err (Low rest) → ⊥
+name_no_low tokens rest e = ((name_format nowhere).stuck tokens (Low rest) e).cause
+
+leaf_no_low : (text rest : List ℕ) → leaf_at text ≡ Err (Low rest) → ⊥
+leaf_no_low [] rest e = absurd (let no : Bad [] ≡ Low rest = err_is (Bad []) (Low rest) e in cc)
+leaf_no_low (c ∷ cs) rest e =
+    elim (chosen (eqb c 34) (as_at words words_at (c ∷ cs)) (either_at (λ c. eqb c 120) (as_at bytes bytes_at) (as_at int whole_at) (c ∷ cs)) (Err (Low rest)) e) [
+      | inl h ↦ ((words_format nowhere nowhere_is_local).stuck (c ∷ cs) (Low rest) (as_stops words words_at (c ∷ cs) (Low rest) h.1)).cause
+      | inr h ↦ elim (chosen (eqb c 120) (as_at bytes bytes_at (c ∷ cs)) (as_at int whole_at (c ∷ cs)) (Err (Low rest)) h.1) [
+        | inl k ↦ ((bytes_format nowhere nowhere_is_local).stuck (c ∷ cs) (Low rest) (as_stops bytes bytes_at (c ∷ cs) (Low rest) k.1)).cause
+        | inr k ↦ ((whole_format nowhere nowhere_is_local).stuck (c ∷ cs) (Low rest) (as_stops int whole_at (c ∷ cs) (Low rest) k.1)).cause
+      ]
+    ]
+
+-- in front of a closing byte only the items do so
+ended_low : {X : Type 0} (last : ℕ) (some : List ℕ → Read ℕ (X × List X)) (text rest : List ℕ) → ended_at last some text ≡ Err (Low rest) → some text ≡ Err (Low rest)
+ended_low last some [] rest e = absurd (let no : Bad [] ≡ Low rest = err_is (Bad []) (Low rest) e in cc)
+ended_low {X} last some (c ∷ cs) rest e =
+    elim (chosen (eqb c last) (as_at (none_listed {X = X}) (text_at (last ∷ [])) (c ∷ cs)) (closed_at (last ∷ []) (as_at listed some) (c ∷ cs)) (Err (Low rest)) e) [
+      | inl h ↦ absurd (text_no_low (last ∷ []) (c ∷ cs) rest (as_stops (none_listed {X = X}) (text_at (last ∷ [])) (c ∷ cs) (Low rest) h.1))
+      | inr h ↦ elim (bind_err (as_at listed some (c ∷ cs)) (λ x. text_at (last ∷ []) x.1 >>= λ t. Ok (x.0, t.1)) (Low rest) h.1) [
+        | inl k ↦ as_stops listed some (c ∷ cs) (Low rest) k
+        | inr k ↦ elim (bind_err (text_at (last ∷ []) k.0.1) (λ t. Ok (k.0.0, t.1)) (Low rest) k.2) [
+          | inl j ↦ absurd (text_no_low (last ∷ []) k.0.1 rest j)
+          | inr j ↦ not_both (k.0.0, j.0.1) (Low rest) j.2
+        ]
+      ]
+    ]
+
+record GivenLow (inner : List ℕ → Read ℕ Plain) (text rest : List ℕ) : Type 0 where
+  pub more : List ℕ
+  pub is : text ≡ 61 ∷ more
+  pub low : inner more ≡ Err (Low rest)
+
+given_low : (inner : List ℕ → Read ℕ Plain) (text rest : List ℕ) → given_at inner text ≡ Err (Low rest) → GivenLow inner text rest
+given_low inner text rest e =
+    elim (bind_err (text_at (61 ∷ []) text) (λ h. inner h.1) (Low rest) e) [
+      | inl h ↦ absurd (text_no_low (61 ∷ []) text rest h)
+      | inr h ↦ record { more = h.0.1; is = (text_found (61 ∷ []) text h.0.0 h.0.1 h.1).1; low = h.2 }
+    ]
+
+-- ---- where reading stops at a low name, the path leads to it
+
+low_deeper : (o : Open) → IsOpen o → (text inner rest : List ℕ) → text ≡ open_text o ++ inner → LowInValue inner rest → LowInValue text rest
+low_deeper o is text inner rest e l = (
+  open_text o ++ l.0,
+  e ∙ ap (λ (u : List ℕ). open_text o ++ u) l.1 ∙ sym (append_assoc (open_text o) l.0 rest),
+  record {
+    opened = o ∷ l.2.opened;
+    are = (is, l.2.are);
+    es = l.2.es;
+    last = l.2.last;
+    other = l.2.other;
+    may = l.2.may;
+    is = ap (λ (u : List ℕ). open_text o ++ u) l.2.is ∙ sym (append_assoc (open_text o) (flat_map open_text l.2.opened) (40 ∷ entries_led (l.2.es ++ l.2.last ∷ [])));
+    low = l.2.low;
+  },
+)
+
+entry_parts : (n : ℕ) → Parts NearEntry leads_entry 44 entry_text (LevelEntry n) (LevelAfter n) (λ e. value_goes e.1) (λ prev. next_entry_at (value_within n) prev.0)
+entry_parts n = entries_parts (LevelFits n) value_goes (value_within n) (value_format n) (int (pos 0)) ((omega arith), tt) (λ p c h fits. value_apart p c (elim h [ inl k ↦ inl k | inr k ↦ inr (inr k) ]))
+
+one_entry : (n : ℕ) → Format IsLowName entry_text (LevelEntry n) (λ e. value_goes e.1) (entry_at (value_within n))
+one_entry n = entry_format (LevelFits n) value_goes (value_within n) (value_format n) (int (pos 0)) ((omega arith), tt) (λ p c h fits. value_apart p c (elim h [ inl k ↦ inl k | inr k ↦ inr (inr k) ]))
+
+-- behind these values the next one stops
+values_stop : (inner : List ℕ → Read ℕ Plain) (p : Plain) (ps : List Plain) (more : List ℕ) (stop : Stop ℕ) → NextStops leads_value (λ prev. inner) p ps more stop → inner more ≡ Err stop
+values_stop inner p [] more stop s = s.1
+values_stop inner p (q ∷ ps) more stop s = values_stop inner q ps more stop s
+
+name_parts : (cs before more name behind value : List ℕ) → cs ≡ before ++ more → more ≡ name ++ behind → behind ≡ 61 ∷ value → cs ≡ (before ++ (name ++ 61 ∷ [])) ++ value
+name_parts cs before more name behind value e f g =
+    e ∙ ap (λ (u : List ℕ). before ++ u) (f ∙ ap (λ (u : List ℕ). name ++ u) g ∙ sym (append_assoc name (61 ∷ []) value)) ∙ sym (append_assoc before (name ++ 61 ∷ []) value)
+
+module _ (n : ℕ) (deeper : (text rest : List ℕ) → value_within n text ≡ Err (Low rest) → LowInValue text rest) where
+  list_low : (cs rest : List ℕ) → list_at (value_within n) cs ≡ Err (Low rest) → LowInValue (91 ∷ cs) rest
+  list_low cs rest e =
+      let inside = ended_low 93 (items_at leads_value (value_within n) (λ prev. value_within n)) cs rest (as_stops list_of (ended_at 93 (items_at leads_value (value_within n) (λ prev. value_within n))) cs (Low rest) e) in
+      let s = items_stop (items_parts n (value_within n) (value_format n)) IsLowName (value_within n) (value_format n) cs (Low rest) inside in
+      low_deeper (in_list s.xs) (items_to n s.xs s.chain).0 (91 ∷ cs) s.inner rest (ap (λ (u : List ℕ). 91 ∷ u) s.parts) (deeper s.inner rest (stopped s.xs s.inner s.stops))
+    where
+      stopped : (ps : List Plain) (more : List ℕ) → StopsAt leads_value (value_within n) (λ prev. value_within n) ps more (Low rest) → value_within n more ≡ Err (Low rest)
+      stopped [] more s = s
+      stopped (p ∷ ps) more s = values_stop (value_within n) p ps more (Low rest) s
+
+  value_low : (es : List (List ℕ × Plain)) (name behind more cs rest : List ℕ) → MayFollow es name → cs ≡ entries_led es ++ more → more ≡ name ++ behind → given_at (value_within n) behind ≡ Err (Low rest) → LowInValue (40 ∷ cs) rest
+  value_low es name behind more cs rest may parts is e =
+      let g = given_low (value_within n) behind rest e in
+      low_deeper (in_map es name) may (40 ∷ cs) g.more rest (ap (λ (u : List ℕ). 40 ∷ u) (name_parts cs (entries_led es) more name behind g.more parts is g.is)) (deeper g.more rest g.low)
+
+  entry_low : (more cs rest : List ℕ) → cs ≡ more → entry_at (value_within n) more ≡ Err (Low rest) → LowInValue (40 ∷ cs) rest
+  entry_low more cs rest parts e =
+      elim (bind_err (name_at more) (λ x. given_at (value_within n) x.1 >>= λ y. Ok ((x.0, y.0), y.1)) (Low rest) e) [
+        | inl h ↦ absurd (name_no_low more rest h)
+        | inr h ↦ elim (bind_err (given_at (value_within n) h.0.1) (λ y. Ok ((h.0.0, y.0), y.1)) (Low rest) h.2) [
+          | inr k ↦ not_both ((h.0.0, k.0.0), k.0.1) (Low rest) k.2
+          | inl k ↦
+              let f = (name_format nowhere).found more h.0.0 h.0.1 h.1 in
+              value_low [] h.0.0 h.0.1 more cs rest (int (pos 0), (f.fits, omega arith, tt)) parts f.parts k
+        ]
+      ]
+
+  next_low : (e : List ℕ × Plain) (es : List (List ℕ × Plain)) (more cs rest : List ℕ) → cs ≡ entries_led (e ∷ es) ++ more → LevelEntry n e → LastOf leads_entry (LevelEntry n) (LevelAfter n) (λ prev. next_entry_at (value_within n) prev.0) e es more (Low rest) → LowInValue (40 ∷ cs) rest
+  next_low e es more cs rest parts fits l =
+      elim (bind_err (higher_at l.last.0 more) (λ x. given_at (value_within n) x.1 >>= λ y. Ok ((x.0, y.0), y.1)) (Low rest) l.stops.1) [
+        | inl h ↦
+            let s = (higher_format l.last.0).stuck more (Low rest) h in
+            let same : more ≡ rest = s.parts ∙ ap (λ (u : List ℕ). u ++ rest) s.cause.0 in
+            let room : is_greatest l.last.0 ≡ false = not_true (is_greatest l.last.0) (and_parts true (not (is_greatest l.last.0)) l.stops.0).1 in (
+              40 ∷ entries_led (e ∷ es),
+              ap (λ (u : List ℕ). 40 ∷ u) (parts ∙ ap (λ (u : List ℕ). entries_led (e ∷ es) ++ u) same),
+              record {
+                opened = [];
+                are = tt;
+                es = l.before;
+                last = l.last;
+                other = above_of l.last.0;
+                may = subst (λ (u : List (List ℕ × Plain)). MayFollow u (above_of l.last.0)) l.is (may (above_of l.last.0) (above_fits l.last.0 l.fits.0 room));
+                is = ap (λ (u : List (List ℕ × Plain)). 40 ∷ entries_led u) l.is;
+                low = s.cause.1;
+              },
+            )
+        | inr h ↦ elim (bind_err (given_at (value_within n) h.0.1) (λ y. Ok ((h.0.0, y.0), y.1)) (Low rest) h.2) [
+          | inr k ↦ not_both ((h.0.0, k.0.0), k.0.1) (Low rest) k.2
+          | inl k ↦
+              let f = (higher_format l.last.0).found more h.0.0 h.0.1 h.1 in
+              value_low (e ∷ es) h.0.0 h.0.1 more cs rest (may h.0.0 f.fits) parts f.parts k
+        ]
+      ]
+    where
+      not_true : (b : Bool) → not b ≡ true → b ≡ false
+      not_true false h = refl
+      not_true true h = absurd cc
+
+      may : (name : List ℕ) → AfterName l.last.0 name → MayFollow (e ∷ es) name
+      may name after = (int (pos 0), (entries_to n ((e ∷ es) ++ (name, int (pos 0)) ∷ []) (fits, l.after (name, int (pos 0)) (after, ((omega arith), tt)))).0)
+
+  map_low : (cs rest : List ℕ) → map_at (value_within n) cs ≡ Err (Low rest) → LowInValue (40 ∷ cs) rest
+  map_low cs rest e =
+      let inside = ended_low 41 (items_at leads_entry (entry_at (value_within n)) (λ prev. next_entry_at (value_within n) prev.0)) cs rest (as_stops map_of (ended_at 41 (items_at leads_entry (entry_at (value_within n)) (λ prev. next_entry_at (value_within n) prev.0))) cs (Low rest) e) in
+      let s = items_stop (entry_parts n) IsLowName (entry_at (value_within n)) (one_entry n) cs (Low rest) inside in
+      by s.xs s.inner s.parts s.chain s.stops
+    where
+      by : (es : List (List ℕ × Plain)) (more : List ℕ) → cs ≡ entries_led es ++ more → Chain (LevelEntry n) (LevelAfter n) es → StopsAt leads_entry (entry_at (value_within n)) (λ prev. next_entry_at (value_within n) prev.0) es more (Low rest) → LowInValue (40 ∷ cs) rest
+      by [] more parts chain s = entry_low more cs rest parts s
+      by (e ∷ es) more parts chain s = next_low e es more cs rest parts chain.0 (last_of (entry_parts n) e es more (Low rest) chain.0 chain.1 s)
+
+  node_low : (text rest : List ℕ) → node_at (value_within n) text ≡ Err (Low rest) → LowInValue text rest
+  node_low [] rest e = absurd (let no : Bad [] ≡ Low rest = err_is (Bad []) (Low rest) e in cc)
+  node_low (c ∷ cs) rest e =
+      elim (chosen (eqb c 91) (behind_at (91 ∷ []) (list_at (value_within n)) (c ∷ cs)) (either_at (λ c. eqb c 40) (behind_at (40 ∷ []) (map_at (value_within n))) leaf_at (c ∷ cs)) (Err (Low rest)) e) [
+        | inl h ↦
+            let same : c ≡ 91 = eqb-true c 91 h.0 in
+            let inside : list_at (value_within n) cs ≡ Err (Low rest) = ap (λ (b : ℕ). behind_at (91 ∷ []) (list_at (value_within n)) (b ∷ cs)) (sym same) ∙ h.1 in
+            subst (λ (b : ℕ). LowInValue (b ∷ cs) rest) (sym same) (list_low cs rest inside)
+        | inr h ↦ elim (chosen (eqb c 40) (behind_at (40 ∷ []) (map_at (value_within n)) (c ∷ cs)) (leaf_at (c ∷ cs)) (Err (Low rest)) h.1) [
+          | inl k ↦
+              let same : c ≡ 40 = eqb-true c 40 k.0 in
+              let inside : map_at (value_within n) cs ≡ Err (Low rest) = ap (λ (b : ℕ). behind_at (40 ∷ []) (map_at (value_within n)) (b ∷ cs)) (sym same) ∙ k.1 in
+              subst (λ (b : ℕ). LowInValue (b ∷ cs) rest) (sym same) (map_low cs rest inside)
+          | inr k ↦ absurd (leaf_no_low (c ∷ cs) rest k.1)
+        ]
+      ]
+
+pub low_found : (n : ℕ) (text rest : List ℕ) → value_within n text ≡ Err (Low rest) → LowInValue text rest
+unfolding value_within
+low_found zero text rest e = absurd (leaf_no_low text rest e)
+low_found (suc n) text rest e = node_low n (low_found n) text rest e
+
+-- ---- where the path leads to a low name, reading stops there
+
+list_follow : (n : ℕ) (prev : Plain) (ps : List Plain) → AreSpelled (from_list ps) → ItemsNest (from_list ps) n → Follow (λ prev. LevelFits n) prev ps
+list_follow n prev [] h k = tt
+list_follow n prev (p ∷ ps) h k = ((h.0, k.0), list_follow n p ps h.1 k.1)
+
+list_chain : (n : ℕ) (ps : List Plain) → AreSpelled (from_list ps) → ItemsNest (from_list ps) n → Chain (LevelFits n) (λ prev. LevelFits n) ps
+list_chain n [] h k = tt
+list_chain n (p ∷ ps) h k = ((h.0, k.0), list_follow n p ps h.1 k.1)
+
+behind_follow : (n : ℕ) (prev : List ℕ × Plain) (es : List (List ℕ × Plain)) → AreBehind prev.0 (from_pairs es) → EntriesNest (from_pairs es) n → Follow (LevelAfter n) prev es
+behind_follow n prev [] h k = tt
+behind_follow n prev (e ∷ es) h k = (((h.0, ap is_lt h.1), (h.2, k.0)), behind_follow n e es h.3 k.1)
+
+entries_chain : (n : ℕ) (es : List (List ℕ × Plain)) → AreEntries (from_pairs es) → EntriesNest (from_pairs es) n → Chain (LevelEntry n) (LevelAfter n) es
+entries_chain n [] h k = tt
+entries_chain n (e ∷ es) h k = ((h.0, (h.1, k.0)), behind_follow n e es h.2 k.1)
+
+-- from some number of levels on, reading stops at a low name here
+abbrev pub Eventually : List ℕ → List ℕ → Type 0
+Eventually text rest = (k : ℕ) × ((n : ℕ) → k ≤ n → value_within n text ≡ Err (Low rest))
+
+within_list : (n : ℕ) (text : List ℕ) (stop : Stop ℕ) → list_at (value_within n) text ≡ Err stop → value_within (suc n) (91 ∷ text) ≡ Err stop
+unfolding value_within
+within_list n text stop e = e
+
+within_map : (n : ℕ) (text : List ℕ) (stop : Stop ℕ) → map_at (value_within n) text ≡ Err stop → value_within (suc n) (40 ∷ text) ≡ Err stop
+unfolding value_within
+within_map n text stop e = e
+
+within_nothing : (n : ℕ) → value_within n [] ≡ Err (Bad [])
+unfolding value_within
+within_nothing zero = refl
+within_nothing (suc n) = refl
+
+within_bracket : (n : ℕ) (cs : List ℕ) → value_within n (93 ∷ cs) ≡ Err (Bad (93 ∷ cs))
+unfolding value_within
+within_bracket zero cs = refl
+within_bracket (suc n) cs = refl
+
+ended_stops : {X : Type 0} (last : ℕ) (some : List ℕ → Read ℕ (X × List X)) (text rest : List ℕ) → some [] ≡ Err (Bad []) → ((cs : List ℕ) → some (last ∷ cs) ≡ Err (Bad (last ∷ cs))) → some text ≡ Err (Low rest) → ended_at last some text ≡ Err (Low rest)
+ended_stops last some [] rest none bad e = absurd (let no : Bad [] ≡ Low rest = err_is (Bad []) (Low rest) (sym none ∙ e) in cc)
+ended_stops last some (c ∷ cs) rest none bad e =
+    elim (told (eqb c last)) [
+      | inl h ↦
+          let same : c ≡ last = eqb-true c last h in
+          let one : some (c ∷ cs) ≡ Err (Bad (last ∷ cs)) = ap (λ (b : ℕ). some (b ∷ cs)) same ∙ bad cs in
+          absurd (let no : Bad (last ∷ cs) ≡ Low rest = err_is (Bad (last ∷ cs)) (Low rest) (sym one ∙ e) in cc)
+      | inr h ↦ rw (h, e) refl
+    ]
+
+-- a name that stands somewhere is read to its longest
+name_ok : (name more : List ℕ) (r : Read ℕ (List ℕ)) → IsName name → name_at (name ++ more) ≡ r → (x : List ℕ × List ℕ) × (r ≡ Ok x)
+name_ok name more (Ok x) fits e = (x, refl)
+name_ok [] more (Err s) fits e = absurd (let no : false ≡ true = fits in cc)
+name_ok (c ∷ cs) more (Err s) fits e =
+    let letter : is_letter c ≡ true = grind (arith, fits) in
+    elim (chosen (is_letter c) (Ok (c ∷ take (name_bytes 31 (cs ++ more)) (cs ++ more), drop (name_bytes 31 (cs ++ more)) (cs ++ more))) (Err (Bad (c ∷ (cs ++ more)))) (Err s) e) [
+      | inl h ↦ not_both (c ∷ take (name_bytes 31 (cs ++ more)) (cs ++ more), drop (name_bytes 31 (cs ++ more)) (cs ++ more)) s h.1
+      | inr h ↦ absurd (let both : true ≡ false = sym letter ∙ h.0 in cc)
+    ]
+
+name_reads : (rest name more : List ℕ) → IsLongest own IsName rest name more → name_at rest ≡ Ok (name, more)
+name_reads rest name more l =
+    let r = name_ok name more (name_at (name ++ more)) l.fits refl in
+    let read : name_at rest ≡ Ok r.0 = ap name_at l.parts ∙ r.1 in
+    let k = name_is_longest rest r.0.0 r.0.1 read in
+    let equal : length r.0.1 ≡ length more = omega (arith, k.longest name more l.fits l.parts, l.longest r.0.0 r.0.1 k.fits k.parts) in
+    let parts = same_split r.0.0 name r.0.1 more (sym k.parts ∙ l.parts) equal in
+    read ∙ ap (λ (u : List ℕ). Ok (u, r.0.1)) parts.0 ∙ ap (λ (u : List ℕ). Ok (name, u)) parts.1
+
+-- behind a comma an entry of a name above stops where its value does, and a low name at once
+leads_on : (last : List ℕ × Plain) (name inner : List ℕ) → AfterName last.0 name → leads_entry last 44 inner ≡ true
+leads_on last name inner after = rw (not_greatest last.0 name after) refl
+
+entry_stops : (read : List ℕ → Read ℕ Plain) (name text : List ℕ) (stop : Stop ℕ) → IsName name → read text ≡ Err stop → entry_at read (name ++ (61 ∷ text)) ≡ Err stop
+entry_stops read name text stop fits e = rw ((name_format nowhere).again name (61 ∷ text) fits (name_apart name), e) refl
+
+next_stops : (read : List ℕ → Read ℕ Plain) (prev name text : List ℕ) (stop : Stop ℕ) → AfterName prev name → read text ≡ Err stop → next_entry_at read prev (name ++ (61 ∷ text)) ≡ Err stop
+next_stops read prev name text stop after e = rw ((higher_format prev).again name (61 ∷ text) after (name_apart name), e) refl
+
+low_stops : (read : List ℕ → Read ℕ Plain) (prev rest : List ℕ) → NameStandsLow prev rest → next_entry_at read prev rest ≡ Err (Low rest)
+low_stops read prev rest s = rw (name_reads rest s.name s.more s.longest, s.low) refl
+
+module _ (n : ℕ) where
+  list_stops : (ps : List Plain) (text rest : List ℕ) → AreSpelled (from_list ps) → ItemsNest (from_list ps) n → value_within n text ≡ Err (Low rest) → value_within (suc n) (open_text (in_list ps) ++ text) ≡ Err (Low rest)
+  list_stops ps text rest fits nest e =
+      let inside : items_at leads_value (value_within n) (λ prev. value_within n) (values_led ps ++ text) ≡ Err (Low rest) = items_stopped (items_parts n (value_within n) (value_format n)) IsLowName (value_within n) (value_format n) ps text (Low rest) (list_chain n ps fits nest) (stops ps) in
+      let ended = ended_stops 93 (items_at leads_value (value_within n) (λ prev. value_within n)) (values_led ps ++ text) rest (rw (within_nothing n) refl) (λ cs. rw (within_bracket n cs) refl) inside in
+      within_list n (values_led ps ++ text) (Low rest) (rw ended refl)
+    where
+      stops_next : (p : Plain) (ps : List Plain) → NextStops leads_value (λ prev. value_within n) p ps text (Low rest)
+      stops_next p [] = (refl, e)
+      stops_next p (q ∷ ps) = stops_next q ps
+
+      stops : (ps : List Plain) → StopsAt leads_value (value_within n) (λ prev. value_within n) ps text (Low rest)
+      stops [] = e
+      stops (p ∷ ps) = stops_next p ps
+
+  map_stops : (es : List (List ℕ × Plain)) (text rest : List ℕ) → Chain (LevelEntry n) (LevelAfter n) es → StopsAt leads_entry (entry_at (value_within n)) (λ prev. next_entry_at (value_within n) prev.0) es text (Low rest) → value_within (suc n) (40 ∷ (entries_led es ++ text)) ≡ Err (Low rest)
+  map_stops es text rest chain s =
+      let some : List ℕ → Read ℕ ((List ℕ × Plain) × List (List ℕ × Plain)) = items_at leads_entry (entry_at (value_within n)) (λ prev. next_entry_at (value_within n) prev.0) in
+      let inside : some (entries_led es ++ text) ≡ Err (Low rest) = items_stopped (entry_parts n) IsLowName (entry_at (value_within n)) (one_entry n) es text (Low rest) chain s in
+      let ended = ended_stops 41 some (entries_led es ++ text) rest refl (λ cs. refl) inside in
+      within_map n (entries_led es ++ text) (Low rest) (rw ended refl)
+
+  name_stops : (es : List (List ℕ × Plain)) (name : List ℕ) (value : Plain) (text rest : List ℕ) → Chain (LevelEntry n) (LevelAfter n) (es ++ (name, value) ∷ []) → value_within n text ≡ Err (Low rest) → StopsAt leads_entry (entry_at (value_within n)) (λ prev. next_entry_at (value_within n) prev.0) es (name ++ (61 ∷ text)) (Low rest)
+  name_stops [] name value text rest chain e = entry_stops (value_within n) name text (Low rest) chain.0.0 e
+  name_stops (d ∷ es) name value text rest chain e =
+      follow_stops (entry_parts n) d es (name, value) (name ++ (61 ∷ text)) (Low rest) chain.0 chain.1
+      (λ last fits after. (leads_on last name (name ++ (61 ∷ text)) after.0, next_stops (value_within n) last.0 name text (Low rest) after.0 e))
+
+  low_name_stops : (es : List (List ℕ × Plain)) (last : List ℕ × Plain) (other : List ℕ) (value : Plain) (rest : List ℕ) → Chain (LevelEntry n) (LevelAfter n) ((es ++ last ∷ []) ++ (other, value) ∷ []) → NameStandsLow last.0 rest → StopsAt leads_entry (entry_at (value_within n)) (λ prev. next_entry_at (value_within n) prev.0) (es ++ last ∷ []) rest (Low rest)
+  low_name_stops [] last other value rest chain low = (leads_on last other rest chain.1.0.0, low_stops (value_within n) last.0 rest low)
+  low_name_stops (d ∷ es) last other value rest chain low =
+      last_stops (entry_parts n) d es last (other, value) rest (Low rest) chain.1
+      (λ after. (leads_on last other rest after.0, low_stops (value_within n) last.0 rest low))
+
+items_level : (ps : Plains) (n : ℕ) → items_node_count ps ≤ n → ItemsNest ps n
+items_level ps n le = nests_more (items ps) (suc (items_node_count ps)) (suc n) (omega (arith, le)) (nests_all (items ps))
+
+entries_level : (es : Pairs) (n : ℕ) → entries_node_count es ≤ n → EntriesNest es n
+entries_level es n le = nests_more (entries es) (suc (entries_node_count es)) (suc n) (omega (arith, le)) (nests_all (entries es))
+
+-- one list or map around
+open_stops : (o : Open) → IsOpen o → (text rest : List ℕ) → Eventually text rest → Eventually (open_text o ++ text) rest
+open_stops (in_list ps) fits text rest h = (suc (h.0 + items_node_count (from_list ps)), stops)
+  where
+    stops : (n : ℕ) → suc (h.0 + items_node_count (from_list ps)) ≤ n → value_within n (open_text (in_list ps) ++ text) ≡ Err (Low rest)
+    stops zero le = absurd (omega (arith, le))
+    stops (suc n) le = list_stops n ps text rest fits (items_level (from_list ps) n (omega (arith, le))) (h.1 n (omega (arith, le)))
+open_stops (in_map es name) may text rest h = (suc (h.0 + entries_node_count all), stops)
+  where
+    all : Pairs
+    all = from_pairs (es ++ (name, may.0) ∷ [])
+
+    stops : (n : ℕ) → suc (h.0 + entries_node_count all) ≤ n → value_within n (open_text (in_map es name) ++ text) ≡ Err (Low rest)
+    stops zero le = absurd (omega (arith, le))
+    stops (suc n) le =
+        let chain = entries_chain n (es ++ (name, may.0) ∷ []) may.1 (entries_level all n (omega (arith, le))) in
+        let low = map_stops n es (name ++ (61 ∷ text)) rest (chain_front (entry_parts n) es ((name, may.0) ∷ []) chain) (name_stops n es name may.0 text rest chain (h.1 n (omega (arith, le)))) in
+        ap (λ (u : List ℕ). value_within (suc n) (40 ∷ u)) (append_assoc (entries_led es) (name ++ 61 ∷ []) text ∙ ap (λ (u : List ℕ). entries_led es ++ u) (append_assoc name (61 ∷ []) text)) ∙ low
+
+all_stop : (os : List Open) → AreOpen os → (text rest : List ℕ) → Eventually text rest → Eventually (flat_map open_text os ++ text) rest
+all_stop [] are text rest h = h
+all_stop (o ∷ os) are text rest h =
+    subst (λ (u : List ℕ). Eventually u rest) (sym (append_assoc (open_text o) (flat_map open_text os) text)) (open_stops o are.0 (flat_map open_text os ++ text) rest (all_stop os are.1 text rest h))
+
+innermost_stops : (es : List (List ℕ × Plain)) (last : List ℕ × Plain) (other rest : List ℕ) → MayFollow (es ++ last ∷ []) other → NameStandsLow last.0 rest → Eventually ((40 ∷ entries_led (es ++ last ∷ [])) ++ rest) rest
+innermost_stops es last other rest may low = (suc (entries_node_count all), stops)
+  where
+    all : Pairs
+    all = from_pairs ((es ++ last ∷ []) ++ (other, may.0) ∷ [])
+
+    stops : (n : ℕ) → suc (entries_node_count all) ≤ n → value_within n ((40 ∷ entries_led (es ++ last ∷ [])) ++ rest) ≡ Err (Low rest)
+    stops zero le = absurd (omega (arith, le))
+    stops (suc n) le =
+        let chain = entries_chain n ((es ++ last ∷ []) ++ (other, may.0) ∷ []) may.1 (entries_level all n (omega (arith, le))) in
+        map_stops n (es ++ last ∷ []) rest rest (chain_front (entry_parts n) (es ++ last ∷ []) ((other, may.0) ∷ []) chain) (low_name_stops n es last other may.0 rest chain low)
+
+pub low_read : (text rest : List ℕ) → LowInValue text rest → Eventually text rest
+low_read text rest l =
+    let w = l.2 in
+    let inner : List ℕ = 40 ∷ entries_led (w.es ++ w.last ∷ []) in
+    let parts : text ≡ flat_map open_text w.opened ++ (inner ++ rest) = l.1 ∙ ap (λ (u : List ℕ). u ++ rest) w.is ∙ append_assoc (flat_map open_text w.opened) inner rest in
+    subst (λ (u : List ℕ). Eventually u rest) (sym parts) (all_stop w.opened w.are (inner ++ rest) rest (innermost_stops w.es w.last w.other rest w.may w.low))
