@@ -2,11 +2,12 @@
 ghost use Rattle.std.specs.Prelude.{◌≡◌, ◌≤◌, ◌<◌, ℕ, List, length, drop, IfErr, IfOk};
 ghost use Rattle.df_format.specs.Grammar.{Stands};
 ghost use Rattle.df_frozen.specs.Plain.{Plain};
-ghost use Rattle.df_value_text.specs.Answer.{IsFound, IsRead};
+ghost use Rattle.df_value_text.specs.Answer.{IsFound, IsRead, IsSyntaxAt};
 ghost use Rattle.df_value_text.specs.Counting.{FirstOver, NeverOver};
 ghost use Rattle.df_value_text.specs.Fits.{IsValue};
+ghost use Rattle.df_value_text.specs.OrderNames.{LowInValue};
 ghost use Rattle.df_value_text.specs.Value.{value_text};
-ghost use Rattle.df_value_text.specs.ValueFault.{NamesTooLarge, NamesValueFault, up_to};
+ghost use Rattle.df_value_text.specs.ValueFault.{IsWithinBefore, NamesTooLarge, NamesValueFault, TellsSyntaxAt, up_to};
 
 use crate::value_reader::value_at;
 use crate::{Fault, TextRefused};
@@ -28,6 +29,7 @@ pub(crate) fn within_at(
     ensures found { IfOk result (IsFound value_text IsValue bytes.now at) }
     ensures only { (value : Plain) (rest : List ℕ) → Stands value_text IsValue (drop at bytes.now) value rest → IsRead bytes.now value rest result }
     ensures syntax { IfErr result (NamesValueFault bytes.now at) }
+    ensures order { (rest : List ℕ) → LowInValue (drop at bytes.now) rest → IsSyntaxAt bytes.now rest result }
     ensures too_large { IfErr result (NamesTooLarge bytes.now at) }
 {
     let (value, end) = value_at(alloc, bytes, at)?;
@@ -61,6 +63,7 @@ pub(crate) fn over_fault(alloc: Global, bytes: &[u8], at: usize, over: usize) ->
     requires below { over < length bytes.now }
     requires first { FirstOver (drop at bytes.now) (drop over bytes.now) }
     ensures syntax { NamesValueFault bytes.now at result }
+    ensures order { (rest : List ℕ) → LowInValue (drop at bytes.now) rest → IsWithinBefore (drop at bytes.now) rest → TellsSyntaxAt bytes.now rest result }
     ensures too_large { NamesTooLarge bytes.now at result }
 {
     let end = bytes.len().min(over + LONGEST_NAME);

@@ -8,8 +8,9 @@ ghost use Rattle.df_value_text.specs.Answer.{IsFound, IsRead, IsSyntaxAt, NamesB
 ghost use Rattle.df_value_text.specs.Fits.{IsLabel, IsPrivilege, IsTag, IsValue};
 ghost use Rattle.df_value_text.specs.Label.{label_text, privilege_text, tag_text};
 ghost use Rattle.df_value_text.specs.Order.{IsLowTag, LowInLabel};
+ghost use Rattle.df_value_text.specs.OrderNames.{LowInValue};
 ghost use Rattle.df_value_text.specs.Value.{value_text};
-ghost use Rattle.df_value_text.specs.ValueFault.{FirstTooLarge, IsTooLargeAt, NamesTooLarge, NamesValueFault, NoLowBefore};
+ghost use Rattle.df_value_text.specs.ValueFault.{FirstTooLarge, IsTooLargeAt, IsWithinBefore, NamesTooLarge, NamesValueFault, NoLowBefore};
 
 use crate::TextRefused;
 use crate::counting::over_at;
@@ -61,6 +62,7 @@ pub fn read_value(alloc: Global, bytes: &[u8], at: usize) -> Result<(Frozen, usi
     ensures found { IfOk result (IsFound value_text IsValue bytes.now at) }
     ensures only { (value : Plain) (rest : List ℕ) → Stands value_text IsValue (drop at bytes.now) value rest → IsRead bytes.now value rest result }
     ensures syntax { IfErr result (NamesValueFault bytes.now at) }
+    ensures order { (rest : List ℕ) → LowInValue (drop at bytes.now) rest → IsWithinBefore (drop at bytes.now) rest → IsSyntaxAt bytes.now rest result }
     ensures too_large { IfErr result (NamesTooLarge bytes.now at) }
     ensures over { (rest : List ℕ) → FirstTooLarge (drop at bytes.now) rest → NoLowBefore (drop at bytes.now) rest → IsTooLargeAt bytes.now rest result }
 {

@@ -1,7 +1,7 @@
 use Rattle.std.proofs.Common.{sym, ◌∙◌, arith}
 use Rattle.std.proofs.lemmas.List.{length-take-le}
 use Rattle.df_frozen.specs.Value.{plain}
-use Rattle.df_value_text.proofs.LimitLaws.{is_cut, value_answer, fault_answer}
+use Rattle.df_value_text.proofs.LimitLaws.{is_cut, value_answer, fault_answer, value_order, fault_order}
 use Rattle.df_value_text.proofs.limits.over_fault.Goals as goal
 
 pub value_at-requires : goal.value_at-requires
@@ -23,3 +23,13 @@ pub returns-in-Some-clause-too_large : goal.returns-in-Some-clause-too_large
 returns-in-Some-clause-too_large c =
     let cut = is_cut c.args.bytes.now c.args.at c.args.over c.min-end.result c.requires.start c.requires.below c.requires.first c.min-end.ensures in
     rw c.up_to.ensures (fault_answer plain c.args.bytes.now c.args.at c.args.over c.min-end.result cut c.value_at.result c.in-Some.fault (sym c.err.ensures.value ∙ c.in-Some.is) c.value_at.ensures.exact).1
+
+pub returns-in-None-clause-order : goal.returns-in-None-clause-order
+returns-in-None-clause-order c rest low within =
+    let cut = is_cut c.args.bytes.now c.args.at c.args.over c.min-end.result c.requires.start c.requires.below c.requires.first c.min-end.ensures in
+    value_order plain c.args.bytes.now c.args.at c.args.over c.min-end.result cut c.value_at.result (sym c.err.ensures.value ∙ c.in-None.is) c.value_at.ensures.exact rest low within
+
+pub returns-in-Some-clause-order : goal.returns-in-Some-clause-order
+returns-in-Some-clause-order c rest low within =
+    let cut = is_cut c.args.bytes.now c.args.at c.args.over c.min-end.result c.requires.start c.requires.below c.requires.first c.min-end.ensures in
+    rw c.up_to.ensures (fault_order plain c.args.bytes.now c.args.at c.args.over c.min-end.result cut c.value_at.result c.in-Some.fault (sym c.err.ensures.value ∙ c.in-Some.is) c.value_at.ensures.exact rest low within)
