@@ -39,3 +39,4 @@ pub mod ValueSteps
 pub mod LowLaws
 pub mod ValueAnswers
 pub mod LimitLaws
+pub mod WordEnds

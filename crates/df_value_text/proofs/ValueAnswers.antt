@@ -31,7 +31,7 @@ level_on : (n : ℕ) (front : List ℕ) → (on : CanGoOn value_text IsSpelled f
 level_on n front on le = record { some = on.some; fits = level_fits on.some n le on.fits; more = on.more; is = on.is }
 
 -- with a byte with which a value doesn't go on, no value begins
-value_ends : (p : Plain) (c : ℕ) → IsSpelled p → value_goes p c ≡ false → CanGoOn value_text IsSpelled (value_text p ++ c ∷ []) → ⊥
+pub value_ends : (p : Plain) (c : ℕ) → IsSpelled p → value_goes p c ≡ false → CanGoOn value_text IsSpelled (value_text p ++ c ∷ []) → ⊥
 value_ends p c fits g on =
     let n : ℕ = node_count p + node_count on.some in
     no_longer IsLowName value_text (LevelFits n) value_goes (value_within n) (value_format n) p c (level_fits p n (omega arith) fits) g (level_on n (value_text p ++ c ∷ []) on (omega arith))

@@ -4,6 +4,7 @@ pub mod Value
 pub mod Brackets
 pub mod Counting
 pub mod Fits
+pub mod WordEnd
 pub mod Number
 pub mod ReadWhole
 pub mod ReadName

@@ -23,6 +23,7 @@ mod value;
 mod value_reader;
 mod words_reader;
 mod writers;
+mod written;
 
 pub use bytes_reader::bytes_at;
 pub use counting_laws::{counts_are_exact, counts_decide};
@@ -40,6 +41,7 @@ pub use tag_reader::{tag_at, tags_at};
 pub use value::{append_value, append_words};
 pub use words_reader::words_at;
 pub use writers::{write_label, write_privilege, write_tag, write_value};
+pub use written::what_is_written_stands;
 
 #[cfg(test)]
 mod tests;

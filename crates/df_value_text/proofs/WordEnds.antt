@@ -1,0 +1,86 @@
+-- A literal that is written stands there where a word ends.
+use Rattle.std.proofs.Common.{◌≡◌, ℕ, suc, Bool, true, false, cond, eqb, List, [], ◌∷◌, ◌++◌, ℤ, pos, negsuc, refl, sym, subst, inl, inr}
+use Rattle.df_format.specs.Grammar.{CanGoOn, Stands}
+use Rattle.df_format.specs.Format.{Ends}
+use Rattle.df_format.proofs.Laws.{never, ends_never, stands}
+use Rattle.df_frozen.specs.Plain.{Plain, int, words, bytes, items, entries}
+use Rattle.df_label.specs.declared.label.Label.{Label}
+use Rattle.df_label.specs.declared.privilege.Privilege.{Privilege}
+use Rattle.df_label.specs.declared.privilege.Right.{Right}
+use Rattle.df_label.specs.declared.privilege.Right.TheVariants.{Plus, Minus, PlusAuth, MinusAuth}
+use Rattle.df_value_text.specs.Fits.{IsLabel, IsPrivilege, IsSpelled, IsTag, IsValue}
+use Rattle.df_value_text.specs.Label.{label_text, privilege_text, tag_text}
+use Rattle.df_value_text.specs.Order.{IsLowTag}
+use Rattle.df_value_text.specs.ReadLabel.{label_at, privilege_at}
+use Rattle.df_value_text.specs.ReadTag.{tag_at}
+use Rattle.df_value_text.specs.Value.{value_text}
+use Rattle.df_value_text.specs.WordEnd.{IsBreak, EndsWord}
+use Rattle.df_value_text.proofs.LabelLaws.{label_format, privilege_format, privilege_goes, right_goes}
+use Rattle.df_value_text.proofs.NumberLaws.{number_goes}
+use Rattle.df_value_text.proofs.TagLaws.{nowhere, nowhere_is_local, tag_goes, tag_format}
+use Rattle.df_value_text.proofs.ValueAnswers.{value_ends}
+use Rattle.df_value_text.proofs.ValueLaws.{value_goes}
+use Rattle.df_value_text.proofs.WholeLaws.{whole_goes}
+
+-- what goes on in neither case doesn't go on
+neither : (b : Bool) → cond b false false ≡ false
+neither true = refl
+neither false = refl
+
+-- what ends at a space and at a line feed ends where a word does
+at_break : (goes : ℕ → Bool) → goes 32 ≡ false → goes 10 ≡ false → (c : ℕ) → IsBreak c → goes c ≡ false
+at_break goes space feed c (inl h) = subst (λ (b : ℕ). goes b ≡ false) (sym h) space
+at_break goes space feed c (inr h) = subst (λ (b : ℕ). goes b ≡ false) (sym h) feed
+
+number_stops : (most n c : ℕ) → IsBreak c → number_goes most n c ≡ false
+number_stops most n c h = at_break (number_goes most n) (neither (eqb n 0)) (neither (eqb n 0)) c h
+
+numbers_stop : (n : ℕ) (ns : List ℕ) (c : ℕ) → IsBreak c → tag_goes (n ∷ ns) c ≡ false
+numbers_stop n [] c h = at_break (tag_goes (n ∷ [])) (neither (eqb n 0)) (neither (eqb n 0)) c h
+numbers_stop n (k ∷ ks) c h = numbers_stop k ks c h
+
+tag_stops : (tag rest : List ℕ) → EndsWord rest → Ends tag_goes tag rest
+tag_stops tag [] h = tt
+tag_stops [] (c ∷ rest) h = refl
+tag_stops (n ∷ ns) (c ∷ rest) h = numbers_stop n ns c h
+
+right_stops : (r : Right) (c : ℕ) → IsBreak c → right_goes r c ≡ false
+right_stops Plus c h = at_break (right_goes Plus) refl refl c h
+right_stops Minus c h = at_break (right_goes Minus) refl refl c h
+right_stops PlusAuth c h = refl
+right_stops MinusAuth c h = refl
+
+privilege_stops : (p : Privilege) (rest : List ℕ) → EndsWord rest → Ends privilege_goes p rest
+privilege_stops p [] h = tt
+privilege_stops p (c ∷ rest) h = right_stops p.right c h
+
+whole_stops : (z : ℤ) (c : ℕ) → IsBreak c → whole_goes z c ≡ false
+whole_stops (pos n) c h = number_stops _ n c h
+whole_stops (negsuc n) c h = number_stops _ (suc n) c h
+
+value_stops : (p : Plain) (c : ℕ) → IsBreak c → value_goes p c ≡ false
+value_stops (int z) c h = whole_stops z c h
+value_stops (words s) c h = refl
+value_stops (bytes s) c h = refl
+value_stops (items ps) c h = refl
+value_stops (entries es) c h = refl
+
+pub tag_stands : (tag rest : List ℕ) → IsTag tag → EndsWord rest → Stands tag_text IsTag (tag_text tag ++ rest) tag rest
+tag_stands tag rest fits end =
+    let f = tag_format nowhere nowhere_is_local in
+    stands nowhere tag_text IsTag tag_goes tag_at f (tag_text tag ++ rest) tag rest (f.again tag rest fits (tag_stops tag rest end))
+
+pub label_stands : (label : Label) (rest : List ℕ) → IsLabel label → EndsWord rest → Stands label_text IsLabel (label_text label ++ rest) label rest
+label_stands label rest fits end = stands IsLowTag label_text IsLabel never label_at label_format (label_text label ++ rest) label rest (label_format.again label rest fits (ends_never label rest))
+
+pub privilege_stands : (p : Privilege) (rest : List ℕ) → IsPrivilege p → EndsWord rest → Stands privilege_text IsPrivilege (privilege_text p ++ rest) p rest
+privilege_stands p rest fits end = stands nowhere privilege_text IsPrivilege privilege_goes privilege_at privilege_format (privilege_text p ++ rest) p rest (privilege_format.again p rest fits (privilege_stops p rest end))
+
+pub value_stands : (p : Plain) (rest : List ℕ) → IsValue p → EndsWord rest → Stands value_text IsValue (value_text p ++ rest) p rest
+value_stands p rest fits end = record {
+  parts = refl;
+  fits = fits;
+  ends = λ c tail is on.
+      let stop : IsBreak c = subst EndsWord is end in
+      value_ends p c fits.0 (value_stops p c stop) (record { some = on.some; fits = on.fits.0; more = on.more; is = on.is });
+}

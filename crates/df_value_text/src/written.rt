@@ -1,0 +1,19 @@
+//! What is written is read back, as a law.
+ghost use Rattle.std.specs.Prelude.{ℕ, List, ◌++◌};
+ghost use Rattle.df_format.specs.Grammar.{Stands};
+ghost use Rattle.df_frozen.specs.Plain.{Plain};
+ghost use Rattle.df_label.specs.declared.label.Label.{Label};
+ghost use Rattle.df_label.specs.declared.privilege.Privilege.{Privilege};
+ghost use Rattle.df_value_text.specs.Fits.{IsLabel, IsPrivilege, IsTag, IsValue};
+ghost use Rattle.df_value_text.specs.Label.{label_text, privilege_text, tag_text};
+ghost use Rattle.df_value_text.specs.Value.{value_text};
+ghost use Rattle.df_value_text.specs.WordEnd.{EndsWord};
+
+/// A literal that is written stands there, where nothing, a space or a line feed follows. So its
+/// reader gives it back, with the place behind it: by the clause `only` of each.
+pub fn what_is_written_stands()
+    ensures tag { (tag rest : List ℕ) → IsTag tag → EndsWord rest → Stands tag_text IsTag (tag_text tag ++ rest) tag rest }
+    ensures label { (label : Label) (rest : List ℕ) → IsLabel label → EndsWord rest → Stands label_text IsLabel (label_text label ++ rest) label rest }
+    ensures privilege { (privilege : Privilege) (rest : List ℕ) → IsPrivilege privilege → EndsWord rest → Stands privilege_text IsPrivilege (privilege_text privilege ++ rest) privilege rest }
+    ensures value { (value : Plain) (rest : List ℕ) → IsValue value → EndsWord rest → Stands value_text IsValue (value_text value ++ rest) value rest }
+{}
