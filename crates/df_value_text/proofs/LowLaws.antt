@@ -1,17 +1,16 @@
 -- A value is refused at a low name exactly where the path of what is open leads to it.
-use Rattle.std.proofs.Common.{◌≡◌, ℕ, zero, suc, ◌+◌, ◌≤◌, Bool, true, false, cond, ◌&&◌, eqb, List, [], ◌∷◌, ◌++◌, length, take, drop, Ok, Err, refl, sym, ap, subst, ◌∙◌, append_assoc, length-append, arith, inl, inr}
-use Rattle.std.specs.Prelude.{pos, not, codes}
+use Rattle.std.proofs.Common.{◌≡◌, ℕ, zero, suc, ◌+◌, ◌≤◌, Bool, true, false, eqb, List, [], ◌∷◌, ◌++◌, length, take, drop, Ok, Err, refl, sym, ap, subst, ◌∙◌, append_assoc, arith, inl, inr}
+use Rattle.std.specs.Prelude.{pos, not}
 use Rattle.std.specs.List.{flat_map}
 use Rattle.std.specs.Ordering.{is_lt}
 use Rattle.std.proofs.lemmas.Bool.{eqb-true, and_parts}
-use Rattle.std.proofs.lemmas.Bool.Decides.{nat_tests}
 use Rattle.df_format.specs.Reading.{Stop, Bad, Low, Read, ◌>>=◌, as_at, either_at, behind_at, closed_at, more_of, items_at, text_at}
 use Rattle.df_format.specs.Grammar.{IsLongest}
 use Rattle.df_format.specs.Format.{Format}
-use Rattle.df_format.proofs.Laws.{ok_is, err_is, not_both, bind_ok, bind_err, told, chosen}
+use Rattle.df_format.proofs.Laws.{err_is, not_both, bind_err, told, chosen}
 use Rattle.df_format.proofs.Items.{Follow, Parts, onto, more_step, more_stop}
 use Rattle.df_format.proofs.Texts.{own, text_found, text_format}
-use Rattle.df_frozen.specs.Name.{is_letter, name_cmp}
+use Rattle.df_frozen.specs.Name.{is_letter}
 use Rattle.df_frozen.specs.Plain.{Plain, Plains, Pairs, int, words, bytes, items, entries, from_list, from_pairs, items_node_count, entries_node_count}
 use Rattle.df_value_text.specs.Fits.{AreSpelled, AreEntries, AreBehind}
 use Rattle.df_value_text.specs.OrderNames.{IsLowName, NameStandsLow, Open, in_list, in_map, values_led, entries_led, open_text, MayFollow, IsOpen, AreOpen, LowInValue}
@@ -21,12 +20,12 @@ use Rattle.df_value_text.specs.ReadTag.{listed}
 use Rattle.df_value_text.specs.ReadValue.{none_listed, ended_at, leads_value, list_of, list_at, is_greatest, leads_entry, higher_at, given_at, entry_at, next_entry_at, map_of, map_at, leaf_at, node_at, value_within}
 use Rattle.df_value_text.specs.ReadWhole.{whole_at}
 use Rattle.df_value_text.specs.ReadWords.{words_at}
-use Rattle.df_value_text.specs.Value.{value_text, entry_text}
+use Rattle.df_value_text.specs.Value.{entry_text}
 use Rattle.df_value_text.proofs.BytesLaws.{bytes_format}
 use Rattle.df_value_text.proofs.EndedLaws.{Chain}
 use Rattle.df_value_text.proofs.EntryLaws.{NearEntry, entry_format, entries_parts, name_apart}
 use Rattle.df_value_text.proofs.HigherLaws.{AfterName, higher_format, above_of, above_fits, not_greatest, name_is_longest}
-use Rattle.df_value_text.proofs.NameLaws.{IsName, name_goes, name_format}
+use Rattle.df_value_text.proofs.NameLaws.{IsName, name_format}
 use Rattle.df_value_text.proofs.NestLaws.{ItemsNest, EntriesNest, LevelFits, LevelEntry, LevelAfter, nests_more, nests_all, items_to, entries_to}
 use Rattle.df_value_text.proofs.OrderLaws.{same_split}
 use Rattle.df_value_text.proofs.TagLaws.{nowhere, nowhere_is_local}

@@ -1,6 +1,6 @@
 -- A literal that is written stands there where a word ends.
 use Rattle.std.proofs.Common.{◌≡◌, ℕ, suc, Bool, true, false, cond, eqb, List, [], ◌∷◌, ◌++◌, ℤ, pos, negsuc, refl, sym, subst, inl, inr}
-use Rattle.df_format.specs.Grammar.{CanGoOn, Stands}
+use Rattle.df_format.specs.Grammar.{Stands}
 use Rattle.df_format.specs.Format.{Ends}
 use Rattle.df_format.proofs.Laws.{never, ends_never, stands}
 use Rattle.df_frozen.specs.Plain.{Plain, int, words, bytes, items, entries}
@@ -8,7 +8,7 @@ use Rattle.df_label.specs.declared.label.Label.{Label}
 use Rattle.df_label.specs.declared.privilege.Privilege.{Privilege}
 use Rattle.df_label.specs.declared.privilege.Right.{Right}
 use Rattle.df_label.specs.declared.privilege.Right.TheVariants.{Plus, Minus, PlusAuth, MinusAuth}
-use Rattle.df_value_text.specs.Fits.{IsLabel, IsPrivilege, IsSpelled, IsTag, IsValue}
+use Rattle.df_value_text.specs.Fits.{IsLabel, IsPrivilege, IsTag, IsValue}
 use Rattle.df_value_text.specs.Label.{label_text, privilege_text, tag_text}
 use Rattle.df_value_text.specs.Order.{IsLowTag}
 use Rattle.df_value_text.specs.ReadLabel.{label_at, privilege_at}

@@ -16,7 +16,7 @@ fn is_letter(byte: u8) -> bool
 }
 
 /// Whether this is a letter a to z, a digit or `_`.
-fn is_name_byte(byte: u8) -> bool
+pub fn is_name_byte(byte: u8) -> bool
     ensures { result ≡ is_name_byte byte }
 {
     is_letter(byte) || byte.is_ascii_digit() || byte == b'_'

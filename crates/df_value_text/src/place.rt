@@ -1,11 +1,11 @@
 //! Where in a literal a byte stands, what it adds there, and where it leads.
 ghost use Rattle.std.specs.Prelude.{◌≡◌, ◌≤◌, []};
-ghost use Rattle.df_frozen.specs.Name.{is_name_byte};
 ghost use Rattle.df_value_text.specs.Counting.{begins, begins_literal, begun, behind, character, closes, named, next, weight};
-ghost use Rattle.df_value_text.specs.ReadBytes.{is_hex};
 ghost use Rattle.df_value_text.specs.declared.place.Place.TheVariants as place;
 
 use crate::brackets::Brackets;
+use crate::bytes_reader::is_hex;
+use crate::name_reader::is_name_byte;
 
 /// Where in a literal a byte stands.
 #[derive(Clone, Copy)]
@@ -85,20 +85,6 @@ pub fn closes(byte: u8) -> bool
     ensures { result ≡ closes byte }
 {
     byte == b']' || byte == b')'
-}
-
-/// Whether this is a hexadecimal digit.
-fn is_hex(byte: u8) -> bool
-    ensures { result ≡ is_hex byte }
-{
-    byte.is_ascii_digit() || (b'a' <= byte && byte <= b'f')
-}
-
-/// Whether this may stand in a name.
-fn is_name_byte(byte: u8) -> bool
-    ensures { result ≡ is_name_byte byte }
-{
-    byte.is_ascii_lowercase() || byte.is_ascii_digit() || byte == b'_'
 }
 
 /// Where a byte behind a value leads.
