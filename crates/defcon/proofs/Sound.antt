@@ -10,10 +10,12 @@ use Rattle.df_rules.proofs.ReleaseLaws.{row_release_laws}
 use Rattle.df_rules.proofs.RowLaws.{row_laws}
 use Rattle.df_rules.proofs.Runs.{run_legal, run_unaided}
 use Rattle.df_rules.proofs.Taking.{gets_give_deliveries}
-use Rattle.df_rules.proofs.TakingRows.{row_taking_laws}
+use Rattle.df_rules.proofs.TakingRows.{row_taking_laws, nothing_after_all}
 use Rattle.df_rules.specs.Start.{rows, roots}
 use Rattle.std.specs.Prelude.{List, ◌∷◌}
+use Rattle.df_unit.specs.declared.call.Call.TheVariants.{Get}
 use Rattle.df_unit.specs.declared.entry.Entry.TheVariants.{Done}
+use Rattle.df_unit.specs.declared.reply.Reply.{Reply}
 use Rattle.df_script_text.specs.declared.line.ScriptLine.{ScriptLine}
 use Rattle.defcon.specs.Steps.{IsSound, called, journal_of}
 
@@ -26,6 +28,7 @@ journal_is_sound begin lines =
       legal = legal;
       unaided = run_unaided rows (roots start) (reverse (map called lines));
       delivers = λ u st h. gets_give_deliveries rows (roots start) (row_taking_laws start) past legal u st h;
+      none_left = λ newer older u f same. nothing_after_all start older u f (legal_before rows (roots start) past legal newer (Done u Get Reply.Nothing f ∷ older) same);
       separates = λ l. record {
         legal = purge_legal rows (roots start) (row_laws start) l past legal;
         keeps = purge_keeps rows (roots start) (row_laws start) l past;

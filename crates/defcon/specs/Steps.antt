@@ -4,17 +4,20 @@ use Rattle.std.specs.Option.{option_map}
 use Rattle.df_label.specs.declared.label.Label.{Label}
 use Rattle.df_machine.specs.declared.start.RootStart.{RootStart}
 use Rattle.df_machine.specs.Journal.{State, appended, firsts}
+use Rattle.df_rules.specs.Deliveries.{deliveries}
 use Rattle.df_rules.specs.Legal.{IsUnaided, Legal, answered, run}
 use Rattle.df_rules.specs.Own.{own}
-use Rattle.df_rules.specs.Received.{Receives}
+use Rattle.df_rules.specs.Received.{Receives, received}
 use Rattle.df_rules.specs.Separates.{Separates}
 use Rattle.df_rules.specs.Start.{rows}
 use Rattle.df_unit.specs.OwnState.{OwnState}
 use Rattle.df_unit.specs.declared.call.Call.{Call}
 use Rattle.df_unit.specs.declared.name.UnitName.{UnitName}
+use Rattle.df_unit.specs.declared.entry.Effect.{Effect}
 use Rattle.df_unit.specs.declared.entry.Entry.{Entry}
 use Rattle.df_unit.specs.declared.entry.Entry.TheVariants.{Done, Emitted}
 use Rattle.df_unit.specs.declared.entry.Noted.{Noted}
+use Rattle.df_unit.specs.declared.reply.Reply.{Reply}
 use Rattle.df_journal_text.specs.Entry.{noted_text}
 use Rattle.df_journal_text.specs.Start.{journal_text}
 use Rattle.df_script_text.specs.declared.refused.FileRefused.{FileRefused}
@@ -52,12 +55,13 @@ abbrev pub Records : List RootStart → List ScriptLine → List ℕ → Type 0
 Records roots lines text = text ≡ journal_text roots (noted roots (journal_of roots lines))
 
 -- the journal is legal and nothing was emitted into it; each unit's gets gave it just its deliveries, in order, and what is left;
--- and its purge at each label is legal, keeps what units within the label have and are handed, and leaves of the others only what
--- privileges let out
+-- a get gave nothing only where none was left; and its purge at each label is legal, keeps what units within the label have and
+-- are handed, and leaves of the others only what privileges let out
 pub record IsSound (s : List OwnState) (past : List Entry) : Type 0 where
   pub legal : Legal rows s past
   pub unaided : IsUnaided past
   pub delivers : (u : UnitName) (st : OwnState) → own rows s past u ≡ Some st → Receives rows s past u st
+  pub none_left : (newer older : List Entry) (u : UnitName) (f : Effect) → past ≡ newer ++ Done u Call.Get Reply.Nothing f ∷ older → received u older ≡ deliveries rows s older u
   pub separates : (l : Label) → Separates rows s past l
 
 -- the bytes are the text of a script
