@@ -1,6 +1,6 @@
 -- An entry is read as it is spelled, and one above another.
 use Rattle.std.proofs.Common.{◌≡◌, ℕ, Bool, true, false, eqb, List, [], ◌∷◌, ◌++◌, Ok, Err, refl, sym, ap, subst, ◌∙◌, append_assoc, arith, ◌⊎◌, inl, inr}
-use Rattle.std.specs.Prelude.{not}
+use Rattle.std.specs.Prelude.{not, codes}
 use Rattle.std.proofs.lemmas.Bool.{eqb-true, and_parts}
 use Rattle.std.proofs.lemmas.Bool.Decides.{nat_tests}
 use Rattle.df_format.specs.Reading.{Stop, Bad, Low, Read, ◌>>=◌, then_at, items_at}
@@ -12,9 +12,9 @@ use Rattle.df_format.proofs.Items.{Shrinks, format_shrinks, Parts, Leads, ItemsF
 use Rattle.df_format.proofs.Joins.{behind_format}
 use Rattle.df_format.proofs.Texts.{own}
 use Rattle.std.specs.declared.cmp.Ordering.TheVariants.{Less}
-use Rattle.df_frozen.specs.Name.{name_cmp}
+use Rattle.df_frozen.specs.Name.{is_name, name_cmp}
 use Rattle.df_frozen.specs.Plain.{Plain}
-use Rattle.df_value_text.specs.OrderNames.{IsLowName}
+use Rattle.df_value_text.specs.OrderNames.{NameStandsLow}
 use Rattle.df_value_text.specs.ReadName.{name_at}
 use Rattle.df_value_text.specs.ReadValue.{is_greatest, leads_entry, higher_at, given_at, entry_at, next_entry_at}
 use Rattle.df_value_text.specs.Value.{value_text, entry_text}
@@ -89,6 +89,15 @@ then_near_format {T} {X} {Y} Near IsLow Out sx FX gx rx sy FY gy ry low_first lo
 }
 
 -- ---- entries
+
+-- Front ends with an entry and a comma, and the name at rest isn't above that entry's. It holds behind
+-- any bytes; that the entry is one of the map at hand is said of a whole value.
+pub record IsLowName (front rest : List ℕ) : Type 0 where
+  pub before : List ℕ
+  pub prev : List ℕ × Plain
+  pub named : is_name prev.0 ≡ true
+  pub is : front ≡ before ++ (entry_text prev ++ codes ",")
+  pub low : NameStandsLow prev.0 rest
 
 pub low_is_local : IsLocal IsLowName
 low_is_local before front rest low = record { before = before ++ low.before; prev = low.prev; named = low.named; is = ap (λ (u : List ℕ). before ++ u) low.is ∙ sym (append_assoc before low.before (entry_text low.prev ++ 44 ∷ [])); low = low.low }

@@ -13,7 +13,7 @@ use Rattle.df_format.proofs.Texts.{own, text_found, text_format}
 use Rattle.df_frozen.specs.Name.{is_letter}
 use Rattle.df_frozen.specs.Plain.{Plain, Plains, Pairs, int, words, bytes, items, entries, from_list, from_pairs, items_node_count, entries_node_count}
 use Rattle.df_value_text.specs.Fits.{AreSpelled, AreEntries, AreBehind}
-use Rattle.df_value_text.specs.OrderNames.{IsLowName, NameStandsLow, Open, in_list, in_map, values_led, entries_led, open_text, MayFollow, IsOpen, AreOpen, LowInValue}
+use Rattle.df_value_text.specs.OrderNames.{NameStandsLow, Open, in_list, in_map, values_led, entries_led, open_text, MayFollow, IsOpen, AreOpen, LowInValue}
 use Rattle.df_value_text.specs.ReadBytes.{bytes_at}
 use Rattle.df_value_text.specs.ReadName.{name_bytes, name_at}
 use Rattle.df_value_text.specs.ReadTag.{listed}
@@ -23,7 +23,7 @@ use Rattle.df_value_text.specs.ReadWords.{words_at}
 use Rattle.df_value_text.specs.Value.{entry_text}
 use Rattle.df_value_text.proofs.BytesLaws.{bytes_format}
 use Rattle.df_value_text.proofs.EndedLaws.{Chain}
-use Rattle.df_value_text.proofs.EntryLaws.{NearEntry, entry_format, entries_parts, name_apart}
+use Rattle.df_value_text.proofs.EntryLaws.{IsLowName, NearEntry, entry_format, entries_parts, name_apart}
 use Rattle.df_value_text.proofs.HigherLaws.{AfterName, higher_format, above_of, above_fits, not_greatest, name_is_longest}
 use Rattle.df_value_text.proofs.NameLaws.{IsName, name_format}
 use Rattle.df_value_text.proofs.NestLaws.{ItemsNest, EntriesNest, LevelFits, LevelEntry, LevelAfter, nests_more, nests_all, items_to, entries_to}

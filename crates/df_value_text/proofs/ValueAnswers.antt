@@ -10,12 +10,13 @@ use Rattle.df_frozen.specs.Limits.{IsWithinLimits}
 use Rattle.df_frozen.specs.Plain.{Plain, int, words, bytes, items, entries, node_count}
 use Rattle.df_value_text.specs.Answer.{Fails, refusal, IsFound, IsRead, FirstLow}
 use Rattle.df_value_text.specs.Fits.{IsSpelled, IsValue}
-use Rattle.df_value_text.specs.OrderNames.{IsLowName, LowWithin, LowInValue}
+use Rattle.df_value_text.specs.OrderNames.{LowWithin, LowInValue}
 use Rattle.df_value_text.specs.ReadValue.{value_within}
 use Rattle.df_value_text.specs.Value.{value_text}
 use Rattle.df_value_text.specs.declared.refused.Fault.{Fault}
 use Rattle.df_value_text.specs.declared.refused.Fault.TheVariants as fault
 use Rattle.df_value_text.specs.declared.refused.TextRefused.TheVariants as refused
+use Rattle.df_value_text.proofs.EntryLaws.{IsLowName}
 use Rattle.df_value_text.proofs.LowLaws.{low_found, low_read}
 use Rattle.df_value_text.proofs.NestLaws.{nests_more, nests_all, LevelFits}
 use Rattle.df_value_text.proofs.TagLaws.{nowhere, nowhere_is_local}

@@ -16,7 +16,6 @@ use Rattle.df_frozen.specs.Name.{is_letter}
 use Rattle.df_frozen.specs.Plain.{Plain, int, words, bytes, items, entries, no_items, no_entries}
 use Rattle.df_value_text.specs.Fits.{IsSpelled, AreSpelled, AreEntries}
 use Rattle.df_value_text.specs.Number.{number_at, digits_at}
-use Rattle.df_value_text.specs.OrderNames.{IsLowName}
 use Rattle.df_value_text.specs.ReadBytes.{AreBytes, bytes_at}
 use Rattle.df_value_text.specs.ReadWhole.{IsWhole, whole_at}
 use Rattle.df_value_text.specs.ReadWords.{words_at}
@@ -24,7 +23,7 @@ use Rattle.df_value_text.specs.ReadValue.{ended_at, leads_value, list_of, list_a
 use Rattle.df_value_text.specs.Value.{escaped, hex, words_text, value_text, items_text, entries_text, entry_text}
 use Rattle.df_value_text.proofs.BytesLaws.{bytes_text, bytes_format}
 use Rattle.df_value_text.proofs.EndedLaws.{Chain, ended_text, ended_format}
-use Rattle.df_value_text.proofs.EntryLaws.{low_is_local, entries_format, next_shrinks}
+use Rattle.df_value_text.proofs.EntryLaws.{IsLowName, low_is_local, entries_format, next_shrinks}
 use Rattle.df_value_text.proofs.NameLaws.{IsName}
 use Rattle.df_value_text.proofs.NestLaws.{ItemsNest, EntriesNest, LevelFits, LevelEntry, LevelAfter, items_to, items_from, entries_to, entries_from}
 use Rattle.df_value_text.proofs.NumberLaws.{first_true, number_format}

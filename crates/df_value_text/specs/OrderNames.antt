@@ -15,14 +15,6 @@ pub record NameStandsLow (prev rest : List ℕ) : Type 0 where
   pub longest : IsLongest (λ text. text) (λ text. is_name text ≡ true) rest name more
   pub low : is_lt (name_cmp prev name) ≡ false
 
--- front ends with an entry and a comma, and the name at rest isn't above that entry's
-pub record IsLowName (front rest : List ℕ) : Type 0 where
-  pub before : List ℕ
-  pub prev : List ℕ × Plain
-  pub named : is_name prev.0 ≡ true
-  pub is : front ≡ before ++ (entry_text prev ++ codes ",")
-  pub low : NameStandsLow prev.0 rest
-
 -- a list that is open behind these items, or a map behind these entries and the name of one more
 pub data Open : Type 0 where
   in_list : List Plain → Open
@@ -45,10 +37,12 @@ open_text (in_map es name) = codes "(" ++ (entries_led es ++ (name ++ codes "=")
 abbrev pub MayFollow : List (List ℕ × Plain) → List ℕ → Type 0
 MayFollow es name = (value : Plain) × AreEntries (from_pairs (es ++ (name, value) ∷ []))
 
+-- the items have a spelling, or the entries may stand so, and the name behind them
 abbrev pub IsOpen : Open → Type 0
 IsOpen (in_list ps) = AreSpelled (from_list ps)
 IsOpen (in_map es name) = MayFollow es name
 
+-- each of these, the outermost first
 abbrev pub AreOpen : List Open → Type 0
 AreOpen [] = ⊤
 AreOpen (o ∷ os) = IsOpen o × AreOpen os
