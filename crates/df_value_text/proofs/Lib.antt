@@ -37,6 +37,7 @@ pub mod NestLaws
 pub mod ValueLaws
 pub mod ValueSteps
 pub mod LowLaws
+pub mod LowExamples
 pub mod ValueAnswers
 pub mod LimitLaws
 pub mod WordEnds
