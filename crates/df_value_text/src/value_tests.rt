@@ -44,7 +44,7 @@ impl<'a> Long<'a> {
 #[test]
 fn values_are_read_to_their_end(rt: HostRuntime) -> Result<(), Fail> {
     let alloc = rt.alloc();
-    let rows: [(&[u8], Result<usize, TextRefused>); 42] = [
+    let rows: [(&[u8], Result<usize, TextRefused>); 45] = [
         (b"0", Ok(1)),
         (b"-12,", Ok(3)),
         (b"\"\"", Ok(2)),
@@ -81,6 +81,10 @@ fn values_are_read_to_their_end(rt: HostRuntime) -> Result<(), Fail> {
         (b"(a=1]", bad(4)),
         (b"(a=1,)", bad(5)),
         (b"(a=1,b", bad(6)),
+        // in words and within a name no name of a map stands
+        (b"\"a=1,a%", bad(7)),
+        (b"(bc=1,c=2,%", bad(10)),
+        (b"(ab=1,b=%", bad(8)),
         (b"(a=1,b:2)", bad(6)),
         (b"(k=[1,\"x\\\"y],z=x\"00ff\")", bad(17)),
         // a name that isn't above the one before it, whatever stands behind
