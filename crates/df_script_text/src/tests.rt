@@ -86,8 +86,9 @@ fn roots_are_read_or_refused(rt: HostRuntime) -> Result<(), Fail> {
         let text = with_root(rt.alloc(), root)?;
         match read_script(rt.alloc(), text.as_slice()) {
             Ok((start, _lines)) => {
-                let root = &start.as_slice()[0];
-                assert_eq!(rt; Some(root.privileges.as_slice().len()), privileges);
+                let root = start.as_slice().first();
+                let count = root.map(|root| root.privileges.as_slice().len());
+                assert_eq!(rt; count, privileges);
             }
             Err(refused) => {
                 assert_eq!(rt; refused, FileRefused::Syntax { line: 0 });
