@@ -49,7 +49,8 @@ is_above limit value = some_passes (λ number. int_lt limit number) (int_of valu
 
 -- it is a number from the lowest to the highest, both included
 abbrev pub is_between : ℤ → ℤ → Plain → Bool
-is_between lowest highest value = some_passes (λ number. int_le lowest number && int_le number highest) (int_of value)
+is_between lowest highest value =
+    some_passes (λ number. int_le lowest number && int_le number highest) (int_of value)
 
 -- it is these words
 abbrev pub equals_words : List ℕ → Plain → Bool

@@ -2,3 +2,4 @@ pub mod Asked
 pub mod FieldTest
 pub mod Clause
 pub mod Filter
+pub mod Limits

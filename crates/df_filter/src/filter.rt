@@ -1,11 +1,12 @@
 ghost use Rattle.std.specs.Prelude.{IsTrue, ◌≡◌, ◌<◌, ◌≤◌, ◌↔◌, [], length, IfOk, OnErr, Err, Ok};
 ghost use Rattle.df_filter.specs.Filter.{filter_of};
+ghost use Rattle.df_filter.specs.Limits.{most_clauses};
 
 use crate::{Clause, NoMemory};
 use std::alloc::Global;
 use std::marker::Model;
 
-/// How many clauses a filter may have.
+/// How many clauses a filter has at most.
 pub const MOST_CLAUSES: usize = 4;
 
 /// Why a list of clauses is no filter.
@@ -23,13 +24,15 @@ pub struct Filter {
 
 impl Model for Filter {
     ghost use Rattle.std.specs.Prelude.{List, length, ◌<◌, ◌≤◌};
+    ghost use Rattle.df_filter.specs.Limits.{most_clauses};
     ghost use Rattle.df_filter.specs.declared.clause.Clause.{Clause};
 
     ghost Value = { List Clause };
 
     ghost view = { λ f. f.clauses.items };
 
-    ghost invariant = { λ f. (0 < length f.clauses.items) × (length f.clauses.items ≤ 4) };
+    ghost invariant = { λ f.
+        (0 < length f.clauses.items) × (length f.clauses.items ≤ most_clauses) };
 }
 
 impl Filter {
@@ -50,7 +53,7 @@ impl Filter {
     pub fn clauses(&self) -> &[Clause]
         ensures clauses { result.now ≡ self.now }
         ensures some { 0 < length self.now }
-        ensures few { length self.now ≤ 4 }
+        ensures few { length self.now ≤ most_clauses }
     {
         self.clauses.as_slice()
     }

@@ -16,10 +16,13 @@ use std::hash::{Hash, Hasher};
 use std::marker::Model;
 use std::{fmt, str};
 
+/// How many bytes a name has at most.
+pub const LONGEST_NAME: usize = 32;
+
 /// A name of 1 to 32 bytes: a letter a to z, and then letters a to z, digits and `_`.
 #[derive(Clone, Copy)]
 pub struct Name {
-    bytes: [u8; 32],
+    bytes: [u8; LONGEST_NAME],
     len: u8,
 }
 
@@ -35,7 +38,10 @@ impl Model for Name {
 
     ghost inverse = { λ v. record { bytes = padded v; len = length v } };
 
-    ghost inverse_ok = { λ n h i. record { bytes = padded-take n.bytes n.len h i; len = length-take_kept n.bytes n.len h i } };
+    ghost inverse_ok = { λ n h i. record {
+      bytes = padded-take n.bytes n.len h i;
+      len = length-take_kept n.bytes n.len h i;
+    } };
 }
 
 /// Why a text is not made a name.
@@ -101,7 +107,9 @@ fn is_name(text: &[u8]) -> bool
 {
     match text.split_first() {
         None => false,
-        Some((first, rest)) => is_letter(*first) && rest.len() < 32 && are_name_bytes(rest),
+        Some((first, rest)) => {
+            is_letter(*first) && rest.len() < LONGEST_NAME && are_name_bytes(rest)
+        }
     }
 }
 
@@ -116,7 +124,7 @@ fn padded(text: &[u8]) -> Name
     requires { is_name text.now ≡ true }
     ensures { result ≡ text.now }
 {
-    let mut bytes = [0; 32];
+    let mut bytes = [0; LONGEST_NAME];
     let len = text.len();
     bytes[..len].copy_from_slice(text);
     Name {

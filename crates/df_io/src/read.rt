@@ -1,6 +1,6 @@
 ghost use Rattle.std.specs.Prelude.{◌≡◌, ℕ, ◌<◌, ◌≤◌, List, length, Err, IfOk, IfSome};
 ghost use Rattle.df_io.specs.Faults.{Rose};
-ghost use Rattle.df_io.specs.declared.read.TheConstants.{LONGEST_FILE};
+ghost use Rattle.df_io.specs.Limits.{longest_file};
 
 use crate::Shelf;
 use std::alloc::Global;
@@ -22,8 +22,9 @@ pub enum NotRead {
 /// Reads a whole file, and stops where it has a byte too many.
 pub fn read_file<F: Shelf>(alloc: Global, shelf: &mut F, name: &str) -> Result<Vec<u8>, NotRead>
     ensures read { IfOk result (λ v. IfSome (F.bytes shelf.old name.now) (λ bs. v.items ≡ bs)) }
-    ensures short { IfOk result (λ v. length v.items ≤ LONGEST_FILE) }
-    ensures too_long { result ≡ Err NotRead.TooLong → IfSome (F.bytes shelf.old name.now) (λ bs. LONGEST_FILE < length bs) }
+    ensures short { IfOk result (λ v. length v.items ≤ longest_file) }
+    ensures too_long { result ≡ Err NotRead.TooLong →
+        IfSome (F.bytes shelf.old name.now) (λ bs. longest_file < length bs) }
     ensures fault { result ≡ Err NotRead.Fault → Rose (F.faults shelf.old) (F.faults shelf.new) }
     ensures never_falls { F.faults shelf.old ≤ F.faults shelf.new }
     ensures same { (n : List ℕ) → F.bytes shelf.new n ≡ F.bytes shelf.old n }
