@@ -9,4 +9,5 @@ bytes_of name files = option_map (λ f. f.1) (find (λ f. bytes_eq f.0 name) fil
 
 -- the file of a name has these bytes now, and every other file is as it was
 abbrev pub PutsFile : List ℕ → List ℕ → List (List ℕ × List ℕ) → List (List ℕ × List ℕ) → Type 0
-PutsFile name bytes old new = (n : List ℕ) → bytes_of n new ≡ (if bytes_eq name n then Some bytes else bytes_of n old)
+PutsFile name bytes old new = (n : List ℕ) → bytes_of n new
+    ≡ (if bytes_eq name n then Some bytes else bytes_of n old)

@@ -2,7 +2,8 @@
 use Rattle.std.specs.Prelude.{◌≡◌, ℕ, ◌<◌, List, length, ◌⊎◌, Contains}
 use Rattle.df_io.specs.Faults.{count_more}
 
--- what was written, the numbers of the writes that fail, the room that is left, the most bytes of one write, and the counts of writes and of faults
+-- what was written, the numbers of the writes that fail, the room that is left, the most bytes of
+-- one write, and the counts of writes and of faults
 pub record SinkState : Type 0 where
   pub bytes : List ℕ
   pub failing : List ℕ

@@ -5,7 +5,8 @@ use Rattle.std.specs.Prelude.{◌≡◌, ℕ, ◌-◌, ◌<◌, ◌≤◌, List,
 abbrev pub Reads : {E : Type 0} → Option (List ℕ) → ℕ → List ℕ → List ℕ → Result ℕ E → Type 0
 Reads None at before after r = ⊤
 Reads (Some bytes) at before after (Err e) = ⊤
-Reads (Some bytes) at before after (Ok n) = (take n after ≡ take n (drop at bytes)) × (n ≤ length bytes - at) × (0 < length before → n ≡ 0 → length bytes ≤ at)
+Reads (Some bytes) at before after (Ok n) = (take n after ≡ take n (drop at bytes))
+    × (n ≤ length bytes - at) × (0 < length before → n ≡ 0 → length bytes ≤ at)
 
 -- how many bytes of a piece a write takes
 abbrev pub Takes : {E : Type 0} → List ℕ → Result ℕ E → Type 0

@@ -47,7 +47,7 @@ fn read_at<R: Files>(rt: &R, name: &str, at: u64, into: &mut [u8]) -> io::Result
 /// The real output, which tells no bytes.
 #[derive(Drop)]
 pub struct OutSink<W: Write + Drop> {
-    to: W,
+    pub(crate) to: W,
     faults: u64,
 }
 

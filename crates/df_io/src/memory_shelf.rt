@@ -1,7 +1,7 @@
 ghost use Rattle.std.specs.Prelude.{◌≡◌, ℕ, ◌+◌, ◌-◌, ◌<◌, ◌≤◌, ◌↔◌, ◌++◌, ◌∷◌, List, [], length, take, drop, min, Option, None, option_copied, unwrap_or, OnOk, OnErr, IfOk, IfSome, IsErr, Contains};
 ghost use Rattle.std.specs.Str.{bytes_eq};
 ghost use Rattle.std.specs.List.{find, position_from};
-ghost use Rattle.df_io.specs.Faults.{Counts, count_more};
+ghost use Rattle.df_io.specs.Faults.{Counts, CountsEach, count_more};
 ghost use Rattle.df_io.specs.Files.{bytes_of, PutsFile};
 ghost use Rattle.df_io.specs.Pieces.{Reads};
 ghost use Rattle.df_io.specs.MemoryShelf.{FailsRead};
@@ -134,7 +134,12 @@ impl Model for MemoryShelf {
 
     ghost Value = { ShelfState };
 
-    ghost view = { λ s. record { files = s.files; failing = s.failing.items; calls = s.calls; faults = s.faults } };
+    ghost view = { λ s. record {
+      files = s.files;
+      failing = s.failing.items;
+      calls = s.calls;
+      faults = s.faults;
+    } };
 }
 
 impl MemoryShelf {
@@ -161,7 +166,8 @@ impl MemoryShelf {
 
     /// Lets a read fail. The first read is call 1.
     pub fn fail(&mut self, call: u64) -> Result<(), NoMemory>
-        ensures fails { OnOk result (self.new ≡ record self.old { failing = self.old.failing ++ call ∷ [] }) }
+        ensures fails { OnOk result (self.new
+            ≡ record self.old { failing = self.old.failing ++ call ∷ [] }) }
         ensures unchanged { OnErr result (self.new ≡ self.old) }
     {
         self.failing.push(call)?;
@@ -179,8 +185,10 @@ impl Shelf for MemoryShelf {
         ensures read { Reads (bytes_of name.now self.old.files) at into.old into.new result }
         ensures same { self.new.files ≡ self.old.files }
         ensures cause { Counts self.old.faults self.new.faults result }
+        ensures faults { CountsEach self.old.faults self.new.faults result }
         ensures fails { IsErr result ↔ FailsRead self.old name.now }
-        ensures all { IfOk result (λ n. n ≡ min (length into.old) (length (unwrap_or (bytes_of name.now self.old.files) []) - at)) }
+        ensures all { IfOk result (λ n. n ≡ min (length into.old)
+            (length (unwrap_or (bytes_of name.now self.old.files) []) - at)) }
         ensures counted { self.new.calls ≡ count_more self.old.calls }
     {
         self.calls = self.calls.saturating_add(1);

@@ -1,5 +1,5 @@
 ghost use Rattle.std.specs.Prelude.{◌≡◌, ℕ, ◌+◌, ◌-◌, ◌^◌, ◌<◌, ◌≤◌, ◌↔◌, ◌++◌, ◌∷◌, List, [], length, min, Some, OnOk, OnErr, IfOk, IsErr};
-ghost use Rattle.df_io.specs.Faults.{Counts, count_more};
+ghost use Rattle.df_io.specs.Faults.{Counts, CountsEach, count_more};
 ghost use Rattle.df_io.specs.Pieces.{Takes, Appends};
 ghost use Rattle.df_io.specs.MemorySink.{FailsWrite};
 
@@ -25,7 +25,14 @@ impl Model for MemorySink {
 
     ghost Value = { SinkState };
 
-    ghost view = { λ s. record { bytes = s.bytes.items; failing = s.failing.items; room = s.room; most = s.most; calls = s.calls; faults = s.faults } };
+    ghost view = { λ s. record {
+      bytes = s.bytes.items;
+      failing = s.failing.items;
+      room = s.room;
+      most = s.most;
+      calls = s.calls;
+      faults = s.faults;
+    } };
 
     ghost invariant = { λ s. (0 < s.most) × (vec_len s.bytes + s.room ≤ vec_capacity s.bytes) };
 }
@@ -34,7 +41,14 @@ impl MemorySink {
     /// A sink with room for so many bytes, that takes at most `most` of them in one call.
     pub fn new(alloc: Global, room: usize, most: usize) -> Result<MemorySink, NoMemory>
         requires { 0 < most }
-        ensures { IfOk result (λ s. s ≡ record { bytes = []; failing = []; room = room; most = most; calls = 0; faults = 0 }) }
+        ensures { IfOk result (λ s. s ≡ record {
+          bytes = [];
+          failing = [];
+          room = room;
+          most = most;
+          calls = 0;
+          faults = 0;
+        }) }
     {
         Ok(MemorySink {
             bytes: Vec::with_capacity(alloc, room)?,
@@ -48,7 +62,8 @@ impl MemorySink {
 
     /// Lets a write fail. The first write is call 1.
     pub fn fail(&mut self, call: u64) -> Result<(), NoMemory>
-        ensures fails { OnOk result (self.new ≡ record self.old { failing = self.old.failing ++ call ∷ [] }) }
+        ensures fails { OnOk result (self.new
+            ≡ record self.old { failing = self.old.failing ++ call ∷ [] }) }
         ensures unchanged { OnErr result (self.new ≡ self.old) }
     {
         self.failing.push(call)?;
@@ -72,8 +87,10 @@ impl Sink for MemorySink {
         ensures takes { Takes piece.now result }
         ensures appends { Appends (Some self.old.bytes) (Some self.new.bytes) piece.now result }
         ensures cause { Counts self.old.faults self.new.faults result }
+        ensures faults { CountsEach self.old.faults self.new.faults result }
         ensures fails { IsErr result ↔ FailsWrite self.old piece.now }
-        ensures all { IfOk result (λ n. n ≡ min (length piece.now) (min self.old.most self.old.room)) }
+        ensures all { IfOk result (λ n. n ≡ min (length piece.now)
+            (min self.old.most self.old.room)) }
         ensures counted { self.new.calls ≡ count_more self.old.calls }
     {
         self.calls = self.calls.saturating_add(1);

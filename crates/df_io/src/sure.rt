@@ -51,10 +51,12 @@ impl Shelf for SureShelf {
 
     fn read_piece(&mut self, name: &str, at: u64, into: &mut [u8]) -> Result<usize, ShelfFailed>
         ensures within { IfOk result (λ n. n ≤ length into.new) }
-        ensures read { Reads (Some (unwrap_or (bytes_of name.now self.old) [])) at into.old into.new result }
+        ensures read { Reads (Some (unwrap_or (bytes_of name.now self.old) [])) at into.old
+            into.new result }
         ensures same { self.new ≡ self.old }
         ensures cause { Counts 0 0 result }
-        ensures all { result ≡ Ok (min (length into.old) (length (unwrap_or (bytes_of name.now self.old) []) - at)) }
+        ensures all { result
+            ≡ Ok (min (length into.old) (length (unwrap_or (bytes_of name.now self.old) []) - at)) }
     {
         match self.files.bytes(name) {
             Some(bytes) => Ok(copy_piece(bytes, at, into)),

@@ -2,12 +2,13 @@
 //! are used once.
 use crate::{
     FileShelf, LONGEST_FILE, MemoryShelf, MemorySink, NoMemory, NotRead, OutSink, PIECE, Shelf,
-    SinkFailed, SureShelf, SureSink, read_file, write_all,
+    Sink, SinkFailed, SureShelf, SureSink, read_file, write_all,
 };
 use std::alloc::Global;
-use std::fs;
 use std::fs::OpenFile;
+use std::io::Write;
 use std::test::Fail;
+use std::{fs, io};
 
 // Bytes of which no two pieces are alike.
 fn text(alloc: Global, len: usize) -> Result<Vec<u8>, NoMemory> {
@@ -115,6 +116,21 @@ fn real_files_are_read(rt: HostRuntime) -> Result<(), Fail> {
             "{len}"
         );
     }
+    // from each place on, what stands there
+    let bytes = text(alloc, PIECE + 1)?;
+    for at in [0, 1, PIECE] {
+        let mut piece = [0u8; 8];
+        let count = shelf
+            .read_piece("df_io_test_file", at as u64, &mut piece)
+            .ok();
+        let rest = bytes.get(at..).ok_or("a place")?;
+        assert_eq!(rt; count, Some(rest.len().min(8)), "{at}");
+        assert_eq!(rt;
+            piece.get(..rest.len().min(8)),
+            rest.get(..rest.len().min(8)),
+            "{at}"
+        );
+    }
     fs::remove_file(&rt, "df_io_test_file")?;
     assert_eq!(rt;
         refusal(alloc, &mut shelf, "df_io_test_file"),
@@ -149,5 +165,35 @@ fn the_real_output_takes_or_fails(rt: HostRuntime) -> Result<(), Fail> {
         let mut device = OutSink::new(fs::create(&rt, name)?);
         assert_eq!(rt; write_all(&mut device, &bytes), result, "{name}");
     }
+    Ok(())
+}
+
+/// A writer that takes three bytes in a call.
+#[derive(Drop)]
+struct ThreeByThree {
+    bytes: Vec<u8>,
+}
+
+impl Write for ThreeByThree {
+    fn write(&mut self, buf: &[u8]) -> io::Result<usize> {
+        let count = buf.len().min(3);
+        self.bytes.extend_from_slice(&buf[..count])?;
+        Ok(count)
+    }
+
+    fn flush(&mut self) -> io::Result<()> {
+        Ok(())
+    }
+}
+
+#[test]
+fn a_short_write_is_told_as_short(rt: HostRuntime) -> Result<(), Fail> {
+    let bytes = text(rt.alloc(), 257)?;
+    let mut sink = OutSink::new(ThreeByThree {
+        bytes: Vec::new(rt.alloc()),
+    });
+    assert_eq!(rt; sink.write_piece(&bytes), Ok(3));
+    assert_eq!(rt; write_all(&mut sink, &bytes[3..]), Ok(()));
+    assert!(rt; sink.to.bytes.as_slice() == bytes.as_slice());
     Ok(())
 }
