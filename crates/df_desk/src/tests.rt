@@ -5,7 +5,9 @@ use super::*;
 use std::alloc::{AllocError, Global};
 use std::sync::Wait;
 use std::test::Fail;
+use std::thread;
 use std::thread::{Threads, for_each_mut};
+use std::time::{Clock, Duration};
 
 /// A line of a journal: who wrote it, and how many lines this writer had written before.
 #[derive(Clone, Copy, Debug)]
@@ -62,8 +64,8 @@ struct Writer {
 }
 
 impl Writer {
-    // Takes the journal, appends one line and gives it back, `count` times.
-    fn write<R: Wait>(&mut self, rt: &R, desk: &Desk<Journal>, count: u64)
+    // Takes the journal, appends one line, keeps it for a while and gives it back, `count` times.
+    fn write<R: Wait + Clock>(&mut self, rt: &R, desk: &Desk<Journal>, count: u64, pause: Duration)
         requires { IsFree desk.now self.old.pass }
         ensures { IsFree desk.now self.new.pass }
     {
@@ -75,6 +77,9 @@ impl Writer {
             };
             if journal.append(line).is_ok() {
                 self.written = self.written.saturating_add(1);
+            }
+            if !pause.is_zero() {
+                thread::sleep(rt, pause);
             }
             desk.give(&mut self.pass, journal);
         }
@@ -90,7 +95,8 @@ fn writers_at(
 ) -> Result<Vec<Writer>, Fail>
     requires { IsFree desk.now pass.old }
     ensures pass { IsFree desk.now pass.new }
-    ensures writers { IfOk result (λ writers. All (λ writer. IsFree desk.now writer.pass) writers.items) }
+    ensures writers { IfOk result (λ writers. All (λ writer. IsFree desk.now writer.pass)
+        writers.items) }
 {
     let mut writers = Vec::new(alloc);
     for number in 0..count {
@@ -118,14 +124,16 @@ fn join_all(desk: &Desk<Journal>, pass: &mut Pass<Journal>, mut writers: Vec<Wri
     written
 }
 
-// Each writer appends `count` lines, in a thread of its own. Says how many lines they appended in all.
-fn write_at_once<R: Threads + Wait + Sync>(
+// Each writer appends `count` lines, in a thread of its own. Says how many lines they appended in
+// all.
+fn write_at_once<R: Threads + Wait + Clock + Sync>(
     rt: &R,
     alloc: Global,
     desk: &Desk<Journal>,
     pass: &mut Pass<Journal>,
     writers: usize,
     count: u64,
+    pause: Duration,
 ) -> Result<u64, Fail>
     requires { IsFree desk.now pass.old }
     ensures { IsFree desk.now pass.new }
@@ -135,7 +143,7 @@ fn write_at_once<R: Threads + Wait + Sync>(
         rt,
         &mut all,
         writers.max(1),
-        &|_, writer| { writer.write(rt, desk, count) },
+        &|_, writer| { writer.write(rt, desk, count, pause) },
     );
     Ok(join_all(desk, pass, all))
 }
@@ -161,9 +169,12 @@ fn a_pass_takes_and_gives(rt: HostRuntime) -> Result<(), Fail> {
 
 #[test]
 fn writers_share_a_journal(rt: HostRuntime) -> Result<(), Fail> {
-    for (writers, count) in [(2usize, 1_000u64), (4, 10_000)] {
+    let none = Duration::ZERO;
+    // those that keep the journal for a while have the others sleep, who must be woken
+    let some = Duration::from_millis(1);
+    for (writers, count, pause) in [(2usize, 1_000u64, none), (4, 10_000, none), (3, 20, some)] {
         let (desk, mut pass) = Desk::new(rt.alloc(), Journal::new(rt.alloc()))?;
-        let written = write_at_once(&rt, rt.alloc(), &desk, &mut pass, writers, count)?;
+        let written = write_at_once(&rt, rt.alloc(), &desk, &mut pass, writers, count, pause)?;
         assert_eq!(rt; written, writers as u64 * count);
         let journal = desk.finish(&rt, pass);
         assert_eq!(rt; journal.name, 7);
