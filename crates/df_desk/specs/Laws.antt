@@ -1,4 +1,5 @@
--- The laws of the desk, each a sentence about one moment of its table: its two words, its slot, and the views of all seats.
+-- The laws of the desk, each a sentence about one moment of its table: its two words, its slot, and
+-- the views of all seats.
 use Rattle.std.specs.Prelude.{◌≡◌, ℕ, ◌⊎◌, List, length, slice_index, Option, Some}
 use mathlib.Core.Option.{some, none}
 use mathlib.Core.List.{IsPrefix}
@@ -9,7 +10,8 @@ use Rattle.df_desk.specs.Rule.{Moment, DeskInvariant}
 
 -- the law holds in each moment of each desk
 abbrev pub Always : {V O E : Type 0} → (V → O) → (V → List E) → (V → Moment V → Type 0) → Type 0
-Always {V} origin list law = (first : V) (s : Moment V) → DeskInvariant origin list first s → law first s
+Always {V} origin list law = (first : V) (s : Moment V) → DeskInvariant origin list first s →
+    law first s
 
 module _ {V : Type 0} where
   -- the seat has this view
@@ -39,10 +41,12 @@ module _ {V : Type 0} where
       ⊎ ((get_elem? s.homes 0 ≡ some none) × ((seat : ℕ) × IsHolder s seat))
 
 module _ {V E : Type 0} (list : V → List E) where
-  -- the desk's list: that of the value in the slot or, while a seat has the value, what this seat has seen
+  -- the desk's list: that of the value in the slot or, while a seat has the value, what this seat
+  -- has seen
   abbrev pub IsDeskList : Moment V → List E → Type 0
   IsDeskList s xs = ((v : V) × IsInSlot s v × (list v ≡ xs))
-      ⊎ ((seat : ℕ) × (view : View V) × HasView s seat view × IsOut view × (seen_list list view ≡ xs))
+      ⊎ ((seat : ℕ) × (view : View V) × HasView s seat view × IsOut view
+      × (seen_list list view ≡ xs))
 
   -- the desk has one list
   abbrev pub HasOneList : Moment V → Type 0
@@ -60,5 +64,6 @@ module _ {V E : Type 0} (list : V → List E) where
 module _ {V O : Type 0} (origin : V → O) where
   -- what each seat has seen has this origin, and so has the value in the slot
   abbrev pub HasOrigin : O → Moment V → Type 0
-  HasOrigin o s = ((seat : ℕ) (view : View V) (p : O) → HasView s seat view → view_origin origin view ≡ Some p → p ≡ o)
+  HasOrigin o s = ((seat : ℕ) (view : View V) (p : O) → HasView s seat view →
+      view_origin origin view ≡ Some p → p ≡ o)
       × ((v : V) → IsInSlot s v → origin v ≡ o)

@@ -10,8 +10,8 @@ pub record DeskId (O : Type 0) : Type 0 where
   pub table : TableId
   pub origin : O
 
--- A pass: the desk that it is of (there is always one), the list that it has seen, the list that its last take found,
--- its numbers of takes and of splits, and whether it has the value.
+-- A pass: the desk that it is of (there is always one), the list that it has seen, the list that
+-- its last take found, its numbers of takes and of splits, and whether it has the value.
 pub record PassState (O E : Type 0) : Type 0 where
   pub desk : Option (DeskId O)
   pub seen : List E
@@ -50,7 +50,8 @@ desk_of origin table (Called v) = Some (record { table = table; origin = origin 
 desk_of origin table (Counted v) = Some (record { table = table; origin = origin v })
 
 -- a pass between two calls: its seat, and the lengths that the pass keeps beside it
-pub record IsSeated {V E : Type 0} (list : V → List E) (holds : Bool) (seen found : ℕ) (seat : SeatState V) : Type 0 where
+pub record IsSeated {V E : Type 0} (list : V → List E) (holds : Bool) (seen found : ℕ)
+    (seat : SeatState V) : Type 0 where
   pub latest : V
   pub settled : seat ≡ settled_seat holds latest
   pub seen_is : seen ≡ length (list latest)

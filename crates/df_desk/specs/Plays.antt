@@ -15,7 +15,8 @@ module _ {V : Type 0} where
 
   -- a count: the desk's value is now the one that the step announced
   abbrev pub Counts : Step (Option V) → SeatState V → ℕ → SeatState V → Type 0
-  Counts step before found after = (w : V) → step.said ≡ some (Some w) → after ≡ (Counted w, before.1)
+  Counts step before found after = (w : V) → step.said ≡ some (Some w) →
+      after ≡ (Counted w, before.1)
 
   -- a free: the seat has nothing more, and has seen what it gave
   abbrev pub Frees : Step (Option V) → SeatState V → ℕ → SeatState V → Type 0
@@ -26,8 +27,8 @@ abbrev pub longer_value : {V E : Type 0} → (V → List E) → V → V → V
 longer_value list v w = if nat_lt (length (list v)) (length (list w)) then w else v
 
 module _ {V O E : Type 0} (origin : V → O) (list : V → List E) where
-  -- a try: where the word was 0 the slot is out with the seat, and its value goes on from what the seat had seen;
-  -- else nothing has changed
+  -- a try: where the word was 0 the slot is out with the seat, and its value goes on from what the
+  -- seat had seen; else nothing has changed
   abbrev pub Tries : Step (Option V) → SeatState V → ℕ → SeatState V → Type 0
   Tries step before found after =
       (found ≡ 0 → (v : V) → before.0 ≡ Idle v
@@ -36,5 +37,7 @@ module _ {V O E : Type 0} (origin : V → O) (list : V → List E) where
 
   -- a comparison: of two lists that were seen the longer stays, and both are beginnings of it
   abbrev pub Compares : Step (Option V) → SeatState V → ℕ → SeatState V → Type 0
-  Compares step before found after = (v w : V) → before.0 ≡ Joined v w → let longer = longer_value list v w in
-      (after ≡ (Idle longer, before.1)) × GoesOnFrom origin list longer v × GoesOnFrom origin list longer w
+  Compares step before found after = (v w : V) → before.0 ≡ Joined v w →
+      let longer = longer_value list v w in
+      (after ≡ (Idle longer, before.1)) × GoesOnFrom origin list longer v
+      × GoesOnFrom origin list longer w

@@ -13,7 +13,8 @@ module _ {V O E : Type 0} (origin : V → O) (list : V → List E) where
   abbrev pub GoesOnFrom : V → V → Type 0
   GoesOnFrom x v = (origin v ≡ origin x) × IsPrefix (list v) (list x)
 
-  -- what the view of a seat says, where x is the desk's value, `held` the first word, and `holder` who has the value
+  -- what the view of a seat says, where x is the desk's value, `held` the first word, and `holder`
+  -- who has the value
   abbrev pub Knows : V → ℕ → ℕ → ℕ → View V → Type 0
   Knows x held holder seat Spent = Unit {0}
   Knows x held holder seat (Idle v) = GoesOnFrom x v
@@ -27,7 +28,8 @@ Moment V = State (Option V) (View V)
 
 -- The desk's value is the one in the slot or, while a seat has it, what this seat's view says.
 -- The desk was made with the value `first`.
-pub record DeskInvariant {V O E : Type 0} (origin : V → O) (list : V → List E) (first : V) (s : Moment V) : Type 0 where
+pub record DeskInvariant {V O E : Type 0} (origin : V → O) (list : V → List E) (first : V)
+    (s : Moment V) : Type 0 where
   pub value : V
   pub held : ℕ
   pub holder : ℕ

@@ -12,7 +12,8 @@ IsOut (Joined v w) = ⊥
 IsOut (Called v) = Unit {0}
 IsOut (Counted v) = Unit {0}
 
--- the list that a seat of this view has seen; between a join and the comparison behind it, the first of the two
+-- the list that a seat of this view has seen; between a join and the comparison behind it, the
+-- first of the two
 abbrev pub seen_list : {V E : Type 0} → (V → List E) → View V → List E
 seen_list list Spent = []
 seen_list list (Idle v) = list v
@@ -32,7 +33,8 @@ view_origin origin (Counted v) = Some (origin v)
 abbrev pub SeatState : Type 0 → Type 0
 SeatState V = Me (Option V) (View V)
 
--- a seat between two calls of the desk: with the value, which was taken out of the slot, or with nothing
+-- a seat between two calls of the desk: with the value, which was taken out of the slot, or with
+-- nothing
 abbrev pub settled_seat : {V : Type 0} → Bool → V → SeatState V
 settled_seat true v = (Called v, (0, None) ∷ [])
 settled_seat false v = (Idle v, [])

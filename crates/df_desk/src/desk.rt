@@ -97,7 +97,8 @@ impl<V: Journaled> Desk<V> {
         requires seat { (seat.old.table_id ≡ self.now.table) × IsSettled false seat.old.me }
         ensures table { seat.new.table_id ≡ seat.old.table_id }
         ensures seat { seat.new.me ≡ settled_seat true result }
-        ensures begins { (v : V) → seat.old.me ≡ settled_seat false v → GoesOnFrom V.origin V.list result v }
+        ensures begins { (v : V) → seat.old.me ≡ settled_seat false v →
+            GoesOnFrom V.origin V.list result v }
     {
         for _ in rt.forever() {
             if let Some(value) = self.try_call(seat) {
@@ -113,7 +114,8 @@ impl<V: Journaled> Desk<V> {
     fn hand_back(&self, seat: &mut DeskSeat<V>, seen: u64, value: V) -> u64
         requires seat { (seat.old.table_id ≡ self.now.table) × IsSettled true seat.old.me }
         requires seen { (v : V) → seat.old.me ≡ settled_seat true v → seen ≡ length (V.list v) }
-        requires begins { (v : V) → seat.old.me ≡ settled_seat true v → GoesOnFrom V.origin V.list value v }
+        requires begins { (v : V) → seat.old.me ≡ settled_seat true v →
+            GoesOnFrom V.origin V.list value v }
         ensures table { seat.new.table_id ≡ seat.old.table_id }
         ensures seat { seat.new.me ≡ settled_seat false value }
         ensures count { result ≡ length (V.list value) }

@@ -1,4 +1,5 @@
-//! The laws of the desk: what its rule says of each moment of its table, whoever made the steps before.
+//! The laws of the desk: what its rule says of each moment of its table, whoever made the steps
+//! before.
 //! No law does anything. Its contract is the law.
 ghost use mathlib.Core.List.{IsPrefix};
 ghost use Rattle.df_desk.specs.Laws.{Always, HasOneHolder, TellsHolder, IsEmptyOnlyWhileHeld, HasOneList, CountsItsList, HasSeenBeginnings, HasOrigin};

@@ -5,7 +5,8 @@ pub enum View<V> {
     Spent,
     /// The seat holds nothing, and has seen the list.
     Idle(V),
-    /// The seat holds nothing, and has seen both lists: so it is between a join and the comparison behind it.
+    /// The seat holds nothing, and has seen both lists: so it is between a join and the comparison
+    /// behind it.
     Joined(V, V),
     /// The seat has the desk's value, which is this.
     Called(V),

@@ -96,22 +96,26 @@ abbrev with_entries : Pairs → Piles → Piles
 with_entries es p = record p { pairs = es ∷ p.pairs }
 
 mutual
-  taken : (a : Plain) (rest : List Mark) (p : Piles) → take_marks (marks a rest) p ≡ take_marks rest (with_plain a p)
+  taken : (a : Plain) (rest : List Mark) (p : Piles) →
+      take_marks (marks a rest) p ≡ take_marks rest (with_plain a p)
   taken (int n) rest p = refl
   taken (words s) rest p = refl
   taken (bytes s) rest p = refl
   taken (items ps) rest p = taken_items ps (bare 3 ∷ rest) p
   taken (entries es) rest p = taken_entries es (bare 4 ∷ rest) p
 
-  taken_items : (ps : Plains) (rest : List Mark) (p : Piles) → take_marks (marks_items ps rest) p ≡ take_marks rest (with_items ps p)
+  taken_items : (ps : Plains) (rest : List Mark) (p : Piles) →
+      take_marks (marks_items ps rest) p ≡ take_marks rest (with_items ps p)
   taken_items no_items rest p = refl
   taken_items (item a ps) rest p =
       taken a (marks_items ps (bare 6 ∷ rest)) p ∙ taken_items ps (bare 6 ∷ rest) (with_plain a p)
 
-  taken_entries : (es : Pairs) (rest : List Mark) (p : Piles) → take_marks (marks_entries es rest) p ≡ take_marks rest (with_entries es p)
+  taken_entries : (es : Pairs) (rest : List Mark) (p : Piles) →
+      take_marks (marks_entries es rest) p ≡ take_marks rest (with_entries es p)
   taken_entries no_entries rest p = refl
   taken_entries (entry k a es) rest p =
-      taken a (marks_entries es ((8, (pos 0, k)) ∷ rest)) p ∙ taken_entries es ((8, (pos 0, k)) ∷ rest) (with_plain a p)
+      taken a (marks_entries es ((8, (pos 0, k)) ∷ rest)) p
+      ∙ taken_entries es ((8, (pos 0, k)) ∷ rest) (with_plain a p)
 
 -- the marks that stand for the content
 abbrev to_marks : Plain → List Mark
@@ -119,8 +123,11 @@ to_marks a = marks a []
 
 -- marks give the content back
 pub from_marks-to_marks : (a : Plain) → from_marks (to_marks a) ≡ a
-from_marks-to_marks a = ap (λ (p : Piles). top p.plain) (taken a [] (record { plain = []; some = []; pairs = [] }))
+from_marks-to_marks a =
+    ap (λ (p : Piles). top p.plain) (taken a [] (record { plain = []; some = []; pairs = [] }))
 
 -- plain content is stored as its marks
 abbrev pub plain_code : Coded Plain
-plain_code = code_by (List Mark) (coded_list (coded× coded_ℕ (coded× coded_ℤ (coded_list coded_ℕ)))) to_marks from_marks from_marks-to_marks
+plain_code =
+    code_by (List Mark) (coded_list (coded× coded_ℕ (coded× coded_ℤ (coded_list coded_ℕ))))
+    to_marks from_marks from_marks-to_marks

@@ -1,4 +1,5 @@
--- How values are copied: layer by layer, where a layer is a list or map with the copies of its first values.
+-- How values are copied: layer by layer, where a layer is a list or map with the copies of its
+-- first values.
 use Rattle.std.specs.Prelude.{◌≡◌, ⊤, List, [], ◌∷◌, length, map, take, drop, Option, Some, None}
 use Rattle.df_frozen.specs.Plain.{Plain, items, entries, from_list, from_pairs}
 use Rattle.df_frozen.specs.Entries.{names, values, IsAscending}
@@ -26,7 +27,8 @@ first (x ∷ xs) = Some x
 -- the copies are equal to what they are made from, and names ascend
 abbrev pub IsCopied : Layer → Type 0
 IsCopied (Items from made) = map plain made.items ≡ take (length made.items) from.now
-IsCopied (Map from made) = (map named made.items ≡ take (length made.items) from.now) × IsAscending (names from.now)
+IsCopied (Map from made) = (map named made.items ≡ take (length made.items) from.now)
+    × IsAscending (names from.now)
 
 -- nothing is copied yet
 abbrev pub IsFresh : Layer → Type 0

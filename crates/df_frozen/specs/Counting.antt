@@ -1,4 +1,5 @@
--- How values are counted: row by row, where a row holds the values of one list or map that are left.
+-- How values are counted: row by row, where a row holds the values of one list or map that are
+-- left.
 use Rattle.std.specs.Prelude.{ℕ, ◌+◌, ◌*◌, max, List, [], ◌∷◌, ◌++◌, length, map}
 use Rattle.df_frozen.specs.Plain.{Plain, Plains, Pairs, int, words, bytes, items, entries, no_items, item, no_entries, entry, from_pairs, items_node_count, items_byte_count, items_depth}
 use Rattle.df_frozen.specs.Inner.{values_of}

@@ -30,7 +30,8 @@ abbrev mutual
   entries_steps no_entries = 0
   entries_steps (entry k p es) = steps p + entries_steps es
 
--- a bound on the steps that a value takes where it is first: what is first in it is opened once only
+-- a bound on the steps that a value takes where it is first: what is first in it is opened once
+-- only
 abbrev mutual
   pub first_steps : Plain → ℕ
   first_steps (int n) = 1

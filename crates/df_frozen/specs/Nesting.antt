@@ -22,6 +22,7 @@ most_le-deepest_item [] = omega arith
 most_le-deepest_item (v ∷ vs) = omega (arith, deep_le-depth v, most_le-deepest_item vs)
 
 -- the entries of a map are at most as deep as its deepest
-pub most_le-deepest_entry : (es : List (List ℕ × Value)) → most (λ e. max 0 (max (deep-Value e.1) 0)) es ≤ deepest_entry (map named es)
+pub most_le-deepest_entry : (es : List (List ℕ × Value)) →
+    most (λ e. max 0 (max (deep-Value e.1) 0)) es ≤ deepest_entry (map named es)
 most_le-deepest_entry [] = omega arith
 most_le-deepest_entry (e ∷ es) = omega (arith, deep_le-depth e.1, most_le-deepest_entry es)

@@ -44,7 +44,8 @@ change_item f (suc k) (item p ps) = option_map (item p) (change_item f k ps)
 abbrev pub change_value : (Plain → Option Plain) → List ℕ → Pairs → Option Pairs
 change_value f name no_entries = None
 change_value f name (entry n p es) =
-    if bytes_eq name n then option_map (λ q. entry n q es) (f p) else option_map (entry n p) (change_value f name es)
+    if bytes_eq name n then option_map (λ q. entry n q es) (f p)
+    else option_map (entry n p) (change_value f name es)
 
 -- the content, with f of the node one step on in its place
 abbrev pub change_child : (Plain → Option Plain) → Step → Plain → Option Plain
@@ -56,7 +57,8 @@ change_child f step (int n) = None
 change_child f step (words s) = None
 change_child f step (bytes s) = None
 
--- the content, with f of the node at the path in its place: nothing where no node is there, or f gives nothing
+-- the content, with f of the node at the path in its place: nothing where no node is there, or f
+-- gives nothing
 abbrev pub change_at : (Plain → Option Plain) → List Step → Plain → Option Plain
 change_at f [] p = f p
 change_at f (step ∷ path) p = change_child (change_at f path) step p
@@ -70,7 +72,8 @@ push_item v (item p ps) = item p (push_item v ps)
 abbrev pub put_entry : List ℕ → Plain → Pairs → Pairs
 put_entry name v no_entries = entry name v no_entries
 put_entry name v (entry n p es) =
-    match_ordering (name_cmp name n) (entry name v (entry n p es)) (entry n v es) (entry n p (put_entry name v es))
+    match_ordering (name_cmp name n) (entry name v (entry n p es)) (entry n v es)
+    (entry n p (put_entry name v es))
 
 -- a list with one more item; nothing else is pushed to
 abbrev pub push_to : Plain → Plain → Option Plain

@@ -11,4 +11,5 @@ behind_one (Err i) = Err (suc i)
 -- `Ok` with its index, or `Err` with the index before which it would stand
 abbrev pub place_of : List ℕ → List (List ℕ) → Result ℕ ℕ
 place_of name [] = Err 0
-place_of name (n ∷ ns) = match_ordering (name_cmp name n) (Err 0) (Ok 0) (behind_one (place_of name ns))
+place_of name (n ∷ ns) =
+    match_ordering (name_cmp name n) (Err 0) (Ok 0) (behind_one (place_of name ns))

@@ -39,7 +39,8 @@ impl Change {
 impl Value {
     // Changes this node.
     fn change(&mut self, change: Change) -> Result<(), NotPut>
-        ensures { Changes change (changed change (plain self.old)) (plain self.old) (plain self.new) result }
+        ensures { Changes change (changed change (plain self.old)) (plain self.old)
+            (plain self.new) result }
     {
         match change {
             Change::Set(value) => {

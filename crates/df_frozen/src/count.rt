@@ -48,7 +48,8 @@ impl Counts {
     // Adds a node that lies in so many lists and maps, without the values in it.
     fn add(&mut self, value: &Value, around: u64)
         ensures nodes { self.new.nodes ≡ counted (self.old.nodes + 1) }
-        ensures bytes { self.new.bytes ≡ counted (self.old.bytes + own_byte_count (plain value.now)) }
+        ensures bytes { self.new.bytes
+            ≡ counted (self.old.bytes + own_byte_count (plain value.now)) }
         ensures depth { self.new.depth ≡ max self.old.depth (counted (around + 1)) }
     {
         self.nodes = self.nodes.saturating_add(1);

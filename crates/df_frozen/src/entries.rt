@@ -101,7 +101,8 @@ impl Entries {
     }
 
     pub(crate) fn put(&mut self, name: Name, value: Value) -> Result<(), NotPut>
-        ensures put { OnOk result (from_pairs self.new ≡ put_entry name (plain value) (from_pairs self.old)) }
+        ensures put { OnOk result (from_pairs self.new
+            ≡ put_entry name (plain value) (from_pairs self.old)) }
         ensures unchanged { OnErr result (self.new ≡ self.old) }
         ensures back { IfErr result (λ e. e.value ≡ value) }
         ensures cause { IfErr result (λ e. e.cause ≡ PutCause.NoMemory) }
@@ -191,7 +192,8 @@ impl Entries {
 fn place(entries: &[(Name, Value)], name: &Name) -> Result<usize, usize>
     requires { IsAscending (names entries.now) }
     ensures place { result ≡ place_of name.now (names entries.now) }
-    ensures within { MatchResult result (λ k. k < length entries.now) (λ k. k ≤ length entries.now) }
+    ensures within { MatchResult result (λ k. k < length entries.now)
+        (λ k. k ≤ length entries.now) }
 {
     entries.binary_search_by_key(name, |entry| entry.0)
 }

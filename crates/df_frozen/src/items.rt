@@ -106,7 +106,8 @@ impl Items {
         change: Change,
     ) -> Result<(), NotPut>
         ensures { Changes change
-            (option_map items (change_item (change_at (changed change) path.now) k (from_list self.old)))
+            (option_map items (change_item (change_at (changed change) path.now) k
+            (from_list self.old)))
             (items (from_list self.old))
             (items (from_list self.new))
             result }

@@ -53,7 +53,8 @@ impl Error for NotPut {}
 impl Value {
     /// Replaces the node at the path. Takes no memory. The walk recurses as deep as the path.
     pub fn set_at(&mut self, path: &[Step], v: Value) -> Result<(), NotPut>
-        ensures set { OnOk result (set_at path.now (plain v) (plain self.old) ≡ Some (plain self.new)) }
+        ensures set { OnOk result (set_at path.now (plain v) (plain self.old)
+            ≡ Some (plain self.new)) }
 
         ensures no_such_place { OnErr result (IsNone (set_at path.now (plain v) (plain self.old))) }
         ensures cause { IfErr result (λ e. e.cause ≡ PutCause.NoSuchPlace) }
@@ -65,7 +66,8 @@ impl Value {
 
     /// Appends the value to the list at the path. The walk recurses as deep as the path.
     pub fn push_at(&mut self, path: &[Step], v: Value) -> Result<(), NotPut>
-        ensures pushed { OnOk result (push_at path.now (plain v) (plain self.old) ≡ Some (plain self.new)) }
+        ensures pushed { OnOk result (push_at path.now (plain v) (plain self.old)
+            ≡ Some (plain self.new)) }
 
         ensures no_such_place { IfErr result (λ e. (e.cause ≡ PutCause.NoSuchPlace)
             ↔ IsNone (push_at path.now (plain v) (plain self.old))) }
@@ -75,10 +77,11 @@ impl Value {
         self.change_at(path, Change::Push(v))
     }
 
-    /// Puts the value under the name in the map at the path, in place of one that is there. The walk
-    /// recurses as deep as the path.
+    /// Puts the value under the name in the map at the path, in place of one that is there. The
+    /// walk recurses as deep as the path.
     pub fn put_at(&mut self, path: &[Step], key: Name, v: Value) -> Result<(), NotPut>
-        ensures put { OnOk result (put_at path.now key (plain v) (plain self.old) ≡ Some (plain self.new)) }
+        ensures put { OnOk result (put_at path.now key (plain v) (plain self.old)
+            ≡ Some (plain self.new)) }
 
         ensures no_such_place { IfErr result (λ e. (e.cause ≡ PutCause.NoSuchPlace)
             ↔ IsNone (put_at path.now key (plain v) (plain self.old))) }

@@ -29,4 +29,6 @@ privilege_eq = eq_by_cmp privilege_cmp
 
 -- privileges are totally ordered
 pub privilege_cmp_total : IsTotalOrder privilege_cmp
-privilege_cmp_total = then_total (on_total (λ p. p.tag) nat_list_cmp_total) (on_total (λ p. p.right) (on_total place_of nat_cmp_total))
+privilege_cmp_total =
+    then_total (on_total (λ p. p.tag) nat_list_cmp_total)
+    (on_total (λ p. p.right) (on_total place_of nat_cmp_total))

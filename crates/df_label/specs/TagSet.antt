@@ -48,4 +48,5 @@ meet ts us = filter (λ t. contains us t) ts
 pub record IsLeastMissing (ts of : List (List ℕ)) (t : List ℕ) : Type 0 where
   pub wanted : IsTrue (contains of t)
   pub missing : contains ts t ≡ false
-  pub least : (u : List ℕ) → IsTrue (contains of u) → contains ts u ≡ false → is_le (tag_cmp t u) ≡ true
+  pub least : (u : List ℕ) → IsTrue (contains of u) → contains ts u ≡ false →
+      is_le (tag_cmp t u) ≡ true
