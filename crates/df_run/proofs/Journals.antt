@@ -1,0 +1,82 @@
+-- A journal of one more line, and the calls of scripts that are built.
+use Rattle.std.proofs.Common.{◌≡◌, List, ℕ, [], ◌∷◌, ◌++◌, ap, sym, ◌∙◌, append_assoc, Result, Ok, Err, OnOk, is_ok, true, map, reverse, All}
+use Rattle.std.proofs.lemmas.Bool.{true≢false}
+use Rattle.std.specs.List.{flat_map}
+use Rattle.std.proofs.lemmas.Grind.{flat_map-append}
+use Rattle.std.proofs.lemmas.List.{append-nil, map-append, reverse-append}
+use Rattle.std.proofs.lemmas.List.Elements.{All-head, All-tail}
+use Rattle.df_machine.specs.Journal.{State, appended, firsts}
+use Rattle.df_machine.specs.declared.start.RootStart.{RootStart}
+use Rattle.df_rules.specs.Legal.{answered, run}
+use Rattle.df_rules.specs.Start.{rows}
+use Rattle.df_unit.specs.declared.call.Call.{Call}
+use Rattle.df_unit.specs.declared.call.Call.TheVariants.{SubscribeManaged, Instantiate}
+use Rattle.df_unit.specs.declared.entry.Entry.{Entry}
+use Rattle.df_unit.specs.declared.name.UnitName.{UnitName}
+use Rattle.df_unit.specs.Served.{IsBuilt}
+use Rattle.df_journal_text.specs.Entry.{noted_text}
+use Rattle.df_journal_text.specs.Start.{head_text}
+use Rattle.df_script_text.specs.Script.{IsReadCall, IsScript, NamesNoLine, script_text}
+use Rattle.df_script_text.specs.declared.refused.FileRefused.{FileRefused}
+use Rattle.df_script_text.specs.declared.refused.FileRefused.TheVariants.{Syntax, NoMemory}
+use Rattle.df_script_text.specs.declared.line.ScriptLine.{ScriptLine}
+use Rattle.df_run.specs.Steps.{AppendsStep, RefusesLine, called, journal_of, noted, noted_in}
+
+-- what follows from what holds where a call is done
+pub on_ok-map : {A E : Type 0} {P Q : Type 0} (r : Result A E) → OnOk r P → (P → Q) → OnOk r Q
+on_ok-map (Ok u) p f = f p
+on_ok-map (Err e) p f = tt
+
+-- what holds where a call is done holds where it is found done
+pub if_ok-is : {A E : Type 0} {P : Type 0} (r : Result A E) → true ≡ is_ok r → OnOk r P → P
+if_ok-is (Ok x) t p = p
+if_ok-is (Err e) t p = absurd (true≢false t)
+
+-- the next line, where those that are left stand in reverse
+pub next_line : (lines past old new : List ScriptLine) (l : ScriptLine) → past ++ reverse old ≡ lines → old ≡ new ++ l ∷ [] → past ++ (l ∷ reverse new) ≡ lines
+next_line lines past old new l e p = ap (λ (xs : List ScriptLine). past ++ xs) (sym (reverse-append new (l ∷ [])) ∙ ap reverse (sym p)) ∙ e
+
+-- what holds of all holds of the one behind some
+pub all_at : (P : ScriptLine → Type 0) (past : List ScriptLine) (l : ScriptLine) (rest : List ScriptLine) → All P (past ++ (l ∷ rest)) → P l
+all_at P [] l rest a = All-head P l rest a
+all_at P (k ∷ past) l rest a = all_at P past l rest (All-tail P k (past ++ (l ∷ rest)) a)
+
+-- the journal of one more line
+pub journal_more : (roots : List RootStart) (ls : List ScriptLine) (l : ScriptLine) → journal_of roots (ls ++ l ∷ []) ≡ answered rows (firsts roots) (journal_of roots ls) l.actor l.call ∷ journal_of roots ls
+journal_more roots ls l = ap (λ (cs : List (UnitName × Call)). run rows (firsts roots) (reverse cs)) (map-append called ls (l ∷ [])) ∙ ap (run rows (firsts roots)) (reverse-append (map called ls) (called l ∷ []))
+
+-- what was made and written so far: the journal of these lines, and its text
+pub record IsWritten (roots : List RootStart) (ls : List ScriptLine) (machine : State) (written : List ℕ) : Type 0 where
+  pub core : machine ≡ (roots, journal_of roots ls)
+  pub text : written ≡ head_text roots ++ flat_map noted_text (noted roots (journal_of roots ls))
+
+-- the text of a journal of no line
+pub written_none : (roots : List RootStart) (core : State) (text : List ℕ) → core ≡ (roots, []) → text ≡ [] ++ head_text roots → IsWritten roots [] core text
+written_none roots core text c e = record { core = c; text = e ∙ sym (append-nil (head_text roots)) }
+
+-- the text of a journal of one more line
+pub written_more : (roots : List RootStart) (ls : List ScriptLine) (l : ScriptLine) (old new : State) (before now : List ℕ) → IsWritten roots ls old before → AppendsStep l old new before now → IsWritten roots (ls ++ l ∷ []) new now
+written_more roots ls l old new before now w a =
+    let past = journal_of roots ls in
+    let e = answered rows (firsts roots) past l.actor l.call in
+    record {
+      core = a.made ∙ ap (appended l.actor l.call) w.core ∙ ap (λ (j : List Entry). let x : State = (roots, j) in x) (sym (journal_more roots ls l));
+      text =
+          a.text
+          ∙ ap (λ (s : State). before ++ noted_text (noted_in s (answered rows (firsts s.0) s.1 l.actor l.call))) w.core
+          ∙ ap (λ (t : List ℕ). t ++ noted_text (noted_in (roots, past) e)) w.text
+          ∙ append_assoc (head_text roots) (flat_map noted_text (noted roots past)) (noted_text (noted_in (roots, past) e))
+          ∙ ap (λ (t : List ℕ). head_text roots ++ t) (sym (flat_map-append noted_text (noted roots past) (noted_in (roots, past) e ∷ []) ∙ ap (λ (t : List ℕ). flat_map noted_text (noted roots past) ++ t) (append-nil (noted_text (noted_in (roots, past) e)))))
+          ∙ ap (λ (j : List Entry). head_text roots ++ flat_map noted_text (noted roots j)) (sym (journal_more roots ls l));
+    }
+
+-- the calls of scripts are built
+pub read_is_built : (c : Call) → IsReadCall c → IsBuilt c
+read_is_built (SubscribeManaged f) h = absurd h
+read_is_built (Instantiate a b) h = absurd h
+read_is_built _ h = tt
+
+-- a script that isn't read is the text of none
+pub refuses_line : (bytes : List ℕ) (refused : FileRefused) → (refused ≡ Syntax 0 → (roots : List RootStart) (lines : List ScriptLine) → IsScript roots lines → bytes ≡ script_text roots lines → ⊥) → NamesNoLine refused → RefusesLine bytes refused
+refuses_line bytes (Syntax line) syntax names = (names, λ t. syntax (ap Syntax names) t.0 t.1 t.2 t.3)
+refuses_line bytes NoMemory syntax names = tt

@@ -1,0 +1,3 @@
+pub mod Journals
+pub mod Sound
+pub mod Told

@@ -1,0 +1,17 @@
+//! The top call: what the words of a command ask for, from the bytes of a file to the bytes of the
+//! output, and the program that hands over the user's words.
+#![tactic(auto)]
+
+mod program;
+mod run;
+mod status;
+mod steps;
+#[cfg(test)]
+mod tests;
+mod words;
+#[cfg(test)]
+mod worked;
+
+pub use program::run_program;
+pub use run::{run_main, run_plain};
+pub use status::{BadKind, Status};

@@ -1,0 +1,95 @@
+ghost use Rattle.std.specs.Prelude.{◌≡◌};
+ghost use Rattle.std.specs.Process.{exit_status};
+ghost use Rattle.df_run.specs.Status.{code_of};
+
+use crate::run::run_main;
+use crate::status::Status;
+use df_io::{FileShelf, OutSink};
+use std::env::Env;
+use std::process::ExitCode;
+use std::rt::Files;
+use std::{env, io};
+
+/// What `--help` prints.
+const HELP: &str = "usage: defcon steps FILE
+
+Runs the script of unit calls in FILE and writes the journal of all calls, replies, commits
+and events handed out.
+
+  --help     this text
+  --version  the version
+
+Ends with 0 where all was written, 2 for words that have none of these forms, 3 for a file that
+is no script, 5 for a file that can't be read, 6 for output that can't be written, 7 where memory
+runs out, and 8 for a file of more than 67,108,864 bytes.
+";
+
+/// What `--version` prints.
+const VERSION: &str = "defcon 0.1.0
+";
+
+/// The words behind the program's name. Words that aren't texts are those of no command.
+fn own_words<R: Env + AllocGlobal>(rt: &R) -> Result<Vec<String>, Status> {
+    let all = match env::args(rt) {
+        Ok(all) => all,
+        Err(error) if error.kind() == io::ErrorKind::OutOfMemory => return Err(Status::NoMemory),
+        Err(_) => return Err(Status::Usage),
+    };
+    let mut words = Vec::new(rt.alloc());
+    for word in all.skip(1) {
+        if words.push(word).is_err() {
+            return Err(Status::NoMemory);
+        }
+    }
+    Ok(words)
+}
+
+/// What a lone `--help` or `--version` prints.
+fn told(words: &[String]) -> Option<&'static str> {
+    let [word] = words else {
+        return None;
+    };
+    match word.as_str() {
+        "--help" => Some(HELP),
+        "--version" => Some(VERSION),
+        _ => None,
+    }
+}
+
+/// The program: answers a lone `--help` or `--version`, and else does what the user's words ask for
+/// on the real files and the real output. A status other than Done is one line on standard error.
+pub fn run_program<R: Env + AllocGlobal + Files + Print + Eprint + Clone + Drop>(
+    rt: &R,
+) -> ExitCode {
+    let status = match own_words(rt) {
+        Ok(words) => done(rt, words.as_slice()),
+        Err(status) => status,
+    };
+    end(rt, status)
+}
+
+/// Does what the words ask for.
+fn done<R: AllocGlobal + Files + Print + Clone + Drop>(rt: &R, words: &[String]) -> Status {
+    if let Some(text) = told(words) {
+        return match print!(rt; "{text}") {
+            Ok(()) => Status::Done,
+            Err(_) => Status::WriteFault,
+        };
+    }
+    let Ok(files) = rt.clone() else {
+        return Status::NoMemory;
+    };
+    let mut shelf = FileShelf::new(files);
+    let mut out = OutSink::new(io::writer(rt));
+    run_main(rt.alloc(), words, &mut shelf, &mut out)
+}
+
+/// Prints the status line, but for Done, and gives the code with which the program ends.
+fn end<R: Eprint>(rt: &R, status: Status) -> ExitCode
+    ensures { exit_status result ≡ code_of status }
+{
+    if !matches!(status, Status::Done) {
+        let _ = eprintln!(rt; "{status}");
+    }
+    ExitCode::from(status.code())
+}

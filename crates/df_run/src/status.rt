@@ -1,0 +1,79 @@
+ghost use Rattle.std.specs.Prelude.{◌≡◌};
+ghost use Rattle.df_run.specs.Status.{code_of};
+
+use std::fmt;
+
+/// What is wrong with an input.
+#[derive(Clone, Copy, Debug, PartialEq, Eq)]
+pub enum BadKind {
+    Syntax,
+}
+
+/// How a run ended.
+#[derive(Clone, Copy, Debug, PartialEq, Eq)]
+pub enum Status {
+    Done,
+    Usage,
+    BadInput {
+        input: u32,
+        line: u64,
+        kind: BadKind,
+    },
+    ReadFault,
+    WriteFault,
+    NoMemory,
+    TooLong {
+        input: u32,
+    },
+}
+
+impl Status {
+    /// The code with which the program ends.
+    pub fn code(self) -> u8
+        ensures { result ≡ code_of self }
+    {
+        match self {
+            Status::Done => 0,
+            Status::Usage => 2,
+            Status::BadInput { .. } => 3,
+            Status::ReadFault => 5,
+            Status::WriteFault => 6,
+            Status::NoMemory => 7,
+            Status::TooLong { .. } => 8,
+        }
+    }
+}
+
+impl fmt::Display for BadKind {
+    ghost use Rattle.std.specs.Prelude.{Some};
+    ghost use Rattle.df_run.specs.Status.{kind_text};
+
+    ghost output = { λ kind. Some (kind_text kind) };
+
+    fn fmt<W: fmt::Write>(&self, f: &mut fmt::Formatter<W>) -> fmt::Result {
+        match self {
+            BadKind::Syntax => f.write_str("syntax"),
+        }
+    }
+}
+
+impl fmt::Display for Status {
+    ghost use Rattle.std.specs.Prelude.{Some};
+    ghost use Rattle.df_run.specs.Status.{status_text};
+
+    ghost output = { λ status. Some (status_text status) };
+
+    fn fmt<W: fmt::Write>(&self, f: &mut fmt::Formatter<W>) -> fmt::Result {
+        match self {
+            Status::Done => f.write_str("defcon: done"),
+            Status::Usage => f.write_str("defcon: usage"),
+            Status::BadInput { input, line, kind } => {
+                write!(f, "defcon: bad input {input} line {line}: {kind}")
+            }
+            Status::ReadFault => f.write_str("defcon: read fault"),
+            Status::WriteFault => f.write_str("defcon: write fault"),
+            Status::NoMemory => f.write_str("defcon: no memory"),
+            Status::TooLong { input } => write!(f, "defcon: input {input} too long"),
+        }
+    }
+}

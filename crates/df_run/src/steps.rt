@@ -1,0 +1,92 @@
+ghost use Rattle.std.specs.Prelude.{◌≡◌, ◌++◌, IfOk, IfErr, OnOk, Some, slice_get};
+ghost use Rattle.std.specs.List.{All};
+ghost use Rattle.df_unit.specs.declared.entry.Entry.{Entry};
+ghost use Rattle.df_unit.specs.Served.{IsBuilt};
+ghost use Rattle.df_journal_text.specs.Entry.{entry_text};
+ghost use Rattle.df_script_text.specs.declared.refused.FileRefused.{FileRefused};
+ghost use Rattle.df_machine.specs.Journal.{appended};
+ghost use Rattle.df_run.specs.Steps.{AppendsStep, Records, RecordsScript, RefusesLine, contamination_in};
+
+use df_journal_text::{append_entry, append_head};
+use df_label::{Label, NoMemory};
+use df_machine::{Core, Start};
+use df_script_text::{FileRefused, ScriptLine, read_script};
+use df_unit::{Call, UnitName};
+use std::alloc::Global;
+
+/// The text of the journal of a script's calls.
+#[tactic(auto, using(crate::proofs::Sound::journal_is_sound))]
+pub fn steps(alloc: Global, bytes: &[u8]) -> Result<Vec<u8>, FileRefused>
+    ensures records { IfOk result (λ text. RecordsScript bytes.now text.items) }
+    ensures refuses { IfErr result (RefusesLine bytes.now) }
+{
+    let (start, lines) = match read_script(alloc, bytes) {
+        Ok(script) => script,
+        Err(refused) => return Err(refused),
+    };
+    match journal_of(alloc, start, lines) {
+        Ok(text) => Ok(text),
+        Err(NoMemory) => Err(FileRefused::NoMemory),
+    }
+}
+
+/// Makes the calls in their order, and gives the text of their journal.
+fn journal_of(alloc: Global, start: Start, mut lines: Vec<ScriptLine>) -> Result<Vec<u8>, NoMemory>
+    requires { All (λ line. IsBuilt line.call) lines.items }
+    ensures { IfOk result (λ text. Records start lines.items text.items) }
+{
+    let mut text = Vec::new(alloc);
+    append_head(&start, &mut text)?;
+    let mut core = Core::start(alloc, start)?;
+    lines.reverse();
+    while let Some(line) = lines.pop() {
+        append_step(&mut core, line, &mut text)?;
+    }
+    Ok(text)
+}
+
+/// Makes a call, and appends its entry with the actor's contamination before it.
+fn append_step(core: &mut Core, line: ScriptLine, text: &mut Vec<u8>) -> Result<(), NoMemory>
+    requires { IsBuilt line.call }
+    ensures { OnOk result (AppendsStep line core.old core.new text.old.items text.new.items) }
+{
+    let contamination = contamination_of(core, &line.actor)?;
+    let ScriptLine { actor, call } = line;
+    make_call(core, &actor, call)?;
+    append_newest(core, &contamination, text)
+}
+
+/// The contamination of a unit, where it exists.
+fn contamination_of(core: &Core, name: &UnitName) -> Result<Option<Label>, NoMemory>
+    ensures { IfOk result (λ c. c ≡ contamination_in core.now name.now) }
+{
+    match core.local(name) {
+        Some(local) => Ok(Some(local.contamination().copy()?)),
+        None => Ok(None),
+    }
+}
+
+/// Makes a call, of which the journal then tells.
+fn make_call(core: &mut Core, actor: &UnitName, call: Call) -> Result<(), NoMemory>
+    requires { IsBuilt call }
+    ensures { OnOk result (core.new ≡ appended actor.now call core.old) }
+{
+    let reply = core.step(actor, call);
+    if reply.is_ok() { Ok(()) } else { Err(NoMemory) }
+}
+
+/// Appends the lines of the newest entry.
+fn append_newest(
+    core: &Core,
+    contamination: &Option<Label>,
+    text: &mut Vec<u8>,
+) -> Result<(), NoMemory>
+    requires { (entry : Entry) × (slice_get core.now.1 0 ≡ Some entry) }
+    ensures { (entry : Entry) → slice_get core.now.1 0 ≡ Some entry →
+        OnOk result (text.new.items ≡ text.old.items ++ entry_text contamination.now entry) }
+{
+    let Some(entry) = core.newest() else {
+        unreachable!()
+    };
+    append_entry(entry, contamination, text)
+}

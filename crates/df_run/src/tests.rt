@@ -1,0 +1,214 @@
+//! Runs of the whole program on shelves and sinks in memory.
+use crate::run::run_main;
+use crate::status::{BadKind, Status};
+use crate::worked::{FIRST, FIRST_JOURNAL, WORKED};
+use df_io::{LONGEST_FILE, MemoryShelf, MemorySink};
+use std::alloc::{AllocError, Global};
+use std::test::Fail;
+
+const BAD: Status = Status::BadInput {
+    input: 1,
+    line: 0,
+    kind: BadKind::Syntax,
+};
+
+fn words_of(alloc: Global, words: &[&str]) -> Result<Vec<String>, AllocError> {
+    let mut own = Vec::new(alloc);
+    for word in words {
+        own.push(String::from_str(alloc, word)?)?;
+    }
+    Ok(own)
+}
+
+/// The status of a run of this file, and what it wrote.
+fn run_of(rt: &HostRuntime, bytes: &[u8]) -> Result<(Status, MemorySink), Fail> {
+    let alloc = rt.alloc();
+    let mut shelf = MemoryShelf::new(alloc);
+    shelf.put("a", bytes)?;
+    let mut sink = MemorySink::new(alloc, 8192, 1024)?;
+    let words = words_of(alloc, &["steps", "a"])?;
+    let status = run_main(alloc, words.as_slice(), &mut shelf, &mut sink);
+    Ok((status, sink))
+}
+
+#[test]
+fn scripts_are_run_or_refused_whole(rt: HostRuntime) -> Result<(), Fail> {
+    let files: [(&[u8], Status, &[u8]); 5] = [
+        (
+            b"defcon-script 1\nrun\n",
+            Status::Done,
+            b"defcon-journal 2\nrun\n",
+        ),
+        (b"", BAD, b""),
+        (&FIRST[..FIRST.len() - 1], BAD, b""),
+        (&FIRST[..30], BAD, b""),
+        (b"defcon-script 1\nrun\n0 geT\n", BAD, b""),
+    ];
+    for (bytes, status, written) in files {
+        let (ended, sink) = run_of(&rt, bytes)?;
+        assert_eq!(rt; ended, status);
+        assert_eq!(rt; sink.bytes(), written);
+    }
+    Ok(())
+}
+
+#[test]
+fn worked_scripts_give_their_journals(rt: HostRuntime) -> Result<(), Fail> {
+    for worked in &WORKED {
+        let (status, sink) = run_of(&rt, worked.script)?;
+        assert_eq!(rt; status, Status::Done, "{}", worked.name);
+        assert_eq!(rt; sink.bytes(), worked.journal, "{}", worked.name);
+    }
+    Ok(())
+}
+
+#[test]
+fn a_file_of_one_byte_too_many_is_refused(rt: HostRuntime) -> Result<(), Fail> {
+    let mut bytes = Vec::new(rt.alloc());
+    bytes.resize(LONGEST_FILE + 1, b'\n')?;
+    let (status, sink) = run_of(&rt, bytes.as_slice())?;
+    assert_eq!(rt; status, Status::TooLong { input: 1 });
+    assert!(rt; sink.bytes().is_empty());
+    Ok(())
+}
+
+#[test]
+fn each_read_may_fail(rt: HostRuntime) -> Result<(), Fail> {
+    let alloc = rt.alloc();
+    let words = words_of(alloc, &["steps", "a"])?;
+    for (call, status, written) in [
+        (1, Status::ReadFault, 0),
+        (2, Status::ReadFault, 0),
+        (3, Status::Done, 257),
+    ] {
+        let mut shelf = MemoryShelf::new(alloc);
+        shelf.put("a", FIRST)?;
+        shelf.fail(call)?;
+        let mut sink = MemorySink::new(alloc, 257, 257)?;
+        assert_eq!(rt;
+            run_main(alloc, words.as_slice(), &mut shelf, &mut sink),
+            status
+        );
+        assert_eq!(rt; sink.bytes().len(), written);
+    }
+    let mut empty = MemoryShelf::new(alloc);
+    let mut sink = MemorySink::new(alloc, 257, 257)?;
+    assert_eq!(rt;
+        run_main(alloc, words.as_slice(), &mut empty, &mut sink),
+        Status::ReadFault
+    );
+    Ok(())
+}
+
+#[test]
+fn each_write_may_fail(rt: HostRuntime) -> Result<(), Fail> {
+    let alloc = rt.alloc();
+    let words = words_of(alloc, &["steps", "a"])?;
+    let mut shelf = MemoryShelf::new(alloc);
+    shelf.put("a", FIRST)?;
+    // 257 bytes, 16 in a call, are 17 calls
+    for taken in 0..18 {
+        let mut sink = MemorySink::new(alloc, 257, 16)?;
+        sink.fail(taken as u64 + 1)?;
+        let status = run_main(alloc, words.as_slice(), &mut shelf, &mut sink);
+        let wanted = if taken < 17 {
+            Status::WriteFault
+        } else {
+            Status::Done
+        };
+        let written = (16 * taken).min(FIRST_JOURNAL.len());
+        assert_eq!(rt; status, wanted, "{taken}");
+        assert_eq!(rt; sink.bytes(), &FIRST_JOURNAL[..written], "{taken}");
+    }
+    Ok(())
+}
+
+#[test]
+fn other_words_are_usage(rt: HostRuntime) -> Result<(), Fail> {
+    let alloc = rt.alloc();
+    let lines: [&[&str]; 7] = [
+        &[],
+        &["steps"],
+        &["steps", ""],
+        &["steps", "a", "a"],
+        &["Steps", "a"],
+        &["a", "steps"],
+        &["--help", "a"],
+    ];
+    for line in lines {
+        let words = words_of(alloc, line)?;
+        let mut shelf = MemoryShelf::new(alloc);
+        shelf.put("a", FIRST)?;
+        let mut sink = MemorySink::new(alloc, 1024, 1024)?;
+        assert_eq!(rt;
+            run_main(alloc, words.as_slice(), &mut shelf, &mut sink),
+            Status::Usage
+        );
+        assert!(rt; sink.bytes().is_empty());
+    }
+    Ok(())
+}
+
+/// How many times in a row unit 0 makes a call, the call, its reply, whether the replies end with
+/// the
+/// numbers from 0 upwards, and what the last of them makes of an event.
+type Calls = (u32, &'static str, &'static str, bool, &'static str);
+
+/// A unit that comes to each of its limits.
+static LIMITS: [Calls; 15] = [
+    (64, "create", "handle", true, ""),
+    (1, "create", "too many handles", false, ""),
+    (1, "drop 5", "ok", false, ""),
+    (1, "create", "handle 5", false, ""),
+    (1, "add 5 {|} a 1", "ok", false, ""),
+    (1, "publish 5", "ok", false, "= 0!64\n+ {|} a 1\n"),
+    (64, "add 0 {|} a 1", "ok", false, ""),
+    (1, "add 0 {|} a 1", "too many parts 65", false, ""),
+    (1, "del 0 {|} a", "ok", false, ""),
+    (1, "publish 0", "empty event", false, ""),
+    (1, "add 0 {|} a 1", "ok", false, ""),
+    (64, "sub a?", "sub", true, ""),
+    (1, "sub a?", "too many subs", false, ""),
+    (1, "read 63 a", "no part", false, ""),
+    (1, "drop 99", "no handle", false, ""),
+];
+
+/// A script of unit 0 and its journal.
+#[derive(Drop)]
+struct Dialogue {
+    script: String,
+    journal: String,
+}
+
+fn append(told: &mut Dialogue, calls: &Calls) -> Result<(), AllocError> {
+    let (times, call, reply, is_numbered, commit) = calls;
+    for number in 0..*times {
+        writeln!(told.script, "0 {call}")?;
+        if *is_numbered {
+            writeln!(told.journal, "0 {call} -> {reply} {number}\n@ {{|}}")?;
+        } else {
+            writeln!(told.journal, "0 {call} -> {reply}\n@ {{|}}")?;
+        }
+    }
+    told.journal.push_str(commit)
+}
+
+fn dialogue_of(alloc: Global, rows: &[Calls]) -> Result<Dialogue, AllocError> {
+    let mut told = Dialogue {
+        script: String::from_str(alloc, "defcon-script 1\nunit 0 {|}\nrun\n")?,
+        journal: String::from_str(alloc, "defcon-journal 2\nunit 0 {|}\nrun\n")?,
+    };
+    for calls in rows {
+        append(&mut told, calls)?;
+    }
+    Ok(told)
+}
+
+#[test]
+fn a_unit_comes_to_each_of_its_limits(rt: HostRuntime) -> Result<(), Fail> {
+    let told = dialogue_of(rt.alloc(), &LIMITS)?;
+    let (status, sink) = run_of(&rt, told.script.as_bytes())?;
+    assert_eq!(rt; status, Status::Done);
+    assert_eq!(rt; sink.bytes(), told.journal.as_bytes());
+    Ok(())
+}
