@@ -9,7 +9,7 @@ mod memory;
 
 pub use clause::{Clause, Test};
 pub use field_test::FieldTest;
-pub use filter::{Filter, FilterRefused};
+pub use filter::{Filter, FilterRefused, MOST_CLAUSES};
 pub use memory::NoMemory;
 
 #[cfg(test)]

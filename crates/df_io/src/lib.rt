@@ -15,7 +15,7 @@ mod write;
 pub use disk::{FileShelf, OutSink};
 pub use memory_shelf::MemoryShelf;
 pub use memory_sink::MemorySink;
-pub use read::{LONGEST_FILE, NotRead, PIECE, read_file};
+pub use read::{LONGEST_FILE, NotRead, read_file};
 pub use shelf::{NoMemory, Shelf, ShelfFailed};
 pub use sink::{Sink, SinkFailed};
 pub use sure::{SureShelf, SureSink};

@@ -9,7 +9,7 @@ use std::alloc::Global;
 pub const LONGEST_FILE: usize = 67_108_864;
 
 /// How many bytes are asked for at once.
-pub const PIECE: usize = 65_536;
+pub(crate) const PIECE: usize = 65_536;
 
 /// Why a file was not read.
 #[derive(Clone, Copy, Debug, PartialEq, Eq)]

@@ -1,8 +1,9 @@
 //! Each read and each write that can fail does so in turn, and the real files and the real output
 //! are used once.
+use crate::read::PIECE;
 use crate::{
-    FileShelf, LONGEST_FILE, MemoryShelf, MemorySink, NoMemory, NotRead, OutSink, PIECE, Shelf,
-    Sink, SinkFailed, SureShelf, SureSink, read_file, write_all,
+    FileShelf, LONGEST_FILE, MemoryShelf, MemorySink, NoMemory, NotRead, OutSink, Shelf, Sink,
+    SinkFailed, SureShelf, SureSink, read_file, write_all,
 };
 use std::alloc::Global;
 use std::fs::OpenFile;
