@@ -2,6 +2,8 @@
 //! output, and the program that hands over the user's words.
 #![tactic(auto)]
 
+#[cfg(test)]
+mod examples;
 mod program;
 mod run;
 mod status;

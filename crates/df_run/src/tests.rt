@@ -1,4 +1,5 @@
 //! Runs of the whole program on shelves and sinks in memory.
+use crate::examples::EXAMPLES;
 use crate::run::run_main;
 use crate::status::{BadKind, Status};
 use crate::worked::{FIRST, FIRST_JOURNAL, WORKED};
@@ -54,7 +55,7 @@ fn scripts_are_run_or_refused_whole(rt: HostRuntime) -> Result<(), Fail> {
 
 #[test]
 fn worked_scripts_give_their_journals(rt: HostRuntime) -> Result<(), Fail> {
-    for worked in &WORKED {
+    for worked in WORKED.iter().chain(&EXAMPLES) {
         let (status, sink) = run_of(&rt, worked.script)?;
         assert_eq!(rt; status, Status::Done, "{}", worked.name);
         assert_eq!(rt; sink.bytes(), worked.journal, "{}", worked.name);
