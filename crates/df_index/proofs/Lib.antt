@@ -1,0 +1,9 @@
+pub mod Served
+pub mod Pairs
+pub mod Table
+pub mod Enrolled
+pub mod Members
+pub mod Looked
+pub mod Counted
+pub mod WhoIsDue
+pub mod DueFound

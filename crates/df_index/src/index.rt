@@ -1,0 +1,136 @@
+//! The index of subscriptions.
+
+ghost use Rattle.std.specs.Prelude.{◌≡◌, ◌↔◌, ℕ, ◌+◌, ◌<◌, ◌≤◌, ◌==◌, ◌&&◌, ◌||◌, [], ◌∷◌, ◌++◌, Some, None, length, OnOk, OnErr, IfOk};
+ghost use Rattle.std.specs.List.{All, Contains};
+ghost use Rattle.std.specs.List.Sorted.{IsSorted, IsStrictlySortedBy};
+ghost use Rattle.df_index.specs.Due.{IsDue, Pair, pair_cmp, was_handed};
+ghost use Rattle.df_index.specs.IndexState.{handed_at};
+ghost use Rattle.df_index.specs.Listing.{listed_under, names_of};
+
+use crate::due::{Occasion, due};
+use crate::listing::Listing;
+use crate::marks::Marks;
+use crate::names::list_names;
+use crate::{Listed, Receivers, Subscription, Tester};
+use df_frozen::Name;
+use df_label::{Label, NoMemory};
+use df_part::{Contents, Edit};
+use std::alloc::Global;
+use std::marker::Model;
+
+/// The pairs of the subscriptions to which the event is to be handed, ascending. What it looks up
+/// it puts down in `names` and `places`.
+fn found<F: Listed, T: Tester<F>>(
+    listing: &Listing<F>,
+    occasion: &Occasion<'_>,
+    names: &mut Vec<Name>,
+    places: &mut Vec<usize>,
+    tester: &mut T,
+) -> Result<Vec<(usize, u32)>, NoMemory>
+    requires labelled { All (λ s. s.unit < length occasion.now.labels.now) listing.now }
+    requires ascending { IsSorted pair_cmp occasion.now.handed.now }
+    ensures ascending { IfOk result (λ v. IsStrictlySortedBy pair_cmp v.items) }
+    ensures sound { IfOk result (λ v. (p : Pair) → Contains v.items p → IsDue F.matches occasion.now.labels.now occasion.now.handed.now occasion.now.contents.now occasion.now.edit.now listing.now p) }
+    ensures whole { IfOk result (λ v. (p : Pair) → IsDue F.matches occasion.now.labels.now occasion.now.handed.now occasion.now.contents.now occasion.now.edit.now listing.now p → Contains v.items p) }
+    ensures bound { T.count tester.new ≤ T.count tester.old + listed_under F.first_of (names_of occasion.now.contents.now) listing.now }
+{
+    let alloc = *names.allocator();
+    list_names(occasion.contents.parts(), names)?;
+    listing.look_up(names.as_slice(), places)?;
+    let mut found = due(alloc, occasion, listing.as_slice(), places.as_slice(), tester)?;
+    found.sort_unstable();
+    found.dedup();
+    Ok(found)
+}
+
+/// Subscriptions, with any type of filter, and to whom each event was handed. Units and events
+/// are named by their places in lists of the caller.
+#[derive(Drop)]
+pub struct Index<F: Listed> {
+    listing: Listing<F>,
+    marks: Marks,
+    names: Vec<Name>,
+    places: Vec<usize>,
+}
+
+impl<F: Listed> Model for Index<F> {
+    ghost use Rattle.df_index.specs.IndexState.{IndexState, index_code};
+
+    ghost Value = { IndexState F };
+
+    ghost coded = { index_code F.code };
+
+    ghost view = { λ x. record { enrolled = x.listing; handed = x.marks.handed; ready = x.marks.ready } };
+}
+
+impl<F: Listed> Index<F> {
+    ghost use Rattle.df_index.specs.IndexState.{IndexState};
+
+    /// Takes no memory.
+    pub fn new(alloc: Global) -> Index<F>
+        ensures { result ≡ record { enrolled = []; handed = []; ready = None } }
+    {
+        Index {
+            listing: Listing::new(alloc),
+            marks: Marks::new(alloc),
+            names: Vec::new(alloc),
+            places: Vec::new(alloc),
+        }
+    }
+
+    /// Enrols a subscription of a unit, under the first name of its filter.
+    pub fn enrol(&mut self, unit: usize, sub: u32, filter: F) -> Result<(), NoMemory>
+        ensures ok { OnOk result (self.new ≡ record self.old { enrolled = self.old.enrolled ++ (record { unit = unit; sub = sub; filter = filter }) ∷ []; ready = None }) }
+        ensures unchanged { OnErr result (self.new ≡ self.old) }
+    {
+        self.listing.enrol(Subscription { unit, sub, filter })?;
+        self.marks.forget();
+        Ok(())
+    }
+
+    /// To which subscriptions an event is to be handed at a commit with this edit, where these
+    /// are the labels of the units and `contents` are those after the edit. Tests no filter
+    /// that isn't listed under a name of the contents, and none twice.
+    pub fn receivers<T: Tester<F>>(
+        &mut self,
+        labels: &[Label],
+        event: usize,
+        contents: &Contents,
+        edit: &Edit,
+        tester: &mut T,
+    ) -> Result<Receivers, NoMemory>
+        requires { All (λ s. s.unit < length labels.now) self.old.enrolled }
+        ensures ascending { IfOk result (λ pairs. IsStrictlySortedBy pair_cmp pairs) }
+        ensures sound { IfOk result (λ pairs. (p : Pair) → Contains pairs p → IsDue F.matches labels.now (handed_at self.old.handed event) contents.now edit.now self.old.enrolled p) }
+        ensures whole { IfOk result (λ pairs. (p : Pair) → IsDue F.matches labels.now (handed_at self.old.handed event) contents.now edit.now self.old.enrolled p → Contains pairs p) }
+        ensures bound { T.count tester.new ≤ T.count tester.old + listed_under F.first_of (names_of contents.now) self.old.enrolled }
+        ensures ready { IfOk result (λ pairs. self.new ≡ record self.old { ready = Some (event, pairs) }) }
+        ensures unchanged { OnErr result (self.new ≡ self.old) }
+    {
+        let occasion = Occasion {
+            labels,
+            handed: self.marks.of_event(event),
+            contents,
+            edit,
+        };
+        let found = found(
+            &self.listing,
+            &occasion,
+            &mut self.names,
+            &mut self.places,
+            tester,
+        )?;
+        self.marks.make_ready(event, found.as_slice())?;
+        Ok(Receivers::new(found))
+    }
+
+    /// Marks the event as handed to its receivers. Takes no memory: `receivers` made the room.
+    pub fn book(&mut self, event: usize, r: &Receivers)
+        requires { self.old.ready ≡ Some (event, r.now) }
+        ensures enrolled { self.new.enrolled ≡ self.old.enrolled }
+        ensures handed { (e : ℕ) (p : Pair) → was_handed (handed_at self.new.handed e) p ≡ (was_handed (handed_at self.old.handed e) p || ((e == event) && was_handed r.now p)) }
+        ensures ready { self.new.ready ≡ None }
+    {
+        self.marks.book(event, r);
+    }
+}
