@@ -7,7 +7,7 @@ use Rattle.df_label.specs.declared.label.Label.{Label}
 use Rattle.df_part.specs.Part.{cut, readable}
 use Rattle.df_part.specs.declared.edit.Spot.{Spot}
 use Rattle.df_part.specs.declared.part.Part.{Part}
-use Rattle.df_index.specs.Due.{IsDue, Pair, adds_readable, is_due, is_due_at, pair_of, pairs_at, was_handed}
+use Rattle.df_index.specs.Due.{IsDue, Pair, adds_readable, is_due, is_due_at, pair_of, pairs_at, has_pair}
 use Rattle.df_index.specs.Listing.{names_of}
 use Rattle.df_index.specs.declared.subscription.Subscription.{Subscription}
 use Rattle.df_index.proofs.WhoIsDue.{found_passes, kept_names, passing_found, places_under}
@@ -31,7 +31,7 @@ module _ {F : Type 0} (first : F → Option (List ℕ)) (matches : F → List Pa
   -- what is due has a filter that matches parts of the contents
   due_matches : (s : Subscription F) (o : Option Label) → is_due_at matches handed contents edit o s ≡ true → (at : Label) × (matches s.filter (cut at contents) ≡ true)
   due_matches s None e = absurd (let z : ⊥ = cc in z)
-  due_matches s (Some at) e = (at, middle (adds_readable at edit) (matches s.filter (cut at contents)) (not (was_handed handed (pair_of s))) e)
+  due_matches s (Some at) e = (at, middle (adds_readable at edit) (matches s.filter (cut at contents)) (not (has_pair handed (pair_of s))) e)
 
   -- who is due is found, where each name of the contents is looked at
   pub due_found : ((f : F) (parts : List Part) (n : List ℕ) → first f ≡ Some n → matches f parts ≡ true → Contains (names_of parts) n) → All (λ s. IsSome (first s.filter)) xs → ((n : List ℕ) → Contains (names_of contents) n → Contains names n)

@@ -11,7 +11,7 @@ use Rattle.std.proofs.lemmas.Cmp.{and_equiv, on_equiv}
 use Rattle.std.proofs.lemmas.List.Folds.{Any-from_list_any, list_any-from_Any}
 use Rattle.std.proofs.lemmas.List.Elements.{Contains-get_or}
 use Rattle.std.proofs.lemmas.List.Sorted.{searchable_from_sorted}
-use Rattle.df_index.specs.Due.{Pair, pair_cmp, was_handed}
+use Rattle.df_index.specs.Due.{Pair, pair_cmp, has_pair}
 
 pub or_comm : (a b : Bool) → (a || b) ≡ (b || a)
 or_comm true true = refl
@@ -35,12 +35,12 @@ pub pair_equiv : IsEquivalence (λ (p q : Pair). nat_eq p.0 q.0 && nat_eq p.1 q.
 pair_equiv = and_equiv (on_equiv (λ (p : Pair). p.0) nat_eq_equiv) (on_equiv (λ (p : Pair). p.1) nat_eq_equiv)
 
 -- a binary search tells whether a pair is among those that ascend
-pub is_ok-searched : (xs : List Pair) (p : Pair) (r : Result ℕ ℕ) → IsSorted pair_cmp xs → IsSearchInRange r (length xs) → IsBinarySearchResult (λ q. pair_cmp q p) xs r → is_ok r ≡ was_handed xs p
+pub is_ok-searched : (xs : List Pair) (p : Pair) (r : Result ℕ ℕ) → IsSorted pair_cmp xs → IsSearchInRange r (length xs) → IsBinarySearchResult (λ q. pair_cmp q p) xs r → is_ok r ≡ has_pair xs p
 is_ok-searched xs p (Ok i) up within found = sym (list_any-from_Any (λ (q : Pair). (q.0 == p.0) && (q.1 == p.1)) xs (member.0, get_or xs i p, member.1, member.2, pair_ties (get_or xs i p) p ∙ ap is_eq (found p)))
   where
     member : Contains xs (get_or xs i p)
     member = Contains-get_or xs i p within
-is_ok-searched xs p (Err i) up within found = by (was_handed xs p) refl
+is_ok-searched xs p (Err i) up within found = by (has_pair xs p) refl
   where
     point : IsPartitionPoint (λ q. pair_cmp q p ≡ Less) (λ q. pair_cmp q p ≡ Greater) xs i
     point = found (searchable_from_sorted pair_total (λ (q : Pair). q) xs p up)
@@ -55,6 +55,6 @@ is_ok-searched xs p (Err i) up within found = by (was_handed xs p) refl
         side true h = let z : is_eq Less ≡ true = level q Less (subst (λ (w : Pair). pair_cmp w p ≡ Less) at (point.0 k q (omega arith) (grind (arith, h)))) e in (let w : ⊥ = cc in w)
         side false h = let z : is_eq Greater ≡ true = level q Greater (subst (λ (w : Pair). pair_cmp w p ≡ Greater) at (point.1 k q (grind (arith, h)) l)) e in (let w : ⊥ = cc in w)
 
-    by : (b : Bool) → was_handed xs p ≡ b → false ≡ b
+    by : (b : Bool) → has_pair xs p ≡ b → false ≡ b
     by true e = let a = Any-from_list_any (λ (q : Pair). (q.0 == p.0) && (q.1 == p.1)) xs e in absurd (apart a.0 a.1 a.2 a.3 a.4)
     by false e = refl

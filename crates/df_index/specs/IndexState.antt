@@ -1,11 +1,14 @@
 -- What an index knows.
-use Rattle.std.specs.Prelude.{ℕ, List, [], Option, slice_index_or, refl}
+use Rattle.std.specs.Prelude.{ℕ, Bool, List, [], Option, slice_index_or, refl}
 use Rattle.std.specs.Coded.{Coded, code_by, coded×, coded_ℕ, coded_list, coded_option}
-use Rattle.df_index.specs.Due.{Pair}
+use Rattle.df_label.specs.declared.label.Label.{Label}
+use Rattle.df_part.specs.declared.edit.Spot.{Spot}
+use Rattle.df_part.specs.declared.part.Part.{Part}
+use Rattle.df_index.specs.Due.{IsDue, Pair, has_pair}
 use Rattle.df_index.specs.declared.subscription.Subscription.{Subscription}
 
--- the subscriptions in the order of their enrolment; for each event, by its place, the pairs to which it was handed; and the event
--- and the receivers that wait to be booked
+-- the subscriptions in the order of their enrolment; for each event, by its place, the pairs to
+-- which it was handed; and the event and the receivers that wait to be booked
 pub record IndexState (F : Type 0) : Type 0 where
   pub enrolled : List (Subscription F)
   pub handed : List (List Pair)
@@ -27,7 +30,8 @@ subscription_code {F} code =
 abbrev pub index_code : {F : Type 0} → Coded F → Coded (IndexState F)
 index_code {F} code =
     code_by (List (Subscription F) × (List (List Pair) × Option (ℕ × List Pair)))
-    (coded× (coded_list (subscription_code code)) (coded× (coded_list pairs_code) (coded_option (coded× coded_ℕ pairs_code))))
+    (coded× (coded_list (subscription_code code))
+    (coded× (coded_list pairs_code) (coded_option (coded× coded_ℕ pairs_code))))
     (λ x. (x.enrolled, (x.handed, x.ready)))
     (λ p. record { enrolled = p.0; handed = p.1.0; ready = p.1.1 })
     (λ _. refl)
@@ -35,3 +39,14 @@ index_code {F} code =
 -- the pairs to which an event was handed
 abbrev pub handed_at : List (List Pair) → ℕ → List Pair
 handed_at handed event = slice_index_or handed event []
+
+-- whether an event was handed to a subscription
+abbrev pub was_handed : List (List Pair) → ℕ → Pair → Bool
+was_handed handed event p = has_pair (handed_at handed event) p
+
+-- the pair is that of a subscription to which an event is to be handed at a commit with this edit,
+-- where these are the labels of the units, and the event then has these contents
+abbrev pub IsReceiver : {F : Type 0} → (F → List Part → Bool) → List Label → IndexState F → ℕ
+    → List Part → List Spot × List Part → Pair → Type 0
+IsReceiver matches labels x event contents edit p =
+    IsDue matches labels (handed_at x.handed event) contents edit x.enrolled p

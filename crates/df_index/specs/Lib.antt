@@ -4,3 +4,4 @@ pub mod Filter
 pub mod IndexState
 pub mod FirstName
 pub mod Marks
+pub mod Occasion

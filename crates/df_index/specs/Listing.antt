@@ -20,27 +20,36 @@ is_first None name = false
 is_first (Some first) name = bytes_eq first name
 
 -- whether the subscription is listed under one of these names
-abbrev pub is_listed : {F : Type 0} → (F → Option (List ℕ)) → List (List ℕ) → Subscription F → Bool
+abbrev pub is_listed : {F : Type 0} → (F → Option (List ℕ)) → List (List ℕ) → Subscription F
+    → Bool
 is_listed first names s = list_any (is_first (first s.filter)) names
 
 -- how many of the subscriptions are listed under these names
-abbrev pub listed_under : {F : Type 0} → (F → Option (List ℕ)) → List (List ℕ) → List (Subscription F) → ℕ
-listed_under first names subscriptions = length (filter (is_listed first names) subscriptions)
+abbrev pub listed_under : {F : Type 0} → (F → Option (List ℕ)) → List (List ℕ)
+    → List (Subscription F) → ℕ
+listed_under first names subscriptions =
+    length (filter (is_listed first names) subscriptions)
 
 -- the places of the subscriptions with this first name, where the first has place i
-abbrev pub places_from : {F : Type 0} → (F → Option (List ℕ)) → List ℕ → ℕ → List (Subscription F) → List ℕ
+abbrev pub places_from : {F : Type 0} → (F → Option (List ℕ)) → List ℕ → ℕ
+    → List (Subscription F) → List ℕ
 places_from first name i [] = []
-places_from first name i (s ∷ more) = if is_first (first s.filter) name then i ∷ places_from first name (i + 1) more else places_from first name (i + 1) more
+places_from first name i (s ∷ more) =
+    if is_first (first s.filter) name
+    then i ∷ places_from first name (i + 1) more else places_from first name (i + 1) more
 
 -- the places of the subscriptions with this first name
-abbrev pub places_of : {F : Type 0} → (F → Option (List ℕ)) → List ℕ → List (Subscription F) → List ℕ
+abbrev pub places_of : {F : Type 0} → (F → Option (List ℕ)) → List ℕ → List (Subscription F)
+    → List ℕ
 places_of first name subscriptions = places_from first name 0 subscriptions
 
 -- the places that the table has at a name
 abbrev pub places_at : List ℕ → BTreeMap (List ℕ) (List ℕ) → List ℕ
 places_at name table = unwrap_or (tree.get (slice_cmp nat_cmp) table name) []
 
--- each subscription has a first name, and the table has the places of the subscriptions with each first name
-pub record IsListing {F : Type 0} (first : F → Option (List ℕ)) (subscriptions : List (Subscription F)) (table : BTreeMap (List ℕ) (List ℕ)) : Type 0 where
+-- each subscription has a first name, and the table has the places of the subscriptions with each
+-- first name
+pub record IsListing {F : Type 0} (first : F → Option (List ℕ))
+    (subscriptions : List (Subscription F)) (table : BTreeMap (List ℕ) (List ℕ)) : Type 0 where
   pub named : All (λ s. IsSome (first s.filter)) subscriptions
   pub listed : (name : List ℕ) → places_at name table ≡ places_of first name subscriptions

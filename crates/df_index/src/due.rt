@@ -4,7 +4,8 @@ ghost use Rattle.std.specs.Prelude.{◌≡◌, ◌+◌, ◌<◌, ◌≤◌, ◌+
 ghost use Rattle.std.specs.List.{All, flat_map, list_any};
 ghost use Rattle.std.specs.List.Sorted.{IsSorted};
 ghost use Rattle.df_part.specs.Part.{readable};
-ghost use Rattle.df_index.specs.Due.{is_due, pair_cmp, pair_where, pairs_at, was_handed};
+ghost use Rattle.df_index.specs.Due.{has_pair, pair_cmp, pair_where, pairs_at};
+ghost use Rattle.df_index.specs.Occasion.{is_due_on};
 
 use crate::{Listed, Subscription, Tester};
 use df_label::{Label, NoMemory};
@@ -21,9 +22,9 @@ pub(crate) struct Occasion<'a> {
     pub edit: &'a Edit,
 }
 
-fn was_handed(handed: &[(usize, u32)], pair: (usize, u32)) -> bool
+fn has_pair(handed: &[(usize, u32)], pair: (usize, u32)) -> bool
     requires { IsSorted pair_cmp handed.now }
-    ensures { result ≡ was_handed handed.now pair }
+    ensures { result ≡ has_pair handed.now pair }
 {
     handed.binary_search(&pair).is_ok()
 }
@@ -48,11 +49,11 @@ fn is_due<F: Listed, T: Tester<F>>(
 ) -> bool
     requires labelled { subscription.now.unit < length occasion.now.labels.now }
     requires ascending { IsSorted pair_cmp occasion.now.handed.now }
-    ensures due { result ≡ is_due F.matches occasion.now.labels.now occasion.now.handed.now occasion.now.contents.now occasion.now.edit.now subscription.now }
+    ensures due { result ≡ is_due_on F.matches occasion.now subscription.now }
     ensures bound { T.count tester.new ≤ T.count tester.old + 1 }
 {
     let at = &occasion.labels[subscription.unit];
-    if was_handed(occasion.handed, (subscription.unit, subscription.sub)) {
+    if has_pair(occasion.handed, (subscription.unit, subscription.sub)) {
         return false;
     }
     if !any_readable(at, occasion.edit.added()) {
@@ -70,7 +71,8 @@ fn add_if_due<F: Listed, T: Tester<F>>(
 ) -> Result<(), NoMemory>
     requires labelled { subscription.now.unit < length occasion.now.labels.now }
     requires ascending { IsSorted pair_cmp occasion.now.handed.now }
-    ensures found { OnOk result (found.new.items ≡ found.old.items ++ pair_where (is_due F.matches occasion.now.labels.now occasion.now.handed.now occasion.now.contents.now occasion.now.edit.now) (Some subscription.now)) }
+    ensures found { OnOk result (found.new.items ≡ found.old.items
+        ++ pair_where (is_due_on F.matches occasion.now) (Some subscription.now)) }
     ensures bound { T.count tester.new ≤ T.count tester.old + 1 }
 {
     if is_due(occasion, subscription, tester) {
@@ -90,7 +92,8 @@ pub(crate) fn due<F: Listed, T: Tester<F>>(
     requires within { All (λ k. k < length subscriptions.now) places.now }
     requires labelled { All (λ s. s.unit < length occasion.now.labels.now) subscriptions.now }
     requires ascending { IsSorted pair_cmp occasion.now.handed.now }
-    ensures due { IfOk result (λ v. v.items ≡ pairs_at (is_due F.matches occasion.now.labels.now occasion.now.handed.now occasion.now.contents.now occasion.now.edit.now) subscriptions.now places.now) }
+    ensures due { IfOk result (λ v. v.items
+        ≡ pairs_at (is_due_on F.matches occasion.now) subscriptions.now places.now) }
     ensures bound { T.count tester.new ≤ T.count tester.old + length places.now }
 {
     let mut found = Vec::new(alloc);

@@ -3,9 +3,10 @@
 ghost use Rattle.std.specs.Prelude.{◌≡◌, ◌↔◌, ℕ, ◌+◌, ◌<◌, ◌≤◌, ◌==◌, ◌&&◌, ◌||◌, [], ◌∷◌, ◌++◌, Some, None, length, OnOk, OnErr, IfOk};
 ghost use Rattle.std.specs.List.{All, Contains};
 ghost use Rattle.std.specs.List.Sorted.{IsSorted, IsStrictlySortedBy};
-ghost use Rattle.df_index.specs.Due.{IsDue, Pair, pair_cmp, was_handed};
-ghost use Rattle.df_index.specs.IndexState.{handed_at};
+ghost use Rattle.df_index.specs.Due.{Pair, has_pair, pair_cmp};
+ghost use Rattle.df_index.specs.IndexState.{IsReceiver, was_handed};
 ghost use Rattle.df_index.specs.Listing.{listed_under, names_of};
+ghost use Rattle.df_index.specs.Occasion.{IsDueOn};
 
 use crate::due::{Occasion, due};
 use crate::listing::Listing;
@@ -30,14 +31,21 @@ fn found<F: Listed, T: Tester<F>>(
     requires labelled { All (λ s. s.unit < length occasion.now.labels.now) listing.now }
     requires ascending { IsSorted pair_cmp occasion.now.handed.now }
     ensures ascending { IfOk result (λ v. IsStrictlySortedBy pair_cmp v.items) }
-    ensures sound { IfOk result (λ v. (p : Pair) → Contains v.items p → IsDue F.matches occasion.now.labels.now occasion.now.handed.now occasion.now.contents.now occasion.now.edit.now listing.now p) }
-    ensures whole { IfOk result (λ v. (p : Pair) → IsDue F.matches occasion.now.labels.now occasion.now.handed.now occasion.now.contents.now occasion.now.edit.now listing.now p → Contains v.items p) }
-    ensures bound { T.count tester.new ≤ T.count tester.old + listed_under F.first_of (names_of occasion.now.contents.now) listing.now }
+    ensures due { IfOk result (λ v. (p : Pair) → Contains v.items p
+        ↔ IsDueOn F.matches occasion.now listing.now p) }
+    ensures bound { T.count tester.new ≤ T.count tester.old
+        + listed_under F.first_of (names_of occasion.now.contents.now) listing.now }
 {
     let alloc = *names.allocator();
     list_names(occasion.contents.parts(), names)?;
     listing.look_up(names.as_slice(), places)?;
-    let mut found = due(alloc, occasion, listing.as_slice(), places.as_slice(), tester)?;
+    let mut found = due(
+        alloc,
+        occasion,
+        listing.as_slice(),
+        places.as_slice(),
+        tester,
+    )?;
     found.sort_unstable();
     found.dedup();
     Ok(found)
@@ -60,7 +68,11 @@ impl<F: Listed> Model for Index<F> {
 
     ghost coded = { index_code F.code };
 
-    ghost view = { λ x. record { enrolled = x.listing; handed = x.marks.handed; ready = x.marks.ready } };
+    ghost view = { λ x. record {
+      enrolled = x.listing;
+      handed = x.marks.handed;
+      ready = x.marks.ready;
+    } };
 }
 
 impl<F: Listed> Index<F> {
@@ -80,7 +92,10 @@ impl<F: Listed> Index<F> {
 
     /// Enrols a subscription of a unit, under the first name of its filter.
     pub fn enrol(&mut self, unit: usize, sub: u32, filter: F) -> Result<(), NoMemory>
-        ensures ok { OnOk result (self.new ≡ record self.old { enrolled = self.old.enrolled ++ (record { unit = unit; sub = sub; filter = filter }) ∷ []; ready = None }) }
+        ensures ok { OnOk result (self.new ≡ record self.old {
+          enrolled = self.old.enrolled ++ record { unit = unit; sub = sub; filter = filter } ∷ [];
+          ready = None;
+        }) }
         ensures unchanged { OnErr result (self.new ≡ self.old) }
     {
         self.listing.enrol(Subscription { unit, sub, filter })?;
@@ -101,10 +116,15 @@ impl<F: Listed> Index<F> {
     ) -> Result<Receivers, NoMemory>
         requires { All (λ s. s.unit < length labels.now) self.old.enrolled }
         ensures ascending { IfOk result (λ pairs. IsStrictlySortedBy pair_cmp pairs) }
-        ensures sound { IfOk result (λ pairs. (p : Pair) → Contains pairs p → IsDue F.matches labels.now (handed_at self.old.handed event) contents.now edit.now self.old.enrolled p) }
-        ensures whole { IfOk result (λ pairs. (p : Pair) → IsDue F.matches labels.now (handed_at self.old.handed event) contents.now edit.now self.old.enrolled p → Contains pairs p) }
-        ensures bound { T.count tester.new ≤ T.count tester.old + listed_under F.first_of (names_of contents.now) self.old.enrolled }
-        ensures ready { IfOk result (λ pairs. self.new ≡ record self.old { ready = Some (event, pairs) }) }
+        ensures due { IfOk result (λ pairs. (p : Pair) → Contains pairs p
+            ↔ IsReceiver F.matches labels.now self.old event contents.now edit.now p) }
+
+        // At most as many tests as subscriptions are listed under the names of the contents.
+        ensures bound { T.count tester.new ≤ T.count tester.old
+            + listed_under F.first_of (names_of contents.now) self.old.enrolled }
+
+        ensures ready { IfOk result (λ pairs. self.new
+            ≡ record self.old { ready = Some (event, pairs) }) }
         ensures unchanged { OnErr result (self.new ≡ self.old) }
     {
         let occasion = Occasion {
@@ -128,7 +148,8 @@ impl<F: Listed> Index<F> {
     pub fn book(&mut self, event: usize, r: &Receivers)
         requires { self.old.ready ≡ Some (event, r.now) }
         ensures enrolled { self.new.enrolled ≡ self.old.enrolled }
-        ensures handed { (e : ℕ) (p : Pair) → was_handed (handed_at self.new.handed e) p ≡ (was_handed (handed_at self.old.handed e) p || ((e == event) && was_handed r.now p)) }
+        ensures handed { (e : ℕ) (p : Pair) → was_handed self.new.handed e p
+            ≡ (was_handed self.old.handed e p || ((e == event) && has_pair r.now p)) }
         ensures ready { self.new.ready ≡ None }
     {
         self.marks.book(event, r);

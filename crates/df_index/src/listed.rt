@@ -25,7 +25,9 @@ pub trait Listed: Drop {
         ensures { IfOk result (λ filter. filter ≡ self.now) };
 
     // A list that it matches has a part of the first name.
-    ghost has_first: { (filter : Self) (parts : List Part) (name : List ℕ) → first_of filter ≡ Some name → matches filter parts ≡ true → Contains (names_of parts) name };
+    ghost has_first: { (filter : Self) (parts : List Part) (name : List ℕ)
+        → first_of filter ≡ Some name → matches filter parts ≡ true
+        → Contains (names_of parts) name };
 }
 
 impl Listed for Filter {

@@ -67,8 +67,10 @@ fn list_under(
     name: Name,
     place: usize,
 ) -> Result<(), NoMemory>
-    ensures ok { OnOk result ((n : List ℕ) → places_at n table.new ≡ cond (bytes_eq name n) (places_at n table.old ++ place ∷ []) (places_at n table.old)) }
-    ensures unchanged { OnErr result ((n : List ℕ) → places_at n table.new ≡ places_at n table.old) }
+    ensures ok { OnOk result ((n : List ℕ) → places_at n table.new
+        ≡ cond (bytes_eq name n) (places_at n table.old ++ place ∷ []) (places_at n table.old)) }
+    ensures unchanged { OnErr result ((n : List ℕ)
+        → places_at n table.new ≡ places_at n table.old) }
 {
     if let Some(places) = table.get_mut(&name) {
         places.push(place)?;
@@ -135,7 +137,8 @@ impl<F: Listed> Listing<F> {
 
     /// Puts down the places that are listed under these names.
     pub(crate) fn look_up(&self, names: &[Name], places: &mut Vec<usize>) -> Result<(), NoMemory>
-        ensures { OnOk result (places.new.items ≡ flat_map (λ name. places_of F.first_of name self.now) names.now) }
+        ensures { OnOk result (places.new.items
+            ≡ flat_map (λ name. places_of F.first_of name self.now) names.now) }
     {
         places.clear();
         for name in names {

@@ -2,8 +2,8 @@
 
 ghost use Rattle.std.specs.Prelude.{◌≡◌, ℕ, ◌+◌, ◌<◌, ◌≤◌, ◌==◌, ◌&&◌, ◌||◌, [], Some, None, length, vec_len, vec_capacity, OnOk, OnErr};
 ghost use Rattle.std.specs.List.Sorted.{IsSorted};
-ghost use Rattle.df_index.specs.Due.{Pair, pair_cmp, was_handed};
-ghost use Rattle.df_index.specs.IndexState.{handed_at};
+ghost use Rattle.df_index.specs.Due.{Pair, has_pair, pair_cmp};
+ghost use Rattle.df_index.specs.IndexState.{handed_at, was_handed};
 
 use crate::Receivers;
 use df_label::NoMemory;
@@ -28,9 +28,13 @@ impl Model for Marks {
 
     ghost coded = { marks_code };
 
-    ghost view = { λ m. record { handed = m.handed.items; ready = ready_of m.event m.next.items } };
+    ghost view = { λ m. record {
+      handed = m.handed.items;
+      ready = ready_of m.event m.next.items;
+    } };
 
-    ghost invariant = { λ m. IsMarks m.handed.items (vec_capacity m.handed) m.event (vec_len m.next) (vec_capacity m.next) };
+    ghost invariant = { λ m. IsMarks m.handed.items (vec_capacity m.handed) m.event
+        (vec_len m.next) (vec_capacity m.next) };
 }
 
 fn of_event(handed: &[Receivers], event: usize) -> &[(usize, u32)]
@@ -71,7 +75,8 @@ fn fill_rows(alloc: Global, handed: &mut Vec<Receivers>, event: usize)
 fn merged(mut next: Vec<(usize, u32)>, handed: &[(usize, u32)]) -> Vec<(usize, u32)>
     requires { vec_len next + length handed.now ≤ vec_capacity next }
     ensures ascending { IsSorted pair_cmp result.items }
-    ensures pairs { (p : Pair) → was_handed result.items p ≡ (was_handed handed.now p || was_handed next.items p) }
+    ensures pairs { (p : Pair) → has_pair result.items p
+        ≡ (has_pair handed.now p || has_pair next.items p) }
 {
     let _room = next.extend_from_slice(handed);
     next.sort_unstable();
@@ -112,7 +117,8 @@ impl Marks {
         event: usize,
         receivers: &[(usize, u32)],
     ) -> Result<(), NoMemory>
-        ensures ok { OnOk result (self.new ≡ record self.old { ready = Some (event, receivers.now) }) }
+        ensures ok { OnOk result (self.new
+            ≡ record self.old { ready = Some (event, receivers.now) }) }
         ensures unchanged { OnErr result (self.new ≡ self.old) }
     {
         let alloc = *self.next.allocator();
@@ -127,7 +133,8 @@ impl Marks {
     /// Marks the event as handed to these, which are ready. Takes no memory.
     pub(crate) fn book(&mut self, event: usize, receivers: &Receivers)
         requires { self.old.ready ≡ Some (event, receivers.now) }
-        ensures handed { (e : ℕ) (p : Pair) → was_handed (handed_at self.new.handed e) p ≡ (was_handed (handed_at self.old.handed e) p || ((e == event) && was_handed receivers.now p)) }
+        ensures handed { (e : ℕ) (p : Pair) → was_handed self.new.handed e p
+            ≡ (was_handed self.old.handed e p || ((e == event) && has_pair receivers.now p)) }
         ensures ready { self.new.ready ≡ None }
     {
         self.event = None;

@@ -23,8 +23,10 @@ fn put_names(parts: &[PartRef], names: &mut Vec<Name>) -> Result<(), NoMemory>
 /// Puts down the names of the parts, ascending, each once.
 pub(crate) fn list_names(parts: &[PartRef], names: &mut Vec<Name>) -> Result<(), NoMemory>
     ensures ascending { OnOk result (IsStrictlySortedBy name_cmp names.new.items) }
-    ensures among { OnOk result ((n : List ℕ) → Contains names.new.items n → Contains (names_of parts.now) n) }
-    ensures all { OnOk result ((n : List ℕ) → Contains (names_of parts.now) n → Contains names.new.items n) }
+    ensures among { OnOk result ((n : List ℕ)
+        → Contains names.new.items n → Contains (names_of parts.now) n) }
+    ensures all { OnOk result ((n : List ℕ)
+        → Contains (names_of parts.now) n → Contains names.new.items n) }
 {
     put_names(parts, names)?;
     names.sort_unstable();

@@ -1,10 +1,11 @@
-use Rattle.std.proofs.Common.{List, ℕ, length, ◌<◌, All, ap, sym, subst, ◌∙◌, arith}
+use Rattle.std.proofs.Common.{Bool, List, ℕ, length, ◌<◌, All, ap, sym, subst, ◌∙◌, arith}
 use Rattle.std.specs.List.{Contains}
 use Rattle.std.proofs.lemmas.List.Filters.{dedup_is}
 use Rattle.std.proofs.lemmas.List.Kept.{Contains-dedup, Contains-from_dedup, IsStrictlySortedBy-dedup}
 use Rattle.std.proofs.lemmas.List.Sorted.{Contains-permutation, IsPermutation-sym}
 use Rattle.df_part.specs.declared.part.Part.{Part}
-use Rattle.df_index.specs.Due.{Pair, is_due, pairs_at}
+use Rattle.df_index.specs.Due.{Pair, pairs_at}
+use Rattle.df_index.specs.Occasion.{is_due_on}
 use Rattle.df_index.specs.Listing.{names_of}
 use Rattle.df_index.specs.declared.subscription.Subscription.{Subscription}
 use Rattle.df_index.proofs.Counted.{places_bound}
@@ -23,26 +24,20 @@ due-requires-clause-within g c =
 pub returns-clause-ascending : goal.returns-clause-ascending
 returns-clause-ascending g c = rw (dedup_is _ _ _ c.dedup.ensures.filtered) (IsStrictlySortedBy-dedup pair_total pair_ties _ c.sort_unstable.ensures.sorted)
 
-pub returns-clause-sound : goal.returns-clause-sound
-returns-clause-sound g c p h =
+pub returns-clause-due : goal.returns-clause-due
+returns-clause-due g c p =
     let o = c.args.occasion.now in
-    let test = is_due g.F.Listed.matches o.labels.now o.handed.now o.contents.now o.edit.now in
+    let test : Subscription g.row.F.Denot → Bool = is_due_on g.F.Listed.matches o in
     let places = c.as_slice-3.ensures.value ∙ c.in_ok-look_up.ensures ∙ ap (places_under g.F.Listed.first_of c.args.listing.now) c.as_slice.ensures.value in
     let is = c.in_ok-found.ensures.due ∙ ap (λ (l : List (Subscription g.row.F.Denot)). pairs_at test l c.as_slice-3.result.now) c.as_slice-2.ensures.list ∙ ap (pairs_at test c.args.listing.now) places in
-    let among = Contains-permutation _ _ p (IsPermutation-sym _ _ c.sort_unstable.ensures.permutation) (Contains-from_dedup _ _ p (rw (dedup_is _ _ _ c.dedup.ensures.filtered) at h)) in
-    found_due g.F.Listed.first_of g.F.Listed.matches o.labels.now o.handed.now o.contents.now o.edit.now c.args.listing.now c.list_names.new.names.items p
-    (subst (λ (l : List Pair). Contains l p) is among)
-
-pub returns-clause-whole : goal.returns-clause-whole
-returns-clause-whole g c p h =
-    let o = c.args.occasion.now in
-    let test = is_due g.F.Listed.matches o.labels.now o.handed.now o.contents.now o.edit.now in
-    let places = c.as_slice-3.ensures.value ∙ c.in_ok-look_up.ensures ∙ ap (places_under g.F.Listed.first_of c.args.listing.now) c.as_slice.ensures.value in
-    let is = c.in_ok-found.ensures.due ∙ ap (λ (l : List (Subscription g.row.F.Denot)). pairs_at test l c.as_slice-3.result.now) c.as_slice-2.ensures.list ∙ ap (pairs_at test c.args.listing.now) places in
-    let covers = subst (λ (parts : List Part). (n : List ℕ) → Contains (names_of parts) n → Contains c.list_names.new.names.items n) c.parts.ensures c.in_ok-list_names.ensures.all in
-    let all = due_found g.F.Listed.first_of g.F.Listed.matches o.labels.now o.handed.now o.contents.now o.edit.now c.args.listing.now c.list_names.new.names.items g.met.F.Listed.has_first c.as_slice-2.ensures.named covers p h in
-    rw (dedup_is _ _ _ c.dedup.ensures.filtered)
-    (Contains-dedup pair_equiv same_pair _ p (Contains-permutation _ _ p c.sort_unstable.ensures.permutation (subst (λ (l : List Pair). Contains l p) (sym is) all)))
+    let covers = subst (λ (parts : List Part). (n : List ℕ) → Contains (names_of parts) n → Contains c.list_names.new.names.items n) c.parts.ensures c.in_ok-list_names.ensures.all in (
+      (λ h. found_due g.F.Listed.first_of g.F.Listed.matches o.labels.now o.handed.now o.contents.now o.edit.now c.args.listing.now c.list_names.new.names.items p
+          (subst (λ (l : List Pair). Contains l p) is
+          (Contains-permutation _ _ p (IsPermutation-sym _ _ c.sort_unstable.ensures.permutation) (Contains-from_dedup _ _ p (rw (dedup_is _ _ _ c.dedup.ensures.filtered) at h))))),
+      (λ h. rw (dedup_is _ _ _ c.dedup.ensures.filtered)
+          (Contains-dedup pair_equiv same_pair _ p (Contains-permutation _ _ p c.sort_unstable.ensures.permutation (subst (λ (l : List Pair). Contains l p) (sym is)
+          (due_found g.F.Listed.first_of g.F.Listed.matches o.labels.now o.handed.now o.contents.now o.edit.now c.args.listing.now c.list_names.new.names.items g.met.F.Listed.has_first c.as_slice-2.ensures.named covers p h))))),
+    )
 
 pub returns-clause-bound : goal.returns-clause-bound
 returns-clause-bound g c =
