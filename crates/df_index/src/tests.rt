@@ -1,6 +1,6 @@
 //! Who is to be handed an event, and how many filters are tested for it.
 
-ghost use Rattle.std.specs.Prelude.{◌≡◌, ◌<◌, ◌≤◌, length};
+ghost use Rattle.std.specs.Prelude.{◌≡◌, ◌<◌, length, OnOk};
 ghost use Rattle.std.specs.List.{All};
 
 use crate::{Index, Receivers, Steps, Tester};
@@ -63,48 +63,127 @@ fn filter(alloc: Global, names: &[&str]) -> Result<Filter, Fail> {
     Ok(Filter::new(clauses)?)
 }
 
-// An edit that adds one part.
-fn adds(alloc: Global, name: &str, secret: bool) -> Result<Edit, Fail> {
-    let mut added = Vec::new(alloc);
-    added.push(part(alloc, name, secret)?)?;
-    Ok(Edit::new(Vec::new(alloc), added))
+// The subscriptions of three units, each with its number and the names of its filter.
+type Row<'a> = (usize, u32, &'a [&'a str]);
+
+fn enrol_all(alloc: Global, index: &mut Index<Filter>, rows: &[Row<'_>]) -> Result<(), Fail>
+    requires { All (λ s. s.unit < 3) index.old.enrolled }
+    ensures { OnOk result (All (λ s. s.unit < 3) index.new.enrolled) }
+{
+    for (unit, sub, names) in rows {
+        if *unit < 3 {
+            index.enrol(*unit, *sub, filter(alloc, names)?)?;
+        }
+    }
+    Ok(())
 }
 
-fn worked<L: Ledger>(rt: &impl Abort, alloc: Global, blank: Blank) -> Result<(), Fail>
+// A commit that adds one part to an event.
+#[derive(Drop)]
+struct Commit<'a> {
+    event: usize,
+    name: &'a str,
+    secret: bool,
+    receivers: &'a [(usize, u32)],
+}
+
+// The receivers of the commit, to whom the event is then marked as handed.
+fn hand<L: Ledger>(
+    alloc: Global,
+    index: &mut Index<Filter>,
+    labels: &[Label],
+    contents: &mut Contents,
+    row: &Commit<'_>,
+    counting: &mut Counting<L>,
+) -> Result<Receivers, Fail>
+    requires { All (λ s. s.unit < length labels.now) index.old.enrolled }
+    ensures { OnOk result (index.new.enrolled ≡ index.old.enrolled) }
+{
+    let mut added = Vec::new(alloc);
+    added.push(part(alloc, row.name, row.secret)?)?;
+    let edit = Edit::new(Vec::new(alloc), added);
+    contents.apply(&edit)?;
+    let receivers = index.receivers(labels, row.event, contents, &edit, counting)?;
+    index.book(row.event, &receivers);
+    Ok(receivers)
+}
+
+// Makes these commits on two events, and looks at the receivers and the tests of each.
+fn hand_all<L: Ledger>(
+    rt: &impl Abort,
+    alloc: Global,
+    index: &mut Index<Filter>,
+    labels: &[Label],
+    events: &mut [Contents],
+    rows: &[Commit<'_>],
+    counting: &mut Counting<L>,
+) -> Result<(), Fail>
+    requires { All (λ s. s.unit < length labels.now) index.old.enrolled }
+    ensures { OnOk result (index.new.enrolled ≡ index.old.enrolled) }
+{
+    for row in rows {
+        let contents = events.get_mut(row.event).ok_or("no such event")?;
+        counting.tests = 0;
+        let receivers = hand(alloc, index, labels, contents, row, counting)?;
+        assert_eq!(rt; receivers.as_slice(), row.receivers);
+        assert!(rt; counting.tests <= 2);
+    }
+    Ok(())
+}
+
+fn two_events(alloc: Global) -> [Contents; 2] {
+    [Contents::new(alloc), Contents::new(alloc)]
+}
+
+fn added<'a>(
+    event: usize,
+    name: &'a str,
+    secret: bool,
+    receivers: &'a [(usize, u32)],
+) -> Commit<'a> {
+    Commit {
+        event,
+        name,
+        secret,
+        receivers,
+    }
+}
+
+fn counted<L: Ledger>(rt: &impl Abort, alloc: Global, blank: Blank) -> Result<(), Fail>
     requires name { blank.name ≡ L.name }
     requires parts { blank.parts ≡ L.parts }
     requires some { 0 < L.parts }
 {
+    let mut counting = Counting::<L> {
+        steps: Steps::new(blank),
+        tests: 0,
+    };
     let mut index = Index::new(alloc);
-    index.enrol(0, 0, filter(alloc, &["a"])?)?;
-    index.enrol(1, 0, filter(alloc, &["b"])?)?;
-    index.enrol(2, 0, filter(alloc, &["a", "c"])?)?;
+    enrol_all(
+        alloc,
+        &mut index,
+        &[(0, 0, &["a"]), (1, 0, &["b"]), (2, 0, &["a", "c"])],
+    )?;
     let labels = [
         label(alloc, false)?,
         label(alloc, false)?,
         label(alloc, false)?,
     ];
-    let mut counting = Counting::<L> {
-        steps: Steps::new(blank),
-        tests: 0,
-    };
-    let mut contents = Contents::new(alloc);
-    let edit = adds(alloc, "a", false)?;
-    contents.apply(&edit)?;
-    let first = index.receivers(&labels, 0, &contents, &edit, &mut counting)?;
-    assert_eq!(rt; first.as_slice(), [(0, 0)].as_slice());
-    assert!(rt; counting.tests <= 2);
-    index.book(0, &first);
-    counting.tests = 0;
-    let edit = adds(alloc, "c", false)?;
-    contents.apply(&edit)?;
-    let second = index.receivers(&labels, 0, &contents, &edit, &mut counting)?;
-    assert_eq!(rt; second.as_slice(), [(2, 0)].as_slice());
-    assert!(rt; counting.tests <= 2);
-    Ok(())
+    hand_all(
+        rt,
+        alloc,
+        &mut index,
+        &labels,
+        &mut two_events(alloc),
+        &[
+            added(0, "a", false, &[(0, 0)]),
+            added(0, "c", false, &[(2, 0)]),
+        ],
+        &mut counting,
+    )
 }
 
 #[test]
 fn filters_are_tested_under_names_of_the_event_alone(rt: HostRuntime) -> Result<(), Fail> {
-    worked::<Brand>(&rt, rt.alloc(), Blank::new(1))
+    counted::<Brand>(&rt, rt.alloc(), Blank::new(1))
 }
