@@ -90,6 +90,18 @@ impl<F: Listed> Index<F> {
         }
     }
 
+    pub fn copy(&self) -> Result<Index<F>, NoMemory>
+        ensures { IfOk result (λ copy. copy ≡ self.now) }
+    {
+        let alloc = *self.names.allocator();
+        Ok(Index {
+            listing: self.listing.copy()?,
+            marks: self.marks.copy()?,
+            names: Vec::new(alloc),
+            places: Vec::new(alloc),
+        })
+    }
+
     /// Enrols a subscription of a unit, under the first name of its filter.
     pub fn enrol(&mut self, unit: usize, sub: u32, filter: F) -> Result<(), NoMemory>
         ensures ok { OnOk result (self.new ≡ record self.old {
@@ -104,8 +116,7 @@ impl<F: Listed> Index<F> {
     }
 
     /// To which subscriptions an event is to be handed at a commit with this edit, where these
-    /// are the labels of the units and `contents` are those after the edit. Tests no filter
-    /// that isn't listed under a name of the contents, and none twice.
+    /// are the labels of the units and `contents` are those after the edit.
     pub fn receivers<T: Tester<F>>(
         &mut self,
         labels: &[Label],

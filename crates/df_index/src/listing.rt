@@ -123,6 +123,17 @@ impl<F: Listed> Listing<F> {
         self.subscriptions.as_slice()
     }
 
+    pub(crate) fn copy(&self) -> Result<Listing<F>, NoMemory>
+        ensures { IfOk result (λ copy. copy ≡ self.now) }
+    {
+        let mut copy = Listing::new(*self.subscriptions.allocator());
+        let subscriptions = self.as_slice();
+        for subscription in subscriptions {
+            copy.enrol(subscription.copy()?)?;
+        }
+        Ok(copy)
+    }
+
     pub(crate) fn enrol(&mut self, subscription: Subscription<F>) -> Result<(), NoMemory>
         ensures ok { OnOk result (self.new ≡ self.old ++ subscription ∷ []) }
         ensures unchanged { OnErr result (self.new ≡ self.old) }

@@ -1,6 +1,6 @@
 //! To whom each event was handed, and to whom it is about to be.
 
-ghost use Rattle.std.specs.Prelude.{◌≡◌, ℕ, ◌+◌, ◌<◌, ◌≤◌, ◌==◌, ◌&&◌, ◌||◌, [], Some, None, length, vec_len, vec_capacity, OnOk, OnErr};
+ghost use Rattle.std.specs.Prelude.{◌≡◌, ℕ, ◌+◌, ◌<◌, ◌≤◌, ◌==◌, ◌&&◌, ◌||◌, [], Some, None, length, vec_len, vec_capacity, IfOk, OnOk, OnErr};
 ghost use Rattle.std.specs.List.Sorted.{IsSorted};
 ghost use Rattle.df_index.specs.Due.{Pair, has_pair, pair_cmp};
 ghost use Rattle.df_index.specs.IndexState.{handed_at, was_handed};
@@ -83,6 +83,16 @@ fn merged(mut next: Vec<(usize, u32)>, handed: &[(usize, u32)]) -> Vec<(usize, u
     next
 }
 
+fn copies(alloc: Global, handed: &[Receivers]) -> Result<Vec<Receivers>, NoMemory>
+    ensures { IfOk result (λ v. v.items ≡ handed.now) }
+{
+    let mut copies = Vec::new(alloc);
+    for receivers in handed {
+        copies.push(receivers.copy()?)?;
+    }
+    Ok(copies)
+}
+
 impl Marks {
     ghost use Rattle.df_index.specs.Marks.{MarksState};
 
@@ -94,6 +104,21 @@ impl Marks {
             next: Vec::new(alloc),
             event: None,
         }
+    }
+
+    pub(crate) fn copy(&self) -> Result<Marks, NoMemory>
+        ensures { IfOk result (λ copy. copy ≡ self.now) }
+    {
+        let alloc = *self.next.allocator();
+        let mut copy = Marks {
+            handed: copies(alloc, self.handed.as_slice())?,
+            next: Vec::new(alloc),
+            event: None,
+        };
+        if let Some(event) = self.event {
+            copy.make_ready(event, self.next.as_slice())?;
+        }
+        Ok(copy)
     }
 
     /// The pairs to which an event was handed.
