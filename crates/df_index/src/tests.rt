@@ -85,6 +85,7 @@ struct Commit<'a> {
     name: &'a str,
     secret: bool,
     receivers: &'a [(usize, u32)],
+    most: u32,
 }
 
 // The receivers of the commit, to whom the event is then marked as handed.
@@ -126,7 +127,7 @@ fn hand_all<L: Ledger>(
         counting.tests = 0;
         let receivers = hand(alloc, index, labels, contents, row, counting)?;
         assert_eq!(rt; receivers.as_slice(), row.receivers);
-        assert!(rt; counting.tests <= 2);
+        assert!(rt; counting.tests <= row.most);
     }
     Ok(())
 }
@@ -140,12 +141,14 @@ fn added<'a>(
     name: &'a str,
     secret: bool,
     receivers: &'a [(usize, u32)],
+    most: u32,
 ) -> Commit<'a> {
     Commit {
         event,
         name,
         secret,
         receivers,
+        most,
     }
 }
 
@@ -169,6 +172,46 @@ fn counted<L: Ledger>(rt: &impl Abort, alloc: Global, blank: Blank) -> Result<()
         label(alloc, false)?,
         label(alloc, false)?,
     ];
+    let mut copy = index.copy()?;
+    hand_all(
+        rt,
+        alloc,
+        &mut copy,
+        &labels,
+        &mut two_events(alloc),
+        &[
+            added(0, "a", false, &[(0, 0)], 2),
+            added(0, "c", false, &[(2, 0)], 2),
+        ],
+        &mut counting,
+    )
+}
+
+fn handed<L: Ledger>(rt: &impl Abort, alloc: Global, blank: Blank) -> Result<(), Fail>
+    requires name { blank.name ≡ L.name }
+    requires parts { blank.parts ≡ L.parts }
+    requires some { 0 < L.parts }
+{
+    let mut counting = Counting::<L> {
+        steps: Steps::new(blank),
+        tests: 0,
+    };
+    let mut index = Index::new(alloc);
+    enrol_all(
+        alloc,
+        &mut index,
+        &[
+            (1, 0, &["a"]),
+            (0, 1, &["s"]),
+            (0, 0, &["a"]),
+            (2, 0, &["a", "s"]),
+        ],
+    )?;
+    let labels = [
+        label(alloc, false)?,
+        label(alloc, true)?,
+        label(alloc, false)?,
+    ];
     hand_all(
         rt,
         alloc,
@@ -176,11 +219,20 @@ fn counted<L: Ledger>(rt: &impl Abort, alloc: Global, blank: Blank) -> Result<()
         &labels,
         &mut two_events(alloc),
         &[
-            added(0, "a", false, &[(0, 0)]),
-            added(0, "c", false, &[(2, 0)]),
+            added(0, "s", true, &[], 1),
+            added(0, "a", false, &[(0, 0), (1, 0)], 4),
+            added(0, "b", false, &[], 4),
+            added(1, "a", false, &[(0, 0), (1, 0)], 3),
+            added(0, "s", false, &[(0, 1), (2, 0)], 4),
+            added(1, "a", true, &[], 3),
         ],
         &mut counting,
     )
+}
+
+#[test]
+fn an_event_is_handed_once_and_by_what_may_be_read(rt: HostRuntime) -> Result<(), Fail> {
+    handed::<Brand>(&rt, rt.alloc(), Blank::new(1))
 }
 
 #[test]
