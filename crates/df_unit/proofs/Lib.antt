@@ -1,2 +1,4 @@
+pub mod KeptRows
+pub mod Members
 pub mod OrderFacts
 pub mod SameFacts

@@ -2,6 +2,7 @@ pub mod Beginnings
 pub mod Drafts
 pub mod Handles
 pub mod Held
+pub mod KeptFact
 pub mod Limits
 pub mod Name
 pub mod OwnState

@@ -1,11 +1,11 @@
 -- The order of units is total, and two units are level exactly where they are one.
-use Rattle.std.specs.Prelude.{◌≡◌, ℕ, Bool, List, [], Option, Some, refl}
+use Rattle.std.specs.Prelude.{◌≡◌, ℕ, List, [], Some, refl}
 use Rattle.std.specs.Cmp.{IsEquivalence, IsPartialOrder, IsTotalOrder, both_tied, eq_by_cmp_equiv, nat_cmp_total, on_total, po, then_total, unsigned_ties}
 use Rattle.std.specs.Cmp.Lexicographic.{lists_ties, lists_total, nat_list_cmp_total, texts_ties}
 use Rattle.std.specs.Ordering.{eq_by_cmp, nat_cmp, on, ordering_then, then_cmp}
 use Rattle.std.specs.declared.cmp.Ordering.{Ordering}
 use Rattle.std.specs.declared.cmp.Ordering.TheVariants.{Less, Equal, Greater}
-use Rattle.std.proofs.Common.{subst, sym, ap}
+use Rattle.std.proofs.Common.{subst, sym}
 use Rattle.df_label.specs.Tag.{tag_cmp}
 use Rattle.df_label.specs.TagSet.{tag_set_cmp}
 use Rattle.df_unit.specs.Name.{same}

@@ -5,6 +5,7 @@ ghost use Rattle.std.specs.Cmp.Lexicographic.{pointwise, slice_cmp, nat_list_eq_
 ghost use Rattle.std.specs.Cmp.Rules.{hashing};
 ghost use Rattle.std.specs.Hash as fed;
 ghost use Rattle.std.proofs.Common.{rules};
+ghost use Rattle.df_unit.specs.declared.path.TheConstants.{INLINE};
 
 use df_label::NoMemory;
 use std::alloc::Global;
@@ -12,10 +13,13 @@ use std::cmp::Ordering;
 use std::hash::{Hash, Hasher};
 use std::marker::Model;
 
-/// How a path is kept: up to six numbers lie in the path itself.
+// How many numbers a path keeps in itself.
+const INLINE: usize = 6;
+
+/// How a path is kept: few numbers lie in the path itself.
 #[derive(Debug, Drop)]
 enum Kept {
-    Short([u32; 6], u8),
+    Short([u32; INLINE], u8),
     Long(Vec<u32>),
 }
 
@@ -31,11 +35,11 @@ impl Model for Path {
 
     ghost Value = { List ℕ };
 
-    ghost use Rattle.df_unit.specs.Path.{numbers_of, IsKept};
+    ghost use Rattle.df_unit.specs.Path.{numbers_of, HasRoom};
 
     ghost view = { λ p. numbers_of p.kept };
 
-    ghost invariant = { λ p. IsKept p.kept };
+    ghost invariant = { λ p. HasRoom p.kept };
 }
 
 impl Path {
@@ -44,7 +48,7 @@ impl Path {
         requires { 0 < length numbers.items }
         ensures { result ≡ numbers.items }
     {
-        if numbers.len() <= 6 {
+        if numbers.len() <= INLINE {
             short(numbers.as_slice())
         } else {
             Path {
@@ -86,10 +90,10 @@ impl Path {
 
 fn short(numbers: &[u32]) -> Path
     requires some { 0 < length numbers.now }
-    requires few { length numbers.now ≤ 6 }
+    requires few { length numbers.now ≤ INLINE }
     ensures { result ≡ numbers.now }
 {
-    let mut kept = [0; 6];
+    let mut kept = [0; INLINE];
     let len = numbers.len();
     kept[..len].copy_from_slice(numbers);
     Path {
