@@ -1,5 +1,5 @@
 -- What the calls of a unit make of it.
-use Rattle.std.specs.Prelude.{ℕ, Bool, ◌≡◌, ◌+◌, ⊤, not, ◌&&◌, if◌then◌else◌, nat_le, length, List, [], ◌∷◌}
+use Rattle.std.specs.Prelude.{Some, ℕ, Bool, ◌≡◌, ◌+◌, ⊤, not, ◌&&◌, if◌then◌else◌, nat_le, length, List, [], ◌∷◌}
 use Rattle.std.specs.List.{filter, flat_map, list_any}
 use Rattle.df_part.specs.Contents.{is_at, is_deleted}
 use Rattle.df_part.specs.Part.{readable}
@@ -34,6 +34,14 @@ with_own l st = record { unit = l.unit; own = st }
 -- a root as it begins
 abbrev pub root_at : ℕ → Label → List Privilege → LocalState
 root_at number label privileges = record { unit = Root (number ∷ []); own = root label privileges }
+
+-- a call's reply and effect by its row, where these deliveries are left
+abbrev pub row_answer : LocalState → List Given → Call → Reply × Effect
+row_answer l left call = (reply l.unit l.own left call, effect l.unit l.own left call)
+
+-- the reply and the effect are the row's, for some deliveries that are left
+abbrev pub IsAnswer : LocalState → Call → Reply → Effect → Type 0
+IsAnswer l call r f = (left : List Given) × (row_answer l left call ≡ (r, f))
 
 -- a call's reply and the unit after it are its row's, where these deliveries are left and the call has this effect
 pub record AnswersOf (left : List Given) (f : Effect) (call : Call) (r : Reply) (old new : LocalState) : Type 0 where
@@ -85,9 +93,15 @@ edited event deleted added = record { event = event; edit = (deleted, added) }
 abbrev pub released_by : Label → Handle → Effect
 released_by out d = if is_nil d.named && is_nil d.drafted then Effect.Nothing else Effect.Commit (edited d.event d.named (relabelled out d.drafted))
 
--- the closing call is accepted, and this commit is what it does
+-- the commit of an open handle: its event, for a view the spots that are named for deletion, and what is drafted
+abbrev pub committed : Close → Label → Handle → Commit
+committed Publish out d = edited d.event [] (relabelled out d.drafted)
+committed Release out d = edited d.event d.named (relabelled out d.drafted)
+
+-- the closing call is accepted, the commit is that of the handle, and it is what the call does, if anything
 pub record Commits (how : Close) (h : ℕ) (l : LocalState) (c : Commit) : Type 0 where
   pub replied : reply l.unit l.own [] (closing how h) ≡ Reply.Ok
+  pub whole : (d : Handle) → handle_at l.own.handles h ≡ Some d → c ≡ committed how l.own.output d
   pub done : effect l.unit l.own [] (closing how h) ≡ done_by c
 
 -- the reply is this refusal; want of memory says nothing of it

@@ -8,8 +8,8 @@ ghost use Rattle.df_unit.specs.declared.entry.Effect.{Effect};
 ghost use Rattle.df_local.specs.Locally.{Answers, with_own};
 
 use crate::Local;
-use crate::draft::MOST_PARTS;
 use crate::handles::{handle_at, is_full, least_free};
+use crate::limits::{MOST_NUMBERS, MOST_PARTS};
 use crate::parts::{new_part, raised};
 use crate::read::visible;
 use crate::take::is_accepted;
@@ -53,7 +53,7 @@ impl Local {
                 wanted: count as u64,
             });
         }
-        if self.events == u32::MAX {
+        if self.events >= MOST_NUMBERS {
             return Ok(Reply::Exhausted);
         }
         Ok(Reply::Handle(least_free(self.handles.as_slice()) as u32))

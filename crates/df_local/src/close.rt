@@ -7,7 +7,7 @@ ghost use Rattle.df_unit.specs.Rows.{unwritable};
 ghost use Rattle.df_unit.specs.declared.entry.Effect.{Effect};
 ghost use Rattle.df_unit.specs.declared.reply.Reply.{Reply};
 ghost use Rattle.df_local.specs.declared.close.EditRefused.{EditRefused};
-ghost use Rattle.df_local.specs.Locally.{Commits, IsRefusal, Refuses, done_by, edited, publish_reply, release_reply, released_by, with_own};
+ghost use Rattle.df_local.specs.Locally.{Commits, IsRefusal, Refuses, committed, done_by, edited, publish_reply, release_reply, released_by, with_own};
 
 use crate::Local;
 use crate::handles::{close, handle_at};
@@ -69,7 +69,8 @@ impl Local {
 /// What a draft commits.
 fn published(alloc: Global, output: &Label, handle: &Handle) -> Result<Commit, EditRefused>
     ensures replied { IfOk result (λ c. publish_reply handle.now ≡ Reply.Ok) }
-    ensures done { IfOk result (λ c. done_by c ≡ Effect.Commit (edited handle.now.event [] (relabelled output.now handle.now.drafted))) }
+    ensures whole { IfOk result (λ c. c ≡ committed Close.Publish output.now handle.now) }
+    ensures done { IfOk result (λ c. done_by c ≡ Effect.Commit c) }
     ensures refused { IfErr result (λ e. IsRefusal e (publish_reply handle.now)) }
 {
     if handle.is_view {
@@ -78,17 +79,14 @@ fn published(alloc: Global, output: &Label, handle: &Handle) -> Result<Commit, E
     if handle.drafted.as_slice().is_empty() {
         return Err(EditRefused::EmptyEvent);
     }
-    let event = handle.event.copy()?;
-    let added = relabelled(alloc, output, handle.drafted.as_slice())?;
-    Ok(Commit {
-        event,
-        edit: Edit::new(Vec::new(alloc), added),
-    })
+    let commit = committed(alloc, output, handle, Vec::new(alloc))?;
+    Ok(commit)
 }
 
 /// What a view commits.
 fn released(alloc: Global, output: &Label, handle: &Handle) -> Result<Commit, EditRefused>
     ensures replied { IfOk result (λ c. release_reply output.now handle.now ≡ Reply.Ok) }
+    ensures whole { IfOk result (λ c. c ≡ committed Close.Release output.now handle.now) }
     ensures done { IfOk result (λ c. done_by c ≡ released_by output.now handle.now) }
     ensures refused { IfErr result (λ e. IsRefusal e (release_reply output.now handle.now)) }
 {
@@ -99,8 +97,21 @@ fn released(alloc: Global, output: &Label, handle: &Handle) -> Result<Commit, Ed
     if let Some(spot) = unwritable(output, named) {
         return Err(cannot_write(output, &spot.label));
     }
-    let event = handle.event.copy()?;
     let deleted = copies_of(alloc, named)?;
+    let commit = committed(alloc, output, handle, deleted)?;
+    Ok(commit)
+}
+
+/// What a handle commits with these deletions.
+fn committed(
+    alloc: Global,
+    output: &Label,
+    handle: &Handle,
+    deleted: Vec<Spot>,
+) -> Result<Commit, NoMemory>
+    ensures { IfOk result (λ c. c ≡ edited handle.now.event deleted.items (relabelled output.now handle.now.drafted)) }
+{
+    let event = handle.event.copy()?;
     let added = relabelled(alloc, output, handle.drafted.as_slice())?;
     Ok(Commit {
         event,

@@ -8,14 +8,12 @@ ghost use Rattle.df_local.specs.Locally.{Answers, added_reply, with_own};
 
 use crate::Local;
 use crate::handles::{draft, handle_at, is_full, least_free, open};
+use crate::limits::{MOST_NUMBERS, MOST_PARTS};
 use crate::parts::new_part;
 use crate::take::is_accepted;
 use df_frozen::{Frozen, Name};
 use df_label::{Label, NoMemory};
 use df_unit::{Drafts, EventName, Handle, Parts, Reply, Spots};
-
-/// How many parts may be drafted at a handle.
-pub const MOST_PARTS: usize = 64;
 
 impl Local {
     /// Opens an empty draft of the unit's next event.
@@ -40,7 +38,7 @@ impl Local {
         if is_full(self.handles.as_slice()) {
             return Reply::TooManyHandles;
         }
-        if self.events == u32::MAX {
+        if self.events >= MOST_NUMBERS {
             return Reply::Exhausted;
         }
         Reply::Handle(least_free(self.handles.as_slice()) as u32)
@@ -51,7 +49,7 @@ impl Local {
         ensures ok { OnOk result (self.new ≡ with_own self.old (drafting self.old.unit drafted self.old.own)) }
         ensures unchanged { OnErr result (self.new ≡ self.old) }
     {
-        if self.events == u32::MAX {
+        if self.events >= MOST_NUMBERS {
             return Err(NoMemory);
         }
         let unit = match self.name.copy() {
@@ -104,7 +102,9 @@ impl Local {
             return Reply::NoSuchHandle;
         };
         if handle.drafted.as_slice().len() >= MOST_PARTS {
-            return Reply::TooManyParts { wanted: 65 };
+            return Reply::TooManyParts {
+                wanted: MOST_PARTS as u64 + 1,
+            };
         }
         Reply::Ok
     }

@@ -3,12 +3,10 @@
 ghost use Rattle.std.specs.Prelude.{◌≡◌, ◌≤◌, ◌∷◌, [], ◌++◌, length, option_copied, OnOk, OnErr};
 ghost use Rattle.df_unit.specs.Handles.{changed_at, closed, handle_at, is_full, least_free, open_count, opened};
 
+use crate::limits::MOST_HANDLES;
 use df_label::NoMemory;
 use df_part::Part;
 use df_unit::{Drafts, Handle};
-
-/// How many handles a unit may have open.
-pub const MOST_HANDLES: usize = 64;
 
 fn open_count(handles: &[Option<Handle>]) -> usize
     ensures { result ≡ open_count handles.now }

@@ -101,7 +101,9 @@ impl Local {
     {
         match self.out_changed(half, act, tag) {
             Ok(out) => {
-                self.set_out(out);
+                self.output = out.output;
+                self.dropped = out.dropped;
+                self.endorsed = out.endorsed;
                 Ok(())
             }
             Err(refused) => Err(refused),
@@ -118,8 +120,11 @@ impl Local {
         };
         match self.out_changed(half, act, tag) {
             Ok(out) => {
-                self.set_in(ins);
-                self.set_out(out);
+                self.input = ins.input;
+                self.contamination = ins.contamination;
+                self.output = out.output;
+                self.dropped = out.dropped;
+                self.endorsed = out.endorsed;
                 Ok(())
             }
             Err(refused) => Err(refused),
@@ -151,21 +156,6 @@ impl Local {
             input,
             contamination,
         })
-    }
-
-    fn set_out(&mut self, out: OutChange)
-        ensures { self.new ≡ with_own self.old (record self.old.own { output = out.output; dropped = out.dropped; endorsed = out.endorsed }) }
-    {
-        self.output = out.output;
-        self.dropped = out.dropped;
-        self.endorsed = out.endorsed;
-    }
-
-    fn set_in(&mut self, ins: InChange)
-        ensures { self.new ≡ with_own self.old (record self.old.own { input = ins.input; contamination = ins.contamination }) }
-    {
-        self.input = ins.input;
-        self.contamination = ins.contamination;
     }
 
     fn now_dropped(&self, half: Half, act: Act, tag: &Tag) -> Result<TagSet, NoMemory>

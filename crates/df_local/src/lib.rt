@@ -8,6 +8,8 @@ mod draft;
 mod edits;
 mod handles;
 mod labels;
+pub mod laws;
+mod limits;
 mod local;
 mod parts;
 mod read;
@@ -17,7 +19,4 @@ mod take;
 
 pub use answer::Answer;
 pub use close::{Close, EditRefused};
-pub use draft::MOST_PARTS;
-pub use handles::MOST_HANDLES;
 pub use local::Local;
-pub use receive::MOST_SUBS;

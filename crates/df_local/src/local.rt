@@ -31,6 +31,7 @@ pub struct Local {
 }
 
 impl Model for Local {
+    ghost use Rattle.df_unit.specs.KeptFact.{AreAccounted};
     ghost use Rattle.df_local.specs.LocalState.{LocalState, local_code};
 
     ghost Value = { LocalState };
@@ -54,6 +55,8 @@ impl Model for Local {
         handles = l.handles.items;
       };
     } };
+
+    ghost invariant = { λ l. AreAccounted l.input l.output l.contamination l.dropped l.endorsed };
 }
 
 impl Local {

@@ -8,13 +8,11 @@ ghost use Rattle.df_local.specs.Locally.{CountsSub, TakesIn, with_own};
 
 use crate::Local;
 use crate::handles::{is_full, least_free, open};
+use crate::limits::MOST_SUBS;
 use crate::take::is_accepted;
 use df_label::NoMemory;
 use df_unit::{Drafts, Given, Handle, Reply, Spots};
 use std::alloc::Global;
-
-/// How many subscriptions a unit may make, of both kinds together.
-pub const MOST_SUBS: u32 = 64;
 
 impl Local {
     /// Opens a view of an event that was handed to the unit.
@@ -77,17 +75,6 @@ impl Local {
             return Reply::TooManySubs;
         }
         Reply::Sub(self.subs)
-    }
-
-    pub(crate) fn put_sub(&mut self) -> Result<(), NoMemory>
-        ensures ok { OnOk result (self.new ≡ with_own self.old (record self.old.own { subs = self.old.own.subs + 1 })) }
-        ensures unchanged { OnErr result (self.new ≡ self.old) }
-    {
-        if self.subs == u32::MAX {
-            return Err(NoMemory);
-        }
-        self.subs += 1;
-        Ok(())
     }
 }
 

@@ -9,6 +9,7 @@ ghost use Rattle.df_unit.specs.declared.entry.Effect.{Effect};
 ghost use Rattle.df_local.specs.Locally.{Answers, with_own};
 
 use crate::Local;
+use crate::limits::MOST_NUMBERS;
 use crate::take::is_accepted;
 use df_label::{NoMemory, Privilege, Right, Tag};
 use df_priv::Held;
@@ -39,7 +40,7 @@ impl Local {
         if self.is_instance() {
             return Ok(Reply::NotInManaged);
         }
-        if self.tags == u32::MAX {
+        if self.tags >= MOST_NUMBERS {
             return Ok(Reply::Exhausted);
         }
         let tag = self.next_tag()?;
@@ -50,7 +51,7 @@ impl Local {
         ensures ok { OnOk result (self.new ≡ with_own self.old (changed self.old.unit self.old.own Call.CreateTag Effect.Nothing)) }
         ensures unchanged { OnErr result (self.new ≡ self.old) }
     {
-        if self.tags == u32::MAX {
+        if self.tags >= MOST_NUMBERS {
             return Err(NoMemory);
         }
         match self.held_with_next() {

@@ -3,17 +3,18 @@
 ghost use Rattle.std.specs.Prelude.{◌≡◌, OnErr, OnOk};
 ghost use Rattle.df_unit.specs.Rows.{after, is_accepted, taken_in};
 ghost use Rattle.df_unit.specs.Served.{IsBuilt};
-ghost use Rattle.df_local.specs.Locally.{with_own};
+ghost use Rattle.df_local.specs.Locally.{IsAnswer, with_own};
 
 use crate::Local;
 use df_label::NoMemory;
 use df_unit::{Call, Drafts, Effect, Reply};
 
 impl Local {
-    /// Takes a call in, with its reply and its effect. A refused call changes nothing. Where a
-    /// counter stands at its greatest, that is NoMemory.
+    /// Takes a call in, with the reply and the effect that its row gives. A refused call changes
+    /// nothing. Where the count of deliveries stands at its greatest, that is NoMemory.
     pub fn take(&mut self, call: &Call, reply: &Reply, effect: &Effect) -> Result<(), NoMemory>
-        requires { IsBuilt call.now }
+        requires built { IsBuilt call.now }
+        requires right { IsAnswer self.old call.now reply.now effect.now }
         ensures ok { OnOk result (self.new ≡ with_own self.old (after self.old.unit self.old.own call.now reply.now effect.now)) }
         ensures unchanged { OnErr result (self.new ≡ self.old) }
     {
@@ -34,7 +35,10 @@ impl Local {
             Call::AttachPrivilege { h, label, name, p } => self.put_attached(*h, label, name, p),
             Call::ChangeOutLabel { half, act, tag } => self.put_out(*half, *act, tag),
             Call::CreateTag => self.put_tag(),
-            Call::Subscribe { .. } => self.put_sub(),
+            Call::Subscribe { .. } => {
+                let _reply = self.count_sub();
+                Ok(())
+            }
             Call::Get => self.put_given(effect),
             Call::DropEvent { h } | Call::Publish { h } | Call::Release { h } => {
                 self.shut(*h);

@@ -21,7 +21,7 @@ use Rattle.df_unit.specs.declared.entry.Entry.{Entry}
 use Rattle.df_unit.specs.declared.name.UnitName.{UnitName}
 use Rattle.df_unit.specs.declared.reply.Reply.{Reply}
 use Rattle.df_tables.specs.Agree.{IsRow, IsSeat, Agrees}
-use Rattle.df_tables.specs.Moves.{row_answer}
+use Rattle.df_local.specs.Locally.{row_answer}
 use Rattle.df_tables.specs.Table.{find, names_of, quieted, with_news}
 use Rattle.df_tables.specs.declared.events.EventRow.{EventRow}
 use Rattle.df_tables.specs.declared.units.Unit.{Unit}

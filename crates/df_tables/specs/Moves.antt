@@ -1,21 +1,15 @@
 -- What the tables need of an entry before they move.
 use Rattle.std.specs.Prelude.{◌≡◌, ℕ, List, Option, Some, None}
 use Rattle.df_filter.specs.declared.clause.Clause.{Clause}
-use Rattle.df_local.specs.LocalState.{LocalState}
-use Rattle.df_unit.specs.Rows.{reply, effect}
+use Rattle.df_local.specs.Locally.{row_answer}
 use Rattle.df_unit.specs.declared.call.Call.{Call}
 use Rattle.df_unit.specs.declared.call.Call.TheVariants.{Subscribe}
-use Rattle.df_unit.specs.declared.commit.Given.{Given}
 use Rattle.df_unit.specs.declared.entry.Effect.{Effect}
 use Rattle.df_unit.specs.declared.name.UnitName.{UnitName}
 use Rattle.df_unit.specs.declared.reply.Reply.{Reply}
 use Rattle.df_unit.specs.declared.reply.Reply.TheVariants.{Sub}
 use Rattle.df_tables.specs.Table.{find}
 use Rattle.df_tables.specs.declared.units.Unit.{Unit}
-
--- a call's reply and effect by its row, where these deliveries are left
-abbrev pub row_answer : LocalState → List Given → Call → Reply × Effect
-row_answer l left c = (reply l.unit l.own left c, effect l.unit l.own left c)
 
 -- the reply and the effect are the unit's answer to the call, by its own state and what is left of its line
 abbrev pub IsAnswered : Call → Reply → Effect → Unit → Type 0

@@ -77,6 +77,13 @@ taken Effect.Nothing l = l
 taken (Effect.Commit c) l = l
 taken (Effect.Given d) l = record l { left = drop 1 l.left }
 
+-- the row with an entry taken into the unit's own state and its line
+abbrev pub entered : Rules → Call → Reply → Effect → Unit → Unit
+entered R c r f u = record u {
+  local = record { unit = u.local.unit; own = R.after u.local.unit u.local.own c r f };
+  line = taken f u.line;
+}
+
 -- the actor's row after its entry
 abbrev pub moved_row : Rules → Call → Reply → Effect → Unit → Unit
 moved_row R c r f u = record {

@@ -7,7 +7,7 @@ ghost use Rattle.df_unit.specs.Rows.{subscribes};
 ghost use Rattle.df_unit.specs.Served.{IsBuilt};
 ghost use Rattle.df_unit.specs.declared.entry.Effect.{Effect};
 ghost use Rattle.df_tables.specs.Moves.{IsAnswered, IsRight, made_by};
-ghost use Rattle.df_tables.specs.Table.{IsInOrder, moved_at, moved_row, parts_of, quieted, settled_row, taken, with_news};
+ghost use Rattle.df_tables.specs.Table.{IsInOrder, entered, moved_at, moved_row, parts_of, quieted, settled_row, taken, with_news};
 
 use crate::events::{EventRow, contents_after};
 use crate::line::Line;
@@ -40,6 +40,21 @@ fn take_from(line: &mut Line, effect: &Effect)
     }
 }
 
+/// Takes an entry into the unit's own state and its line. Where memory is wanting, the row is as
+/// before.
+fn enter(unit: &mut Unit, call: &Call, reply: &Reply, effect: &Effect) -> Result<(), NoMemory>
+    requires built { IsBuilt call.now }
+    requires right { IsAnswered call.now reply.now effect.now unit.old }
+    ensures ok { OnOk result (unit.new ≡ entered rows call.now reply.now effect.now unit.old) }
+    ensures unchanged { OnErr result (unit.new ≡ unit.old) }
+{
+    let Ok(()) = unit.local.take(call, reply, effect) else {
+        return Err(NoMemory);
+    };
+    take_from(&mut unit.line, effect);
+    Ok(())
+}
+
 /// Moves the row of a unit that subscribes. Where memory is wanting, it is as before.
 fn move_subscriber(
     unit: &mut Unit,
@@ -58,26 +73,10 @@ fn move_subscriber(
     let Ok(()) = unit.subscriptions.push(number, filter) else {
         return Err(NoMemory);
     };
-    let Ok(()) = unit.local.take(call, reply, effect) else {
+    let Ok(()) = enter(unit, call, reply, effect) else {
         unit.subscriptions.pop();
         return Err(NoMemory);
     };
-    take_from(&mut unit.line, effect);
-    Ok(())
-}
-
-/// Moves the row of a unit that doesn't subscribe. Where memory is wanting, it is as before.
-fn move_other(unit: &mut Unit, call: &Call, reply: &Reply, effect: &Effect) -> Result<(), NoMemory>
-    requires built { IsBuilt call.now }
-    requires right { IsAnswered call.now reply.now effect.now unit.old }
-    requires made { subscribes unit.old.local.own call.now reply.now ≡ None }
-    ensures ok { OnOk result (unit.new ≡ moved_row rows call.now reply.now effect.now unit.old) }
-    ensures unchanged { OnErr result (unit.new ≡ unit.old) }
-{
-    let Ok(()) = unit.local.take(call, reply, effect) else {
-        return Err(NoMemory);
-    };
-    take_from(&mut unit.line, effect);
     Ok(())
 }
 
@@ -94,7 +93,7 @@ fn move_row(unit: &mut Unit, call: &Call, reply: &Reply, effect: &Effect) -> Res
     };
     match made {
         Some((number, filter)) => move_subscriber(unit, call, reply, effect, number, filter),
-        None => move_other(unit, call, reply, effect),
+        None => enter(unit, call, reply, effect),
     }
 }
 

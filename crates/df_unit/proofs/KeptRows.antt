@@ -12,7 +12,7 @@ use Rattle.df_priv.specs.declared.need.Act.{Act}
 use Rattle.df_priv.specs.declared.need.Act.TheVariants.{Add, Del}
 use Rattle.df_priv.specs.declared.need.Half.{Half}
 use Rattle.df_unit.specs.Beginnings.{root, fixed_of, begin, child, child_input, child_secrets}
-use Rattle.df_unit.specs.KeptFact.{IsKept}
+use Rattle.df_unit.specs.KeptFact.{AreAccounted, IsKept}
 use Rattle.df_unit.specs.OwnState.{OwnState}
 use Rattle.df_unit.specs.Rows.{after, changed, half_changed, now_dropped, now_endorsed, out_changed, is_accepted}
 use Rattle.df_unit.specs.declared.call.Call.{Call}
@@ -103,6 +103,10 @@ in_sound st half act t k y h m = in_both st.contamination.i (half_changed half a
     go Half.S Del h = read
     go Half.I Add h = has_still st.input.i t y read
     go Half.I Del h = others_stay st.input.i t y read (stayed st.output.i t y h).1
+
+-- what is equal to the parts of a state that keeps the fact is accounted for
+pub accounted_as : (st : OwnState) (input output contamination : Label) (dropped endorsed : List (List ℕ)) → IsKept st → input ≡ st.input → output ≡ st.output → contamination ≡ st.contamination → dropped ≡ st.dropped → endorsed ≡ st.endorsed → AreAccounted input output contamination dropped endorsed
+accounted_as st input output contamination dropped endorsed k i o c d e = rw (i, o, c, d, e) k
 
 -- the input label goes on to flow to the contamination
 pub reads_changed : (u : UnitName) (st : OwnState) (c : Call) (f : Effect) → flows_to st.input st.contamination ≡ true → flows_to (changed u st c f).input (changed u st c f).contamination ≡ true

@@ -7,7 +7,7 @@ use Rattle.df_unit.specs.declared.commit.Given.{Given}
 use Rattle.df_unit.specs.declared.entry.Effect.{Effect}
 use Rattle.df_unit.specs.declared.reply.Reply.{Reply}
 use Rattle.df_machine.specs.Journal.{State, answer_in, firsts}
-use Rattle.df_tables.specs.Moves.{row_answer}
+use Rattle.df_local.specs.Locally.{row_answer}
 use Rattle.df_tables.proofs.Tells.{answer_at, answer_none, first_answers}
 use Rattle.df_machine.proofs.machine.Core.answer.Goals as goal
 
