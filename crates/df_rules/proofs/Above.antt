@@ -1,38 +1,77 @@
--- Instances and children begin with the confidentiality of both labels of their owner or maker.
-use Rattle.std.proofs.Common.{◌≡◌, ◌⊎◌, inl, inr, ℕ, List, ◌∷◌, Bool, true, false, refl, subst, cond, Option, Some, None}
+-- Instances and children begin above their owner or maker.
+use Rattle.std.proofs.Common.{◌≡◌, ◌⊎◌, inl, inr, ℕ, List, Bool, true, false, refl, subst, ap, ◌∙◌, cond, Option, Some, None}
 use Rattle.std.specs.Option.{option_and_then, option_or}
 use Rattle.df_filter.specs.declared.clause.Clause.{Clause}
 use Rattle.df_label.specs.Tag.{maker_of, number_of}
-use Rattle.df_label.specs.TagSet.{is_subset, union}
+use Rattle.df_label.specs.TagSet.{is_subset, union, meet}
+use Rattle.df_label.specs.declared.label.Label.{Label}
 use Rattle.df_label.specs.declared.privilege.Privilege.{Privilege}
+use Rattle.df_label.proofs.LabelFacts.{flows_to-from_parts, flows_to-join_left}
+use Rattle.df_label.proofs.TagSetFacts.{is_subset-refl, is_subset-trans, is_subset-union_left, is_subset-union_right, meet-is_subset_right}
+use Rattle.df_rules.specs.Begins.{Begins, IsAbove, IsInstanceOf, IsChildOf, owner_of}
 use Rattle.df_rules.specs.Commits.{commit_of}
 use Rattle.df_rules.specs.Exercised.{before_fixed}
-use Rattle.df_rules.specs.Grows.{IsAbove}
 use Rattle.df_rules.specs.Own.{stepped, made_by, own_plain, own_instance, fixed, is_given, born}
 use Rattle.df_rules.specs.Start.{rows}
 use Rattle.df_rules.proofs.Invariant.{FixedFrom, fixed_from, base_within}
-use Rattle.df_label.proofs.TagSetFacts.{is_subset-trans, is_subset-union_left, is_subset-union_right}
-use Rattle.df_rules.proofs.RowLaws.{by_fixed, by_child}
+use Rattle.df_rules.proofs.RowLaws.{by_fixed, makes_is}
 use Rattle.df_rules.proofs.Steps.{or_is, step_none}
-use Rattle.df_unit.specs.Beginnings.{fixed_of, begin, child, child_secrets}
+use Rattle.df_unit.proofs.SameFacts.{same_name-exact}
+use Rattle.df_unit.specs.Beginnings.{fixed_of, begin, readable_at, child, child_input, child_secrets}
 use Rattle.df_unit.specs.Name.{same}
 use Rattle.df_unit.specs.OwnState.{OwnState, Fixed}
+use Rattle.df_unit.specs.declared.call.Call.{Call}
+use Rattle.df_unit.specs.declared.call.Call.TheVariants.{Instantiate}
+use Rattle.df_unit.specs.declared.entry.Effect.{Effect}
 use Rattle.df_unit.specs.declared.entry.Entry.{Entry}
 use Rattle.df_unit.specs.declared.entry.Entry.TheVariants.{Done, Emitted}
 use Rattle.df_unit.specs.declared.name.UnitName.{UnitName}
 use Rattle.df_unit.specs.declared.name.UnitName.TheVariants.{Root, Managed}
+use Rattle.df_unit.specs.declared.reply.Reply.{Reply}
 
-begin_above : (st : OwnState) (filter : List Clause) (t : List (List ℕ)) → is_subset (fixed_of st filter).base t ≡ true → IsAbove st (begin (fixed_of st filter) t)
+begin_above : (st : OwnState) (filter : List Clause) (t : List (List ℕ)) → is_subset (fixed_of st filter).base t ≡ true → IsInstanceOf st (begin (fixed_of st filter) t)
 begin_above st filter t base =
-    let input = is_subset-trans st.input.s (union st.input.s st.output.s) t (is_subset-union_left st.input.s st.output.s) base in
-    let output = is_subset-trans st.output.s (union st.input.s st.output.s) t (is_subset-union_right st.input.s st.output.s) base in
-    record { reads_input = input; reads_output = output; writes_input = input; writes_output = output }
+    let reads = is_subset-trans st.input.s (union st.input.s st.output.s) t (is_subset-union_left st.input.s st.output.s) base in
+    let writes = is_subset-trans st.output.s (union st.input.s st.output.s) t (is_subset-union_right st.input.s st.output.s) base in
+    let input : Label = readable_at (fixed_of st filter) t in
+    let output : Label = record { s = t; i = meet st.input.i st.output.i } in
+    record {
+      above = record {
+        reads_input = reads;
+        reads_output = writes;
+        writes_input = reads;
+        writes_output = writes;
+        input_integrity = refl;
+        output_integrity = refl;
+        input = flows_to-from_parts st.input input reads (is_subset-refl st.input.i);
+        output = flows_to-from_parts st.output output writes (meet-is_subset_right st.input.i st.output.i);
+        contamination = flows_to-join_left st.contamination input;
+        least = refl;
+        dropped = refl;
+        endorsed = refl;
+      };
+      held = refl;
+    }
 
 child_above : (st : OwnState) (s : List (List ℕ)) (privileges : List Privilege) → IsAbove st (child st s privileges)
 child_above st s privileges =
-    let input = is_subset-trans st.input.s (union s st.input.s) (child_secrets st s) (is_subset-union_right s st.input.s) (is_subset-union_left (union s st.input.s) st.output.s) in
-    let output = is_subset-union_right (union s st.input.s) st.output.s in
-    record { reads_input = input; reads_output = output; writes_input = input; writes_output = output }
+    let reads = is_subset-trans st.input.s (union s st.input.s) (child_secrets st s) (is_subset-union_right s st.input.s) (is_subset-union_left (union s st.input.s) st.output.s) in
+    let writes = is_subset-union_right (union s st.input.s) st.output.s in
+    let output : Label = record { s = child_secrets st s; i = meet st.input.i st.output.i } in
+    record {
+      reads_input = reads;
+      reads_output = writes;
+      writes_input = reads;
+      writes_output = writes;
+      input_integrity = refl;
+      output_integrity = refl;
+      input = flows_to-from_parts st.input (child_input st s) reads (is_subset-refl st.input.i);
+      output = flows_to-from_parts st.output output writes (meet-is_subset_right st.input.i st.output.i);
+      contamination = flows_to-join_left st.contamination (child_input st s);
+      least = refl;
+      dropped = refl;
+      endorsed = refl;
+    }
 
 -- where there was none, the newer one's is the state
 newly : (u : UnitName) (e : Entry) (o y : Option OwnState) (s : List OwnState) (st : OwnState) → o ≡ None → option_or (stepped rows u e o) y ≡ Some st → y ≡ Some st
@@ -43,35 +82,47 @@ newly u e o y s st none h = go (or_is (stepped rows u e o) y st h)
     go (inr birth) = birth.1
 
 module _ (s : List OwnState) where
-  pub instance_above : (e : Entry) (past : List Entry) (o : List ℕ) (n : ℕ) (t : List (List ℕ)) (st : OwnState) → own_instance rows s past o n t ≡ None → own_instance rows s (e ∷ past) o n t ≡ Some st →
-      (owner : OwnState) × (own_plain rows s (before_fixed rows s past o n) o ≡ Some owner) × IsAbove owner st
-  instance_above e past o n t st none h =
-      go (fixed rows s past o n) (fixed_from rows s past o n) (newly (Managed o n t) e (own_instance rows s past o n t) (born rows (fixed rows s past o n) t past (commit_of e)) s st none h)
+  -- an owner of whom the instance is one
+  HasOwner : List Entry → List ℕ → ℕ → OwnState → Type 0
+  HasOwner past o n st = (owner : OwnState) × (owner_of s past o n ≡ Some owner) × IsInstanceOf owner st
+
+  pub instance_above : (e : Entry) (past : List Entry) (o : List ℕ) (n : ℕ) (t : List (List ℕ)) (st : OwnState) → Begins s past e (Managed o n t) st → (owner : OwnState) × (owner_of s past o n ≡ Some owner) × IsInstanceOf owner st
+  unfolding HasOwner
+  instance_above e past o n t st begins =
+      go (fixed rows s past o n) (fixed_from rows s past o n) (newly (Managed o n t) e (own_instance rows s past o n t) (born rows (fixed rows s past o n) t past (commit_of e)) s st begins.absent begins.begun)
     where
-      given : (f : Fixed) → FixedFrom rows s (before_fixed rows s past o n) o n (Some f) → (b : Bool) → is_given (Some f) t past (commit_of e) ≡ b → cond b (Some (begin f t)) None ≡ Some st →
-          (owner : OwnState) × (own_plain rows s (before_fixed rows s past o n) o ≡ Some owner) × IsAbove owner st
+      given : (f : Fixed) → FixedFrom rows s (before_fixed rows s past o n) o n (Some f) → (b : Bool) → is_given (Some f) t past (commit_of e) ≡ b → cond b (Some (begin f t)) None ≡ Some st → HasOwner past o n st
       given f from true chosen h =
           let is : begin f t ≡ st = (let k = h in cc) in
-          let above : is_subset f.base t ≡ true → IsAbove from.0 (begin f t) =
-          by_fixed (λ f. is_subset f.base t ≡ true → IsAbove from.0 (begin f t)) from.0 n from.1 from.2 f from.4 (λ filter. begin_above from.0 filter t) in
-          (from.0, from.3, subst (IsAbove from.0) is (above (base_within f t past (commit_of e) chosen)))
+          let above : is_subset f.base t ≡ true → IsInstanceOf from.0 (begin f t) =
+          by_fixed (λ f. is_subset f.base t ≡ true → IsInstanceOf from.0 (begin f t)) from.0 n from.1 from.2 f from.4 (λ filter. begin_above from.0 filter t) in
+          (from.0, from.3, subst (IsInstanceOf from.0) is (above (base_within f t past (commit_of e) chosen)))
       given f from false chosen h = absurd (let z : ⊥ = cc in z)
 
-      go : (fx : Option Fixed) → FixedFrom rows s (before_fixed rows s past o n) o n fx → born rows fx t past (commit_of e) ≡ Some st →
-          (owner : OwnState) × (own_plain rows s (before_fixed rows s past o n) o ≡ Some owner) × IsAbove owner st
+      go : (fx : Option Fixed) → FixedFrom rows s (before_fixed rows s past o n) o n fx → born rows fx t past (commit_of e) ≡ Some st → HasOwner past o n st
       go None from h = absurd (let z : ⊥ = cc in z)
       go (Some f) from h = given f from (is_given (Some f) t past (commit_of e)) refl h
 
-  pub child_is_above : (e : Entry) (past : List Entry) (path : List ℕ) (st : OwnState) → own_plain rows s past path ≡ None → own_plain rows s (e ∷ past) path ≡ Some st →
-      (maker : OwnState) × (own_plain rows s past (maker_of path) ≡ Some maker) × IsAbove maker st
-  child_is_above e past path st none h = go e (own_plain rows s past (maker_of path)) refl (newly (Root path) e (own_plain rows s past path) (made_by rows e path (own_plain rows s past (maker_of path))) s st none h)
+  pub child_is_above : (e : Entry) (past : List Entry) (path : List ℕ) (st : OwnState) → Begins s past e (Root path) st →
+      (maker : OwnState) × (own_plain rows s past (maker_of path) ≡ Some maker) × IsChildOf maker e path st
+  child_is_above e past path st begins = go e (own_plain rows s past (maker_of path)) refl (newly (Root path) e (own_plain rows s past path) (made_by rows e path (own_plain rows s past (maker_of path))) s st begins.absent begins.begun)
     where
-      go : (e : Entry) (maker : Option OwnState) → own_plain rows s past (maker_of path) ≡ maker → made_by rows e path maker ≡ Some st → (maker : OwnState) × (own_plain rows s past (maker_of path) ≡ Some maker) × IsAbove maker st
+      made : (m : OwnState) (a : UnitName) (c : Call) (r : Reply) (f : Effect) → same a (Root (maker_of path)) ≡ true → rows.makes m (number_of path) c r ≡ Some st → IsChildOf m (Done a c r f) path st
+      made m a c r f who h =
+          let is = makes_is m (number_of path) c r st h in
+          let ch = child m is.0 is.1 in
+          let actor : Done a c r f ≡ Done (Root (maker_of path)) c r f = ap (λ (u : UnitName). Done u c r f) (same_name-exact a (Root (maker_of path)) who) in
+          let call : Done (Root (maker_of path)) c r f ≡ Done (Root (maker_of path)) (Instantiate is.0 is.1) r f = ap (λ (x : Call). Done (Root (maker_of path)) x r f) is.2 in
+          let answer : Done (Root (maker_of path)) (Instantiate is.0 is.1) r f ≡ Done (Root (maker_of path)) (Instantiate is.0 is.1) (Reply.Unit (number_of path)) f = ap (λ (x : Reply). Done (Root (maker_of path)) (Instantiate is.0 is.1) x f) is.3 in
+          let whole : IsChildOf m (Done a c r f) path ch = record { above = child_above m is.0 is.1; made = (is.0, f, actor ∙ call ∙ answer) } in
+          subst (IsChildOf m (Done a c r f) path) is.4 whole
+
+      go : (e : Entry) (maker : Option OwnState) → own_plain rows s past (maker_of path) ≡ maker → made_by rows e path maker ≡ Some st → (maker : OwnState) × (own_plain rows s past (maker_of path) ≡ Some maker) × IsChildOf maker e path st
       go (Emitted c) maker mine h = absurd (let z : ⊥ = cc in z)
-      go (Done a c r f) maker mine h = by (same a (Root (maker_of path))) maker mine h
+      go (Done a c r f) maker mine h = by (same a (Root (maker_of path))) refl maker mine h
         where
-          by : (b : Bool) (maker : Option OwnState) → own_plain rows s past (maker_of path) ≡ maker → cond b (option_and_then (λ st. rows.makes st (number_of path) c r) maker) None ≡ Some st →
-              (maker : OwnState) × (own_plain rows s past (maker_of path) ≡ Some maker) × IsAbove maker st
-          by true None mine h = absurd (let z : ⊥ = cc in z)
-          by true (Some m) mine h = (m, mine, by_child (IsAbove m) m (number_of path) c r st h (λ set privileges. child_above m set privileges))
-          by false maker mine h = absurd (let z : ⊥ = cc in z)
+          by : (b : Bool) → same a (Root (maker_of path)) ≡ b → (maker : Option OwnState) → own_plain rows s past (maker_of path) ≡ maker → cond b (option_and_then (λ st. rows.makes st (number_of path) c r) maker) None ≡ Some st →
+              (maker : OwnState) × (own_plain rows s past (maker_of path) ≡ Some maker) × IsChildOf maker (Done a c r f) path st
+          by true who None mine h = absurd (let z : ⊥ = cc in z)
+          by true who (Some m) mine h = (m, mine, made m a c r f who h)
+          by false who maker mine h = absurd (let z : ⊥ = cc in z)

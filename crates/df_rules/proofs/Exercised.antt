@@ -16,7 +16,7 @@ use Rattle.df_priv.specs.declared.need.Half.{Half}
 use Rattle.df_rules.specs.Commits.{commit_in, commit_of, cut_spots, cut_commit}
 use Rattle.df_rules.specs.Deliveries.{deliveries}
 use Rattle.df_rules.specs.Exercised.{ChangesBy, HasPlainChange, HasOwnChange, IsMaking, IsExercised, before_fixed}
-use Rattle.df_rules.specs.Laws.{Laws, ReleaseLaws, IsKept, IsChange}
+use Rattle.df_rules.specs.Laws.{Laws, ReleaseLaws, IsChange}
 use Rattle.df_rules.specs.Legal.{Legal, IsRight, left, answer_of}
 use Rattle.df_rules.specs.Own.{stepped, made_by, own_plain, own_instance, own, fixed, is_given, born}
 use Rattle.df_rules.specs.Purge.{echo}
@@ -29,6 +29,7 @@ use Rattle.std.proofs.lemmas.Bool.{and_parts, or_cases}
 use Rattle.df_rules.proofs.PurgeKeeps.{began}
 use Rattle.df_rules.proofs.Steps.{or_is, none_step}
 use Rattle.df_unit.specs.Name.{same}
+use Rattle.df_unit.specs.KeptFact.{IsKept}
 use Rattle.df_unit.specs.OwnState.{OwnState, Fixed}
 use Rattle.df_unit.specs.Rows.{is_nil}
 use Rattle.df_unit.specs.declared.call.Call.{Call}

@@ -1,11 +1,9 @@
 -- The rows of the call table keep what is promised of emitted commits.
-use Rattle.std.proofs.Common.{inl, inr, ◌≡◌, ◌⊎◌, ℕ, List, [], ◌∷◌, Bool, true, false, not, ◌&&◌, ◌||◌, refl, sym, ◌∙◌, subst, cond, Option, Some, None}
+use Rattle.std.proofs.Common.{inl, inr, ◌≡◌, ◌⊎◌, ℕ, List, [], ◌∷◌, Bool, true, false, not, ◌&&◌, refl, sym, subst, cond, Option, Some, None}
 use Rattle.std.specs.Prelude.{⊤}
-use Rattle.std.specs.List.{list_all, filter}
-use Rattle.df_filter.specs.declared.clause.Clause.{Clause}
+use Rattle.std.specs.List.{list_all}
 use Rattle.df_label.specs.Label.{flows_to}
-use Rattle.df_label.specs.Tag.{tag_eq}
-use Rattle.df_label.specs.TagSet.{contains, is_subset, with, without, union, meet}
+use Rattle.df_label.specs.TagSet.{contains, is_subset, with}
 use Rattle.df_label.specs.declared.label.Label.{Label}
 use Rattle.df_label.specs.declared.privilege.Privilege.{Privilege}
 use Rattle.df_part.specs.declared.edit.Spot.{Spot}
@@ -13,20 +11,22 @@ use Rattle.df_part.specs.declared.part.Part.{Part}
 use Rattle.df_priv.specs.declared.need.Act.{Act}
 use Rattle.df_priv.specs.declared.need.Act.TheVariants.{Add, Del}
 use Rattle.df_priv.specs.declared.need.Half.{Half}
-use Rattle.df_rules.specs.Laws.{ReleaseLaws, IsKept, IsChange}
-use Rattle.df_rules.specs.Start.{rows, roots, root_of}
-use Rattle.std.proofs.lemmas.Bool.{and_parts, and_from, or_cases, or_left, or_right}
-use Rattle.df_label.proofs.LabelFacts.{flows_to-parts, flows_to-refl, flows_to-join_right}
-use Rattle.df_label.proofs.TagSetFacts.{tag_eq-exact, tag_eq-itself, contains-with, contains-union, contains-meet, contains-without, contains-included, is_subset-trans, is_subset-union_right, is_subset-with}
-use Rattle.df_rules.proofs.RowLaws.{first_is, second_is, roots_are, by_fixed, by_child, reads_changed}
-use Rattle.df_unit.specs.Beginnings.{fixed_of, begin, child, child_input, child_secrets}
+use Rattle.df_rules.specs.Laws.{ReleaseLaws, IsChange}
+use Rattle.df_rules.specs.Start.{rows, roots}
+use Rattle.std.proofs.lemmas.Bool.{and_from}
+use Rattle.df_label.proofs.LabelFacts.{flows_to-join_right}
+use Rattle.df_rules.proofs.RowLaws.{first_is, second_is, roots_are, by_fixed, by_child}
+use Rattle.df_unit.specs.Beginnings.{begin}
 use Rattle.df_unit.specs.Drafts.{raised, relabelled}
 use Rattle.df_unit.specs.declared.handle.Handle.{Handle}
 use Rattle.df_unit.specs.Handles.{handle_at}
 use Rattle.df_priv.specs.Held.{holds}
 use Rattle.df_priv.specs.Needed.{needed}
+use Rattle.df_unit.proofs.KeptRows.{kept_root, kept_after, kept_begin, kept_child}
+use Rattle.df_unit.proofs.Members.{added_or_had}
+use Rattle.df_unit.specs.KeptFact.{IsKept}
 use Rattle.df_unit.specs.OwnState.{OwnState}
-use Rattle.df_unit.specs.Rows.{reply, effect, after, changed, half_changed, now_dropped, now_endorsed, taken_in, is_accepted, is_instance, where_held, published, released, unwritable, refused_write, at_handle, first_given, is_nil}
+use Rattle.df_unit.specs.Rows.{reply, effect, after, changed, taken_in, is_accepted, is_instance, where_held, published, released, unwritable, refused_write, at_handle, first_given, is_nil}
 use Rattle.df_unit.specs.declared.call.Call.{Call}
 use Rattle.df_unit.specs.declared.call.Call.TheVariants.{Get, Publish, Release, ChangeOutLabel, ChangeInOut}
 use Rattle.df_unit.specs.declared.commit.Commit.{Commit}
@@ -34,194 +34,6 @@ use Rattle.df_unit.specs.declared.commit.Given.{Given}
 use Rattle.df_unit.specs.declared.entry.Effect.{Effect}
 use Rattle.df_unit.specs.declared.name.UnitName.{UnitName}
 use Rattle.df_unit.specs.declared.reply.Reply.{Reply}
-
--- members of sets
-
--- a set with a tag more has the tag
-has_added : (ts : List (List ℕ)) (t : List ℕ) → contains (with ts t) t ≡ true
-has_added ts t = contains-with ts t t ∙ or_left (tag_eq t t) (contains ts t) (tag_eq-itself t)
-
--- and what it had
-has_still : (ts : List (List ℕ)) (t y : List ℕ) → contains ts y ≡ true → contains (with ts t) y ≡ true
-has_still ts t y h = contains-included ts (with ts t) y (is_subset-with ts t) h
-
--- and nothing else
-added_or_had : (ts : List (List ℕ)) (t y : List ℕ) → contains (with ts t) y ≡ true → (t ≡ y) ⊎ (contains ts y ≡ true)
-added_or_had ts t y h = elim (or_cases (tag_eq t y) (contains ts y) (sym (contains-with ts t y) ∙ h)) [ inl e ↦ inl (tag_eq-exact t y e) | inr m ↦ inr m ]
-
-in_either : (ts us : List (List ℕ)) (y : List ℕ) → contains (union ts us) y ≡ true → (contains ts y ≡ true) ⊎ (contains us y ≡ true)
-in_either ts us y h = or_cases (contains ts y) (contains us y) (sym (contains-union ts us y) ∙ h)
-
-in_both : (ts us : List (List ℕ)) (y : List ℕ) → contains ts y ≡ true → contains us y ≡ true → contains (meet ts us) y ≡ true
-in_both ts us y h k = contains-meet ts us y ∙ and_from (contains ts y) (contains us y) h k
-
-others_stay : (ts : List (List ℕ)) (t y : List ℕ) → contains ts y ≡ true → not (tag_eq y t) ≡ true → contains (without ts t) y ≡ true
-others_stay ts t y h k = contains-without ts t y ∙ and_from (contains ts y) (not (tag_eq y t)) h k
-
-stayed : (ts : List (List ℕ)) (t y : List ℕ) → contains (without ts t) y ≡ true → (contains ts y ≡ true) × (not (tag_eq y t) ≡ true)
-stayed ts t y h = and_parts (contains ts y) (not (tag_eq y t)) (sym (contains-without ts t y) ∙ h)
-
--- a tag is another or isn't
-same_or_not : (t u : List ℕ) → (t ≡ u) ⊎ (not (tag_eq t u) ≡ true)
-same_or_not t u = go (tag_eq t u) refl
-  where
-    go : (b : Bool) → tag_eq t u ≡ b → (t ≡ u) ⊎ (not b ≡ true)
-    go true e = inl (tag_eq-exact t u e)
-    go false e = inr refl
-
--- the kept fact over changes of the output label
-
-or_mono_right : (a b c : Bool) → (b ≡ true → c ≡ true) → (a || b) ≡ true → (a || c) ≡ true
-or_mono_right true b c f h = refl
-or_mono_right false b c f h = f h
-
-out_secret : (st : OwnState) (half : Half) (act : Act) (t : List ℕ) → IsKept st → (y : List ℕ) → contains st.contamination.s y ≡ true → (contains (half_changed half act t st.output).s y || contains (now_dropped half act t st) y) ≡ true
-out_secret st Half.S Add t k y h =
-    elim (or_cases (contains st.output.s y) (contains st.dropped y) (k.secret y h)) [
-      | inl m ↦ or_left (contains (with st.output.s t) y) (contains st.dropped y) (has_still st.output.s t y m)
-      | inr m ↦ or_right (contains (with st.output.s t) y) (contains st.dropped y) m
-    ]
-out_secret st Half.S Del t k y h = go (contains st.output.s t) refl
-  where
-    kept : (b : Bool) → contains st.dropped y ≡ true → contains (cond b (with st.dropped t) st.dropped) y ≡ true
-    kept true m = has_still st.dropped t y m
-    kept false m = m
-
-    here : (b : Bool) → contains st.output.s t ≡ b → y ≡ t → contains st.output.s y ≡ true → contains (cond b (with st.dropped t) st.dropped) y ≡ true
-    here true e same m = subst (λ (z : List ℕ). contains (with st.dropped t) z ≡ true) (sym same) (has_added st.dropped t)
-    here false e same m = let z : contains st.output.s y ≡ false = subst (λ (z : List ℕ). contains st.output.s z ≡ false) (sym same) e in cc
-
-    go : (b : Bool) → contains st.output.s t ≡ b → (contains (without st.output.s t) y || contains (cond b (with st.dropped t) st.dropped) y) ≡ true
-    go b e =
-        elim (or_cases (contains st.output.s y) (contains st.dropped y) (k.secret y h)) [
-          | inl m ↦ elim (same_or_not y t) [
-            | inl same ↦ or_right (contains (without st.output.s t) y) (contains (cond b (with st.dropped t) st.dropped) y) (here b e same m)
-            | inr other ↦ or_left (contains (without st.output.s t) y) (contains (cond b (with st.dropped t) st.dropped) y) (others_stay st.output.s t y m other)
-          ]
-          | inr m ↦ or_right (contains (without st.output.s t) y) (contains (cond b (with st.dropped t) st.dropped) y) (kept b m)
-        ]
-out_secret st Half.I Add t k y h = k.secret y h
-out_secret st Half.I Del t k y h = k.secret y h
-
-out_sound : (st : OwnState) (half : Half) (act : Act) (t : List ℕ) → IsKept st → (y : List ℕ) → contains (half_changed half act t st.output).i y ≡ true → (contains st.contamination.i y || contains (now_endorsed half act t st) y) ≡ true
-out_sound st Half.I Add t k y h = go (contains st.output.i t) refl
-  where
-    kept : (b : Bool) → contains st.endorsed y ≡ true → contains (cond b st.endorsed (with st.endorsed t)) y ≡ true
-    kept true m = m
-    kept false m = has_still st.endorsed t y m
-
-    old : (b : Bool) → contains st.output.i y ≡ true → (contains st.contamination.i y || contains (cond b st.endorsed (with st.endorsed t)) y) ≡ true
-    old b m = or_mono_right (contains st.contamination.i y) (contains st.endorsed y) (contains (cond b st.endorsed (with st.endorsed t)) y) (kept b) (k.sound y m)
-
-    here : (b : Bool) → contains st.output.i t ≡ b → t ≡ y → (contains st.contamination.i y || contains (cond b st.endorsed (with st.endorsed t)) y) ≡ true
-    here true e same = old true (subst (λ (z : List ℕ). contains st.output.i z ≡ true) same e)
-    here false e same = or_right (contains st.contamination.i y) (contains (with st.endorsed t) y) (subst (λ (z : List ℕ). contains (with st.endorsed t) z ≡ true) same (has_added st.endorsed t))
-
-    go : (b : Bool) → contains st.output.i t ≡ b → (contains st.contamination.i y || contains (cond b st.endorsed (with st.endorsed t)) y) ≡ true
-    go b e = elim (added_or_had st.output.i t y h) [ inl same ↦ here b e same | inr m ↦ old b m ]
-out_sound st Half.I Del t k y h = k.sound y (stayed st.output.i t y h).0
-out_sound st Half.S Add t k y h = k.sound y h
-out_sound st Half.S Del t k y h = k.sound y h
-
--- over changes of both labels, the input label's tags are in the contamination or in the output label
-in_secret : (st : OwnState) (half : Half) (act : Act) (t : List ℕ) → IsKept st → (y : List ℕ) → contains (half_changed half act t st.input).s y ≡ true → (contains st.contamination.s y ≡ true) ⊎ (contains (half_changed half act t st.output).s y ≡ true)
-in_secret st half act t k y = go half act
-  where
-    read : contains st.input.s y ≡ true → contains st.contamination.s y ≡ true
-    read m = contains-included st.input.s st.contamination.s y (flows_to-parts st.input st.contamination k.reads).0 m
-
-    go : (half : Half) (act : Act) → contains (half_changed half act t st.input).s y ≡ true → (contains st.contamination.s y ≡ true) ⊎ (contains (half_changed half act t st.output).s y ≡ true)
-    go Half.S Add h = elim (added_or_had st.input.s t y h) [
-      | inl same ↦ inr (subst (λ (z : List ℕ). contains (with st.output.s t) z ≡ true) same (has_added st.output.s t))
-      | inr m ↦ inl (read m)
-    ]
-    go Half.S Del h = inl (read (stayed st.input.s t y h).0)
-    go Half.I Add h = inl (read h)
-    go Half.I Del h = inl (read h)
-
-in_sound : (st : OwnState) (half : Half) (act : Act) (t : List ℕ) → IsKept st → (y : List ℕ) → contains (half_changed half act t st.output).i y ≡ true → contains st.contamination.i y ≡ true → contains (meet st.contamination.i (half_changed half act t st.input).i) y ≡ true
-in_sound st half act t k y h m = in_both st.contamination.i (half_changed half act t st.input).i y m (go half act h)
-  where
-    read : contains st.input.i y ≡ true
-    read = contains-included st.contamination.i st.input.i y (flows_to-parts st.input st.contamination k.reads).1 m
-
-    go : (half : Half) (act : Act) → contains (half_changed half act t st.output).i y ≡ true → contains (half_changed half act t st.input).i y ≡ true
-    go Half.S Add h = read
-    go Half.S Del h = read
-    go Half.I Add h = has_still st.input.i t y read
-    go Half.I Del h = others_stay st.input.i t y read (stayed st.output.i t y h).1
-
-kept_changed : (u : UnitName) (st : OwnState) (c : Call) (f : Effect) → IsKept st → IsKept (changed u st c f)
-kept_changed u st (ChangeOutLabel half act t) f k = record {
-  reads = k.reads;
-  secret = out_secret st half act t k;
-  sound = out_sound st half act t k;
-}
-kept_changed u st (ChangeInOut half act t) f k = record {
-  reads = reads_changed u st (ChangeInOut half act t) f k.reads;
-  secret = λ y h. elim (in_either st.contamination.s (half_changed half act t st.input).s y h) [
-    | inl m ↦ out_secret st half act t k y m
-    | inr m ↦ elim (in_secret st half act t k y m) [
-      | inl n ↦ out_secret st half act t k y n
-      | inr n ↦ or_left (contains (half_changed half act t st.output).s y) (contains (now_dropped half act t st) y) n
-    ]
-  ];
-  sound = λ y h. elim (or_cases (contains st.contamination.i y) (contains (now_endorsed half act t st) y) (out_sound st half act t k y h)) [
-    | inl m ↦ or_left (contains (meet st.contamination.i (half_changed half act t st.input).i) y) (contains (now_endorsed half act t st) y) (in_sound st half act t k y h m)
-    | inr m ↦ or_right (contains (meet st.contamination.i (half_changed half act t st.input).i) y) (contains (now_endorsed half act t st) y) m
-  ];
-}
-kept_changed u st Get Effect.Nothing k = k
-kept_changed u st Get (Effect.Commit c) k = k
-kept_changed u st Get (Effect.Given d) k = record { reads = k.reads; secret = k.secret; sound = k.sound }
-kept_changed u st _ f k = record { reads = k.reads; secret = k.secret; sound = k.sound }
-
-kept_after : (u : UnitName) (st : OwnState) (c : Call) (r : Reply) (f : Effect) → IsKept st → IsKept (after u st c r f)
-kept_after u st c r f k = go (is_accepted r)
-  where
-    go : (b : Bool) → IsKept (cond b (changed u st c f) st)
-    go true = kept_changed u st c f k
-    go false = k
-
-kept_root : (r : Label × List Privilege) → IsKept (root_of r)
-kept_root r = record {
-  reads = flows_to-refl r.0;
-  secret = λ y h. or_left (contains r.0.s y) false h;
-  sound = λ y h. or_left (contains r.0.i y) false h;
-}
-
--- what begins with the owner's or maker's secrets, and integrity that both its labels have, keeps the fact
-kept_passed : (st : OwnState) (t : List (List ℕ)) → IsKept st → is_subset st.output.s t ≡ true → (y : List ℕ) → contains (union st.contamination.s t) y ≡ true → (contains t y || contains st.dropped y) ≡ true
-kept_passed st t k base y h =
-    elim (in_either st.contamination.s t y h) [
-      | inl m ↦ elim (or_cases (contains st.output.s y) (contains st.dropped y) (k.secret y m)) [
-        | inl z ↦ or_left (contains t y) (contains st.dropped y) (contains-included st.output.s t y base z)
-        | inr z ↦ or_right (contains t y) (contains st.dropped y) z
-      ]
-      | inr m ↦ or_left (contains t y) (contains st.dropped y) m
-    ]
-
-sound_passed : (st : OwnState) → IsKept st → (y : List ℕ) → contains (meet st.input.i st.output.i) y ≡ true → (contains (meet st.contamination.i st.input.i) y || contains st.endorsed y) ≡ true
-sound_passed st k y h =
-    let both = and_parts (contains st.input.i y) (contains st.output.i y) (sym (contains-meet st.input.i st.output.i y) ∙ h) in
-    elim (or_cases (contains st.contamination.i y) (contains st.endorsed y) (k.sound y both.1)) [
-      | inl m ↦ or_left (contains (meet st.contamination.i st.input.i) y) (contains st.endorsed y) (in_both st.contamination.i st.input.i y m both.0)
-      | inr m ↦ or_right (contains (meet st.contamination.i st.input.i) y) (contains st.endorsed y) m
-    ]
-
-kept_begin : (st : OwnState) (filter : List Clause) (t : List (List ℕ)) → IsKept st → is_subset (fixed_of st filter).base t ≡ true → IsKept (begin (fixed_of st filter) t)
-kept_begin st filter t k base = record {
-  reads = flows_to-join_right st.contamination (record { s = t; i = st.input.i });
-  secret = kept_passed st t k (is_subset-trans st.output.s (union st.input.s st.output.s) t (is_subset-union_right st.input.s st.output.s) base);
-  sound = sound_passed st k;
-}
-
-kept_child : (st : OwnState) (s : List (List ℕ)) (privileges : List Privilege) → IsKept st → IsKept (child st s privileges)
-kept_child st s privileges k = record {
-  reads = flows_to-join_right st.contamination (child_input st s);
-  secret = kept_passed st (child_secrets st s) k (is_subset-union_right (union s st.input.s) st.output.s);
-  sound = sound_passed st k;
-}
 
 -- what is dropped and endorsed
 
@@ -378,7 +190,7 @@ unfolding Writes
 row_release_laws start = record {
   added = λ u st ds c r k h. (answer_writes u st ds c r k h).0;
   deleted = λ u st ds c r k h. (answer_writes u st ds c r k h).1;
-  kept_first = λ k st e. roots_are IsKept kept_root start k st e;
+  kept_first = λ k st e. roots_are IsKept (λ r. kept_root r.0 r.1) start k st e;
   kept_after = kept_after;
   kept_begin = λ st n c r f t h k. by_fixed (λ f. is_subset f.base t ≡ true → IsKept (begin f t)) st n c r f h (λ filter. kept_begin st filter t k);
   kept_makes = λ st n c r ch h k. by_child IsKept st n c r ch h (λ s privileges. kept_child st s privileges k);

@@ -1,7 +1,7 @@
 -- The rows of the call table keep the laws.
-use Rattle.std.proofs.Common.{◌≡◌, ℕ, zero, suc, List, [], ◌∷◌, Bool, true, false, ap, subst, cond, Some, None}
+use Rattle.std.proofs.Common.{◌≡◌, ℕ, zero, suc, List, [], ◌∷◌, Bool, true, false, refl, ap, subst, cond, Some, None}
 use Rattle.std.specs.Prelude.{◌==◌, slice_get}
-use Rattle.std.specs.List.{filter}
+use Rattle.std.proofs.lemmas.Bool.{eqb-true}
 use Rattle.df_filter.specs.declared.clause.Clause.{Clause}
 use Rattle.df_label.specs.Label.{flows_to}
 use Rattle.df_label.specs.declared.label.Label.{Label}
@@ -10,6 +10,7 @@ use Rattle.df_rules.specs.Laws.{Laws}
 use Rattle.df_rules.specs.Start.{rows, roots, root_of}
 use Rattle.df_label.proofs.LabelFacts.{flows_to-refl, flows_to-join_left, flows_to-join_right}
 use Rattle.df_unit.specs.Beginnings.{fixes, fixed_of, readable_at, makes, child, child_input}
+use Rattle.df_unit.proofs.KeptRows.{reads_changed}
 use Rattle.df_unit.specs.OwnState.{OwnState, Fixed}
 use Rattle.df_unit.specs.Rows.{after, changed, half_changed, is_accepted}
 use Rattle.df_unit.specs.declared.call.Call.{Call}
@@ -42,13 +43,6 @@ grows_after u st c r f = go (is_accepted r)
     go true = grows_changed u st c f
     go false = flows_to-refl st.contamination
 
-pub reads_changed : (u : UnitName) (st : OwnState) (c : Call) (f : Effect) → flows_to st.input st.contamination ≡ true → flows_to (changed u st c f).input (changed u st c f).contamination ≡ true
-reads_changed u st (ChangeInOut half act t) f h = flows_to-join_right st.contamination (half_changed half act t st.input)
-reads_changed u st Get Effect.Nothing h = h
-reads_changed u st Get (Effect.Commit k) h = h
-reads_changed u st Get (Effect.Given d) h = h
-reads_changed u st _ f h = h
-
 reads_after : (u : UnitName) (st : OwnState) (c : Call) (r : Reply) (f : Effect) → flows_to st.input st.contamination ≡ true → flows_to (after u st c r f).input (after u st c r f).contamination ≡ true
 reads_after u st c r f h = go (is_accepted r)
   where
@@ -75,18 +69,18 @@ fixes_is st n _ r f h = absurd (let z : ⊥ = cc in z)
 pub by_fixed : (P : Fixed → Type 0) (st : OwnState) (n : ℕ) (c : Call) (r : Reply) (f : Fixed) → fixes st n c r ≡ Some f → ((filter : List Clause) → P (fixed_of st filter)) → P f
 by_fixed P st n c r f h each = let i = fixes_is st n c r f h in subst P i.1 (each i.0)
 
--- the unit that a unit makes
-makes_is : (st : OwnState) (k : ℕ) (c : Call) (r : Reply) (ch : OwnState) → makes st k c r ≡ Some ch → (s : List (List ℕ)) × (privileges : List Privilege) × (child st s privileges ≡ ch)
-makes_is st k (Instantiate s privileges) (Reply.Unit m) ch h = go (m == k) h
+-- the unit that a unit makes, and the call and the reply that make it
+pub makes_is : (st : OwnState) (k : ℕ) (c : Call) (r : Reply) (ch : OwnState) → makes st k c r ≡ Some ch → (s : List (List ℕ)) × (privileges : List Privilege) × (c ≡ Instantiate s privileges) × (r ≡ Reply.Unit k) × (child st s privileges ≡ ch)
+makes_is st k (Instantiate s privileges) (Reply.Unit m) ch h = go (m == k) refl h
   where
-    go : (b : Bool) → cond b (Some (child st s privileges)) None ≡ Some ch → (s : List (List ℕ)) × (privileges : List Privilege) × (child st s privileges ≡ ch)
-    go true h = (s, privileges, (let z : child st s privileges ≡ ch = cc in z))
-    go false h = absurd (let z : ⊥ = cc in z)
+    go : (b : Bool) → (m == k) ≡ b → cond b (Some (child st s privileges)) None ≡ Some ch → (t : List (List ℕ)) × (ps : List Privilege) × (Instantiate s privileges ≡ Instantiate t ps) × (Reply.Unit m ≡ Reply.Unit k) × (child st t ps ≡ ch)
+    go true e h = (s, privileges, refl, ap (λ (n : ℕ). Reply.Unit n) (eqb-true m k e), (let z : child st s privileges ≡ ch = cc in z))
+    go false e h = absurd (let z : ⊥ = cc in z)
 makes_is st k (Instantiate s privileges) _ ch h = absurd (let z : ⊥ = cc in z)
 makes_is st k _ r ch h = absurd (let z : ⊥ = cc in z)
 
 pub by_child : (P : OwnState → Type 0) (st : OwnState) (k : ℕ) (c : Call) (r : Reply) (ch : OwnState) → makes st k c r ≡ Some ch → ((s : List (List ℕ)) (privileges : List Privilege) → P (child st s privileges)) → P ch
-by_child P st k c r ch h each = let i = makes_is st k c r ch h in subst P i.2 (each i.0 i.1)
+by_child P st k c r ch h each = let i = makes_is st k c r ch h in subst P i.4 (each i.0 i.1)
 
 pub row_laws : (start : List (Label × List Privilege)) → Laws rows (roots start)
 row_laws start = record {

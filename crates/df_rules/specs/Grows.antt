@@ -17,10 +17,3 @@ pub record HasGrown (st later : OwnState) : Type 0 where
   pub subs : st.subs ≤ later.subs
   pub units : st.units ≤ later.units
   pub given : st.given ≤ later.given
-
--- both labels have the confidentiality of both labels of the owner or maker
-pub record IsAbove (owner st : OwnState) : Type 0 where
-  pub reads_input : is_subset owner.input.s st.input.s ≡ true
-  pub reads_output : is_subset owner.output.s st.input.s ≡ true
-  pub writes_input : is_subset owner.input.s st.output.s ≡ true
-  pub writes_output : is_subset owner.output.s st.output.s ≡ true

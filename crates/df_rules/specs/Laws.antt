@@ -1,5 +1,5 @@
 -- What the rules of the calls keep, and on which the promises of a purge rest.
-use Rattle.std.specs.Prelude.{◌≡◌, ◌⊎◌, ℕ, ◌+◌, true, ◌||◌, List, [], ◌∷◌, Some, slice_get}
+use Rattle.std.specs.Prelude.{◌≡◌, ◌⊎◌, ℕ, ◌+◌, true, List, [], ◌∷◌, Some, slice_get}
 use Rattle.std.specs.List.{list_all}
 use Rattle.df_label.specs.Label.{flows_to}
 use Rattle.df_label.specs.TagSet.{contains, is_subset}
@@ -9,6 +9,7 @@ use Rattle.df_priv.specs.declared.need.Half.{Half}
 use Rattle.df_rules.specs.Commits.{given_in}
 use Rattle.df_rules.specs.Rules.{Rules}
 use Rattle.df_unit.specs.Beginnings.{readable_at}
+use Rattle.df_unit.specs.KeptFact.{IsKept}
 use Rattle.df_unit.specs.OwnState.{OwnState, Fixed}
 use Rattle.df_unit.specs.declared.call.Call.{Call}
 use Rattle.df_unit.specs.declared.call.Call.TheVariants.{ChangeOutLabel, ChangeInOut}
@@ -29,13 +30,6 @@ pub record Laws (R : Rules) (s : List OwnState) : Type 0 where
   pub makes_contamination : (st : OwnState) (k : ℕ) (c : Call) (r : Reply) (child : OwnState) → R.makes st k c r ≡ Some child → flows_to st.contamination child.contamination ≡ true
   pub makes_reads : (st : OwnState) (k : ℕ) (c : Call) (r : Reply) (child : OwnState) → R.makes st k c r ≡ Some child → flows_to child.input child.contamination ≡ true
 
--- the input label flows to the contamination, each contamination tag is in the output or dropped, and each output integrity
--- tag is in the contamination or endorsed
-pub record IsKept (st : OwnState) : Type 0 where
-  pub reads : flows_to st.input st.contamination ≡ true
-  pub secret : (t : List ℕ) → contains st.contamination.s t ≡ true → (contains st.output.s t || contains st.dropped t) ≡ true
-  pub sound : (t : List ℕ) → contains st.output.i t ≡ true → (contains st.contamination.i t || contains st.endorsed t) ≡ true
-
 -- an accepted change of a label by this tag, while the privilege that it needs was held
 pub record IsChange (R : Rules) (st : OwnState) (half : Half) (act : Act) (t : List ℕ) (c : Call) (r : Reply) : Type 0 where
   pub asked : (c ≡ ChangeOutLabel half act t) ⊎ (c ≡ ChangeInOut half act t)
@@ -47,7 +41,7 @@ pub record ReleaseLaws (R : Rules) (s : List OwnState) : Type 0 where
   -- a commit writes only where the output label flows
   pub added : (u : UnitName) (st : OwnState) (ds : List Given) (c : Call) (r : Reply) (k : Commit) → R.answer u st ds c ≡ (r, Effect.Commit k) → list_all (λ part. flows_to st.output part.label) k.edit.1 ≡ true
   pub deleted : (u : UnitName) (st : OwnState) (ds : List Given) (c : Call) (r : Reply) (k : Commit) → R.answer u st ds c ≡ (r, Effect.Commit k) → list_all (λ d. flows_to st.output d.label) k.edit.0 ≡ true
-  -- the kept fact
+  -- the kept fact of each state
   pub kept_first : (k : ℕ) (st : OwnState) → slice_get s k ≡ Some st → IsKept st
   pub kept_after : (u : UnitName) (st : OwnState) (c : Call) (r : Reply) (f : Effect) → IsKept st → IsKept (R.after u st c r f)
   pub kept_begin : (st : OwnState) (n : ℕ) (c : Call) (r : Reply) (f : Fixed) (t : List (List ℕ)) → R.fixes st n c r ≡ Some f → IsKept st → is_subset f.base t ≡ true → IsKept (R.begin f t)

@@ -9,6 +9,7 @@ ghost use Rattle.df_filter.specs.declared.clause.Clause.{Clause};
 ghost use Rattle.df_label.specs.declared.label.Label.{Label};
 ghost use Rattle.df_label.specs.Tag.{maker_of};
 ghost use Rattle.df_label.specs.declared.privilege.Privilege.{Privilege};
+ghost use Rattle.df_unit.specs.KeptFact.{IsKept};
 ghost use Rattle.df_unit.specs.OwnState.{OwnState, Fixed};
 ghost use Rattle.df_unit.specs.declared.call.Call.{Call};
 ghost use Rattle.df_unit.specs.declared.call.Call.TheVariants.{Get};
@@ -20,13 +21,14 @@ ghost use Rattle.df_unit.specs.declared.entry.Entry.TheVariants.{Done};
 ghost use Rattle.df_unit.specs.declared.name.UnitName.{UnitName};
 ghost use Rattle.df_unit.specs.declared.name.UnitName.TheVariants.{Managed, Root};
 ghost use Rattle.df_unit.specs.declared.reply.Reply.{Reply};
+ghost use Rattle.df_rules.specs.Begins.{Begins, IsChildOf, IsInstanceOf, owner_of};
 ghost use Rattle.df_rules.specs.Commits.{commit_in, commit_of};
 ghost use Rattle.df_rules.specs.Deliveries.{deliveries, was_handed};
 ghost use Rattle.df_rules.specs.Exercised.{IsExercised, before_fixed};
 ghost use Rattle.df_rules.specs.Follows.{Follows, Last, Want, brain_of};
-ghost use Rattle.df_rules.specs.Grows.{HasGrown, IsAbove};
+ghost use Rattle.df_rules.specs.Grows.{HasGrown};
 ghost use Rattle.df_rules.specs.Instances.{KeepsToItsName};
-ghost use Rattle.df_rules.specs.Laws.{IsKept, Laws, ReleaseLaws};
+ghost use Rattle.df_rules.specs.Laws.{Laws, ReleaseLaws};
 ghost use Rattle.df_rules.specs.Legal.{IsRight, IsUnaided, Legal, calls_of, run};
 ghost use Rattle.df_rules.specs.Matching.{CallsFor};
 ghost use Rattle.df_rules.specs.Own.{fixed, own};
@@ -145,11 +147,18 @@ pub fn gets_give_deliveries()
     ensures absent { (start : List (Label × List Privilege)) (past : List Entry) → Legal rows (roots start) past → (u : UnitName) → own rows (roots start) past u ≡ None → received u past ≡ [] }
 {}
 
-/// An instance begins with the confidentiality that its owner had before the subscription, and a
-/// child with its maker's.
+/// An instance begins with labels and a contamination above those that its owner had before the
+/// subscription, and a child above its maker's. What is dropped and endorsed is passed on. An
+/// instance holds what its owner held, and a child what the call that made it names.
 pub fn units_begin_above()
-    ensures instances { (start : List (Label × List Privilege)) (past : List Entry) (e : Entry) (o : List ℕ) (n : ℕ) (t : List (List ℕ)) (st : OwnState) → own rows (roots start) past (Managed o n t) ≡ None → own rows (roots start) (e ∷ past) (Managed o n t) ≡ Some st → (owner : OwnState) × (own rows (roots start) (before_fixed rows (roots start) past o n) (Root o) ≡ Some owner) × IsAbove owner st }
-    ensures children { (start : List (Label × List Privilege)) (past : List Entry) (e : Entry) (path : List ℕ) (st : OwnState) → own rows (roots start) past (Root path) ≡ None → own rows (roots start) (e ∷ past) (Root path) ≡ Some st → (maker : OwnState) × (own rows (roots start) past (Root (maker_of path)) ≡ Some maker) × IsAbove maker st }
+    ensures instances { (start : List (Label × List Privilege)) (past : List Entry) (e : Entry)
+        (o : List ℕ) (n : ℕ) (t : List (List ℕ)) (st : OwnState) →
+        Begins (roots start) past e (Managed o n t) st →
+        (owner : OwnState) × (owner_of (roots start) past o n ≡ Some owner) × IsInstanceOf owner st }
+    ensures children { (start : List (Label × List Privilege)) (past : List Entry) (e : Entry)
+        (path : List ℕ) (st : OwnState) → Begins (roots start) past e (Root path) st →
+        (maker : OwnState) × (own rows (roots start) past (Root (maker_of path)) ≡ Some maker)
+        × IsChildOf maker e path st }
 {}
 
 /// In a legal journal an instance reads at the label at which it began, which has the

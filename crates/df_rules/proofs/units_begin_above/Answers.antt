@@ -3,7 +3,7 @@ use Rattle.df_rules.specs.Start.{roots}
 use Rattle.df_rules.proofs.units_begin_above.Goals as goal
 
 pub returns-clause-instances : goal.returns-clause-instances
-returns-clause-instances c = λ start past e o n t st none h. instance_above (roots start) e past o n t st none h
+returns-clause-instances c = λ start past e o n t st begins. instance_above (roots start) e past o n t st begins
 
 pub returns-clause-children : goal.returns-clause-children
-returns-clause-children c = λ start past e path st none h. child_is_above (roots start) e past path st none h
+returns-clause-children c = λ start past e path st begins. child_is_above (roots start) e past path st begins
