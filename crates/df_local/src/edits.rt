@@ -13,7 +13,6 @@ ghost use Rattle.df_local.specs.Locally.{Answers, has_seen, with_own};
 
 use crate::Local;
 use crate::handles::{draft_anew, handle_at};
-use crate::parts::copy_of;
 use crate::read::is_visible;
 use crate::take::is_accepted;
 use df_frozen::Name;
@@ -27,7 +26,8 @@ impl Local {
     /// Takes all drafted parts of a name and label out of the draft. Where there are none, names
     /// the visible ones for deletion.
     pub fn del_part(&mut self, h: u32, label: &Label, name: &Name) -> Result<Reply, NoMemory>
-        ensures ok { IfOk result (λ r. Answers (Call.DelPart h label.now name.now) r self.old self.new) }
+        ensures ok { IfOk result (λ r. Answers
+            (Call.DelPart h label.now name.now) r self.old self.new) }
         ensures unchanged { OnErr result (self.new ≡ self.old) }
     {
         let reply = match self.del_reply(h, label, name) {
@@ -51,7 +51,8 @@ impl Local {
         name: &Name,
         p: &Privilege,
     ) -> Result<Reply, NoMemory>
-        ensures ok { IfOk result (λ r. Answers (Call.AttachPrivilege h label.now name.now p.now) r self.old self.new) }
+        ensures ok { IfOk result (λ r. Answers
+            (Call.AttachPrivilege h label.now name.now p.now) r self.old self.new) }
         ensures unchanged { OnErr result (self.new ≡ self.old) }
     {
         let reply = match self.attach_reply(h, label, name, p) {
@@ -68,7 +69,8 @@ impl Local {
     }
 
     pub(crate) fn del_reply(&self, h: u32, label: &Label, name: &Name) -> Result<Reply, NoMemory>
-        ensures { IfOk result (λ r. r ≡ reply self.now.unit self.now.own [] (Call.DelPart h label.now name.now)) }
+        ensures { IfOk result (λ r. r ≡ reply self.now.unit self.now.own []
+            (Call.DelPart h label.now name.now)) }
     {
         let Some(handle) = handle_at(self.handles.as_slice(), h) else {
             return Ok(Reply::NoSuchHandle);
@@ -86,7 +88,9 @@ impl Local {
     }
 
     pub(crate) fn put_deleted(&mut self, h: u32, label: &Label, name: &Name) -> Result<(), NoMemory>
-        ensures ok { OnOk result (self.new ≡ with_own self.old (changed self.old.unit self.old.own (Call.DelPart h label.now name.now) Effect.Nothing)) }
+        ensures ok { OnOk result (self.new ≡ with_own self.old
+            (changed self.old.unit self.old.own
+            (Call.DelPart h label.now name.now) Effect.Nothing)) }
         ensures unchanged { OnErr result (self.new ≡ self.old) }
     {
         match spot_at(name, label) {
@@ -102,7 +106,8 @@ impl Local {
         name: &Name,
         p: &Privilege,
     ) -> Result<Reply, NoMemory>
-        ensures { IfOk result (λ r. r ≡ reply self.now.unit self.now.own [] (Call.AttachPrivilege h label.now name.now p.now)) }
+        ensures { IfOk result (λ r. r ≡ reply self.now.unit self.now.own []
+            (Call.AttachPrivilege h label.now name.now p.now)) }
     {
         let Some(handle) = handle_at(self.handles.as_slice(), h) else {
             return Ok(Reply::NoSuchHandle);
@@ -122,7 +127,9 @@ impl Local {
         name: &Name,
         p: &Privilege,
     ) -> Result<(), NoMemory>
-        ensures ok { OnOk result (self.new ≡ with_own self.old (changed self.old.unit self.old.own (Call.AttachPrivilege h label.now name.now p.now) Effect.Nothing)) }
+        ensures ok { OnOk result (self.new ≡ with_own self.old
+            (changed self.old.unit self.old.own
+            (Call.AttachPrivilege h label.now name.now p.now) Effect.Nothing)) }
         ensures unchanged { OnErr result (self.new ≡ self.old) }
     {
         let Some(handle) = handle_at(self.handles.as_slice(), h) else {
@@ -145,7 +152,8 @@ fn delete_at(
     h: u32,
     spot: Spot,
 ) -> Result<(), NoMemory>
-    ensures ok { OnOk result (handles.new.items ≡ changed_at handles.old.items h (deleted_in spot)) }
+    ensures ok { OnOk result (handles.new.items ≡ changed_at handles.old.items h
+        (deleted_in spot)) }
     ensures unchanged { OnErr result (handles.new.items ≡ handles.old.items) }
 {
     let place = h as usize;
@@ -176,17 +184,11 @@ fn delete_in(alloc: Global, handle: &mut Handle, spot: Spot) -> Result<(), NoMem
     }
 }
 
-fn is_at(part: &Part, name: &Name, label: &Label) -> bool
-    ensures { result ≡ is_at part.now (spot name.now label.now) }
-{
-    part.name == *name && part.label == *label
-}
-
 /// Whether a part of this name and label is drafted.
 fn has_drafted(parts: &[Part], name: &Name, label: &Label) -> bool
     ensures { result ≡ has_at parts.now (spot name.now label.now) }
 {
-    parts.iter().any(|part| is_at(part, name, label))
+    parts.iter().any(|part| part.is_at(name, label))
 }
 
 /// Whether a visible part has this name and label.
@@ -206,17 +208,18 @@ fn has_visible(input: &Label, handle: &Handle, name: &Name, label: &Label) -> bo
 fn has_seen(input: &Label, named: &[Spot], seen: &[PartRef], name: &Name, label: &Label) -> bool
     ensures { result ≡ has_seen input.now named.now (spot name.now label.now) seen.now }
 {
-    seen.iter().any(|part| is_visible(input, named, part.part()) && is_at(part.part(), name, label))
+    seen.iter().any(|part| is_visible(input, named, part.part()) && part.part().is_at(name, label))
 }
 
 /// The drafted parts without those of a name and label.
 fn undrafted(alloc: Global, parts: &[Part], name: &Name, label: &Label) -> Result<Drafts, NoMemory>
-    ensures { IfOk result (λ d. d ≡ filter (λ part. not (is_at part (spot name.now label.now))) parts.now) }
+    ensures { IfOk result (λ d. d ≡ filter
+        (λ part. not (is_at part (spot name.now label.now))) parts.now) }
 {
     let mut left = Vec::new(alloc);
     for part in parts {
-        if !is_at(part, name, label) {
-            left.push(copy_of(part)?)?;
+        if !part.is_at(name, label) {
+            left.push(part.copy()?)?;
         }
     }
     Ok(Drafts::new(left))
@@ -242,8 +245,8 @@ fn attached(
 fn attach(part: &Part, name: &Name, label: &Label, p: &Privilege) -> Result<Part, NoMemory>
     ensures { IfOk result (λ q. q ≡ attach (spot name.now label.now) p.now part.now) }
 {
-    let mut copy = copy_of(part)?;
-    if is_at(part, name, label) {
+    let mut copy = part.copy()?;
+    if part.is_at(name, label) {
         copy.privileges.add(p)?;
     }
     Ok(copy)

@@ -9,16 +9,6 @@ use df_part::{Part, PartRef, Spot};
 use df_unit::PartRead;
 use std::alloc::Global;
 
-/// The same value once more.
-pub fn share(value: &Frozen) -> Result<Frozen, NoMemory>
-    ensures { IfOk result (λ v. v ≡ value.now) }
-{
-    match value.share() {
-        Ok(value) => Ok(value),
-        Err(_) => Err(NoMemory),
-    }
-}
-
 /// A label with the confidentiality of the output label added, and cut to its integrity.
 pub fn raised(output: &Label, label: &Label) -> Result<Label, NoMemory>
     ensures { IfOk result (λ l. l ≡ raised output.now label.now) }
@@ -37,7 +27,9 @@ pub fn new_part(
     ensures { IfOk result (λ p. p ≡ new_part (raised output.now label.now) name.now value.now) }
 {
     let label = raised(output, label)?;
-    let value = share(value)?;
+    let Ok(value) = value.share() else {
+        return Err(NoMemory);
+    };
     Ok(Part {
         name: *name,
         label,
@@ -46,33 +38,12 @@ pub fn new_part(
     })
 }
 
-/// The same part once more.
-pub fn copy_of(part: &Part) -> Result<Part, NoMemory>
-    ensures { IfOk result (λ p. p ≡ part.now) }
-{
-    let label = part.label.copy()?;
-    let value = share(&part.value)?;
-    let privileges = part.privileges.copy()?;
-    Ok(Part {
-        name: part.name,
-        label,
-        value,
-        privileges,
-    })
-}
-
 fn relabel(output: &Label, part: &Part) -> Result<Part, NoMemory>
     ensures { IfOk result (λ p. p ≡ relabel output.now part.now) }
 {
-    let label = raised(output, &part.label)?;
-    let value = share(&part.value)?;
-    let privileges = part.privileges.copy()?;
-    Ok(Part {
-        name: part.name,
-        label,
-        value,
-        privileges,
-    })
+    let mut copy = part.copy()?;
+    copy.label = raised(output, &part.label)?;
+    Ok(copy)
 }
 
 /// The parts, each labelled again at the output label.
@@ -93,11 +64,7 @@ pub fn copies_of(alloc: Global, spots: &[Spot]) -> Result<Vec<Spot>, NoMemory>
 {
     let mut copies = Vec::with_capacity(alloc, spots.len())?;
     for spot in spots {
-        let label = spot.label.copy()?;
-        copies.push(Spot {
-            name: spot.name,
-            label,
-        })?;
+        copies.push(spot.copy()?)?;
     }
     Ok(copies)
 }
@@ -105,13 +72,11 @@ pub fn copies_of(alloc: Global, spots: &[Spot]) -> Result<Vec<Spot>, NoMemory>
 fn show(part: &Part) -> Result<PartRead, NoMemory>
     ensures { IfOk result (λ p. p ≡ show part.now) }
 {
-    let label = part.label.copy()?;
-    let value = share(&part.value)?;
-    let privileges = part.privileges.copy()?;
+    let copy = part.copy()?;
     Ok(PartRead {
-        label,
-        value,
-        privileges,
+        label: copy.label,
+        value: copy.value,
+        privileges: copy.privileges,
     })
 }
 

@@ -3,7 +3,6 @@
 ghost use Rattle.std.specs.Prelude.{◌≡◌, [], IfOk, OnErr, OnOk};
 ghost use Rattle.std.specs.List.{filter};
 ghost use Rattle.std.specs.Str.{bytes_eq};
-ghost use Rattle.df_part.specs.Contents.{is_deleted};
 ghost use Rattle.df_unit.specs.Drafts.{visible, visible_named};
 ghost use Rattle.df_unit.specs.Held.{grant_all};
 ghost use Rattle.df_unit.specs.Rows.{changed, reply};
@@ -17,7 +16,7 @@ use crate::parts::shown;
 use crate::take::is_accepted;
 use df_frozen::Name;
 use df_label::{Label, NoMemory, Privilege};
-use df_part::{Part, PartRef, Spot, readable};
+use df_part::{Part, PartRef, Spot, is_deleted, readable};
 use df_priv::Held;
 use df_unit::{Handle, PartsRead, Reply};
 use std::alloc::Global;
@@ -42,7 +41,8 @@ impl Local {
     }
 
     pub(crate) fn read_reply(&self, h: u32, name: &Name) -> Result<Reply, NoMemory>
-        ensures { IfOk result (λ r. r ≡ reply self.now.unit self.now.own [] (Call.ReadPart h name.now)) }
+        ensures { IfOk result (λ r. r ≡ reply self.now.unit self.now.own []
+            (Call.ReadPart h name.now)) }
     {
         let Some(handle) = handle_at(self.handles.as_slice(), h) else {
             return Ok(Reply::NoSuchHandle);
@@ -56,7 +56,8 @@ impl Local {
     }
 
     pub(crate) fn hold_read(&mut self, h: u32, name: &Name) -> Result<(), NoMemory>
-        ensures ok { OnOk result (self.new ≡ with_own self.old (changed self.old.unit self.old.own (Call.ReadPart h name.now) Effect.Nothing)) }
+        ensures ok { OnOk result (self.new ≡ with_own self.old
+            (changed self.old.unit self.old.own (Call.ReadPart h name.now) Effect.Nothing)) }
         ensures unchanged { OnErr result (self.new ≡ self.old) }
     {
         let Some(handle) = handle_at(self.handles.as_slice(), h) else {
@@ -163,12 +164,4 @@ pub fn is_visible(input: &Label, named: &[Spot], part: &Part) -> bool
     ensures { result ≡ is_visible input.now named.now part.now }
 {
     readable(input, part) && !is_deleted(part, named)
-}
-
-fn is_deleted(part: &Part, named: &[Spot]) -> bool
-    ensures { result ≡ is_deleted part.now named.now }
-{
-    named
-        .iter()
-        .any(|spot| part.name == spot.name && part.label == spot.label)
 }

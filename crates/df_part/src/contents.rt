@@ -1,6 +1,6 @@
 ghost use Rattle.std.specs.Prelude.{◌≡◌, [], ◌++◌, not, OnOk, OnErr, IfOk};
 ghost use Rattle.std.specs.List.{filter};
-ghost use Rattle.df_part.specs.Contents.{apply, is_at, is_deleted, spared};
+ghost use Rattle.df_part.specs.Contents.{apply, is_deleted, spared};
 ghost use Rattle.df_part.specs.Part.{cut};
 
 use crate::{Edit, Part, PartRef, ReadableParts, Spot};
@@ -72,16 +72,13 @@ impl Contents {
     }
 }
 
-fn is_at(part: &Part, spot: &Spot) -> bool
-    ensures { result ≡ is_at part.now spot.now }
-{
-    part.name == spot.name && part.label == spot.label
-}
-
-fn is_deleted(part: &Part, deleted: &[Spot]) -> bool
+/// Whether one of the spots is the part's.
+pub fn is_deleted(part: &Part, deleted: &[Spot]) -> bool
     ensures { result ≡ is_deleted part.now deleted.now }
 {
-    deleted.iter().any(|spot| is_at(part, spot))
+    deleted
+        .iter()
+        .any(|spot| part.is_at(&spot.name, &spot.label))
 }
 
 fn kept(alloc: Global, parts: &[PartRef], deleted: &[Spot]) -> Result<Vec<PartRef>, NoMemory>

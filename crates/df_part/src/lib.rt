@@ -7,7 +7,7 @@ mod part;
 mod part_ref;
 mod readable_parts;
 
-pub use contents::Contents;
+pub use contents::{Contents, is_deleted};
 pub use edit::{Edit, Spot};
 pub use part::{Part, readable};
 pub use part_ref::PartRef;

@@ -39,7 +39,17 @@ impl Part {
     }
 }
 
+ghost use Rattle.df_part.specs.Contents.{is_at};
 ghost use Rattle.df_part.specs.Part.{readable};
+
+impl Part {
+    /// Whether the part has this name and exactly this label.
+    pub fn is_at(&self, name: &Name, label: &Label) -> bool
+        ensures { result ≡ is_at self.now (record { name = name.now; label = label.now }) }
+    {
+        self.name == *name && self.label == *label
+    }
+}
 
 /// Whether a part may be read at a label.
 pub fn readable(at: &Label, part: &Part) -> bool

@@ -175,22 +175,14 @@ impl PartRead {
         ensures { IfOk result (λ p. p ≡ self.now) }
     {
         let label = self.label.copy()?;
-        let value = share(&self.value)?;
+        let Ok(value) = self.value.share() else {
+            return Err(NoMemory);
+        };
         let privileges = self.privileges.copy()?;
         Ok(PartRead {
             label,
             value,
             privileges,
         })
-    }
-}
-
-/// The same value once more.
-fn share(value: &Frozen) -> Result<Frozen, NoMemory>
-    ensures { IfOk result (λ v. v ≡ value.now) }
-{
-    match value.share() {
-        Ok(value) => Ok(value),
-        Err(_) => Err(NoMemory),
     }
 }
