@@ -27,10 +27,12 @@ Counts = ℕ × (ℕ × (ℕ × (ℕ × (ℕ × List (Option Handle)))))
 abbrev rights_code : Coded Rights
 rights_code =
     coded× label.the_row.coded (coded× label.the_row.coded (coded× label.the_row.coded
-    (coded× (coded_list (coded_list coded_ℕ)) (coded× (coded_list (coded_list coded_ℕ)) (coded_list privilege.the_row.coded)))))
+    (coded× (coded_list (coded_list coded_ℕ))
+    (coded× (coded_list (coded_list coded_ℕ)) (coded_list privilege.the_row.coded)))))
 
 abbrev counts_code : Coded Counts
-counts_code = coded× coded_ℕ (coded× coded_ℕ (coded× coded_ℕ (coded× coded_ℕ (coded× coded_ℕ (coded_list (coded_option handle.the_row.coded))))))
+counts_code = coded× coded_ℕ (coded× coded_ℕ (coded× coded_ℕ
+    (coded× coded_ℕ (coded× coded_ℕ (coded_list (coded_option handle.the_row.coded))))))
 
 abbrev rights_of : OwnState → Rights
 rights_of st = (st.input, (st.output, (st.contamination, (st.dropped, (st.endorsed, st.held)))))
@@ -57,7 +59,8 @@ own_from r c = record {
 -- a unit is stored as its name and the fields of its state
 abbrev pub local_code : Coded LocalState
 local_code =
-    code_by (UnitName × (Rights × Counts)) (coded× name.the_row.coded (coded× rights_code counts_code))
+    code_by (UnitName × (Rights × Counts))
+    (coded× name.the_row.coded (coded× rights_code counts_code))
     (λ l. (l.unit, (rights_of l.own, counts_of l.own)))
     (λ p. record { unit = p.0; own = own_from p.1.0 p.1.1 })
     (λ _. refl)

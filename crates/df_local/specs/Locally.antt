@@ -43,8 +43,10 @@ row_answer l left call = (reply l.unit l.own left call, effect l.unit l.own left
 abbrev pub IsAnswer : LocalState → Call → Reply → Effect → Type 0
 IsAnswer l call r f = (left : List Given) × (row_answer l left call ≡ (r, f))
 
--- a call's reply and the unit after it are its row's, where these deliveries are left and the call has this effect
-pub record AnswersOf (left : List Given) (f : Effect) (call : Call) (r : Reply) (old new : LocalState) : Type 0 where
+-- a call's reply and the unit after it are its row's, where these deliveries are left and the call
+-- has this effect
+pub record AnswersOf (left : List Given) (f : Effect) (call : Call) (r : Reply)
+    (old new : LocalState) : Type 0 where
   pub replied : r ≡ reply old.unit old.own left call
   pub moved : new ≡ with_own old (after old.unit old.own call r f)
 
@@ -52,13 +54,15 @@ pub record AnswersOf (left : List Given) (f : Effect) (call : Call) (r : Reply) 
 abbrev pub Answers : Call → Reply → LocalState → LocalState → Type 0
 Answers call r old new = AnswersOf [] Effect.Nothing call r old new
 
--- a get's reply is its row's where this delivery is the first that is left, and the unit is as that row leaves it
+-- a get's reply is its row's where this delivery is the first that is left, and the unit is as that
+-- row leaves it
 abbrev pub TakesIn : Given → Reply → LocalState → LocalState → Type 0
 TakesIn g r old new = AnswersOf (g ∷ []) (Effect.Given g) Call.Get r old new
 
 -- what drafting a part at a handle is answered
 abbrev pub added_reply : OwnState → ℕ → Reply
-added_reply st h = at_handle (handle_at st.handles h) (λ d. if nat_le most_parts (length d.drafted) then Reply.TooManyParts (most_parts + 1) else Reply.Ok)
+added_reply st h = at_handle (handle_at st.handles h) (λ d. if nat_le most_parts (length d.drafted)
+    then Reply.TooManyParts (most_parts + 1) else Reply.Ok)
 
 -- the state where a subscription with this reply is counted
 abbrev pub counted : OwnState → Reply → OwnState
@@ -80,25 +84,30 @@ done_by c = if is_nil c.edit.0 && is_nil c.edit.1 then Effect.Nothing else Effec
 
 -- what a publish of an open handle is answered
 abbrev pub publish_reply : Handle → Reply
-publish_reply d = if d.is_view then Reply.NotDraft else if is_nil d.drafted then Reply.EmptyEvent else Reply.Ok
+publish_reply d =
+    if d.is_view then Reply.NotDraft else if is_nil d.drafted then Reply.EmptyEvent else Reply.Ok
 
 -- what a release of an open handle is answered
 abbrev pub release_reply : Label → Handle → Reply
-release_reply out d = if not d.is_view then Reply.NotReceived else refused_write out (unwritable out d.named)
+release_reply out d =
+    if not d.is_view then Reply.NotReceived else refused_write out (unwritable out d.named)
 
 abbrev pub edited : EventName → List Spot → List Part → Commit
 edited event deleted added = record { event = event; edit = (deleted, added) }
 
 -- what the release of an open handle does
 abbrev pub released_by : Label → Handle → Effect
-released_by out d = if is_nil d.named && is_nil d.drafted then Effect.Nothing else Effect.Commit (edited d.event d.named (relabelled out d.drafted))
+released_by out d = if is_nil d.named && is_nil d.drafted then Effect.Nothing
+    else Effect.Commit (edited d.event d.named (relabelled out d.drafted))
 
--- the commit of an open handle: its event, for a view the spots that are named for deletion, and what is drafted
+-- the commit of an open handle: its event, for a view the spots that are named for deletion, and
+-- what is drafted
 abbrev pub committed : Close → Label → Handle → Commit
 committed Publish out d = edited d.event [] (relabelled out d.drafted)
 committed Release out d = edited d.event d.named (relabelled out d.drafted)
 
--- the closing call is accepted, the commit is that of the handle, and it is what the call does, if anything
+-- the closing call is accepted, the commit is that of the handle, and it is what the call does, if
+-- anything
 pub record Commits (how : Close) (h : ℕ) (l : LocalState) (c : Commit) : Type 0 where
   pub replied : reply l.unit l.own [] (closing how h) ≡ Reply.Ok
   pub whole : (d : Handle) → handle_at l.own.handles h ≡ Some d → c ≡ committed how l.own.output d

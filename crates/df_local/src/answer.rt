@@ -35,8 +35,10 @@ impl Local {
     /// What a call is answered where this delivery is the first that is left. Changes nothing.
     pub fn answer(&self, next: Option<&Given>, call: &Call) -> Result<Answer, NoMemory>
         requires { IsBuilt call.now }
-        ensures reply { IfOk result (λ a. a.reply ≡ reply self.now.unit self.now.own (option_to_list (option_copied next.entry)) call.now) }
-        ensures effect { IfOk result (λ a. a.effect ≡ effect self.now.unit self.now.own (option_to_list (option_copied next.entry)) call.now) }
+        ensures reply { IfOk result (λ a. a.reply ≡ reply self.now.unit self.now.own
+            (option_to_list (option_copied next.entry)) call.now) }
+        ensures effect { IfOk result (λ a. a.effect ≡ effect self.now.unit self.now.own
+            (option_to_list (option_copied next.entry)) call.now) }
     {
         match call {
             Call::CreateEvent => Ok(quiet(self.create_reply())),
@@ -61,8 +63,10 @@ impl Local {
 
     #[tactic(auto, using(crate::proofs::OpenHandles::least_free_within))]
     fn get_answer(&self, next: Option<&Given>) -> Result<Answer, NoMemory>
-        ensures reply { IfOk result (λ a. a.reply ≡ reply self.now.unit self.now.own (option_to_list (option_copied next.entry)) Call.Get) }
-        ensures effect { IfOk result (λ a. a.effect ≡ effect self.now.unit self.now.own (option_to_list (option_copied next.entry)) Call.Get) }
+        ensures reply { IfOk result (λ a. a.reply ≡ reply self.now.unit self.now.own
+            (option_to_list (option_copied next.entry)) Call.Get) }
+        ensures effect { IfOk result (λ a. a.effect ≡ effect self.now.unit self.now.own
+            (option_to_list (option_copied next.entry)) Call.Get) }
     {
         let Some(given) = next else {
             return Ok(quiet(Reply::Nothing));
@@ -82,8 +86,10 @@ impl Local {
     }
 
     fn closing_answer(&self, h: u32, how: Close) -> Result<Answer, NoMemory>
-        ensures reply { IfOk result (λ a. a.reply ≡ reply self.now.unit self.now.own [] (closing how h)) }
-        ensures effect { IfOk result (λ a. a.effect ≡ effect self.now.unit self.now.own [] (closing how h)) }
+        ensures reply { IfOk result (λ a. a.reply ≡ reply self.now.unit self.now.own []
+            (closing how h)) }
+        ensures effect { IfOk result (λ a. a.effect ≡ effect self.now.unit self.now.own []
+            (closing how h)) }
     {
         match self.edit_of(h, how) {
             Ok(commit) => Ok(Answer {

@@ -39,7 +39,8 @@ impl Local {
 
     #[tactic(auto, using(crate::proofs::OpenHandles::least_free_within))]
     pub(crate) fn clone_reply(&self, h: u32, label: &Label) -> Result<Reply, NoMemory>
-        ensures { IfOk result (λ r. r ≡ reply self.now.unit self.now.own [] (Call.CloneEvent h label.now)) }
+        ensures { IfOk result (λ r. r ≡ reply self.now.unit self.now.own []
+            (Call.CloneEvent h label.now)) }
     {
         let Some(handle) = handle_at(self.handles.as_slice(), h) else {
             return Ok(Reply::NoSuchHandle);
@@ -60,7 +61,8 @@ impl Local {
     }
 
     pub(crate) fn put_clone(&mut self, h: u32, label: &Label) -> Result<(), NoMemory>
-        ensures ok { OnOk result (self.new ≡ with_own self.old (changed self.old.unit self.old.own (Call.CloneEvent h label.now) Effect.Nothing)) }
+        ensures ok { OnOk result (self.new ≡ with_own self.old
+            (changed self.old.unit self.old.own (Call.CloneEvent h label.now) Effect.Nothing)) }
         ensures unchanged { OnErr result (self.new ≡ self.old) }
     {
         let Some(handle) = handle_at(self.handles.as_slice(), h) else {
@@ -90,7 +92,8 @@ fn cloned(
     input: &Label,
     handle: &Handle,
 ) -> Result<Vec<Part>, NoMemory>
-    ensures { IfOk result (λ v. v.items ≡ cloned output.now label.now (source input.now handle.now)) }
+    ensures { IfOk result (λ v. v.items ≡ cloned output.now label.now
+        (source input.now handle.now)) }
 {
     let seen = visible(alloc, input, handle)?;
     let mut parts = Vec::new(alloc);

@@ -60,7 +60,8 @@ impl Local {
 
     /// Closes a handle.
     pub fn shut(&mut self, h: u32)
-        ensures { self.new ≡ with_own self.old (record self.old.own { handles = closed self.old.own.handles h }) }
+        ensures { self.new ≡ with_own self.old
+            (record self.old.own { handles = closed self.old.own.handles h }) }
     {
         close(&mut self.handles, h);
     }
@@ -109,7 +110,8 @@ fn committed(
     handle: &Handle,
     deleted: Vec<Spot>,
 ) -> Result<Commit, NoMemory>
-    ensures { IfOk result (λ c. c ≡ edited handle.now.event deleted.items (relabelled output.now handle.now.drafted)) }
+    ensures { IfOk result (λ c. c ≡ edited handle.now.event deleted.items
+        (relabelled output.now handle.now.drafted)) }
 {
     let event = handle.event.copy()?;
     let added = relabelled(alloc, output, handle.drafted.as_slice())?;

@@ -46,7 +46,8 @@ impl Local {
 
     /// Opens a draft of the unit's next event, with these parts.
     pub(crate) fn put_draft(&mut self, drafted: Drafts) -> Result<(), NoMemory>
-        ensures ok { OnOk result (self.new ≡ with_own self.old (drafting self.old.unit drafted self.old.own)) }
+        ensures ok { OnOk result (self.new ≡ with_own self.old
+            (drafting self.old.unit drafted self.old.own)) }
         ensures unchanged { OnErr result (self.new ≡ self.old) }
     {
         if self.events >= MOST_NUMBERS {
@@ -82,7 +83,8 @@ impl Local {
         name: &Name,
         value: &Frozen,
     ) -> Result<Reply, NoMemory>
-        ensures ok { IfOk result (λ r. Answers (Call.AddPart h label.now name.now value.now) r self.old self.new) }
+        ensures ok { IfOk result (λ r. Answers
+            (Call.AddPart h label.now name.now value.now) r self.old self.new) }
         ensures unchanged { OnErr result (self.new ≡ self.old) }
     {
         let reply = self.add_reply(h);
@@ -116,7 +118,9 @@ impl Local {
         name: &Name,
         value: &Frozen,
     ) -> Result<(), NoMemory>
-        ensures ok { OnOk result (self.new ≡ with_own self.old (changed self.old.unit self.old.own (Call.AddPart h label.now name.now value.now) Effect.Nothing)) }
+        ensures ok { OnOk result (self.new ≡ with_own self.old
+            (changed self.old.unit self.old.own
+            (Call.AddPart h label.now name.now value.now) Effect.Nothing)) }
         ensures unchanged { OnErr result (self.new ≡ self.old) }
     {
         match new_part(self.alloc, &self.output, label, name, value) {

@@ -68,7 +68,8 @@ pub fn open(handles: &mut Vec<Option<Handle>>, handle: Handle) -> Result<(), NoM
 
 /// Drafts a part at an open handle.
 pub fn draft(handles: &mut Vec<Option<Handle>>, h: u32, part: Part) -> Result<(), NoMemory>
-    ensures ok { OnOk result (handles.new.items ≡ changed_at handles.old.items h (λ d. record d { drafted = d.drafted ++ part ∷ [] })) }
+    ensures ok { OnOk result (handles.new.items ≡ changed_at handles.old.items h
+        (λ d. record d { drafted = d.drafted ++ part ∷ [] })) }
     ensures unchanged { OnErr result (handles.new.items ≡ handles.old.items) }
 {
     let place = h as usize;
@@ -84,7 +85,8 @@ pub fn draft(handles: &mut Vec<Option<Handle>>, h: u32, part: Part) -> Result<()
 
 /// Gives an open handle other drafted parts.
 pub fn draft_anew(handles: &mut Vec<Option<Handle>>, h: u32, drafted: Drafts)
-    ensures { handles.new.items ≡ changed_at handles.old.items h (λ d. record d { drafted = drafted }) }
+    ensures { handles.new.items ≡ changed_at handles.old.items h
+        (λ d. record d { drafted = drafted }) }
 {
     let place = h as usize;
     if place < handles.len() {

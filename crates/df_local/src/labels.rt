@@ -33,7 +33,8 @@ struct InChange {
 impl Local {
     /// Changes the output label.
     pub fn change_out_label(&mut self, half: Half, act: Act, tag: &Tag) -> Result<Reply, NoMemory>
-        ensures ok { IfOk result (λ r. Answers (Call.ChangeOutLabel half act tag.now) r self.old self.new) }
+        ensures ok { IfOk result (λ r. Answers
+            (Call.ChangeOutLabel half act tag.now) r self.old self.new) }
         ensures unchanged { OnErr result (self.new ≡ self.old) }
     {
         let reply = match self.out_reply(act, tag) {
@@ -51,7 +52,8 @@ impl Local {
 
     /// Changes both labels, each by itself.
     pub fn change_in_out(&mut self, half: Half, act: Act, tag: &Tag) -> Result<Reply, NoMemory>
-        ensures ok { IfOk result (λ r. Answers (Call.ChangeInOut half act tag.now) r self.old self.new) }
+        ensures ok { IfOk result (λ r. Answers
+            (Call.ChangeInOut half act tag.now) r self.old self.new) }
         ensures unchanged { OnErr result (self.new ≡ self.old) }
     {
         let reply = match self.in_out_reply(act, tag) {
@@ -86,7 +88,8 @@ impl Local {
     }
 
     pub(crate) fn in_out_reply(&self, act: Act, tag: &Tag) -> Result<Reply, NoMemory>
-        ensures { IfOk result (λ r. r ≡ (if is_instance self.now.unit then Reply.NotInManaged else where_held self.now.own (needed act tag.now) Reply.Ok)) }
+        ensures { IfOk result (λ r. r ≡ (if is_instance self.now.unit then Reply.NotInManaged
+            else where_held self.now.own (needed act tag.now) Reply.Ok)) }
     {
         if self.is_instance() {
             return Ok(Reply::NotInManaged);
@@ -96,7 +99,9 @@ impl Local {
     }
 
     pub(crate) fn put_out(&mut self, half: Half, act: Act, tag: &Tag) -> Result<(), NoMemory>
-        ensures ok { OnOk result (self.new ≡ with_own self.old (changed self.old.unit self.old.own (Call.ChangeOutLabel half act tag.now) Effect.Nothing)) }
+        ensures ok { OnOk result (self.new ≡ with_own self.old
+            (changed self.old.unit self.old.own
+            (Call.ChangeOutLabel half act tag.now) Effect.Nothing)) }
         ensures unchanged { OnErr result (self.new ≡ self.old) }
     {
         match self.out_changed(half, act, tag) {
@@ -111,7 +116,9 @@ impl Local {
     }
 
     pub(crate) fn put_in_out(&mut self, half: Half, act: Act, tag: &Tag) -> Result<(), NoMemory>
-        ensures ok { OnOk result (self.new ≡ with_own self.old (changed self.old.unit self.old.own (Call.ChangeInOut half act tag.now) Effect.Nothing)) }
+        ensures ok { OnOk result (self.new ≡ with_own self.old
+            (changed self.old.unit self.old.own
+            (Call.ChangeInOut half act tag.now) Effect.Nothing)) }
         ensures unchanged { OnErr result (self.new ≡ self.old) }
     {
         let ins = match self.in_changed(half, act, tag) {
@@ -132,9 +139,11 @@ impl Local {
     }
 
     fn out_changed(&self, half: Half, act: Act, tag: &Tag) -> Result<OutChange, NoMemory>
-        ensures output { IfOk result (λ c. c.output ≡ half_changed half act tag.now self.now.own.output) }
+        ensures output { IfOk result (λ c. c.output ≡ half_changed half act tag.now
+            self.now.own.output) }
         ensures dropped { IfOk result (λ c. c.dropped ≡ now_dropped half act tag.now self.now.own) }
-        ensures endorsed { IfOk result (λ c. c.endorsed ≡ now_endorsed half act tag.now self.now.own) }
+        ensures endorsed { IfOk result (λ c. c.endorsed ≡ now_endorsed half act tag.now
+            self.now.own) }
     {
         let output = half_changed(half, act, tag, &self.output)?;
         let dropped = self.now_dropped(half, act, tag)?;
@@ -147,8 +156,10 @@ impl Local {
     }
 
     fn in_changed(&self, half: Half, act: Act, tag: &Tag) -> Result<InChange, NoMemory>
-        ensures input { IfOk result (λ c. c.input ≡ half_changed half act tag.now self.now.own.input) }
-        ensures contamination { IfOk result (λ c. c.contamination ≡ join self.now.own.contamination (half_changed half act tag.now self.now.own.input)) }
+        ensures input { IfOk result (λ c. c.input ≡ half_changed half act tag.now
+            self.now.own.input) }
+        ensures contamination { IfOk result (λ c. c.contamination ≡ join self.now.own.contamination
+            (half_changed half act tag.now self.now.own.input)) }
     {
         let input = half_changed(half, act, tag, &self.input)?;
         let contamination = self.contamination.join(&input)?;

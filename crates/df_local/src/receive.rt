@@ -36,7 +36,8 @@ impl Local {
 
     /// Opens a view of an event and counts it.
     pub(crate) fn put_view(&mut self, given: &Given) -> Result<(), NoMemory>
-        ensures ok { OnOk result (self.new ≡ with_own self.old (taken_in (Effect.Given given.now) self.old.own)) }
+        ensures ok { OnOk result (self.new ≡ with_own self.old
+            (taken_in (Effect.Given given.now) self.old.own)) }
         ensures unchanged { OnErr result (self.new ≡ self.old) }
     {
         if self.given == u64::MAX {

@@ -48,7 +48,8 @@ impl Local {
     }
 
     pub(crate) fn put_tag(&mut self) -> Result<(), NoMemory>
-        ensures ok { OnOk result (self.new ≡ with_own self.old (changed self.old.unit self.old.own Call.CreateTag Effect.Nothing)) }
+        ensures ok { OnOk result (self.new ≡ with_own self.old
+            (changed self.old.unit self.old.own Call.CreateTag Effect.Nothing)) }
         ensures unchanged { OnErr result (self.new ≡ self.old) }
     {
         if self.tags >= MOST_NUMBERS {
@@ -72,7 +73,8 @@ impl Local {
 
     /// What is held once the next tag is made.
     fn held_with_next(&self) -> Result<Held, NoMemory>
-        ensures { IfOk result (λ h. h ≡ grant_all self.now.own.held (all_over (next_tag self.now.unit self.now.own))) }
+        ensures { IfOk result (λ h. h ≡ grant_all self.now.own.held
+            (all_over (next_tag self.now.unit self.now.own))) }
     {
         let tag = self.next_tag()?;
         let mut held = self.held.copy()?;

@@ -15,7 +15,8 @@ impl Local {
     pub fn take(&mut self, call: &Call, reply: &Reply, effect: &Effect) -> Result<(), NoMemory>
         requires built { IsBuilt call.now }
         requires right { IsAnswer self.old call.now reply.now effect.now }
-        ensures ok { OnOk result (self.new ≡ with_own self.old (after self.old.unit self.old.own call.now reply.now effect.now)) }
+        ensures ok { OnOk result (self.new ≡ with_own self.old
+            (after self.old.unit self.old.own call.now reply.now effect.now)) }
         ensures unchanged { OnErr result (self.new ≡ self.old) }
     {
         if !is_accepted(reply) {

@@ -45,7 +45,8 @@ appended actor call core = (core.0, answered rows (firsts core.0) core.1 actor c
 
 -- a unit with its own state, where it exists
 abbrev pub local_of : State → UnitName → Option LocalState
-local_of core name = option_map (λ st. record { unit = name; own = st }) (own rows (firsts core.0) core.1 name)
+local_of core name =
+    option_map (λ st. record { unit = name; own = st }) (own rows (firsts core.0) core.1 name)
 
 -- whether some of these deliveries are left to a unit with this own state, if it exists
 abbrev pub is_due : Option OwnState → List Given → Bool
@@ -54,9 +55,11 @@ is_due (Some st) ds = not (is_nil (left st ds))
 
 -- whether the unit exists and a delivery is left to it
 abbrev pub has_delivery_in : State → UnitName → Bool
-has_delivery_in core name = is_due (own rows (firsts core.0) core.1 name) (deliveries rows (firsts core.0) core.1 name)
+has_delivery_in core name =
+    is_due (own rows (firsts core.0) core.1 name) (deliveries rows (firsts core.0) core.1 name)
 
 -- the names of the units that exist, in the order of units
 pub record IsRoll (core : State) (names : List UnitName) : Type 0 where
   pub order : IsAscending unit_cmp names
-  pub units : (name : UnitName) → contains_by unit_cmp names name ≡ exists rows (firsts core.0) core.1 name
+  pub units : (name : UnitName) →
+      contains_by unit_cmp names name ≡ exists rows (firsts core.0) core.1 name

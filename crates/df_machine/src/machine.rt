@@ -43,7 +43,8 @@ impl Model for Core {
 
     ghost view = { λ c. (c.start, reverse c.journal.items) };
 
-    ghost invariant = { λ c. Agrees rows (firsts c.start) (reverse c.journal.items) c.units.items c.events.items };
+    ghost invariant = { λ c. Agrees rows (firsts c.start)
+        (reverse c.journal.items) c.units.items c.events.items };
 }
 
 /// A call that was not made, for want of memory. Nothing has changed.
@@ -98,7 +99,12 @@ fn prepare_commit(
     reply: &Reply,
     commit: &Commit,
 ) -> Result<Ready, NoMemory>
-    ensures ready { IfOk result (λ r. r ≡ record { actor = actor.now; kept = reply.now; event = commit.now.event; after = apply commit.now.edit (parts_of commit.now.event events.old.items) }) }
+    ensures ready { IfOk result (λ r. r ≡ record {
+      actor = actor.now;
+      kept = reply.now;
+      event = commit.now.event;
+      after = apply commit.now.edit (parts_of commit.now.event events.old.items);
+    }) }
     ensures room { OnOk result (vec_len journal.new < vec_capacity journal.new) }
     ensures events_room { OnOk result (vec_len events.new < vec_capacity events.new) }
     ensures journal { journal.new.items ≡ journal.old.items }
@@ -169,7 +175,8 @@ impl Core {
 
     /// The unit at a place, from 0, among those that exist, in the order of units.
     pub fn unit_at(&self, k: usize) -> Option<&UnitName>
-        ensures place { (names : List UnitName) → IsRoll self.now names → option_copied result ≡ slice_get names k }
+        ensures place { (names : List UnitName) → IsRoll self.now names →
+            option_copied result ≡ slice_get names k }
         ensures roll { (names : List UnitName) × IsRoll self.now names }
     {
         match self.units.get(k) {
@@ -206,7 +213,10 @@ impl Core {
         requires built { IsBuilt call }
         requires plain { commit_in effect ≡ None }
         requires right { answer_in self.old actor.now call ≡ (reply, effect) }
-        ensures ok { OnOk result (self.new ≡ (self.old.0, Done actor.now call reply effect ∷ self.old.1)) }
+        ensures ok { OnOk result (self.new ≡ (
+          self.old.0,
+          Done actor.now call reply effect ∷ self.old.1,
+        )) }
         ensures reply { IfOk result (λ r. r ≡ reply) }
         ensures unchanged { OnErr result (self.new ≡ self.old) }
         ensures back { IfErr result (λ e. e.call ≡ call) }
@@ -236,7 +246,10 @@ impl Core {
     ) -> Result<Reply, NotStepped>
         requires built { IsBuilt call }
         requires right { answer_in self.old actor.now call ≡ (reply, Effect.Commit commit) }
-        ensures ok { OnOk result (self.new ≡ (self.old.0, Done actor.now call reply (Effect.Commit commit) ∷ self.old.1)) }
+        ensures ok { OnOk result (self.new ≡ (
+          self.old.0,
+          Done actor.now call reply (Effect.Commit commit) ∷ self.old.1,
+        )) }
         ensures reply { IfOk result (λ r. r ≡ reply) }
         ensures unchanged { OnErr result (self.new ≡ self.old) }
         ensures back { IfErr result (λ e. e.call ≡ call) }

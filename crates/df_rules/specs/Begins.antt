@@ -16,7 +16,8 @@ use Rattle.df_unit.specs.declared.name.UnitName.TheVariants.{Root}
 use Rattle.df_unit.specs.declared.reply.Reply.TheVariants.{Unit}
 
 -- the entry makes the unit: it isn't there before, and is with this state behind it
-pub record Begins (s : List OwnState) (past : List Entry) (e : Entry) (u : UnitName) (st : OwnState) : Type 0 where
+pub record Begins (s : List OwnState) (past : List Entry) (e : Entry) (u : UnitName)
+    (st : OwnState) : Type 0 where
   pub absent : own rows s past u ≡ None
   pub begun : own rows s (e ∷ past) u ≡ Some st
 
@@ -24,7 +25,8 @@ pub record Begins (s : List OwnState) (past : List Entry) (e : Entry) (u : UnitN
 abbrev pub owner_of : List OwnState → List Entry → List ℕ → ℕ → Option OwnState
 owner_of s past o n = own rows s (before_fixed rows s past o n) (Root o)
 
--- both labels and the contamination are above those of the owner or maker, and what was set aside is passed on
+-- both labels and the contamination are above those of the owner or maker, and what was set aside
+-- is passed on
 pub record IsAbove (owner st : OwnState) : Type 0 where
   -- both labels have the secrets of both
   pub reads_input : is_subset owner.input.s st.input.s ≡ true
@@ -51,4 +53,5 @@ pub record IsInstanceOf (owner st : OwnState) : Type 0 where
 -- a child holds the privileges of the call by which its maker made it
 pub record IsChildOf (maker : OwnState) (e : Entry) (path : List ℕ) (st : OwnState) : Type 0 where
   pub above : IsAbove maker st
-  pub made : (s : List (List ℕ)) × (f : Effect) × (e ≡ Done (Root (maker_of path)) (Instantiate s st.held) (Unit (number_of path)) f)
+  pub made : (s : List (List ℕ)) × (f : Effect)
+      × (e ≡ Done (Root (maker_of path)) (Instantiate s st.held) (Unit (number_of path)) f)

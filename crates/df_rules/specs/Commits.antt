@@ -1,5 +1,5 @@
--- The commits of a journal, what a label shows of them, and the parts that an event has after them. The newest entry of a
--- journal stands first.
+-- The commits of a journal, what a label shows of them, and the parts that an event has after them.
+-- The newest entry of a journal stands first.
 use Rattle.std.specs.Prelude.{if◌then◌else◌, List, [], ◌∷◌, Option, Some, None}
 use Rattle.std.specs.List.{filter}
 use Rattle.df_label.specs.Label.{flows_to}

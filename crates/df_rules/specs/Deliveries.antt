@@ -25,36 +25,51 @@ use Rattle.df_unit.specs.declared.name.UnitName.TheVariants.{Root, Managed}
 abbrev pub was_handed : List Given → EventName → ℕ → Bool
 was_handed ds event n = list_any (λ d. same_event d.event event && (d.sub == n)) ds
 
--- the delivery of these parts to an ordinary subscription, where its filter matches them and none came before
+-- the delivery of these parts to an ordinary subscription, where its filter matches them and none
+-- came before
 abbrev pub offer : List Given → EventName → List Part → (ℕ × List Clause) → List Given
-offer ds event parts sub = if matches sub.1 parts && not (was_handed ds event sub.0) then record { event = event; sub = sub.0; parts = parts } ∷ [] else []
+offer ds event parts sub = if matches sub.1 parts && not (was_handed ds event sub.0)
+    then record { event = event; sub = sub.0; parts = parts } ∷ [] else []
 
--- what a commit brings to a plain unit with these subscriptions, which had these deliveries: nothing, unless it adds a part that
--- the unit may read
-abbrev pub plain_news : Option OwnState → List (ℕ × List Clause) → List Given → List Entry → Option Commit → List Given
+-- what a commit brings to a plain unit with these subscriptions, which had these deliveries:
+-- nothing, unless it adds a part that the unit may read
+abbrev pub plain_news : Option OwnState → List (ℕ × List Clause) → List Given → List Entry →
+    Option Commit → List Given
 plain_news None subs ds past oc = []
 plain_news (Some st) subs ds past None = []
 plain_news (Some st) subs ds past (Some c) =
     if is_nil (cut st.input c.edit.1) then []
-    else flat_map (λ sub. offer ds c.event (cut st.input (apply c.edit (contents past c.event))) sub) subs
+    else
+    let seen = cut st.input (apply c.edit (contents past c.event)) in
+    flat_map (λ sub. offer ds c.event seen sub) subs
 
 -- what a commit brings to the instance of contamination t, which had these deliveries
-abbrev pub instance_news : Option Fixed → ℕ → List (List ℕ) → List Given → List Entry → Option Commit → List Given
+abbrev pub instance_news : Option Fixed → ℕ → List (List ℕ) → List Given → List Entry →
+    Option Commit → List Given
 instance_news None n t ds past oc = []
 instance_news (Some f) n t ds past None = []
 instance_news (Some f) n t ds past (Some c) =
     if is_given (Some f) t past (Some c) && not (was_handed ds c.event n)
-    then record { event = c.event; sub = n; parts = cut (readable_at f t) (apply c.edit (contents past c.event)) } ∷ [] else []
+    then record {
+      event = c.event;
+      sub = n;
+      parts = cut (readable_at f t) (apply c.edit (contents past c.event));
+    } ∷ []
+    else []
 
 abbrev pub deliveries_plain : Rules → List OwnState → List Entry → List ℕ → List Given
 deliveries_plain R s [] path = []
 deliveries_plain R s (e ∷ past) path =
-    let ds = deliveries_plain R s past path in ds ++ plain_news (own_plain R s past path) (subscriptions R s past (Root path)) ds past (commit_of e)
+    let ds = deliveries_plain R s past path in
+    let subs = subscriptions R s past (Root path) in
+    ds ++ plain_news (own_plain R s past path) subs ds past (commit_of e)
 
-abbrev pub deliveries_instance : Rules → List OwnState → List Entry → List ℕ → ℕ → List (List ℕ) → List Given
+abbrev pub deliveries_instance : Rules → List OwnState → List Entry → List ℕ → ℕ → List (List ℕ) →
+    List Given
 deliveries_instance R s [] o n t = []
 deliveries_instance R s (e ∷ past) o n t =
-    let ds = deliveries_instance R s past o n t in ds ++ instance_news (fixed R s past o n) n t ds past (commit_of e)
+    let ds = deliveries_instance R s past o n t in
+    ds ++ instance_news (fixed R s past o n) n t ds past (commit_of e)
 
 -- all that a unit is to be handed by the commits of the entries
 abbrev pub deliveries : Rules → List OwnState → List Entry → UnitName → List Given

@@ -1,4 +1,5 @@
--- What a unit's step function wants by the replies to the unit so far, and when a journal follows the step functions.
+-- What a unit's step function wants by the replies to the unit so far, and when a journal follows
+-- the step functions.
 use Rattle.std.specs.Prelude.{◌≡◌, ◌≢◌, ◌⊎◌, ⊤, ℕ, suc, Bool, true, false, ◌||◌, if◌then◌else◌, slice_get, List, [], ◌∷◌, Option, Some, None}
 use Rattle.std.specs.Option.{option_map}
 use Rattle.df_rules.specs.Deliveries.{deliveries}
@@ -57,20 +58,28 @@ root_began bs [] = None
 root_began bs (k ∷ []) = slice_get bs k
 root_began bs (k ∷ m ∷ path) = None
 
--- the state with which a unit's step function began: an instance's is the owner's, right after it wanted the subscription
-abbrev pub began_with : {B : Type 0} → Brain B → Rules → List OwnState → List B → List Entry → UnitName → Option B
+-- the state with which a unit's step function began: an instance's is the owner's, right after it
+-- wanted the subscription
+abbrev pub began_with : {B : Type 0} → Brain B → Rules → List OwnState → List B → List Entry →
+    UnitName → Option B
 began_with brain R s bs past (Root path) = root_began bs path
 began_with brain R s bs past (Managed o n t) =
-    option_map (λ x. brain.instance (wanted brain x (replies_of (Root o) (before_fixed R s past o n))).1 n) (root_began bs o)
+    option_map (λ x. brain.instance (wanted brain x
+    (replies_of (Root o) (before_fixed R s past o n))).1 n) (root_began bs o)
 
 -- the unit's call is the one that is wanted, or a get where the unit waits and a delivery is left
-pub record IsWanted {B : Type 0} (brain : Brain B) (R : Rules) (s : List OwnState) (bs : List B) (past : List Entry) (u : UnitName) (c : Call) (st : OwnState) (x : B) : Type 0 where
+pub record IsWanted {B : Type 0} (brain : Brain B) (R : Rules) (s : List OwnState) (bs : List B)
+    (past : List Entry) (u : UnitName) (c : Call) (st : OwnState) (x : B) : Type 0 where
   pub own : own R s past u ≡ Some st
   pub begun : began_with brain R s bs past u ≡ Some x
-  pub call : ((wanted brain x (replies_of u past)).0 ≡ Calls c) ⊎ (((wanted brain x (replies_of u past)).0 ≡ Wait) × (c ≡ Call.Get) × (left st (deliveries R s past u) ≢ []))
+  pub call : ((wanted brain x (replies_of u past)).0 ≡ Calls c)
+      ⊎ (((wanted brain x (replies_of u past)).0 ≡ Wait) × (c ≡ Call.Get)
+      × (left st (deliveries R s past u) ≢ []))
 
-abbrev pub EntryFollows : {B : Type 0} → Brain B → Rules → List OwnState → List B → List Entry → Entry → Type 0
-EntryFollows brain R s bs past (Done u c r f) = (st : OwnState) × (x : _) × IsWanted brain R s bs past u c st x
+abbrev pub EntryFollows : {B : Type 0} → Brain B → Rules → List OwnState → List B → List Entry →
+    Entry → Type 0
+EntryFollows brain R s bs past (Done u c r f) =
+    (st : OwnState) × (x : _) × IsWanted brain R s bs past u c st x
 EntryFollows brain R s bs past (Emitted c) = ⊤
 
 -- each entry of a unit is one that its step function wants
@@ -79,14 +88,16 @@ Follows brain R s bs [] = ⊤
 Follows brain R s bs (e ∷ past) = Follows brain R s bs past × EntryFollows brain R s bs past e
 
 -- the unit waits, and no delivery is left to it
-pub record IsAtRest {B : Type 0} (brain : Brain B) (R : Rules) (s : List OwnState) (bs : List B) (past : List Entry) (u : UnitName) (st : OwnState) (x : B) : Type 0 where
+pub record IsAtRest {B : Type 0} (brain : Brain B) (R : Rules) (s : List OwnState) (bs : List B)
+    (past : List Entry) (u : UnitName) (st : OwnState) (x : B) : Type 0 where
   pub begun : began_with brain R s bs past u ≡ Some x
   pub waits : (wanted brain x (replies_of u past)).0 ≡ Wait
   pub none_left : left st (deliveries R s past u) ≡ []
 
 -- each unit that exists is at rest
 abbrev pub Quiet : {B : Type 0} → Brain B → Rules → List OwnState → List B → List Entry → Type 0
-Quiet brain R s bs past = (u : UnitName) (st : OwnState) → own R s past u ≡ Some st → (x : _) × IsAtRest brain R s bs past u st x
+Quiet brain R s bs past = (u : UnitName) (st : OwnState) → own R s past u ≡ Some st → (x : _)
+    × IsAtRest brain R s bs past u st x
 
 abbrev pub is_of : UnitName → Entry → Bool
 is_of u (Done a c r f) = same a u
@@ -98,12 +109,15 @@ has_entry u (e ∷ past) = is_of u e || has_entry u past
 
 -- each root but the first waits
 abbrev pub OthersWait : {B : Type 0} → Brain B → List B → List Entry → Type 0
-OthersWait {B} brain bs past = (k : ℕ) (x : B) → slice_get bs (suc k) ≡ Some x → (wanted brain x (replies_of (Root (suc k ∷ [])) past)).0 ≡ Wait
+OthersWait {B} brain bs past = (k : ℕ) (x : B) → slice_get bs (suc k) ≡ Some x →
+    (wanted brain x (replies_of (Root (suc k ∷ [])) past)).0 ≡ Wait
 
 -- each root but the first waits before the first root's first entry
 abbrev pub Opens : {B : Type 0} → Brain B → List B → List Entry → Type 0
 Opens brain bs [] = ⊤
-Opens brain bs (e ∷ past) = Opens brain bs past × (is_of (Root (0 ∷ [])) e ≡ true → has_entry (Root (0 ∷ [])) past ≡ false → OthersWait brain bs past)
+Opens brain bs (e ∷ past) = Opens brain bs past
+    × (is_of (Root (0 ∷ [])) e ≡ true → has_entry (Root (0 ∷ [])) past ≡ false →
+    OthersWait brain bs past)
 
 abbrev pub brain_of : {B : Type 0} → (B → Last → Want × B) → (B → ℕ → B) → Brain B
 brain_of next instance = record { next = next; instance = instance }

@@ -4,8 +4,8 @@ use Rattle.df_label.specs.TagSet.{is_subset}
 use Rattle.df_unit.specs.Beginnings.{readable_at}
 use Rattle.df_unit.specs.OwnState.{OwnState, Fixed}
 
--- the instance of contamination t reads where it began to read, with the secrets of both labels of its owner, and made no tags,
--- subscriptions and units
+-- the instance of contamination t reads where it began to read, with the secrets of both labels of
+-- its owner, and made no tags, subscriptions and units
 pub record KeepsToItsName (f : Fixed) (t : List (List ℕ)) (st : OwnState) : Type 0 where
   pub input : st.input ≡ readable_at f t
   pub base : is_subset f.base t ≡ true

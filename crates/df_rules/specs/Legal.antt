@@ -1,5 +1,6 @@
--- The answer to a call after the entries of a journal, and which journals are legal: those whose every entry is the answer.
-use Rattle.std.specs.Prelude.{◌≡◌, ⊤, List, [], ◌∷◌, drop, Option, Some, None}
+-- The answer to a call after the entries of a journal, and which journals are legal: those whose
+-- every entry is the answer.
+use Rattle.std.specs.Prelude.{◌≡◌, ⊤, List, [], ◌∷◌, drop, Option, Some, None, ◌++◌, reverse}
 use Rattle.df_rules.specs.Deliveries.{deliveries}
 use Rattle.df_rules.specs.Own.{own}
 use Rattle.df_rules.specs.Rules.{Rules}
@@ -36,6 +37,11 @@ IsRight R s past (Emitted c) = ⊤
 abbrev pub Legal : Rules → List OwnState → List Entry → Type 0
 Legal R s [] = ⊤
 Legal R s (e ∷ past) = Legal R s past × IsRight R s past e
+
+-- with the oldest entry first: each entry is the answer to those before it
+abbrev pub IsRightAtEach : Rules → List OwnState → List Entry → Type 0
+IsRightAtEach R s j = (before later : List Entry) (e : Entry) → j ≡ before ++ e ∷ later →
+    IsRight R s (reverse before) e
 
 abbrev pub IsDone : Entry → Type 0
 IsDone (Done u call r f) = ⊤

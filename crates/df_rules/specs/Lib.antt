@@ -1,3 +1,4 @@
+pub mod Always
 pub mod Begins
 pub mod Choices
 pub mod Commits

@@ -24,7 +24,8 @@ is_within l (Some st) = flows_to st.contamination l
 -- what a label shows of a commit, if it is anything
 abbrev pub echo : Label → Option Commit → Option Commit
 echo l None = None
-echo l (Some c) = if is_nil (cut_spots l c.edit.0) && is_nil (cut l c.edit.1) then None else Some (cut_commit l c)
+echo l (Some c) =
+    if is_nil (cut_spots l c.edit.0) && is_nil (cut l c.edit.1) then None else Some (cut_commit l c)
 
 abbrev pub emitted : Option Commit → List Entry
 emitted None = []
@@ -43,10 +44,14 @@ abbrev pub purge : Rules → List OwnState → Label → List Entry → List Ent
 purge R s l [] = []
 purge R s l (e ∷ past) = left_of l (stays R s l past e) e ++ purge R s l past
 
--- units within the label are as they were, have the ordinary subscriptions that they had and are handed what they were, and what
--- the label shows of each event is the same
+-- units within the label are as they were, have the ordinary subscriptions that they had and are
+-- handed what they were, and what the label shows of each event is the same
 pub record Keeps (R : Rules) (s : List OwnState) (l : Label) (past kept : List Entry) : Type 0 where
-  pub same_own : (u : UnitName) (st : OwnState) → own R s past u ≡ Some st → flows_to st.contamination l ≡ true → own R s kept u ≡ Some st
-  pub same_subscriptions : (u : UnitName) (st : OwnState) → own R s past u ≡ Some st → flows_to st.contamination l ≡ true → subscriptions R s kept u ≡ subscriptions R s past u
-  pub same_deliveries : (u : UnitName) (st : OwnState) → own R s past u ≡ Some st → flows_to st.contamination l ≡ true → deliveries R s kept u ≡ deliveries R s past u
-  pub same_contents : (event : EventName) → cut l (contents kept event) ≡ cut l (contents past event)
+  pub same_own : (u : UnitName) (st : OwnState) → own R s past u ≡ Some st →
+      flows_to st.contamination l ≡ true → own R s kept u ≡ Some st
+  pub same_subscriptions : (u : UnitName) (st : OwnState) → own R s past u ≡ Some st →
+      flows_to st.contamination l ≡ true → subscriptions R s kept u ≡ subscriptions R s past u
+  pub same_deliveries : (u : UnitName) (st : OwnState) → own R s past u ≡ Some st →
+      flows_to st.contamination l ≡ true → deliveries R s kept u ≡ deliveries R s past u
+  pub same_contents : (event : EventName) →
+      cut l (contents kept event) ≡ cut l (contents past event)

@@ -14,10 +14,12 @@ use Rattle.df_unit.specs.declared.name.UnitName.{UnitName}
 -- what the unit's accepted gets gave it, the oldest first
 abbrev pub received : UnitName → List Entry → List Given
 received u [] = []
-received u (Done a c r f ∷ past) = if same a u then received u past ++ given_in f else received u past
+received u (Done a c r f ∷ past) =
+    if same a u then received u past ++ given_in f else received u past
 received u (Emitted c ∷ past) = received u past
 
 -- what the unit received, and then what is left to it, are its deliveries
-pub record Receives (R : Rules) (s : List OwnState) (past : List Entry) (u : UnitName) (st : OwnState) : Type 0 where
+pub record Receives (R : Rules) (s : List OwnState) (past : List Entry) (u : UnitName)
+    (st : OwnState) : Type 0 where
   pub count : length (received u past) ≡ st.given
   pub all : received u past ++ left st (deliveries R s past u) ≡ deliveries R s past u

@@ -15,9 +15,11 @@ use Rattle.df_unit.specs.declared.entry.Entry.TheVariants.{Done}
 use Rattle.df_unit.specs.declared.name.UnitName.{UnitName}
 use Rattle.df_unit.specs.declared.reply.Reply.{Reply}
 
--- the purge at the label is legal, keeps what units within the label are, subscribed to and are handed, and what it leaves of the
--- others was emitted by privileges
+-- the purge at the label is legal, keeps what units within the label are, subscribed to and are
+-- handed, and what it leaves of the others was emitted by privileges
 pub record Separates (R : Rules) (s : List OwnState) (past : List Entry) (l : Label) : Type 0 where
   pub legal : Legal R s (purge R s l past)
   pub keeps : Keeps R s l past (purge R s l past)
-  pub exercised : (newer older : List Entry) (u : UnitName) (c : Call) (r : Reply) (f : Effect) (k : Commit) → past ≡ newer ++ Done u c r f ∷ older → echo l (commit_in f) ≡ Some k → (st : OwnState) × IsExercised R s older u l st
+  pub exercised : (newer older : List Entry) (u : UnitName) (c : Call) (r : Reply) (f : Effect)
+      (k : Commit) → past ≡ newer ++ Done u c r f ∷ older → echo l (commit_in f) ≡ Some k →
+      (st : OwnState) × IsExercised R s older u l st

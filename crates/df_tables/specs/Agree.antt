@@ -20,7 +20,8 @@ use Rattle.df_tables.specs.declared.events.EventRow.{EventRow}
 use Rattle.df_tables.specs.declared.units.Unit.{Unit}
 
 -- the row of the unit, with its own state, its subscriptions and its deliveries
-pub record IsRow (n : UnitName) (st : OwnState) (subs : List (ℕ × List Clause)) (ds : List Given) (u : Unit) : Type 0 where
+pub record IsRow (n : UnitName) (st : OwnState) (subs : List (ℕ × List Clause)) (ds : List Given)
+    (u : Unit) : Type 0 where
   pub unit : u.local.unit ≡ n
   pub own : u.local.own ≡ st
   pub subscriptions : u.subscriptions ≡ subs
@@ -29,17 +30,20 @@ pub record IsRow (n : UnitName) (st : OwnState) (subs : List (ℕ × List Clause
   pub taken : st.given ≤ length ds
 
 -- a unit has a row exactly where it exists
-abbrev pub IsSeat : UnitName → Option OwnState → List (ℕ × List Clause) → List Given → Option Unit → Type 0
+abbrev pub IsSeat : UnitName → Option OwnState → List (ℕ × List Clause) → List Given → Option Unit →
+    Type 0
 IsSeat n None subs ds None = (subs ≡ []) × (ds ≡ [])
 IsSeat n (Some st) subs ds (Some u) = IsRow n st subs ds u
 IsSeat n None subs ds (Some u) = ⊥
 IsSeat n (Some st) subs ds None = ⊥
 
--- the journal is legal, each unit's row tells of its own state, its subscriptions and its deliveries, the rows stand in the
--- order of units, and each event's row tells of its parts
-pub record Agrees (R : Rules) (s : List OwnState) (past : List Entry) (units : List Unit) (events : List EventRow) : Type 0 where
+-- the journal is legal, each unit's row tells of its own state, its subscriptions and its
+-- deliveries, the rows stand in the order of units, and each event's row tells of its parts
+pub record Agrees (R : Rules) (s : List OwnState) (past : List Entry) (units : List Unit)
+    (events : List EventRow) : Type 0 where
   pub legal : Legal R s past
-  pub seats : (n : UnitName) → IsSeat n (own R s past n) (subscriptions R s past n) (deliveries R s past n) (find n units)
+  pub seats : (n : UnitName) → IsSeat n (own R s past n) (subscriptions R s past n)
+      (deliveries R s past n) (find n units)
   pub order : IsInOrder units
   pub parts : (event : EventName) → parts_of event events ≡ contents past event
   -- no call so far made a managed subscription, so there is no instance

@@ -26,11 +26,13 @@ pub record LineState : Type 0 where
 abbrev pub line_code : Coded LineState
 line_code =
     code_by (List Given × (List Mark × List Given))
-    (coded× (coded_list given.the_row.coded) (coded× (coded_list mark.the_row.coded) (coded_list given.the_row.coded)))
+    (coded× (coded_list given.the_row.coded)
+    (coded× (coded_list mark.the_row.coded) (coded_list given.the_row.coded)))
     (λ l. (l.left, (l.marks, l.staged)))
     (λ p. record { left = p.0; marks = p.1.0; staged = p.1.1 })
     (λ _. refl)
 
 -- the line with what was staged handed over
 abbrev pub settled : LineState → LineState
-settled l = record { left = l.left ++ l.staged; marks = l.marks ++ map mark_of l.staged; staged = [] }
+settled l =
+    record { left = l.left ++ l.staged; marks = l.marks ++ map mark_of l.staged; staged = [] }

@@ -11,7 +11,8 @@ use Rattle.df_unit.specs.declared.reply.Reply.TheVariants.{Sub}
 use Rattle.df_tables.specs.Table.{find}
 use Rattle.df_tables.specs.declared.units.Unit.{Unit}
 
--- the reply and the effect are the unit's answer to the call, by its own state and what is left of its line
+-- the reply and the effect are the unit's answer to the call, by its own state and what is left of
+-- its line
 abbrev pub IsAnswered : Call → Reply → Effect → Unit → Type 0
 IsAnswered c r f u = row_answer u.local u.line.left c ≡ (r, f)
 

@@ -44,19 +44,24 @@ abbrev pub parts_of : EventName → List EventRow → List Part
 parts_of ev [] = []
 parts_of ev (r ∷ rs) = if same_event r.event ev then r.contents else parts_of ev rs
 
--- the delivery of these parts to a subscription, where its filter matches them and the marks tell of none before
+-- the delivery of these parts to a subscription, where its filter matches them and the marks tell
+-- of none before
 abbrev pub offered : List Mark → EventName → List Part → (ℕ × List Clause) → List Given
-offered marks event parts sub = if matches sub.1 parts && not (was_marked marks event sub.0) then record { event = event; sub = sub.0; parts = parts } ∷ [] else []
+offered marks event parts sub = if matches sub.1 parts && not (was_marked marks event sub.0)
+    then record { event = event; sub = sub.0; parts = parts } ∷ [] else []
 
 -- what a commit brings to a unit that has these marks, where the event then has these parts
-abbrev pub marked_news : OwnState → List (ℕ × List Clause) → List Mark → Commit → List Part → List Given
+abbrev pub marked_news : OwnState → List (ℕ × List Clause) → List Mark → Commit → List Part →
+    List Given
 marked_news st subs marks c after =
     if is_nil (cut st.input c.edit.1) then []
     else flat_map (λ sub. offered marks c.event (cut st.input after) sub) subs
 
 -- the row with what a commit brings staged
 abbrev pub with_news : Commit → List Part → Unit → Unit
-with_news c after u = record u { line = record u.line { staged = marked_news u.local.own u.subscriptions u.line.marks c after } }
+with_news c after u =
+    let news = marked_news u.local.own u.subscriptions u.line.marks c after in
+    record u { line = record u.line { staged = news } }
 
 -- the row with what was staged handed over
 abbrev pub settled_row : Unit → Unit
@@ -94,7 +99,11 @@ moved_row R c r f u = record {
 
 -- a root's row as it begins
 abbrev pub first_row : ℕ → Label × List Privilege → Unit
-first_row k r = record { local = root_at k r.0 r.1; subscriptions = []; line = record { left = []; marks = []; staged = [] } }
+first_row k r = record {
+  local = root_at k r.0 r.1;
+  subscriptions = [];
+  line = record { left = []; marks = []; staged = [] };
+}
 
 -- the rows of roots as they begin, with the numbers from k
 abbrev pub rows_from : ℕ → List (Label × List Privilege) → List Unit

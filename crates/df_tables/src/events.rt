@@ -61,7 +61,8 @@ pub fn contents_after(
 /// Writes the parts of an event down. Takes no memory.
 pub fn put_contents(rows: &mut Vec<EventRow>, event: EventName, contents: Contents)
     requires { vec_len rows.old < vec_capacity rows.old }
-    ensures { (e : EventName) → parts_of e rows.new.items ≡ (if same_event event e then contents else parts_of e rows.old.items) }
+    ensures { (e : EventName) → parts_of e rows.new.items ≡ (if same_event event e then contents
+        else parts_of e rows.old.items) }
 {
     match place(rows.as_slice(), &event) {
         Some(k) => rows[k].contents = contents,

@@ -35,7 +35,11 @@ impl Model for Line {
 
     ghost coded = { line_code };
 
-    ghost view = { λ a. record { left = a.left.items; marks = a.marks.items; staged = a.staged.items } };
+    ghost view = { λ a. record {
+      left = a.left.items;
+      marks = a.marks.items;
+      staged = a.staged.items;
+    } };
 
     ghost invariant = { λ a. record {
       left_room : vec_len a.left + vec_len a.staged ≤ vec_capacity a.left;

@@ -107,7 +107,8 @@ fn move_at(
     requires built { IsBuilt call.now }
     requires order { IsInOrder units.old }
     requires right { IsRight actor.now call.now reply.now effect.now units.old }
-    ensures ok { OnOk result (units.new ≡ moved_at actor.now (moved_row rows call.now reply.now effect.now) units.old) }
+    ensures ok { OnOk result (units.new ≡ moved_at actor.now
+        (moved_row rows call.now reply.now effect.now) units.old) }
     ensures unchanged { OnErr result (units.new ≡ units.old) }
 {
     let Some(k) = place(units, actor) else {
@@ -130,7 +131,8 @@ pub fn move_unit(
     requires built { IsBuilt call.now }
     requires order { IsInOrder units.old.items }
     requires right { IsRight actor.now call.now reply.now effect.now units.old.items }
-    ensures ok { OnOk result (units.new.items ≡ moved_at actor.now (moved_row rows call.now reply.now effect.now) units.old.items) }
+    ensures ok { OnOk result (units.new.items ≡ moved_at actor.now
+        (moved_row rows call.now reply.now effect.now) units.old.items) }
     ensures unchanged { OnErr result (units.new.items ≡ units.old.items) }
 {
     let rows = units.as_mut_slice();
@@ -144,7 +146,8 @@ fn stage(
     commit: &Commit,
     after: &Contents,
 ) -> Result<(), NoMemory>
-    ensures ok { OnOk result (units.new.items ≡ map (with_news commit.now after.now) units.old.items) }
+    ensures ok { OnOk result (units.new.items ≡ map
+        (with_news commit.now after.now) units.old.items) }
     ensures quiet { OnErr result (map quieted units.new.items ≡ map quieted units.old.items) }
 {
     let rows = units.as_mut_slice();
@@ -174,7 +177,9 @@ pub fn hand_over(
     requires order { IsInOrder units.old.items }
     requires right { IsRight actor.now call.now reply.now (Effect.Commit commit) units.old.items }
     ensures effect { IfOk result (λ f. f ≡ Effect.Commit commit) }
-    ensures ok { OnOk result (units.new.items ≡ map settled_row (moved_at actor.now (moved_row rows call.now reply.now (Effect.Commit commit)) (map (with_news commit after.now) units.old.items))) }
+    ensures ok { OnOk result (units.new.items ≡ map settled_row
+        (moved_at actor.now (moved_row rows call.now reply.now (Effect.Commit commit))
+        (map (with_news commit after.now) units.old.items))) }
     ensures quiet { OnErr result (map quieted units.new.items ≡ map quieted units.old.items) }
 {
     let Ok(()) = stage(alloc, units, &commit, after) else {
@@ -205,7 +210,12 @@ pub fn prepare(
     reply: &Reply,
     commit: &Commit,
 ) -> Result<Ready, NoMemory>
-    ensures { IfOk result (λ r. r ≡ record { actor = actor.now; kept = reply.now; event = commit.now.event; after = apply commit.now.edit (parts_of commit.now.event rows.now) }) }
+    ensures { IfOk result (λ r. r ≡ record {
+      actor = actor.now;
+      kept = reply.now;
+      event = commit.now.event;
+      after = apply commit.now.edit (parts_of commit.now.event rows.now);
+    }) }
 {
     let actor = actor.copy()?;
     let kept = reply.copy()?;

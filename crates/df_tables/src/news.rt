@@ -76,7 +76,8 @@ fn offers(
     event: &EventName,
     seen: &Parts,
 ) -> Result<Vec<Given>, NoMemory>
-    ensures { IfOk result (λ v. v.items ≡ flat_map (λ sub. offered unit.now.line.marks event.now seen.now sub) unit.now.subscriptions) }
+    ensures { IfOk result (λ v. v.items ≡ flat_map
+        (λ sub. offered unit.now.line.marks event.now seen.now sub) unit.now.subscriptions) }
 {
     let mut offers = Vec::new(alloc);
     for subscription in unit.subscriptions.as_slice() {
@@ -100,7 +101,8 @@ pub fn news(
     commit: &Commit,
     after: &Contents,
 ) -> Result<Vec<Given>, NoMemory>
-    ensures { IfOk result (λ v. v.items ≡ marked_news unit.now.local.own unit.now.subscriptions unit.now.line.marks commit.now after.now) }
+    ensures { IfOk result (λ v. v.items ≡ marked_news unit.now.local.own unit.now.subscriptions
+        unit.now.line.marks commit.now after.now) }
 {
     let input = unit.local.input();
     if none_readable(input, commit.edit.added()) {

@@ -11,7 +11,8 @@ use Rattle.df_unit.specs.declared.reply.Reply.{Reply}
 use Rattle.df_unit.specs.OwnState.{OwnState, Fixed}
 
 -- a unit that has done nothing yet
-abbrev pub beginning : Label → Label → Label → List (List ℕ) → List (List ℕ) → List Privilege → OwnState
+abbrev pub beginning : Label → Label → Label → List (List ℕ) → List (List ℕ) → List Privilege →
+    OwnState
 beginning input output contamination dropped endorsed held = record {
   input = input;
   output = output;
@@ -59,7 +60,8 @@ readable_at f t = record { s = t; i = f.input_integrity }
 
 -- the instance of contamination t
 abbrev pub begin : Fixed → List (List ℕ) → OwnState
-begin f t = beginning (readable_at f t) (record { s = t; i = f.output_integrity }) (join f.contamination (readable_at f t)) f.dropped f.endorsed f.held
+begin f t = beginning (readable_at f t) (record { s = t; i = f.output_integrity })
+    (join f.contamination (readable_at f t)) f.dropped f.endorsed f.held
 
 -- the confidentiality of a unit that is made with s
 abbrev pub child_secrets : OwnState → List (List ℕ) → List (List ℕ)
@@ -68,10 +70,14 @@ child_secrets st s = union (union s st.input.s) st.output.s
 abbrev pub child_input : OwnState → List (List ℕ) → Label
 child_input st s = record { s = child_secrets st s; i = st.input.i }
 
+abbrev pub child_output : OwnState → List (List ℕ) → Label
+child_output st s = record { s = child_secrets st s; i = meet st.input.i st.output.i }
+
 -- the unit that a unit makes with s and these privileges
 abbrev pub child : OwnState → List (List ℕ) → List Privilege → OwnState
 child st s privileges =
-    beginning (child_input st s) (record { s = child_secrets st s; i = meet st.input.i st.output.i }) (join st.contamination (child_input st s)) st.dropped st.endorsed privileges
+    beginning (child_input st s) (child_output st s) (join st.contamination (child_input st s))
+    st.dropped st.endorsed privileges
 
 abbrev pub makes_at : OwnState → ℕ → List (List ℕ) → List Privilege → Reply → Option OwnState
 makes_at st k s privileges (Reply.Unit m) = if m == k then Some (child st s privileges) else None

@@ -33,7 +33,8 @@ has_at parts d = list_any (λ part. is_at part d) parts
 abbrev pub source : Label → Handle → List Part
 source input d = visible input d ++ d.drafted
 
--- a label as a unit with this output label can write it: its secrets stick, and integrity that it lacks is lost
+-- a label as a unit with this output label can write it: its secrets stick, and integrity that it
+-- lacks is lost
 abbrev pub raised : Label → Label → Label
 raised out label = record { s = union label.s out.s; i = meet label.i out.i }
 
@@ -55,7 +56,8 @@ clone out label part = new_part (raised out (raised label part.label)) part.name
 abbrev pub cloned : Label → Label → List Part → List Part
 cloned out label parts = map (clone out label) parts
 
--- the draft without the parts of a name and label; where there are none, the spot is named for deletion
+-- the draft without the parts of a name and label; where there are none, the spot is named for
+-- deletion
 abbrev pub deleted_in : Spot → Handle → Handle
 deleted_in d h =
     if has_at h.drafted d

@@ -8,11 +8,13 @@ use Rattle.df_unit.specs.Limits.{most_handles}
 
 -- an empty draft of an event
 abbrev pub draft_of : EventName → List Part → Handle
-draft_of event parts = record { is_view = false; event = event; seen = []; named = []; drafted = parts }
+draft_of event parts =
+    record { is_view = false; event = event; seen = []; named = []; drafted = parts }
 
 -- a view of an event with these parts
 abbrev pub view_of : EventName → List Part → Handle
-view_of event parts = record { is_view = true; event = event; seen = parts; named = []; drafted = [] }
+view_of event parts =
+    record { is_view = true; event = event; seen = parts; named = []; drafted = [] }
 
 -- how many handles are open
 abbrev pub open_count : List (Option Handle) → ℕ
@@ -43,7 +45,8 @@ opened d (Some h ∷ hs) = Some h ∷ opened d hs
 abbrev pub closed : List (Option Handle) → ℕ → List (Option Handle)
 closed hs h = slice_set hs h None
 
-abbrev pub replaced : List (Option Handle) → ℕ → (Handle → Handle) → Option Handle → List (Option Handle)
+abbrev pub replaced : List (Option Handle) → ℕ → (Handle → Handle) → Option Handle →
+    List (Option Handle)
 replaced hs h f None = hs
 replaced hs h f (Some d) = slice_set hs h (Some (f d))
 

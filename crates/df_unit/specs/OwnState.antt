@@ -1,4 +1,5 @@
--- A unit's own state: labels, tags set aside, privileges, counters and handles, as its own entries make them.
+-- A unit's own state: labels, tags set aside, privileges, counters and handles, as its own entries
+-- make them.
 use Rattle.std.specs.Prelude.{ℕ, List, Option}
 use Rattle.df_label.specs.declared.label.Label.{Label}
 use Rattle.df_label.specs.declared.privilege.Privilege.{Privilege}

@@ -1,5 +1,5 @@
--- The call table. For each call: what it answers, in the order of the checks, what it does beyond the unit, and what it
--- makes of the unit's own state.
+-- The call table. For each call: what it answers, in the order of the checks, what it does beyond
+-- the unit, and what it makes of the unit's own state.
 use Rattle.std.specs.Prelude.{ℕ, ◌+◌, ◌==◌, Bool, true, false, not, ◌&&◌, ◌||◌, if◌then◌else◌, nat_le, nat_lt, List, [], ◌∷◌, ◌++◌, length, map, Option, Some, None}
 use Rattle.std.specs.List.{find, flat_map}
 use Rattle.std.specs.Option.{option_map, option_or}
@@ -73,13 +73,20 @@ abbrev pub refused_write : Label → Option Spot → Reply
 refused_write out None = Reply.Ok
 refused_write out (Some d) = Reply.CannotWrite out d.label
 
--- the plus that adding a tag to a child's labels needs, for the first tag that its maker neither has nor may add
+-- whether the tag is in the confidentiality of one of the labels, or may be added to it
+abbrev pub has_or_may_add : OwnState → List ℕ → Bool
+has_or_may_add st t =
+    contains st.input.s t || (contains st.output.s t || holds st.held (needed Add t))
+
+-- the plus that adding a tag to a child's labels needs, for the first tag that its maker neither
+-- has nor may add
 abbrev pub lacking_tag : OwnState → List (List ℕ) → Option Privilege
-lacking_tag st s = option_map (needed Add) (find (λ t. not (contains st.input.s t || (contains st.output.s t || holds st.held (needed Add t)))) s)
+lacking_tag st s = option_map (needed Add) (find (λ t. not (has_or_may_add st t)) s)
 
 -- the authority over the first of the privileges that its maker may not pass on
 abbrev pub lacking_authority : OwnState → List Privilege → Option Privilege
-lacking_authority st privileges = find (λ q. not (holds st.held q)) (map needed_to_attach privileges)
+lacking_authority st privileges =
+    find (λ q. not (holds st.held q)) (map needed_to_attach privileges)
 
 abbrev pub subscribed : UnitName → OwnState → Reply
 subscribed unit st =
@@ -90,7 +97,8 @@ subscribed unit st =
 -- the answer to a get, by the deliveries that are left
 abbrev pub handed : OwnState → List Given → Reply
 handed st [] = Reply.Nothing
-handed st (d ∷ ds) = if is_full st.handles then Reply.TooManyHandles else Reply.Event (least_free st.handles) d.sub
+handed st (d ∷ ds) =
+    if is_full st.handles then Reply.TooManyHandles else Reply.Event (least_free st.handles) d.sub
 
 -- what a call of a unit is answered, by its own state and the deliveries that are left
 abbrev pub reply : UnitName → OwnState → List Given → Call → Reply
@@ -111,7 +119,8 @@ reply unit st left (ReadPart h name) = at_handle (handle_at st.handles h) (λ d.
     else Reply.Parts (shown (visible_named st.input name d)))
 reply unit st left (CloneEvent h label) = at_handle (handle_at st.handles h) (λ d.
     if is_full st.handles then Reply.TooManyHandles
-    else if nat_lt most_parts (length (source st.input d)) then Reply.TooManyParts (length (source st.input d))
+    else if nat_lt most_parts (length (source st.input d))
+    then Reply.TooManyParts (length (source st.input d))
     else if nat_le most_numbers st.events then Reply.Exhausted
     else Reply.Handle (least_free st.handles))
 reply unit st left (AttachPrivilege h label name p) = at_handle (handle_at st.handles h) (λ d.
@@ -140,7 +149,8 @@ reply unit st left (Instantiate s privileges) =
     if is_instance unit then Reply.NotInManaged
     else if nat_le most_path (length (path_of unit)) then Reply.TooDeep
     else if nat_le most_units st.units then Reply.TooManyUnits
-    else unless_lacking (option_or (lacking_tag st s) (lacking_authority st privileges)) (Reply.Unit st.units)
+    else unless_lacking (option_or (lacking_tag st s) (lacking_authority st privileges))
+    (Reply.Unit st.units)
 
 -- whether the reply is no refusal
 abbrev pub is_accepted : Reply → Bool
@@ -156,14 +166,18 @@ is_accepted _ = false
 -- what a draft commits
 abbrev pub published : OwnState → Option Handle → Effect
 published st None = Effect.Nothing
-published st (Some d) = Effect.Commit (record { event = d.event; edit = ([], relabelled st.output d.drafted) })
+published st (Some d) =
+    Effect.Commit (record { event = d.event; edit = ([], relabelled st.output d.drafted) })
 
 -- what a view commits, where it changes anything
 abbrev pub released : OwnState → Option Handle → Effect
 released st None = Effect.Nothing
 released st (Some d) =
     if is_nil d.named && is_nil d.drafted then Effect.Nothing
-    else Effect.Commit (record { event = d.event; edit = (d.named, relabelled st.output d.drafted) })
+    else Effect.Commit (record {
+      event = d.event;
+      edit = (d.named, relabelled st.output d.drafted);
+    })
 
 abbrev pub first_given : List Given → Effect
 first_given [] = Effect.Nothing
@@ -171,9 +185,12 @@ first_given (d ∷ ds) = Effect.Given d
 
 -- what a call of a unit does beyond the unit
 abbrev pub effect : UnitName → OwnState → List Given → Call → Effect
-effect unit st left Get = if is_accepted (reply unit st left Get) then first_given left else Effect.Nothing
-effect unit st left (Publish h) = if is_accepted (reply unit st left (Publish h)) then published st (handle_at st.handles h) else Effect.Nothing
-effect unit st left (Release h) = if is_accepted (reply unit st left (Release h)) then released st (handle_at st.handles h) else Effect.Nothing
+effect unit st left Get =
+    if is_accepted (reply unit st left Get) then first_given left else Effect.Nothing
+effect unit st left (Publish h) = if is_accepted (reply unit st left (Publish h))
+    then published st (handle_at st.handles h) else Effect.Nothing
+effect unit st left (Release h) = if is_accepted (reply unit st left (Release h))
+    then released st (handle_at st.handles h) else Effect.Nothing
 effect unit st left _ = Effect.Nothing
 
 abbrev pub tag_changed : Act → List ℕ → List (List ℕ) → List (List ℕ)
@@ -192,7 +209,8 @@ now_dropped _ _ tag st = st.dropped
 
 -- a tag that is put into the output's integrity is endorsed
 abbrev pub now_endorsed : Half → Act → List ℕ → OwnState → List (List ℕ)
-now_endorsed Half.I Add tag st = if contains st.output.i tag then st.endorsed else with st.endorsed tag
+now_endorsed Half.I Add tag st =
+    if contains st.output.i tag then st.endorsed else with st.endorsed tag
 now_endorsed _ _ tag st = st.endorsed
 
 abbrev pub out_changed : Half → Act → List ℕ → OwnState → OwnState
@@ -204,7 +222,10 @@ out_changed half act tag st = record st {
 
 -- the state with a new draft of the next event
 abbrev pub drafting : UnitName → List Part → OwnState → OwnState
-drafting unit parts st = record st { events = st.events + 1; handles = opened (draft_of (next_event unit st) parts) st.handles }
+drafting unit parts st = record st {
+  events = st.events + 1;
+  handles = opened (draft_of (next_event unit st) parts) st.handles;
+}
 
 abbrev pub sources : Label → Option Handle → List Part
 sources input None = []
@@ -216,20 +237,29 @@ found input name None = []
 found input name (Some d) = flat_map (λ part. part.privileges) (visible_named input name d)
 
 abbrev pub taken_in : Effect → OwnState → OwnState
-taken_in (Effect.Given d) st = record st { given = st.given + 1; handles = opened (view_of d.event d.parts) st.handles }
+taken_in (Effect.Given d) st =
+    record st { given = st.given + 1; handles = opened (view_of d.event d.parts) st.handles }
 taken_in _ st = st
 
 -- the state after an accepted call
 abbrev pub changed : UnitName → OwnState → Call → Effect → OwnState
 changed unit st CreateEvent f = drafting unit [] st
 changed unit st (AddPart h label name value) f =
-    record st { handles = changed_at st.handles h (λ d. record d { drafted = d.drafted ++ new_part (raised st.output label) name value ∷ [] }) }
-changed unit st (DelPart h label name) f = record st { handles = changed_at st.handles h (deleted_in (spot name label)) }
-changed unit st (ReadPart h name) f = record st { held = grant_all st.held (found st.input name (handle_at st.handles h)) }
-changed unit st (CloneEvent h label) f = drafting unit (cloned st.output label (sources st.input (handle_at st.handles h))) st
-changed unit st (AttachPrivilege h label name p) f = record st { handles = changed_at st.handles h (attached_in (spot name label) p) }
+    record st {
+      handles = changed_at st.handles h (λ d.
+          record d { drafted = d.drafted ++ new_part (raised st.output label) name value ∷ [] });
+    }
+changed unit st (DelPart h label name) f =
+    record st { handles = changed_at st.handles h (deleted_in (spot name label)) }
+changed unit st (ReadPart h name) f =
+    record st { held = grant_all st.held (found st.input name (handle_at st.handles h)) }
+changed unit st (CloneEvent h label) f =
+    drafting unit (cloned st.output label (sources st.input (handle_at st.handles h))) st
+changed unit st (AttachPrivilege h label name p) f =
+    record st { handles = changed_at st.handles h (attached_in (spot name label) p) }
 changed unit st (ChangeOutLabel half act tag) f = out_changed half act tag st
-changed unit st CreateTag f = record st { tags = st.tags + 1; held = grant_all st.held (all_over (next_tag unit st)) }
+changed unit st CreateTag f =
+    record st { tags = st.tags + 1; held = grant_all st.held (all_over (next_tag unit st)) }
 changed unit st (DropEvent h) f = record st { handles = closed st.handles h }
 changed unit st (Subscribe filter) f = record st { subs = st.subs + 1 }
 changed unit st (SubscribeManaged filter) f = record st { subs = st.subs + 1 }
@@ -238,7 +268,10 @@ changed unit st (Publish h) f = record st { handles = closed st.handles h }
 changed unit st (Release h) f = record st { handles = closed st.handles h }
 changed unit st (ChangeInOut half act tag) f =
     let input = half_changed half act tag st.input in
-    record (out_changed half act tag st) { input = input; contamination = join st.contamination input }
+    record (out_changed half act tag st) {
+      input = input;
+      contamination = join st.contamination input;
+    }
 changed unit st (Instantiate s privileges) f = record st { units = st.units + 1 }
 
 -- the state after a call with its reply and effect; a refused call changes nothing

@@ -1,4 +1,5 @@
--- The order of units: roots and the units that units made come first, by path; then instances, by owner, subscription and tags.
+-- The order of units: roots and the units that units made come first, by path; then instances, by
+-- owner, subscription and tags.
 use Rattle.std.specs.Prelude.{List, ℕ}
 use Rattle.std.specs.Cmp.Lexicographic.{slice_cmp}
 use Rattle.std.specs.Ordering.{nat_cmp, ordering_then}
@@ -17,4 +18,5 @@ abbrev pub unit_cmp : UnitName → UnitName → Ordering
 unit_cmp (Root p) (Root q) = path_cmp p q
 unit_cmp (Root p) (Managed q m t) = Less
 unit_cmp (Managed p n s) (Root q) = Greater
-unit_cmp (Managed p n s) (Managed q m t) = ordering_then (path_cmp p q) (ordering_then (nat_cmp n m) (tag_set_cmp s t))
+unit_cmp (Managed p n s) (Managed q m t) =
+    ordering_then (path_cmp p q) (ordering_then (nat_cmp n m) (tag_set_cmp s t))

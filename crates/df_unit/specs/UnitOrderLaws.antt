@@ -32,7 +32,8 @@ tags (Root p) = []
 tags (Managed p n s) = s
 
 abbrev by_turns : UnitName → UnitName → Ordering
-by_turns = then_cmp (on kind nat_cmp) (then_cmp (on path path_cmp) (then_cmp (on number nat_cmp) (on tags tag_set_cmp)))
+by_turns = then_cmp (on kind nat_cmp) (then_cmp (on path path_cmp)
+    (then_cmp (on number nat_cmp) (on tags tag_set_cmp)))
 
 then_Equal : (o : Ordering) → ordering_then o Equal ≡ o
 then_Equal Less = refl
@@ -50,7 +51,10 @@ is_by_turns (Managed p n s) (Managed q m t) = refl
 pub unit_cmp_total : IsTotalOrder unit_cmp
 unit_cmp_total =
     subst IsTotalOrder (λ i u v. is_by_turns u v i)
-    (then_total (on_total kind nat_cmp_total) (then_total (on_total path nat_list_cmp_total) (then_total (on_total number nat_cmp_total) (on_total tags (lists_total nat_list_cmp_total)))))
+    (then_total (on_total kind nat_cmp_total)
+    (then_total (on_total path nat_list_cmp_total)
+    (then_total (on_total number nat_cmp_total)
+    (on_total tags (lists_total nat_list_cmp_total)))))
 
 -- two units are level exactly where they are one
 pub unit_cmp_ties : (u v : UnitName) → same u v ≡ eq_by_cmp unit_cmp u v
@@ -59,10 +63,12 @@ unit_cmp_ties (Root p) (Managed q m t) = refl
 unit_cmp_ties (Managed p n s) (Root q) = refl
 unit_cmp_ties (Managed p n s) (Managed q m t) =
     both_tied _ _ (path_cmp p q) (ordering_then (nat_cmp n m) (tag_set_cmp s t)) (texts_ties p q)
-    (both_tied _ _ (nat_cmp n m) (tag_set_cmp s t) (unsigned_ties n m) (lists_ties tag_cmp texts_ties s t))
+    (both_tied _ _ (nat_cmp n m) (tag_set_cmp s t) (unsigned_ties n m)
+    (lists_ties tag_cmp texts_ties s t))
 
 pub same_equiv : IsEquivalence same
-same_equiv = subst IsEquivalence (λ i u v. sym (unit_cmp_ties u v) i) (eq_by_cmp_equiv unit_cmp_total)
+same_equiv =
+    subst IsEquivalence (λ i u v. sym (unit_cmp_ties u v) i) (eq_by_cmp_equiv unit_cmp_total)
 
 pub unit_cmp_po : IsPartialOrder same (λ u v. Some (unit_cmp u v))
 unit_cmp_po = po unit_cmp_total unit_cmp_ties

@@ -3,4 +3,4 @@ use Rattle.df_rules.specs.Start.{rows, roots}
 use Rattle.df_rules.proofs.deliveries_grow.Goals as goal
 
 pub returns : goal.returns
-returns c = λ start newer past u. deliveries_grow rows (roots start) newer past u
+returns c = λ start past newer u. deliveries_grow rows (roots start) newer past u

@@ -5,4 +5,4 @@ use Rattle.df_rules.specs.Start.{rows, roots}
 use Rattle.df_rules.proofs.purge_exercises.Goals as goal
 
 pub returns : goal.returns
-returns c = λ start l past u call r f k legal h. exercised rows (roots start) (row_laws start) (row_release_laws start) l past u call r f k legal h
+returns c = λ start past l u call r f k legal h. exercised rows (roots start) (row_laws start) (row_release_laws start) l past u call r f k legal h

@@ -5,4 +5,4 @@ use Rattle.df_rules.specs.Start.{rows, roots}
 use Rattle.df_rules.proofs.purge_follows.Goals as goal
 
 pub returns : goal.returns
-returns g c = λ start bs l past h. purge_follows (brain_of g.B.StepFunction.next g.B.StepFunction.instance) rows (roots start) bs (row_laws start) l past h
+returns g c = λ start past bs l h. purge_follows (brain_of g.B.StepFunction.next g.B.StepFunction.instance) rows (roots start) bs (row_laws start) l past h

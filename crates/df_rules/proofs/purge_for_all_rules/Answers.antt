@@ -9,4 +9,4 @@ pub returns-clause-keeps : goal.returns-clause-keeps
 returns-clause-keeps c = λ R s l past laws. purge_keeps R s laws l past
 
 pub returns-clause-exercised : goal.returns-clause-exercised
-returns-clause-exercised c = λ R s l past u call r f k laws release legal h. exercised R s laws release l past u call r f k legal h
+returns-clause-exercised c = λ R s l past laws release u call r f k legal h. exercised R s laws release l past u call r f k legal h

@@ -4,4 +4,4 @@ use Rattle.df_rules.specs.Start.{rows, roots}
 use Rattle.df_rules.proofs.purge_is_legal.Goals as goal
 
 pub returns : goal.returns
-returns c = λ start l past legal. purge_legal rows (roots start) (row_laws start) l past legal
+returns c = λ start past legal l. purge_legal rows (roots start) (row_laws start) l past legal

@@ -4,4 +4,4 @@ use Rattle.df_rules.specs.Start.{rows, roots}
 use Rattle.df_rules.proofs.purge_keeps.Goals as goal
 
 pub returns : goal.returns
-returns c = λ start l past. purge_keeps rows (roots start) (row_laws start) l past
+returns c = λ start past l. purge_keeps rows (roots start) (row_laws start) l past

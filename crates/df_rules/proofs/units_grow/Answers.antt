@@ -3,4 +3,4 @@ use Rattle.df_rules.specs.Start.{rows, roots}
 use Rattle.df_rules.proofs.units_grow.Goals as goal
 
 pub returns : goal.returns
-returns c = λ start newer past u st h. own_grows rows (roots start) grown_after newer past u st h
+returns c = λ start past u st h newer. own_grows rows (roots start) grown_after newer past u st h
