@@ -11,7 +11,8 @@ use Rattle.df_filter.specs.declared.field_test.FieldTest.TheVariants as field
 use Rattle.df_format.specs.Reading.{then_at, text_at, behind_at}
 use Rattle.df_format.specs.Spelling.{then_spell}
 use Rattle.df_format.specs.Format.{Ends, IsLocal, Format}
-use Rattle.df_format.proofs.Laws.{never, then_format, ThenFits, then_goes}
+use Rattle.df_format.proofs.Laws.{never}
+use Rattle.df_format.proofs.Thens.{then_second_format, ThenFits, then_goes}
 use Rattle.df_format.proofs.Texts.{text_format, own, IsText}
 use Rattle.df_format.proofs.Joins.{as_format, fits_as, behind_format}
 use Rattle.df_format.proofs.Choices.{Begins, either_format}
@@ -207,7 +208,7 @@ module _ (IsLow : List ℕ → List ℕ → Type 0) (moved : IsLocal IsLow) wher
   key_format =
       made_format IsLow key_of (λ (p : List ℕ × FieldTest). (46 ∷ []) ++ then_spell own field_test_text p) (ThenFits IsName IsFieldTest) (then_goes field_test_goes) (behind_at (46 ∷ []) (then_at name_at field_test_at)) test_text test_goes (λ p fits. refl) (λ p c. refl)
       (behind_format IsLow moved (46 ∷ []) (then_spell own field_test_text) (ThenFits IsName IsFieldTest) (then_goes field_test_goes) (then_at name_at field_test_at) (97 ∷ [], field.IntEq (pos 0)) (refl, zero_fits)
-      (then_format IsLow moved own IsName name_goes name_at field_test_text IsFieldTest field_test_goes field_test_at (name_format IsLow) asked_law (field.IntEq (pos 0)) zero_fits (λ x y rest fx fy ends. name_before_sign x y rest)))
+      (then_second_format IsLow moved own IsName name_goes name_at field_test_text IsFieldTest field_test_goes field_test_at (name_format IsLow) asked_law (field.IntEq (pos 0)) zero_fits (λ x y rest fx fy ends. name_before_sign x y rest)))
 
   value_test_format : Format IsLow test_text IsValueTest test_goes value_test_at
   value_test_format = made_format IsLow test_of field_test_text IsFieldTest field_test_goes field_test_at test_text test_goes (λ t fits. of_spelled t) of_alike asked_law
@@ -229,4 +230,4 @@ module _ (IsLow : List ℕ → List ℕ → Type 0) (moved : IsLocal IsLow) wher
   clause_format =
       as_format IsLow clause_of (then_spell own test_text) (ThenFits IsName IsTest) (then_goes test_goes) (then_at name_at test_at) clause_text IsClause clause_goes
       (record { to = λ p fits. fits; from = λ clause fits. ((clause.name, clause.test), fits, refl); spelled = λ p fits. refl; alike = λ p c fits. refl })
-      (then_format IsLow moved own IsName name_goes name_at test_text IsTest test_goes test_at (name_format IsLow) test_format test.Present tt (λ x y rest fx fy ends. name_before_test x y rest))
+      (then_second_format IsLow moved own IsName name_goes name_at test_text IsTest test_goes test_at (name_format IsLow) test_format test.Present tt (λ x y rest fx fy ends. name_before_test x y rest))

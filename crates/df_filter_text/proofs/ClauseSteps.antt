@@ -3,7 +3,7 @@ use Rattle.std.proofs.Common.{◌≡◌, ℕ, zero, suc, ◌+◌, ◌-◌, ◌<�
 use Rattle.std.proofs.lemmas.List.{append-nil, length_push}
 use Rattle.df_filter.specs.declared.clause.Clause.{Clause}
 use Rattle.df_format.specs.Reading.{Stop, Read, ◌>>=◌, then_at, with_front}
-use Rattle.df_format.proofs.Items.{onto, regroup}
+use Rattle.df_format.proofs.ItemSteps.{onto, regroup}
 use Rattle.df_value_text.specs.Number.{begins_with}
 use Rattle.df_value_text.specs.ReadTag.{listed, optional}
 use Rattle.df_value_text.proofs.TagSteps.{behind_it}

@@ -11,7 +11,8 @@ use Rattle.df_filter.specs.declared.field_test.FieldTest.TheVariants.{IntEq, Int
 use Rattle.df_format.specs.Reading.{Read, Bad, as_at, then_at, either_at, behind_at, closed_at}
 use Rattle.df_format.specs.Spelling.{then_spell}
 use Rattle.df_format.specs.Format.{IsLocal, Format}
-use Rattle.df_format.proofs.Laws.{not_both, told, never, ends_never, then_format, ThenFits, then_goes}
+use Rattle.df_format.proofs.Laws.{not_both, told, never, ends_never}
+use Rattle.df_format.proofs.Thens.{then_second_format, ThenFits, then_goes}
 use Rattle.df_format.proofs.Joins.{as_format, alike_format, fits_as, behind_format, closed_format}
 use Rattle.df_format.proofs.Choices.{Begins, either_format}
 use Rattle.df_value_text.specs.ReadWhole.{IsWhole, whole_at}
@@ -175,7 +176,7 @@ module _ (IsLow : List ℕ → List ℕ → Type 0) (moved : IsLocal IsLow) wher
 
   ends_format : Format IsLow ends_text (ThenFits IsWhole IsWhole) (then_goes whole_goes) (then_at (closed_at (46 ∷ 46 ∷ []) whole_at) whole_at)
   ends_format =
-      then_format IsLow moved (λ low. signed_decimal low ++ 46 ∷ 46 ∷ []) IsWhole never (closed_at (46 ∷ 46 ∷ []) whole_at) signed_decimal IsWhole whole_goes whole_at
+      then_second_format IsLow moved (λ low. signed_decimal low ++ 46 ∷ 46 ∷ []) IsWhole never (closed_at (46 ∷ 46 ∷ []) whole_at) signed_decimal IsWhole whole_goes whole_at
       (closed_format IsLow moved 46 (46 ∷ []) signed_decimal IsWhole whole_goes whole_at (λ z fits. whole_ends z 46 refl) whole_law) whole_law
       (pos 0) zero_fits (λ x y rest fx fy ends. ends_never x (signed_decimal y ++ rest))
 

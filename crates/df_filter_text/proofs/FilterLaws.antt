@@ -8,7 +8,8 @@ use Rattle.df_format.specs.Reading.{then_at, maybe_at, behind_at}
 use Rattle.df_format.specs.Spelling.{then_spell, maybe_spell, more_spell}
 use Rattle.df_format.specs.Grammar.{CanGoOn}
 use Rattle.df_format.specs.Format.{Ends, Found, IsLocal, Format}
-use Rattle.df_format.proofs.Laws.{ok_is, not_both, told, ThenFits}
+use Rattle.df_format.proofs.Laws.{ok_is, not_both, told}
+use Rattle.df_format.proofs.Thens.{ThenFits, then_extend, then_behind, then_format}
 use Rattle.df_format.proofs.Joins.{as_format, behind_format}
 use Rattle.df_format.proofs.Choices.{MaybeFits, maybe_goes, maybe_format}
 use Rattle.df_value_text.specs.ReadTag.{listed, optional}
@@ -17,7 +18,6 @@ use Rattle.df_filter_text.specs.Filter.{clause_text, filter_text}
 use Rattle.df_filter_text.specs.Fits.{IsClause, AreClauses, IsFilter}
 use Rattle.df_filter_text.specs.ReadFilter.{clause_at, more_clauses_at, filter_at}
 use Rattle.df_filter_text.proofs.ClauseLaws.{clause_goes, clause_ends, clause_format}
-use Rattle.df_filter_text.proofs.ThenLaws.{then_extend, then_behind, then_both_format}
 
 -- a clause of the shortest kind
 abbrev pub short_clause : Clause
@@ -148,7 +148,8 @@ module _ (IsLow : List ℕ → List ℕ → Type 0) (moved : IsLocal IsLow) wher
 
   pair_format : (most : ℕ) → Format IsLow more_text (AreMore most) (more_goes most) (more_clauses_at most) → Format IsLow pair_text (ThenFits IsClause (AreMore most)) (pair_goes most) (then_at clause_at (more_clauses_at most))
   pair_format most f =
-      then_both_format IsLow moved clause_text IsClause clause_goes clause_at more_text (AreMore most) (more_goes most) (more_clauses_at most) (pair_goes most) clause_law f [] (tt, omega arith)
+      then_format IsLow IsLow IsLow clause_text IsClause clause_goes clause_at more_text (AreMore most) (more_goes most) (more_clauses_at most) (pair_goes most)
+      (λ front rest low. low) (λ x front rest fits low. moved (clause_text x) front rest low) clause_law f [] (tt, omega arith)
       (record {
         joined = λ x ys rest fx fy first others. joined_ends most x ys rest first others;
         apart = λ x ys rest fx fy h. ends_apart most x ys rest h;

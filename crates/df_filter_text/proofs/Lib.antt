@@ -1,4 +1,3 @@
-pub mod ThenLaws
 pub mod FieldTestLaws
 pub mod ClauseLaws
 pub mod FilterLaws

@@ -4,7 +4,8 @@ use Rattle.df_format.specs.Reading.{Read, ◌>>=◌, then_at, as_at, text_at, be
 use Rattle.df_format.specs.Spelling.{then_spell}
 use Rattle.df_format.specs.Grammar.{CanGoOn}
 use Rattle.df_format.specs.Format.{Ends, Found, IsLocal, Format}
-use Rattle.df_format.proofs.Laws.{ok_is, not_both, bind_ok, bind_err, never, ends_never, viable_map, cause_of, then_format, ThenFits, then_goes}
+use Rattle.df_format.proofs.Laws.{ok_is, not_both, bind_ok, bind_err, never, ends_never, viable_map, cause_of}
+use Rattle.df_format.proofs.Thens.{then_second_format, ThenFits, then_goes}
 use Rattle.df_format.proofs.Texts.{text_format, own, IsText}
 
 -- ---- another view
@@ -99,7 +100,7 @@ behind_format {X} IsLow moved ws spell Fits goes read x0 fits0 f =
     same_read IsLow (λ x. ws ++ spell x) Fits goes (as_at (λ (p : List ℕ × X). p.1) (then_at (text_at ws) read)) (behind_at ws read) (λ bytes. second_of (text_at ws bytes) read)
     (as_format IsLow (λ (p : List ℕ × X). p.1) (then_spell own spell) (ThenFits (IsText ws) Fits) (then_goes goes) (then_at (text_at ws) read) (λ x. ws ++ spell x) Fits goes
     (record { to = λ p fits. fits.1; from = λ x fits. ((ws, x), (refl, fits), refl); spelled = λ p fits. ap (λ (w : List ℕ). w ++ spell p.1) (sym fits.0); alike = λ p t fits. refl })
-    (then_format IsLow moved own (IsText ws) never (text_at ws) spell Fits goes read (text_format IsLow ws) f x0 fits0 (λ x y rest fx fy ends. ends_never x (spell y ++ rest))))
+    (then_second_format IsLow moved own (IsText ws) never (text_at ws) spell Fits goes read (text_format IsLow ws) f x0 fits0 (λ x y rest fx fy ends. ends_never x (spell y ++ rest))))
 
 abbrev paired : {X Y : Type 0} → X → Y × List ℕ → Read ℕ (X × Y)
 paired x y = Ok ((x, y.0), y.1)
@@ -121,5 +122,5 @@ closed_format {X} IsLow moved w ws spell Fits goes read ends_at f =
     same_read IsLow (λ x. spell x ++ w ∷ ws) Fits never (as_at (λ (p : X × List ℕ). p.0) (then_at read (text_at (w ∷ ws)))) (closed_at (w ∷ ws) read) (λ bytes. first_of (read bytes) (w ∷ ws))
     (as_format IsLow (λ (p : X × List ℕ). p.0) (then_spell spell own) (ThenFits Fits (IsText (w ∷ ws))) (then_goes never) (then_at read (text_at (w ∷ ws))) (λ x. spell x ++ w ∷ ws) Fits never
     (record { to = λ p fits. fits.0; from = λ x fits. ((x, w ∷ ws), (fits, refl), refl); spelled = λ p fits. ap (λ (u : List ℕ). spell p.0 ++ u) (sym fits.1); alike = λ p t fits. refl })
-    (then_format IsLow moved spell Fits goes read own (IsText (w ∷ ws)) never (text_at (w ∷ ws)) f (text_format IsLow (w ∷ ws)) (w ∷ ws) refl
+    (then_second_format IsLow moved spell Fits goes read own (IsText (w ∷ ws)) never (text_at (w ∷ ws)) f (text_format IsLow (w ∷ ws)) (w ∷ ws) refl
     (λ x y rest fx fy ends. subst (λ (t : List ℕ). Ends goes x (t ++ rest)) (sym fy) (ends_at x fx))))

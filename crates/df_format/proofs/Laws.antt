@@ -1,9 +1,8 @@
 -- Steps of readers, and one thing behind another.
-use Rattle.std.proofs.Common.{◌≡◌, Bool, true, false, cond, List, [], ◌∷◌, ◌++◌, Result, Ok, Err, refl, sym, ap, subst, ◌∙◌, append_assoc, ◌⊎◌, inl, inr}
-use Rattle.df_format.specs.Reading.{Stop, Bad, Low, Read, ◌>>=◌, then_at}
-use Rattle.df_format.specs.Spelling.{then_spell}
+use Rattle.std.proofs.Common.{◌≡◌, Bool, true, false, cond, List, [], ◌∷◌, ◌++◌, Result, Ok, Err, refl, sym, ap, ◌∙◌, append_assoc, ◌⊎◌, inl, inr}
+use Rattle.df_format.specs.Reading.{Stop, Bad, Low, Read, ◌>>=◌}
 use Rattle.df_format.specs.Grammar.{CanGoOn, Stands, FirstBad}
-use Rattle.df_format.specs.Format.{Ends, Found, IsViable, place, Cause, IsLocal, Format}
+use Rattle.df_format.specs.Format.{Ends, IsViable, place, Cause, IsLocal, Format}
 
 -- ---- steps
 
@@ -95,66 +94,6 @@ pub cause_behind : {T X Y : Type 0} (IsLow : List T → List T → Type 0) (move
     → Cause IsLow rx front stop → Cause IsLow ry (before ++ front) stop
 cause_behind IsLow moved rx ry before front (Bad rest) f c = λ t tail is other. f t tail other is (c t tail is other)
 cause_behind IsLow moved rx ry before front (Low rest) f c = moved before front rest c
-
--- ---- one behind the other
-
-abbrev pub ThenFits : {X Y : Type 0} → (X → Type 0) → (Y → Type 0) → X × Y → Type 0
-ThenFits FX FY p = FX p.0 × FY p.1
-
-abbrev pub then_goes : {T X Y : Type 0} → (Y → T → Bool) → X × Y → T → Bool
-then_goes gy p t = gy p.1 t
-
-then_extend : {T X Y : Type 0} (sx : X → List T) (FX : X → Type 0) (sy : Y → List T) (FY : Y → Type 0) (y0 : Y) → FY y0 → (front : List T) → CanGoOn sx FX front → CanGoOn (then_spell sx sy) (ThenFits FX FY) front
-then_extend {T} sx FX sy FY y0 fits0 front v = record { some = (v.some, y0); fits = (v.fits, fits0); more = v.more ++ sy y0; is = ap (λ (t : List T). t ++ sy y0) v.is ∙ append_assoc front v.more (sy y0) }
-
-then_behind : {T X Y : Type 0} (sx : X → List T) (FX : X → Type 0) (sy : Y → List T) (FY : Y → Type 0) (x : X) → FX x → (front : List T) → CanGoOn sy FY front → CanGoOn (then_spell sx sy) (ThenFits FX FY) (sx x ++ front)
-then_behind {T} sx FX sy FY x fits front v = record { some = (x, v.some); fits = (fits, v.fits); more = v.more; is = ap (λ (t : List T). sx x ++ t) v.is ∙ sym (append_assoc (sx x) front v.more) }
-
-pub then_format : {T X Y : Type 0} (IsLow : List T → List T → Type 0) (moved : IsLocal IsLow) (sx : X → List T) (FX : X → Type 0) (gx : X → T → Bool) (rx : List T → Read T X) (sy : Y → List T) (FY : Y → Type 0) (gy : Y → T → Bool) (ry : List T → Read T Y)
-    → Format IsLow sx FX gx rx → Format IsLow sy FY gy ry → (y0 : Y) → FY y0
-    → ((x : X) (y : Y) (rest : List T) → FX x → FY y → Ends gy y rest → Ends gx x (sy y ++ rest))
-    → Format IsLow (then_spell sx sy) (ThenFits FX FY) (then_goes gy) (then_at rx ry)
-then_format {T} {X} {Y} IsLow moved sx FX gx rx sy FY gy ry fx fy y0 fits0 after = record {
-  found = λ tokens p rest e.
-      let a = bind_ok (rx tokens) (λ x. ry x.1 >>= λ y. Ok ((x.0, y.0), y.1)) (p, rest) e in
-      let b = bind_ok (ry a.0.1) (λ y. Ok ((a.0.0, y.0), y.1)) (p, rest) a.2 in
-      let f1 = fx.found tokens a.0.0 a.0.1 a.1 in
-      let f2 = fy.found a.0.1 b.0.0 b.0.1 b.1 in
-      let made : (X × Y) × List T = ((a.0.0, b.0.0), b.0.1) in
-      subst (λ (q : (X × Y) × List T). Found (then_spell sx sy) (ThenFits FX FY) (then_goes gy) tokens q.0 q.1) (ok_is made (p, rest) b.2)
-      (record { parts = f1.parts ∙ ap (λ (t : List T). sx a.0.0 ++ t) f2.parts ∙ sym (append_assoc (sx a.0.0) (sy b.0.0) b.0.1); fits = (f1.fits, f2.fits); ends = f2.ends });
-  again = λ p rest fits ends.
-      ap (then_at rx ry) (append_assoc (sx p.0) (sy p.1) rest) ∙ rw (fx.again p.0 (sy p.1 ++ rest) fits.0 (after p.0 p.1 rest fits.0 fits.1 ends), fy.again p.1 rest fits.1 ends) refl;
-  stuck = λ tokens stop e.
-      elim (bind_err (rx tokens) (λ x. ry x.1 >>= λ y. Ok ((x.0, y.0), y.1)) stop e) [
-        | inl h ↦
-            let s = fx.stuck tokens stop h in
-            record {
-              front = s.front;
-              parts = s.parts;
-              viable = viable_map sx FX (then_spell sx sy) (ThenFits FX FY) s.front (then_extend sx FX sy FY y0 fits0 s.front) s.viable;
-              cause = cause_of IsLow rx (then_at rx ry) s.front stop (λ t tail other is e. rw e refl) s.cause;
-            }
-        | inr h ↦
-            elim (bind_err (ry h.0.1) (λ y. Ok ((h.0.0, y.0), y.1)) stop h.2) [
-              | inl k ↦
-                  let f = fx.found tokens h.0.0 h.0.1 h.1 in
-                  let s = fy.stuck h.0.1 stop k in
-                  record {
-                    front = sx h.0.0 ++ s.front;
-                    parts = f.parts ∙ ap (λ (t : List T). sx h.0.0 ++ t) s.parts ∙ sym (append_assoc (sx h.0.0) s.front (place stop));
-                    viable = viable_of (then_spell sx sy) (ThenFits FX FY) (sx h.0.0 ++ s.front) (then_behind sx FX sy FY h.0.0 f.fits s.front (can_go_on sy FY y0 fits0 s.front s.viable));
-                    cause = cause_behind IsLow moved ry (then_at rx ry) (sx h.0.0) s.front stop (λ t tail other is e.
-                        let ends : Ends gx h.0.0 (s.front ++ t ∷ other) = ends_first gx h.0.0 s.front t tail other (subst (λ (u : List T). Ends gx h.0.0 u) (s.parts ∙ ap (λ (u : List T). s.front ++ u) is) f.ends) in
-                        ap (then_at rx ry) (append_assoc (sx h.0.0) s.front (t ∷ other)) ∙ rw (fx.again h.0.0 (s.front ++ t ∷ other) f.fits ends, e) refl) s.cause;
-                  }
-              | inr k ↦ not_both ((h.0.0, k.0.0), k.0.1) stop k.2
-            ]
-      ];
-  on = λ p t fits g.
-      let v = fy.on p.1 t fits.1 g in
-      subst (CanGoOn (then_spell sx sy) (ThenFits FX FY)) (sym (append_assoc (sx p.0) (sy p.1) (t ∷ []))) (then_behind sx FX sy FY p.0 fits.0 (sy p.1 ++ t ∷ []) v);
-}
 
 -- ---- what the laws say of a reader
 

@@ -1,6 +1,9 @@
 pub mod Laws
 pub mod Texts
+pub mod Thens
 pub mod Joins
 pub mod Choices
+pub mod ItemSteps
 pub mod Items
 pub mod Many
+pub mod Backs

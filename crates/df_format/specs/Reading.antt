@@ -91,3 +91,15 @@ items_at leads first next tokens = first tokens >>= λ x. more_of leads next x.0
 -- what was read before, and what is still to be read
 abbrev pub with_front : {T X : Type 0} → List X → Read T (List X) → Read T (List X)
 with_front front read = read >>= λ xs. Ok (front ++ xs.0, xs.1)
+
+-- as many as one of them stands in front, and at most so many
+abbrev pub while_at : {T X : Type 0} → (List T → Bool) → (List T → Read T X) → ℕ → List T → Read T (List X)
+while_at stands read zero tokens = Ok ([], tokens)
+while_at stands read (suc most) tokens =
+    if stands tokens
+    then (read tokens >>= λ x. while_at stands read most x.1 >>= λ xs. Ok (x.0 ∷ xs.0, xs.1))
+    else Ok ([], tokens)
+
+-- as many as one of them stands in front
+abbrev pub all_at : {T X : Type 0} → (List T → Bool) → (List T → Read T X) → List T → Read T (List X)
+all_at stands read tokens = while_at stands read (length tokens) tokens

@@ -2,7 +2,7 @@
 use Rattle.std.proofs.Common.{◌≡◌, ℕ, ◌+◌, ◌<◌, ◌≤◌, true, false, List, [], ◌∷◌, ◌++◌, length, length-append, length-drop, get_or, drop, Ok, Err, refl, sym, ap, ◌∙◌, arith}
 use Rattle.std.proofs.lemmas.List.{drop_all, append-nil}
 use Rattle.df_format.specs.Reading.{Bad, Read, ◌>>=◌, text_at, with_front}
-use Rattle.df_format.proofs.Items.{regroup}
+use Rattle.df_format.proofs.ItemSteps.{regroup}
 use Rattle.df_format.proofs.Texts.{text_found}
 use Rattle.df_value_text.specs.ReadBytes.{is_hex, hex_byte, pairs_at}
 use Rattle.df_value_text.proofs.NameSteps.{first_of}

@@ -3,7 +3,7 @@ use Rattle.std.proofs.Common.{◌≡◌, ℕ, suc, ◌+◌, ◌-◌, ◌<◌, Bo
 use Rattle.std.proofs.lemmas.Bool.Decides.{nat_tests}
 use Rattle.std.proofs.lemmas.List.{drop_all}
 use Rattle.df_format.specs.Reading.{Read, ◌>>=◌, with_front}
-use Rattle.df_format.proofs.Items.{onto, regroup}
+use Rattle.df_format.proofs.ItemSteps.{onto, regroup}
 use Rattle.df_value_text.specs.Number.{begins_with}
 use Rattle.df_value_text.specs.ReadEscape.{escape_at, ascii_at}
 use Rattle.df_value_text.specs.ReadWide.{is_between, is_lead, trail_length, least_second, most_second, trail_at, wide_at}

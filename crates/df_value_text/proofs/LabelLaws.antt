@@ -7,7 +7,8 @@ use Rattle.df_format.specs.Reading.{as_at, then_at, text_at, behind_at, closed_a
 use Rattle.df_format.specs.Spelling.{then_spell, maybe_spell}
 use Rattle.df_format.specs.Grammar.{CanGoOn}
 use Rattle.df_format.specs.Format.{Ends, Format}
-use Rattle.df_format.proofs.Laws.{never, ends_never, then_format, ThenFits, then_goes}
+use Rattle.df_format.proofs.Laws.{never, ends_never}
+use Rattle.df_format.proofs.Thens.{then_second_format, ThenFits, then_goes}
 use Rattle.df_format.proofs.Texts.{text_format, own, IsText}
 use Rattle.df_format.proofs.Joins.{as_format, alike_format, fits_as, behind_format, closed_format}
 use Rattle.df_format.proofs.Choices.{MaybeFits, maybe_goes, maybe_format, either_format}
@@ -51,7 +52,7 @@ sets_text sets = then_spell (λ tags. tags_text tags ++ 124 ∷ []) (λ tags. ta
 
 sets_format : Format IsLowTag sets_text SetsFit (then_goes never) (then_at (closed_at (124 ∷ []) tags_at) (closed_at (125 ∷ []) tags_at))
 sets_format =
-    then_format IsLowTag low_is_local (λ tags. tags_text tags ++ 124 ∷ []) IsTagSet never (closed_at (124 ∷ []) tags_at) (λ tags. tags_text tags ++ 125 ∷ []) IsTagSet never (closed_at (125 ∷ []) tags_at)
+    then_second_format IsLowTag low_is_local (λ tags. tags_text tags ++ 124 ∷ []) IsTagSet never (closed_at (124 ∷ []) tags_at) (λ tags. tags_text tags ++ 125 ∷ []) IsTagSet never (closed_at (125 ∷ []) tags_at)
     (closed_format IsLowTag low_is_local 124 [] tags_text IsTagSet tags_goes tags_at (λ tags fits. tags_end_at tags 124 fits refl refl refl refl) tags_format)
     (closed_format IsLowTag low_is_local 125 [] tags_text IsTagSet tags_goes tags_at (λ tags fits. tags_end_at tags 125 fits refl refl refl refl) tags_format)
     [] (tt, tt) (λ x y rest fx fy ends. ends_never x ((tags_text y ++ 125 ∷ []) ++ rest))
@@ -208,5 +209,5 @@ pub privilege_format : Format nowhere privilege_text IsPrivilege privilege_goes 
 privilege_format =
     as_format nowhere privilege_of (then_spell tag_text right_text) (ThenFits IsTag IsRight) (then_goes right_goes) (then_at tag_at right_at) privilege_text IsPrivilege privilege_goes
     (record { to = λ x fits. fits.0; from = λ p fits. ((p.tag, p.right), (fits, tt), refl); spelled = λ x fits. refl; alike = λ x c fits. refl })
-    (then_format nowhere nowhere_is_local tag_text IsTag tag_goes tag_at right_text IsRight right_goes right_at (tag_format nowhere nowhere_is_local) right_format Plus tt
+    (then_second_format nowhere nowhere_is_local tag_text IsTag tag_goes tag_at right_text IsRight right_goes right_at (tag_format nowhere nowhere_is_local) right_format Plus tt
     (λ tag r rest fits any ends. before_sign tag r rest fits))

@@ -3,7 +3,7 @@ use Rattle.std.proofs.Common.{◌≡◌, ℕ, ◌+◌, ◌<◌, ◌≤◌, Bool,
 use Rattle.std.proofs.Math.Seq.{drop-cons}
 use Rattle.df_format.specs.Reading.{Stop, Bad, Low, Read, ◌>>=◌, as_at, more_of, items_at, text_at, with_front}
 use Rattle.df_format.proofs.Laws.{ok_is, err_is, not_both}
-use Rattle.df_format.proofs.Items.{items_made, onto, regroup}
+use Rattle.df_format.proofs.ItemSteps.{items_made, onto, regroup}
 use Rattle.std.proofs.lemmas.List.{append-nil, drop_all, drop_more, take_all, take_more}
 use Rattle.df_value_text.specs.Answer.{Fails}
 use Rattle.df_value_text.specs.Number.{begins_with}

@@ -8,7 +8,8 @@ use Rattle.df_format.specs.Reading.{Stop, Bad, Low, Read, ◌>>=◌, as_at, eith
 use Rattle.df_format.specs.Grammar.{IsLongest}
 use Rattle.df_format.specs.Format.{Format}
 use Rattle.df_format.proofs.Laws.{err_is, not_both, bind_err, told, chosen}
-use Rattle.df_format.proofs.Items.{Follow, Parts, onto, more_step, more_stop}
+use Rattle.df_format.proofs.Items.{Follow, Parts}
+use Rattle.df_format.proofs.ItemSteps.{onto, more_step, more_stop}
 use Rattle.df_format.proofs.Texts.{own, text_found, text_format}
 use Rattle.df_frozen.specs.Name.{is_letter}
 use Rattle.df_frozen.specs.Plain.{Plain, Plains, Pairs, int, words, bytes, items, entries, from_list, from_pairs, items_node_count, entries_node_count}

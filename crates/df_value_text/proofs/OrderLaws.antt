@@ -5,7 +5,8 @@ use Rattle.df_format.specs.Reading.{Low, Read, ◌>>=◌, more_of}
 use Rattle.df_format.specs.Spelling.{more_spell}
 use Rattle.df_format.specs.Grammar.{IsLongest}
 use Rattle.df_format.proofs.Laws.{ok_is}
-use Rattle.df_format.proofs.Items.{Follow, onto, more_step}
+use Rattle.df_format.proofs.Items.{Follow}
+use Rattle.df_format.proofs.ItemSteps.{onto, more_step}
 use Rattle.df_format.specs.Format.{Ends}
 use Rattle.df_value_text.specs.Label.{path_text, tag_text, tags_text}
 use Rattle.df_value_text.specs.Fits.{IsTag, IsTagSet}

@@ -11,7 +11,8 @@ use Rattle.df_format.specs.Spelling.{more_spell, items_spell}
 use Rattle.df_format.specs.Grammar.{IsLongest}
 use Rattle.df_format.specs.Format.{IsLocal, Format}
 use Rattle.df_format.proofs.Laws.{ok_is, not_both, bind_ok, bind_same, told, chosen}
-use Rattle.df_format.proofs.Items.{Shrinks, format_shrinks, onto, more_step, more_shrinks, items_made, Follow, Parts, LastEnds, ItemsFit, items_found, items_again, Leads, last_goes, items_goes, items_format}
+use Rattle.df_format.proofs.Items.{Follow, Parts, LastEnds, ItemsFit, items_found, items_again, Leads, last_goes, items_goes, items_format}
+use Rattle.df_format.proofs.ItemSteps.{Shrinks, format_shrinks, onto, more_step, more_shrinks, items_made}
 use Rattle.df_format.proofs.Joins.{as_format, behind_format, same_read}
 use Rattle.df_value_text.specs.Join.{joined}
 use Rattle.df_value_text.specs.Label.{path_text, tag_text}

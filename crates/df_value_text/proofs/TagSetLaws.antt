@@ -15,7 +15,8 @@ use Rattle.df_format.specs.Spelling.{more_spell, items_spell, maybe_spell}
 use Rattle.df_format.specs.Grammar.{CanGoOn, IsLongest}
 use Rattle.df_format.specs.Format.{Ends, Stuck, IsLocal, Format}
 use Rattle.df_format.proofs.Laws.{ok_is, err_is, not_both, bind_ok, bind_err, told, chosen, viable_of}
-use Rattle.df_format.proofs.Items.{Shrinks, format_shrinks, Follow, Parts, LastEnds, ItemsFit, items_found, Leads, last_goes, items_goes, items_format}
+use Rattle.df_format.proofs.Items.{Follow, Parts, LastEnds, ItemsFit, items_found, Leads, last_goes, items_goes, items_format}
+use Rattle.df_format.proofs.ItemSteps.{Shrinks, format_shrinks}
 use Rattle.df_format.proofs.Joins.{as_format}
 use Rattle.df_format.proofs.Choices.{MaybeFits, maybe_goes, maybe_format}
 use Rattle.df_label.specs.Ascending.{IsAscending}

@@ -4,7 +4,7 @@ use Rattle.std.specs.Prelude.{◌==◌}
 use Rattle.std.proofs.Math.Seq.{get_or-append_seam}
 use Rattle.std.proofs.lemmas.List.{length_push}
 use Rattle.df_format.specs.Reading.{Stop, Read, ◌>>=◌, more_of, items_at, with_front}
-use Rattle.df_format.proofs.Items.{item_read, item_failed, no_more}
+use Rattle.df_format.proofs.ItemSteps.{item_read, item_failed, no_more}
 use Rattle.df_value_text.specs.Number.{begins_with}
 use Rattle.df_value_text.specs.ReadTag.{short_at, leads_number, leads_at, numbers_at, tag_at, next_at, leads_tag, listed, optional, some_tags_at, tags_at}
 use Rattle.df_value_text.proofs.TagLaws.{short_shrinks}

@@ -10,7 +10,8 @@ use Rattle.df_format.specs.Reading.{Bad, Read, as_at, either_at, behind_at, item
 use Rattle.df_format.specs.Format.{Format}
 use Rattle.df_format.proofs.Laws.{not_both, chosen, never}
 use Rattle.df_format.proofs.Choices.{Begins, either_format}
-use Rattle.df_format.proofs.Items.{format_shrinks, Shrinks, Parts, Leads, last_goes, items_goes, items_format}
+use Rattle.df_format.proofs.Items.{Parts, Leads, last_goes, items_goes, items_format}
+use Rattle.df_format.proofs.ItemSteps.{format_shrinks, Shrinks}
 use Rattle.df_format.proofs.Joins.{as_format, alike_format, fits_as, behind_format}
 use Rattle.df_frozen.specs.Name.{is_letter}
 use Rattle.df_frozen.specs.Plain.{Plain, int, words, bytes, items, entries, no_items, no_entries}

@@ -3,7 +3,7 @@ use Rattle.std.proofs.Common.{◌≡◌, ℕ, zero, suc, ◌+◌, ◌<◌, ◌�
 use Rattle.std.specs.Prelude.{not}
 use Rattle.std.proofs.lemmas.Bool.{and_parts}
 use Rattle.df_format.specs.Reading.{Stop, Bad, Read, ◌>>=◌, then_at, as_at, text_at, closed_at, more_of, items_at, with_front}
-use Rattle.df_format.proofs.Items.{Shrinks, item_read, item_failed, no_more}
+use Rattle.df_format.proofs.ItemSteps.{Shrinks, item_read, item_failed, no_more}
 use Rattle.df_frozen.specs.Plain.{Plain}
 use Rattle.df_value_text.specs.Number.{begins_with}
 use Rattle.df_value_text.specs.ReadTag.{listed}

@@ -4,7 +4,7 @@ use Rattle.std.specs.List.{concat}
 use Rattle.std.proofs.lemmas.List.{append-nil}
 use Rattle.df_format.specs.Reading.{Stop, Read, ◌>>=◌, many_at, many_of, with_front}
 use Rattle.df_format.proofs.Laws.{ok_is, err_is, not_both, bind_same}
-use Rattle.df_format.proofs.Items.{onto}
+use Rattle.df_format.proofs.ItemSteps.{onto}
 use Rattle.df_value_text.specs.ReadWords.{char_at, begins_char, starts, chars_at}
 use Rattle.df_value_text.proofs.CharLaws.{char_format, char_starts}
 
