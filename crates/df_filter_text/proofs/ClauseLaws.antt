@@ -84,7 +84,7 @@ of_alike (field.TextEq text) c = refl
 of_alike (field.TextPrefix text) c = refl
 
 -- a test ends before a byte that is no digit
-test_ends : (t : Test) (c : ℕ) → is_ascii_digit c ≡ false → test_goes t c ≡ false
+pub test_ends : (t : Test) (c : ℕ) → is_ascii_digit c ≡ false → test_goes t c ≡ false
 test_ends test.Present c h = refl
 test_ends (test.IntEq n) c h = field_test_ends (field.IntEq n) c h
 test_ends (test.IntLess n) c h = field_test_ends (field.IntLess n) c h

@@ -35,11 +35,11 @@ abbrev AreMore : ℕ → List Clause → Type 0
 AreMore most clauses = AreClauses clauses × (length clauses ≤ most)
 
 -- where so many more may stand, `&` leads to one
-abbrev leads_on : ℕ → ℕ → Bool
+abbrev pub leads_on : ℕ → ℕ → Bool
 leads_on zero c = false
 leads_on (suc most) c = eqb c 38
 
-abbrev more_goes : ℕ → List Clause → ℕ → Bool
+abbrev pub more_goes : ℕ → List Clause → ℕ → Bool
 more_goes most [] c = leads_on most c
 more_goes zero (x ∷ xs) c = false
 more_goes (suc most) (x ∷ []) c = cond (leads_on most c) true (clause_goes x c)

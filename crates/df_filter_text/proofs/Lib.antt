@@ -3,3 +3,4 @@ pub mod ClauseLaws
 pub mod FilterLaws
 pub mod ClauseSteps
 pub mod Whole
+pub mod Backs

@@ -41,3 +41,4 @@ pub mod LowExamples
 pub mod ValueAnswers
 pub mod LimitLaws
 pub mod WordEnds
+pub mod Backs

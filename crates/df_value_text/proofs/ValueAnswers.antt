@@ -25,7 +25,7 @@ use Rattle.df_value_text.proofs.WholeLaws.{whole_format}
 
 -- ---- any number of levels that suffices
 
-level_fits : (p : Plain) (n : ℕ) → node_count p ≤ n → IsSpelled p → LevelFits n p
+pub level_fits : (p : Plain) (n : ℕ) → node_count p ≤ n → IsSpelled p → LevelFits n p
 level_fits p n le fits = (fits, nests_more p (node_count p) n le (nests_all p))
 
 level_on : (n : ℕ) (front : List ℕ) → (on : CanGoOn value_text IsSpelled front) → node_count on.some ≤ n → CanGoOn value_text (LevelFits n) front

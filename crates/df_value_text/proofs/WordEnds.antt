@@ -28,18 +28,18 @@ neither true = refl
 neither false = refl
 
 -- what ends at a space and at a line feed ends where a word does
-at_break : (goes : ℕ → Bool) → goes 32 ≡ false → goes 10 ≡ false → (c : ℕ) → IsBreak c → goes c ≡ false
+pub at_break : (goes : ℕ → Bool) → goes 32 ≡ false → goes 10 ≡ false → (c : ℕ) → IsBreak c → goes c ≡ false
 at_break goes space feed c (inl h) = subst (λ (b : ℕ). goes b ≡ false) (sym h) space
 at_break goes space feed c (inr h) = subst (λ (b : ℕ). goes b ≡ false) (sym h) feed
 
-number_stops : (most n c : ℕ) → IsBreak c → number_goes most n c ≡ false
+pub number_stops : (most n c : ℕ) → IsBreak c → number_goes most n c ≡ false
 number_stops most n c h = at_break (number_goes most n) (neither (eqb n 0)) (neither (eqb n 0)) c h
 
 numbers_stop : (n : ℕ) (ns : List ℕ) (c : ℕ) → IsBreak c → tag_goes (n ∷ ns) c ≡ false
 numbers_stop n [] c h = at_break (tag_goes (n ∷ [])) (neither (eqb n 0)) (neither (eqb n 0)) c h
 numbers_stop n (k ∷ ks) c h = numbers_stop k ks c h
 
-tag_stops : (tag rest : List ℕ) → EndsWord rest → Ends tag_goes tag rest
+pub tag_stops : (tag rest : List ℕ) → EndsWord rest → Ends tag_goes tag rest
 tag_stops tag [] h = tt
 tag_stops [] (c ∷ rest) h = refl
 tag_stops (n ∷ ns) (c ∷ rest) h = numbers_stop n ns c h
@@ -50,7 +50,7 @@ right_stops Minus c h = at_break (right_goes Minus) refl refl c h
 right_stops PlusAuth c h = refl
 right_stops MinusAuth c h = refl
 
-privilege_stops : (p : Privilege) (rest : List ℕ) → EndsWord rest → Ends privilege_goes p rest
+pub privilege_stops : (p : Privilege) (rest : List ℕ) → EndsWord rest → Ends privilege_goes p rest
 privilege_stops p [] h = tt
 privilege_stops p (c ∷ rest) h = right_stops p.right c h
 
@@ -58,7 +58,7 @@ whole_stops : (z : ℤ) (c : ℕ) → IsBreak c → whole_goes z c ≡ false
 whole_stops (pos n) c h = number_stops _ n c h
 whole_stops (negsuc n) c h = number_stops _ (suc n) c h
 
-value_stops : (p : Plain) (c : ℕ) → IsBreak c → value_goes p c ≡ false
+pub value_stops : (p : Plain) (c : ℕ) → IsBreak c → value_goes p c ≡ false
 value_stops (int z) c h = whole_stops z c h
 value_stops (words s) c h = refl
 value_stops (bytes s) c h = refl

@@ -84,3 +84,7 @@ node_at inner text = either_at (λ c. c == 91) (behind_at (91 ∷ []) (list_at i
 unfoldable pub value_within : ℕ → List ℕ → Read ℕ Plain
 value_within zero text = leaf_at text
 value_within (suc n) text = node_at (value_within n) text
+
+-- a value: none nests deeper than it is long
+abbrev pub value_at : List ℕ → Read ℕ Plain
+value_at text = value_within (length text) text

@@ -1,0 +1,119 @@
+-- A literal that is spelled is read back, where a word ends, and what stands behind it is left.
+use Rattle.std.proofs.Common.{◌≡◌, ℕ, suc, ◌+◌, ◌<◌, ◌≤◌, ◌^◌, Bool, true, false, cond, eqb, List, [], ◌∷◌, ◌++◌, length, max, Ok, decimal, refl, sym, ap, subst, ◌∙◌, append_assoc, arith, length-append}
+use Rattle.std.specs.Char.{is_ascii_digit}
+use Rattle.std.proofs.lemmas.List.{append-nil}
+use Rattle.std.proofs.lemmas.Bool.Decides.{nat_tests}
+use Rattle.df_format.specs.Reading.{Read, behind_at, closed_at}
+use Rattle.df_format.specs.Format.{Ends}
+use Rattle.df_format.proofs.Laws.{ends_never}
+use Rattle.df_frozen.specs.Name.{is_name, is_name_byte}
+use Rattle.df_frozen.specs.Plain.{Plain, node_count}
+use Rattle.df_label.specs.declared.label.Label.{Label}
+use Rattle.df_label.specs.declared.privilege.Privilege.{Privilege}
+use Rattle.df_value_text.specs.Counting.{AreCountsOf, begins, counts_of, start, walk, walked}
+use Rattle.df_value_text.specs.Fits.{IsLabel, IsPrivilege, IsSpelled, IsTag, IsTagSet}
+use Rattle.df_value_text.specs.Label.{label_text, path_text, privilege_text, tag_text, tags_text}
+use Rattle.df_value_text.specs.Number.{number_at}
+use Rattle.df_value_text.specs.ReadLabel.{label_at, privilege_at}
+use Rattle.df_value_text.specs.ReadName.{name_at}
+use Rattle.df_value_text.specs.ReadTag.{numbers_at, short_at, tag_at, tags_at}
+use Rattle.df_value_text.specs.ReadValue.{value_at, value_within}
+use Rattle.df_value_text.specs.Value.{value_text}
+use Rattle.df_value_text.specs.WordEnd.{IsBreak, EndsWord}
+use Rattle.df_value_text.specs.declared.counting.Walk.{Walk}
+use Rattle.df_value_text.proofs.CountingEnds.{counted_behind}
+use Rattle.df_value_text.proofs.EntryLaws.{IsLowName}
+use Rattle.df_value_text.proofs.LabelLaws.{label_format, privilege_format, tags_end_at}
+use Rattle.df_value_text.proofs.NameLaws.{name_format, name_goes}
+use Rattle.df_value_text.proofs.NumberLaws.{number_format, number_goes}
+use Rattle.df_value_text.proofs.TagLaws.{LongEnds, behind_byte, long_again, nowhere, nowhere_is_local, tag_format, top}
+use Rattle.df_value_text.proofs.TagSetLaws.{tags_format, tags_goes}
+use Rattle.df_value_text.proofs.ValueAnswers.{level_fits}
+use Rattle.df_value_text.proofs.ValueLaws.{value_format, value_goes}
+use Rattle.df_value_text.proofs.WordEnds.{at_break, number_stops, privilege_stops, tag_stops, value_stops}
+
+-- ---- words
+
+number_ends : (most n : ℕ) (rest : List ℕ) → EndsWord rest → Ends (number_goes most) n rest
+number_ends most n [] end = tt
+number_ends most n (c ∷ rest) end = number_stops most n c end
+
+pub number_back : (most n : ℕ) (rest : List ℕ) → most < 2 ^ 64 → n ≤ most → EndsWord rest → number_at most (decimal n ++ rest) ≡ Ok (n, rest)
+number_back most n rest range small end = (number_format nowhere most range).again n rest small (number_ends most n rest end)
+
+pub short_back : (n : ℕ) (rest : List ℕ) → n < 2 ^ 32 → EndsWord rest → short_at (decimal n ++ rest) ≡ Ok (n, rest)
+short_back n rest small end = number_back top n rest (omega arith) (omega arith) end
+
+pub tag_back : (tag rest : List ℕ) → IsTag tag → EndsWord rest → tag_at (tag_text tag ++ rest) ≡ Ok (tag, rest)
+tag_back tag rest fits end = (tag_format nowhere nowhere_is_local).again tag rest fits (tag_stops tag rest end)
+
+pub label_back : (label : Label) (rest : List ℕ) → IsLabel label → label_at (label_text label ++ rest) ≡ Ok (label, rest)
+label_back label rest fits = label_format.again label rest fits (ends_never label rest)
+
+pub privilege_back : (p : Privilege) (rest : List ℕ) → IsPrivilege p → EndsWord rest → privilege_at (privilege_text p ++ rest) ≡ Ok (p, rest)
+privilege_back p rest fits end = privilege_format.again p rest fits (privilege_stops p rest end)
+
+name_ends : (name rest : List ℕ) → EndsWord rest → Ends name_goes name rest
+name_ends name [] end = tt
+name_ends name (c ∷ rest) end = at_break (name_goes name) (grind (arith, nat_tests)) (grind (arith, nat_tests)) c end
+
+pub name_back : (name rest : List ℕ) → is_name name ≡ true → EndsWord rest → name_at (name ++ rest) ≡ Ok (name, rest)
+name_back name rest fits end = (name_format nowhere).again name rest fits (name_ends name rest end)
+
+-- ---- values
+
+-- a byte counts one node at most
+walk-nodes : (w : Walk) (c : ℕ) → (walk w c).nodes ≤ w.nodes + 1
+walk-nodes w c = elim (begins w.place c) as (λ b. cond b (w.nodes + 1) w.nodes ≤ w.nodes + 1) [ true ↦ omega arith | false ↦ omega arith ]
+
+walked-nodes : (w : Walk) (cs : List ℕ) → (walked w cs).nodes ≤ w.nodes + length cs
+walked-nodes w [] = omega arith
+walked-nodes w (c ∷ cs) = omega (arith, walk-nodes w c, walked-nodes (walk w c) cs)
+
+-- a value has no more nodes than bytes
+node_count-text : (p : Plain) → IsSpelled p → node_count p ≤ length (value_text p)
+node_count-text p fits =
+    let exact = counted_behind p fits [] in
+    omega (arith, exact.nodes, walked-nodes start (value_text p ++ []), ap length (append-nil (value_text p)))
+
+value_ends_at : (p : Plain) (rest : List ℕ) → EndsWord rest → Ends value_goes p rest
+value_ends_at p [] end = tt
+value_ends_at p (c ∷ rest) end = value_stops p c end
+
+pub value_back : (p : Plain) (rest : List ℕ) → IsSpelled p → EndsWord rest → value_at (value_text p ++ rest) ≡ Ok (p, rest)
+value_back p rest fits end =
+    let enough : node_count p ≤ length (value_text p ++ rest) = omega (arith, node_count-text p fits, length-append (value_text p) rest) in
+    (value_format (length (value_text p ++ rest))).again p rest (level_fits p (length (value_text p ++ rest)) enough fits) (value_ends_at p rest end)
+
+-- ---- parts of names
+
+-- a byte that is no digit and no dot stands in front, or nothing
+abbrev pub EndsPath : List ℕ → Type 0
+EndsPath [] = Unit {0}
+EndsPath (c ∷ rest) = (is_ascii_digit c ≡ false) × (eqb c 46 ≡ false)
+
+path_end : (n : ℕ) (ns rest : List ℕ) → EndsPath rest → LongEnds (n ∷ ns) rest
+path_end n [] [] end = (tt, tt)
+path_end n [] (c ∷ rest) end = (grind (arith, nat_tests, end.0), grind (arith, nat_tests, end.1))
+path_end n (m ∷ ms) rest end = path_end m ms rest end
+
+path_ends : (path rest : List ℕ) → IsTag path → EndsPath rest → LongEnds path rest
+path_ends [] rest fits end = absurd fits
+path_ends (n ∷ ns) rest fits end = path_end n ns rest end
+
+pub path_back : (path rest : List ℕ) → IsTag path → EndsPath rest → numbers_at (path_text path ++ rest) ≡ Ok (path, rest)
+path_back path rest fits end = sym (behind_byte 35 numbers_at (path_text path ++ rest)) ∙ long_again path rest fits (path_ends path rest fits end)
+
+digits_end : (n : ℕ) (rest : List ℕ) → EndsPath rest → Ends (number_goes top) n rest
+digits_end n [] end = tt
+digits_end n (c ∷ rest) end = grind (arith, nat_tests, end.0)
+
+-- a number before such a byte
+pub digits_back : (n : ℕ) (rest : List ℕ) → n < 2 ^ 32 → EndsPath rest → short_at (decimal n ++ rest) ≡ Ok (n, rest)
+digits_back n rest small end = (number_format nowhere top (omega arith)).again n rest (omega arith) (digits_end n rest end)
+
+-- a set of tags before a bracket that closes
+pub braced_back : (tags : List (List ℕ)) (rest : List ℕ) → IsTagSet tags → closed_at (125 ∷ []) tags_at ((tags_text tags ++ 125 ∷ []) ++ rest) ≡ Ok (tags, rest)
+braced_back tags rest fits =
+    let ends : tags_goes tags 125 ≡ false = tags_end_at tags 125 fits refl refl refl refl in
+    ap (closed_at (125 ∷ []) tags_at) (append_assoc (tags_text tags) (125 ∷ []) rest) ∙ rw (tags_format.again tags (125 ∷ rest) fits ends) refl
