@@ -1,0 +1,4 @@
+pub mod WordBacks
+pub mod NameBacks
+pub mod CallBacks
+pub mod ReplyBacks

@@ -106,22 +106,25 @@ IsEdit edit = All IsSpot edit.0 × All IsPart edit.1
 abbrev pub IsCommit : Commit → Type 0
 IsCommit commit = IsEvent commit.event × IsEdit commit.edit
 
-abbrev pub IsGiven : Given → Type 0
-IsGiven given = IsEvent given.event × All IsPart given.parts
+-- what was given: its subscription is that of the reply, which is `event`
+abbrev pub IsGivenOf : Given → Reply → Type 0
+IsGivenOf given (reply.Event h sub) = (given.sub ≡ sub) × IsEvent given.event × All IsPart given.parts
+IsGivenOf given _ = ⊥
 
-abbrev pub IsEffect : Effect → Type 0
-IsEffect effect.Nothing = ⊤
-IsEffect (effect.Commit commit) = IsCommit commit
-IsEffect (effect.Given given) = IsGiven given
+-- an effect of a call with this reply
+abbrev pub IsEffectOf : Effect → Reply → Type 0
+IsEffectOf effect.Nothing r = ⊤
+IsEffectOf (effect.Commit commit) r = IsCommit commit
+IsEffectOf (effect.Given given) r = IsGivenOf given r
 
 -- an entry of a unit, or what the world emitted
 abbrev pub IsEntry : Entry → Type 0
-IsEntry (Done actor call reply effect) = IsUnit actor × IsCall call × IsReply reply × IsEffect effect
+IsEntry (Done actor call r effect) = IsUnit actor × IsCall call × IsReply r × IsEffectOf effect r
 IsEntry (Emitted commit) = IsCommit commit
 
 -- what may be noted of an entry: a contamination of its actor, and none of what was emitted
 abbrev pub IsNoteOf : Entry → Option Label → Type 0
-IsNoteOf (Done actor call reply effect) (Some label) = IsLabel label
+IsNoteOf (Done actor call r effect) (Some label) = IsLabel label
 IsNoteOf (Emitted commit) (Some label) = ⊥
 IsNoteOf entry None = ⊤
 

@@ -1,6 +1,13 @@
 pub mod Call
 pub mod Entry
+pub mod Fits
 pub mod Line
 pub mod Name
+pub mod ReadCall
+pub mod ReadEntry
+pub mod ReadName
+pub mod ReadReply
+pub mod ReadStart
+pub mod ReadWords
 pub mod Reply
 pub mod Start

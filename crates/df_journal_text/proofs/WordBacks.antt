@@ -1,0 +1,101 @@
+-- Words and lines that are spelled are read back.
+use Rattle.std.proofs.Common.{◌≡◌, ℕ, ◌+◌, ◌<◌, ◌≤◌, ◌^◌, Bool, true, false, List, [], ◌∷◌, ◌++◌, length, map, Ok, decimal, refl, sym, ap, ◌∙◌, append_assoc, arith, inl, inr}
+use Rattle.std.specs.List.{AllByRecursion, flat_map}
+use Rattle.df_format.specs.Reading.{Read, closed_at}
+use Rattle.df_format.proofs.Backs.{Back, all_back}
+use Rattle.df_frozen.specs.Name.{is_name}
+use Rattle.df_frozen.specs.Plain.{Plain}
+use Rattle.df_label.specs.declared.label.Label.{Label}
+use Rattle.df_label.specs.declared.privilege.Privilege.{Privilege}
+use Rattle.df_filter.specs.declared.clause.Clause.{Clause}
+use Rattle.df_value_text.specs.Fits.{IsLabel, IsPrivilege, IsTag, IsTagSet, IsValue}
+use Rattle.df_value_text.specs.Label.{label_text, privilege_text, tag_text, tags_text, path_text, right_text}
+use Rattle.df_value_text.specs.ReadLabel.{label_at, privilege_at}
+use Rattle.df_value_text.specs.ReadName.{name_at}
+use Rattle.df_value_text.specs.ReadTag.{short_at, tag_at}
+use Rattle.df_value_text.specs.ReadValue.{value_at}
+use Rattle.df_value_text.specs.Value.{value_text}
+use Rattle.df_value_text.specs.WordEnd.{EndsWord}
+use Rattle.df_value_text.proofs.Backs.{short_back, number_back, tag_back, label_back, privilege_back, name_back, value_back, braced_back}
+use Rattle.df_filter_text.specs.Filter.{filter_text}
+use Rattle.df_filter_text.specs.Fits.{IsFilter}
+use Rattle.df_filter_text.specs.ReadFilter.{filter_at}
+use Rattle.df_filter_text.proofs.Backs.{filter_back}
+use Rattle.df_journal_text.specs.Line.{word, spaced, line}
+use Rattle.df_journal_text.specs.ReadCall.{braced_at}
+use Rattle.df_journal_text.specs.ReadReply.{long_at}
+use Rattle.df_journal_text.specs.ReadWords.{word_at, line_at, begins_pair, privileges_at}
+
+-- what is spelled is read back, where a word ends
+pub record Word {X : Type 0} (spell : X → List ℕ) (Fits : X → Type 0) (read : List ℕ → Read ℕ X) : Type 0 where
+  pub back : (x : X) (rest : List ℕ) → Fits x → EndsWord rest → read (spell x ++ rest) ≡ Ok (x, rest)
+
+pub short_word : Word decimal (λ n. n < 2 ^ 32) short_at
+short_word = record { back = short_back }
+
+pub long_word : Word decimal (λ n. n < 2 ^ 64) long_at
+long_word = record { back = λ n rest small end. number_back 18446744073709551615 n rest (omega arith) (omega arith) end }
+
+pub tag_word : Word tag_text IsTag tag_at
+tag_word = record { back = tag_back }
+
+pub label_word : Word label_text IsLabel label_at
+label_word = record { back = λ label rest fits end. label_back label rest fits }
+
+pub privilege_word : Word privilege_text IsPrivilege privilege_at
+privilege_word = record { back = privilege_back }
+
+pub name_word : Word (λ name. name) (λ name. is_name name ≡ true) name_at
+name_word = record { back = name_back }
+
+pub value_word : Word value_text IsValue value_at
+value_word = record { back = λ p rest fits end. value_back p rest fits.0 end }
+
+pub filter_word : Word filter_text IsFilter filter_at
+filter_word = record { back = filter_back }
+
+-- tags in braces
+abbrev pub braced : List (List ℕ) → List ℕ
+braced tags = (123 ∷ tags_text tags) ++ 125 ∷ []
+
+pub braced_word : Word braced IsTagSet braced_at
+braced_word = record { back = λ tags rest fits end. braced_back tags rest fits }
+
+-- ---- a word among others
+
+-- what stands behind a word ends it
+pub ends_spaced : (words : List (List ℕ)) (rest : List ℕ) → EndsWord rest → EndsWord (spaced words ++ rest)
+ends_spaced [] rest end = end
+ends_spaced (w ∷ ws) rest end = inl refl
+
+pub word_back : {X : Type 0} {spell : X → List ℕ} {Fits : X → Type 0} {read : List ℕ → Read ℕ X} (w : Word spell Fits read) (x : X) (words : List (List ℕ)) (rest : List ℕ) → Fits x → EndsWord rest → word_at read (spaced (spell x ∷ words) ++ rest) ≡ Ok (x, spaced words ++ rest)
+word_back {X} {spell} {Fits} {read} w x words rest fits end = ap read (append_assoc (spell x) (spaced words) rest) ∙ w.back x (spaced words ++ rest) fits (ends_spaced words rest end)
+
+-- ---- privileges
+
+abbrev privilege_words : Privilege → List ℕ
+privilege_words p = word (privilege_text p)
+
+privileges_are : Back (begins_pair 32 35) privilege_words IsPrivilege EndsWord (word_at privilege_at)
+privileges_are = record {
+  back = λ p rest fits end. privilege_back p rest fits end;
+  stand = λ p rest fits. refl;
+  some = λ p fits. omega arith;
+  next = λ p rest fits. inl refl;
+}
+
+spaced-privileges : (ps : List Privilege) → spaced (map privilege_text ps) ≡ flat_map privilege_words ps
+spaced-privileges [] = refl
+spaced-privileges (p ∷ ps) = ap (λ (u : List ℕ). privilege_words p ++ u) (spaced-privileges ps)
+
+pub privileges_back : (ps : List Privilege) (rest : List ℕ) → AllByRecursion IsPrivilege ps → EndsWord rest → begins_pair 32 35 rest ≡ false → privileges_at (spaced (map privilege_text ps) ++ rest) ≡ Ok (ps, rest)
+privileges_back ps rest fits end last = ap (λ (u : List ℕ). privileges_at (u ++ rest)) (spaced-privileges ps) ∙ all_back privileges_are ps rest fits end last
+
+-- ---- lines
+
+-- the words of a line, and its line feed
+pub line-rest : (first : List ℕ) (words : List (List ℕ)) (rest : List ℕ) → line first words ++ rest ≡ first ++ (spaced words ++ 10 ∷ rest)
+line-rest first words rest = simp append_assoc
+
+pub line_back : {X : Type 0} (read : List ℕ → Read ℕ X) (bytes : List ℕ) (x : X) (rest : List ℕ) → read bytes ≡ Ok (x, 10 ∷ rest) → line_at read bytes ≡ Ok (x, rest)
+line_back read bytes x rest e = rw e refl

@@ -1,0 +1,38 @@
+-- Reading words and lines.
+use Rattle.std.specs.Prelude.{ℕ, Bool, false, ◌&&◌, List, [], ◌∷◌, Ok, Err, ◌==◌}
+use Rattle.df_format.specs.Reading.{Bad, Read, behind_at, closed_at, text_at, all_at}
+use Rattle.df_label.specs.declared.privilege.Privilege.{Privilege}
+use Rattle.df_value_text.specs.ReadLabel.{privilege_at}
+use Rattle.df_journal_text.specs.Line.{word}
+
+-- a word behind a space
+abbrev pub word_at : {X : Type 0} → (List ℕ → Read ℕ X) → List ℕ → Read ℕ X
+word_at read bytes = behind_at (32 ∷ []) read bytes
+
+-- a line: what is read, and a line feed
+abbrev pub line_at : {X : Type 0} → (List ℕ → Read ℕ X) → List ℕ → Read ℕ X
+line_at read bytes = closed_at (10 ∷ []) read bytes
+
+-- whether these two bytes stand in front
+abbrev pub begins_pair : ℕ → ℕ → List ℕ → Bool
+begins_pair a b [] = false
+begins_pair a b (c ∷ []) = false
+begins_pair a b (c ∷ d ∷ cs) = (c == a) && (d == b)
+
+-- privileges, each a word
+abbrev pub privileges_at : List ℕ → Read ℕ (List Privilege)
+privileges_at bytes = all_at (begins_pair 32 35) (word_at privilege_at) bytes
+
+-- this, of which no more words stand there
+abbrev pub bare_at : {X : Type 0} → X → List ℕ → Read ℕ X
+bare_at x bytes = Ok (x, bytes)
+
+-- what is read behind a keyword, or else
+abbrev pub keyed : {X : Type 0} → Read ℕ (List ℕ) → (List ℕ → Read ℕ X) → Read ℕ X → Read ℕ X
+keyed (Ok keyword) read others = read keyword.1
+keyed (Err stop) read others = others
+
+-- a keyword, as a word, and what is read behind it: the first of these that stands in front
+abbrev pub kinds_at : {X : Type 0} → List (List ℕ × (List ℕ → Read ℕ X)) → List ℕ → Read ℕ X
+kinds_at [] bytes = Err (Bad bytes)
+kinds_at (kind ∷ kinds) bytes = keyed (text_at (word kind.0) bytes) kind.1 (kinds_at kinds bytes)
