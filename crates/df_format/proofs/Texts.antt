@@ -5,7 +5,7 @@ use Rattle.df_format.specs.Reading.{Stop, Bad, Low, ◌>>=◌, text_at}
 use Rattle.df_format.specs.Format.{Stuck, Format}
 use Rattle.df_format.proofs.Laws.{ok_is, not_both, bind_ok, bind_err, chosen, never, ends_never, viable_of}
 
-text_again : (ws rest : List ℕ) → text_at ws (ws ++ rest) ≡ Ok (ws, rest)
+pub text_again : (ws rest : List ℕ) → text_at ws (ws ++ rest) ≡ Ok (ws, rest)
 text_again [] rest = refl
 text_again (w ∷ ws) rest = rw (eq-eqb w w refl, text_again ws rest) refl
 

@@ -2,3 +2,5 @@ pub mod WordBacks
 pub mod NameBacks
 pub mod CallBacks
 pub mod ReplyBacks
+pub mod StartBacks
+pub mod EntryBacks

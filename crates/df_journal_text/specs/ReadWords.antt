@@ -2,6 +2,7 @@
 use Rattle.std.specs.Prelude.{ℕ, Bool, false, ◌&&◌, List, [], ◌∷◌, Ok, Err, ◌==◌}
 use Rattle.df_format.specs.Reading.{Bad, Read, behind_at, closed_at, text_at, all_at}
 use Rattle.df_label.specs.declared.privilege.Privilege.{Privilege}
+use Rattle.df_value_text.specs.Number.{begins_with}
 use Rattle.df_value_text.specs.ReadLabel.{privilege_at}
 use Rattle.df_journal_text.specs.Line.{word}
 
@@ -16,8 +17,7 @@ line_at read bytes = closed_at (10 ∷ []) read bytes
 -- whether these two bytes stand in front
 abbrev pub begins_pair : ℕ → ℕ → List ℕ → Bool
 begins_pair a b [] = false
-begins_pair a b (c ∷ []) = false
-begins_pair a b (c ∷ d ∷ cs) = (c == a) && (d == b)
+begins_pair a b (c ∷ cs) = (c == a) && begins_with b cs
 
 -- privileges, each a word
 abbrev pub privileges_at : List ℕ → Read ℕ (List Privilege)
