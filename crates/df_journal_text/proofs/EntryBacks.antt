@@ -31,7 +31,7 @@ use Rattle.df_journal_text.specs.Entry.{part_line, spot_line, read_line, edit_te
 use Rattle.df_journal_text.specs.Fits.{IsCall, IsCommit, IsEdit, IsEffectOf, IsEvent, IsNoteOf, IsNoted, IsPart, IsPartRead, IsReply, IsSpot, IsUnit}
 use Rattle.df_journal_text.specs.Line.{line, spaced, word}
 use Rattle.df_journal_text.specs.Name.{event_text, unit_text}
-use Rattle.df_journal_text.specs.ReadEntry.{all_marked_at, call_line_at, commit_at, deleted_at, done_at, done_of, edit_at, effect_at, marked_at, note_at, noted_at, part_at, part_read_at, shown_at}
+use Rattle.df_journal_text.specs.ReadEntry.{IsUnmarked, all_marked_at, call_line_at, commit_at, deleted_at, done_at, done_of, edit_at, effect_at, marked_at, note_at, noted_at, part_at, part_read_at, shown_at}
 use Rattle.df_journal_text.specs.ReadName.{event_at}
 use Rattle.df_journal_text.specs.ReadWords.{begins_pair, line_at, word_at}
 use Rattle.df_journal_text.specs.Reply.{reply_words}
@@ -118,16 +118,6 @@ spots_are = record {
 
 -- ---- commits
 
--- none of the marks of a journal and a space stand in front
-pub record IsUnmarked (rest : List ℕ) : Type 0 where
-  pub note : begins_pair 64 32 rest ≡ false
-  pub shown : begins_pair 58 32 rest ≡ false
-  pub commit : begins_pair 61 32 rest ≡ false
-  pub given : begins_pair 60 32 rest ≡ false
-  pub deleted : begins_pair 45 32 rest ≡ false
-  pub added : begins_pair 43 32 rest ≡ false
-  pub part : begins_pair 46 32 rest ≡ false
-
 -- in front of added parts stands no deleted spot
 not_deleted : (parts : List Part) (rest : List ℕ) → IsUnmarked rest → begins_pair 45 32 (flat_map (part_line (43 ∷ [])) parts ++ rest) ≡ false
 not_deleted [] rest end = end.deleted
@@ -144,17 +134,17 @@ event_line_back : (event : _) (rest : List ℕ) → IsEvent event → line_at (w
 event_line_back event rest fits = line_back (word_at event_at) (spaced (event_text event ∷ []) ++ 10 ∷ rest) event rest (word_back event_word event [] (10 ∷ rest) fits (inr refl))
 
 -- what stands behind a commit's first word
-abbrev commit_text : Commit → List ℕ
+abbrev pub commit_text : Commit → List ℕ
 commit_text commit = spaced (event_text commit.event ∷ []) ++ (10 ∷ edit_text commit.edit)
 
-commit_back : (commit : Commit) (rest : List ℕ) → IsCommit commit → IsUnmarked rest → commit_at (commit_text commit ++ rest) ≡ Ok (commit, rest)
+pub commit_back : (commit : Commit) (rest : List ℕ) → IsCommit commit → IsUnmarked rest → commit_at (commit_text commit ++ rest) ≡ Ok (commit, rest)
 commit_back commit rest fits end =
     let e1 = event_line_back commit.event (edit_text commit.edit ++ rest) fits.0 in
     let e2 = edit_back commit.edit rest fits.1 end in
     ap commit_at (append_assoc (spaced (event_text commit.event ∷ [])) (10 ∷ edit_text commit.edit) rest) ∙ rw (e1, e2) refl
 
 -- a first word, and a commit behind it
-commit-rest : (first : List ℕ) (commit : Commit) (rest : List ℕ) → (line first (event_text commit.event ∷ []) ++ edit_text commit.edit) ++ rest ≡ first ++ (commit_text commit ++ rest)
+pub commit-rest : (first : List ℕ) (commit : Commit) (rest : List ℕ) → (line first (event_text commit.event ∷ []) ++ edit_text commit.edit) ++ rest ≡ first ++ (commit_text commit ++ rest)
 commit-rest first commit rest = simp append_assoc
 
 -- ---- what stands below a call's line
@@ -201,7 +191,7 @@ shown_back reply.Exhausted rest fits end = refl
 shown_back (reply.Lacks p) rest fits end = refl
 shown_back (reply.CannotWrite out part) rest fits end = refl
 
-abbrev IsNote : Option Label → Type 0
+abbrev pub IsNote : Option Label → Type 0
 IsNote None = Unit {0}
 IsNote (Some label) = IsLabel label
 
@@ -261,7 +251,7 @@ call_line_back actor call r rest fits_actor fits_call fits_reply =
 
 -- ---- entries
 
-done_back : (actor : UnitName) (call : Call) (r : Reply) (e : Effect) (note : Option Label) (rest : List ℕ) → IsUnit actor → IsCall call → IsReply r → IsEffectOf e r → IsNote note → IsUnmarked rest
+pub done_back : (actor : UnitName) (call : Call) (r : Reply) (e : Effect) (note : Option Label) (rest : List ℕ) → IsUnit actor → IsCall call → IsReply r → IsEffectOf e r → IsNote note → IsUnmarked rest
     → done_at (entry_text note (Done actor call r e) ++ rest) ≡ Ok (done_of actor call note r e, rest)
 done_back actor call r e note rest fits_actor fits_call fits_reply fits_effect fits_note end =
     let behind_reads : List ℕ = effect_text e ++ rest in

@@ -4,3 +4,4 @@ pub mod CallBacks
 pub mod ReplyBacks
 pub mod StartBacks
 pub mod EntryBacks
+pub mod JournalBacks

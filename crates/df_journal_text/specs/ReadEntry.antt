@@ -1,5 +1,5 @@
 -- Reading entries and whole journals. The first bytes of a line tell its kind.
-use Rattle.std.specs.Prelude.{ℕ, Bool, false, ◌||◌, List, [], ◌∷◌, Option, Some, None, Ok, codes, ◌==◌, if◌then◌else◌}
+use Rattle.std.specs.Prelude.{◌≡◌, ℕ, Bool, false, ◌||◌, List, [], ◌∷◌, Option, Some, None, Ok, codes, ◌==◌, if◌then◌else◌}
 use Rattle.std.specs.Char.{is_ascii_digit}
 use Rattle.df_format.specs.Reading.{Read, ◌>>=◌, as_at, then_at, behind_at, all_at}
 use Rattle.df_label.specs.declared.label.Label.{Label}
@@ -131,3 +131,18 @@ begins_entry bytes = begins_digit bytes || begins_with 101 bytes
 -- a journal in its second version: its start and its entries
 abbrev pub journal_at : List ℕ → Read ℕ (List RootStart × List Noted)
 journal_at bytes = behind_at (codes "defcon-journal 2\n") (then_at start_at (behind_at (codes "run\n") (all_at begins_entry noted_at))) bytes
+
+-- none of the marks of a journal and a space stand in front
+pub record IsUnmarked (rest : List ℕ) : Type 0 where
+  pub note : begins_pair 64 32 rest ≡ false
+  pub shown : begins_pair 58 32 rest ≡ false
+  pub commit : begins_pair 61 32 rest ≡ false
+  pub given : begins_pair 60 32 rest ≡ false
+  pub deleted : begins_pair 45 32 rest ≡ false
+  pub added : begins_pair 43 32 rest ≡ false
+  pub part : begins_pair 46 32 rest ≡ false
+
+-- what may stand behind a journal's entries: neither another entry nor a line of the last one
+pub record EndsJournal (rest : List ℕ) : Type 0 where
+  pub unmarked : IsUnmarked rest
+  pub last : begins_entry rest ≡ false
