@@ -27,7 +27,7 @@ pub use freeze::{FreezeCause, MOST_BYTES, MOST_DEPTH, MOST_NODES, Unfrozen};
 pub use frozen::Frozen;
 pub use items::Items;
 pub use memory::NoMemory;
-pub use name::{LONGEST_NAME, Name, NameRefused};
+pub use name::{LONGEST_NAME, Name, NameRefused, is_letter, is_name_byte};
 pub use put::{NotPut, PutCause};
 pub use step::Step;
 pub use value::Value;

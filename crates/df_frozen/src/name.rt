@@ -90,13 +90,15 @@ impl Name {
     }
 }
 
-fn is_letter(b: u8) -> bool
+/// Whether this is a letter a to z.
+pub fn is_letter(b: u8) -> bool
     ensures { result ≡ is_letter b }
 {
     b.is_ascii_lowercase()
 }
 
-fn is_name_byte(b: u8) -> bool
+/// Whether this is a letter a to z, a digit or `_`.
+pub fn is_name_byte(b: u8) -> bool
     ensures { result ≡ is_name_byte b }
 {
     is_letter(b) || b.is_ascii_digit() || b == b'_'
