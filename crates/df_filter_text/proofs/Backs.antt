@@ -1,9 +1,6 @@
 -- A filter that is spelled is read back, where a word ends, and what stands behind it is left.
-use Rattle.std.proofs.Common.{◌≡◌, ℕ, zero, suc, Bool, true, false, cond, List, [], ◌∷◌, ◌++◌, Ok, refl, rules}
+use Rattle.std.proofs.Common.{◌≡◌, ℕ, zero, suc, false, List, [], ◌∷◌, ◌++◌, Ok, refl}
 use Rattle.df_filter.specs.declared.clause.Clause.{Clause}
-use Rattle.df_filter.specs.declared.clause.Test.{Test}
-use Rattle.df_filter.specs.declared.clause.Test.TheVariants as test
-use Rattle.df_filter.specs.declared.field_test.FieldTest.TheVariants as field
 use Rattle.df_format.specs.Format.{Ends}
 use Rattle.df_filter_text.specs.Filter.{filter_text}
 use Rattle.df_filter_text.specs.Fits.{IsFilter}

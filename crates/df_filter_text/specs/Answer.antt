@@ -1,5 +1,6 @@
 -- What the reader of filters answers.
 use Rattle.std.specs.Prelude.{◌≡◌, ℕ, ◌≤◌, List, [], ◌∷◌, ◌++◌, length, drop, Result, Ok, Err, ⊤}
+use Rattle.df_filter.specs.Limits.{most_clauses}
 use Rattle.df_filter.specs.declared.clause.Clause.{Clause}
 use Rattle.df_format.specs.Grammar.{FirstBad}
 use Rattle.df_filter_text.specs.Filter.{filter_text}
@@ -20,11 +21,11 @@ refusal fault.NoMemory = refused.NoMemory
 refusal (fault.Bad place) = refused.Syntax place
 refusal (fault.Low place) = refused.Syntax place
 
--- four clauses stand in front, and another `&`
+-- as many clauses as a filter has stand in front, and another `&`
 pub record HasFifth (bytes : List ℕ) : Type 0 where
   pub clauses : List Clause
   pub fits : AreClauses clauses
-  pub four : length clauses ≡ 4
+  pub four : length clauses ≡ most_clauses
   pub more : List ℕ
   pub is : bytes ≡ filter_text clauses ++ 38 ∷ more
 

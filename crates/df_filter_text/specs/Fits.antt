@@ -1,6 +1,7 @@
 -- Which filters have a spelling.
 use Rattle.std.specs.Prelude.{◌≡◌, true, ◌<◌, ◌≤◌, List, [], ◌∷◌, length, IsUtf8, ⊤}
 use Rattle.df_frozen.specs.Name.{is_name}
+use Rattle.df_filter.specs.Limits.{most_clauses}
 use Rattle.df_filter.specs.declared.clause.Clause.{Clause}
 use Rattle.df_filter.specs.declared.clause.Test.{Test}
 use Rattle.df_filter.specs.declared.clause.Test.TheVariants as test
@@ -36,6 +37,6 @@ abbrev pub AreClauses : List Clause → Type 0
 AreClauses [] = ⊤
 AreClauses (clause ∷ clauses) = IsClause clause × AreClauses clauses
 
--- a filter: one to four clauses
+-- a filter: at least one clause, and no more than a filter has
 abbrev pub IsFilter : List Clause → Type 0
-IsFilter clauses = AreClauses clauses × (0 < length clauses) × (length clauses ≤ 4)
+IsFilter clauses = AreClauses clauses × (0 < length clauses) × (length clauses ≤ most_clauses)

@@ -1,5 +1,6 @@
 -- Reading a filter.
-use Rattle.std.specs.Prelude.{ℕ, zero, suc, List, [], ◌∷◌, Ok, ◌==◌}
+use Rattle.std.specs.Prelude.{ℕ, zero, suc, ◌-◌, List, [], ◌∷◌, Ok, ◌==◌}
+use Rattle.df_filter.specs.Limits.{most_clauses}
 use Rattle.df_filter.specs.declared.clause.Clause.{Clause}
 use Rattle.df_filter.specs.declared.clause.Test.{Test}
 use Rattle.df_filter.specs.declared.clause.Test.TheVariants as test
@@ -56,6 +57,6 @@ abbrev pub more_clauses_at : ℕ → List ℕ → Read ℕ (List Clause)
 more_clauses_at zero bytes = Ok ([], bytes)
 more_clauses_at (suc most) bytes = as_at optional (maybe_at (λ c. c == 38) (behind_at (38 ∷ []) (then_at clause_at (more_clauses_at most)))) bytes
 
--- one to four clauses
+-- at least one clause
 abbrev pub filter_at : List ℕ → Read ℕ (List Clause)
-filter_at bytes = as_at listed (then_at clause_at (more_clauses_at 3)) bytes
+filter_at bytes = as_at listed (then_at clause_at (more_clauses_at (most_clauses - 1))) bytes

@@ -4,12 +4,9 @@ ghost use Rattle.df_filter_text.specs.ReadFilter.{clause_at, filter_at, key_at, 
 ghost use Rattle.df_value_text.specs.Answer.{Gives};
 
 use crate::field_test_reader::field_test_at;
-use df_filter::{Clause, FieldTest, Test};
+use df_filter::{Clause, FieldTest, MOST_CLAUSES, Test};
 use df_value_text::{Fault, byte_at, byte_stands, name_at};
 use std::alloc::Global;
-
-/// How many clauses a filter may have.
-const MOST_CLAUSES: usize = 4;
 
 /// What is asked of a field, asked of the value itself.
 fn test_of(asked: FieldTest) -> Test

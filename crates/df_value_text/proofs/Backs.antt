@@ -1,28 +1,27 @@
 -- A literal that is spelled is read back, where a word ends, and what stands behind it is left.
-use Rattle.std.proofs.Common.{◌≡◌, ℕ, suc, ◌+◌, ◌<◌, ◌≤◌, ◌^◌, Bool, true, false, cond, eqb, List, [], ◌∷◌, ◌++◌, length, max, Ok, decimal, refl, sym, ap, subst, ◌∙◌, append_assoc, arith, length-append}
+use Rattle.std.proofs.Common.{◌≡◌, ℕ, ◌+◌, ◌<◌, ◌≤◌, ◌^◌, true, false, cond, eqb, List, [], ◌∷◌, ◌++◌, length, Ok, decimal, refl, sym, ap, ◌∙◌, append_assoc, arith, length-append}
 use Rattle.std.specs.Char.{is_ascii_digit}
 use Rattle.std.proofs.lemmas.List.{append-nil}
 use Rattle.std.proofs.lemmas.Bool.Decides.{nat_tests}
-use Rattle.df_format.specs.Reading.{Read, behind_at, closed_at}
+use Rattle.df_format.specs.Reading.{closed_at}
 use Rattle.df_format.specs.Format.{Ends}
 use Rattle.df_format.proofs.Laws.{ends_never}
-use Rattle.df_frozen.specs.Name.{is_name, is_name_byte}
+use Rattle.df_frozen.specs.Name.{is_name}
 use Rattle.df_frozen.specs.Plain.{Plain, node_count}
 use Rattle.df_label.specs.declared.label.Label.{Label}
 use Rattle.df_label.specs.declared.privilege.Privilege.{Privilege}
-use Rattle.df_value_text.specs.Counting.{AreCountsOf, begins, counts_of, start, walk, walked}
+use Rattle.df_value_text.specs.Counting.{begins, start, walk, walked}
 use Rattle.df_value_text.specs.Fits.{IsLabel, IsPrivilege, IsSpelled, IsTag, IsTagSet}
 use Rattle.df_value_text.specs.Label.{label_text, path_text, privilege_text, tag_text, tags_text}
 use Rattle.df_value_text.specs.Number.{number_at}
 use Rattle.df_value_text.specs.ReadLabel.{label_at, privilege_at}
 use Rattle.df_value_text.specs.ReadName.{name_at}
 use Rattle.df_value_text.specs.ReadTag.{numbers_at, short_at, tag_at, tags_at}
-use Rattle.df_value_text.specs.ReadValue.{value_at, value_within}
+use Rattle.df_value_text.specs.ReadValue.{value_at}
 use Rattle.df_value_text.specs.Value.{value_text}
-use Rattle.df_value_text.specs.WordEnd.{IsBreak, EndsWord}
+use Rattle.df_value_text.specs.WordEnd.{EndsWord}
 use Rattle.df_value_text.specs.declared.counting.Walk.{Walk}
 use Rattle.df_value_text.proofs.CountingEnds.{counted_behind}
-use Rattle.df_value_text.proofs.EntryLaws.{IsLowName}
 use Rattle.df_value_text.proofs.LabelLaws.{label_format, privilege_format, tags_end_at}
 use Rattle.df_value_text.proofs.NameLaws.{name_format, name_goes}
 use Rattle.df_value_text.proofs.NumberLaws.{number_format, number_goes}

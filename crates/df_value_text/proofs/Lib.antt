@@ -36,9 +36,11 @@ pub mod PutSteps
 pub mod NestLaws
 pub mod ValueLaws
 pub mod ValueSteps
+pub mod LowItems
 pub mod LowLaws
 pub mod LowExamples
 pub mod ValueAnswers
+pub mod LimitFronts
 pub mod LimitLaws
 pub mod WordEnds
 pub mod Backs

@@ -3,14 +3,14 @@ use Rattle.std.proofs.Common.{◌≡◌, None, Result, Some, ℕ, suc, ◌+◌, 
 use Rattle.std.specs.Prelude.{true, nat_le, nat_lt}
 use Rattle.std.specs.Result.{result_err}
 use Rattle.std.proofs.lemmas.Bool.Decides.{nat_tests}
-use Rattle.std.proofs.lemmas.List.{append_cancel_left, append_cancel_right, append-nil, drop_all, length-drop, length-take-le}
-use Rattle.df_format.specs.Grammar.{CanGoOn, Stands, IsLongest}
+use Rattle.std.proofs.lemmas.List.{append-nil, drop_all, length-drop, length-take-le}
+use Rattle.df_format.specs.Grammar.{CanGoOn, Stands}
 use Rattle.df_format.specs.Reading.{Bad, Low}
 use Rattle.df_format.proofs.Laws.{told}
-use Rattle.df_format.proofs.Texts.{own}
+use Rattle.df_frozen.specs.Limits.{IsTooLarge, IsWithinLimits}
 use Rattle.df_frozen.specs.Plain.{Plain}
 use Rattle.df_value_text.specs.Answer.{Fails, Gives, IsSyntaxAt, refusal}
-use Rattle.df_value_text.specs.Counting.{AreWithin, FirstOver, IsOver, NeverOver, counts_of}
+use Rattle.df_value_text.specs.Counting.{FirstOver, NeverOver, counts_of}
 use Rattle.df_value_text.specs.Fits.{IsSpelled, IsValue}
 use Rattle.df_value_text.specs.OrderNames.{NameStandsLow, LowInValue}
 use Rattle.df_value_text.specs.ReadValue.{value_within}
@@ -20,173 +20,10 @@ use Rattle.df_value_text.specs.declared.refused.Fault.{Fault}
 use Rattle.df_value_text.specs.declared.refused.Fault.TheVariants as fault
 use Rattle.df_value_text.specs.declared.refused.TextRefused.{TextRefused}
 use Rattle.df_value_text.specs.declared.refused.TextRefused.TheVariants as refused
-use Rattle.df_value_text.proofs.CountingEnds.{front_whole, goes_on, not_both, over_inside, value_over}
-use Rattle.df_value_text.proofs.CountingFronts.{never_over}
-use Rattle.df_value_text.proofs.HigherLaws.{name_whole}
-use Rattle.df_value_text.proofs.NameLaws.{IsName}
+use Rattle.df_value_text.proofs.CountingEnds.{value_within as counted_within, front_whole, not_both, over_inside, value_over}
 use Rattle.df_value_text.proofs.ValueAnswers.{Enough, first_bad_value, first_low_value, no_low_name, stops_low}
 use Rattle.df_value_text.proofs.ValueLaws.{value_format}
-
--- ---- fronts
-
--- what begins a front that can go on can go on
-viable_front : (front more : List ℕ) → CanGoOn value_text IsSpelled (front ++ more) → CanGoOn value_text IsSpelled front
-viable_front front more on = record { some = on.some; fits = on.fits; more = more ++ on.more; is = on.is ∙ append_assoc front more on.more }
-
--- a longer front that can go on makes the shorter one do so
-viable_before : (front rest longer behind : List ℕ) → front ++ rest ≡ longer ++ behind → length behind ≤ length rest → CanGoOn value_text IsSpelled longer → CanGoOn value_text IsSpelled front
-viable_before front rest longer behind e le on =
-    let more = goes_on front rest longer behind e le in
-    viable_front front more.0 (subst (CanGoOn value_text IsSpelled) more.1 on)
-
--- the bytes with the first byte over among those in front
-with_over : (text rest : List ℕ) → (over : FirstOver text rest) → (over.front ++ over.first ∷ []) ++ over.more ≡ text
-with_over text rest over = append_assoc over.front (over.first ∷ []) over.more ∙ sym over.parts
-
-over_length : (text rest : List ℕ) → (over : FirstOver text rest) → length rest ≡ suc (length over.more)
-over_length text rest over = ap (λ (u : List ℕ). length u) over.is
-
-over_parts : (text rest : List ℕ) → (over : FirstOver text rest) → text ≡ over.front ++ rest
-over_parts text rest over = over.parts ∙ ap (λ (u : List ℕ). over.front ++ u) (sym over.is)
-
--- no count is passed in front of a place that isn't behind the first byte over
-within_in_front : (text rest here : List ℕ) → FirstOver text rest → length rest ≤ length here → IsWithinBefore text here
-within_in_front text rest here over le front e =
-    let on = goes_on front here over.front rest (sym e ∙ over_parts text rest over) le in
-    never_over over.front over.within front on.0 on.1
-
--- a count is passed in front of a place behind the first byte over
-over_behind : (text rest here front : List ℕ) → FirstOver text rest → length here < length rest → text ≡ front ++ here → AreWithin (counts_of front) → ⊥
-over_behind text rest here front over lt e within =
-    let long = over_length text rest over in
-    let on = goes_on (over.front ++ over.first ∷ []) over.more front here (with_over text rest over ∙ e) (omega (arith, long, lt)) in
-    not_both (counts_of (over.front ++ over.first ∷ [])) (never_over front within (over.front ++ over.first ∷ []) on.0 on.1) over.over
-
--- with the first byte over a value can go on, where one goes on behind it
-first_too_large : (text rest here front : List ℕ) → FirstOver text rest → length here < length rest → text ≡ front ++ here → CanGoOn value_text IsSpelled front → FirstTooLarge text rest
-first_too_large text rest here front over lt e on =
-    let long = over_length text rest over in
-    record { over = over; viable = viable_before (over.front ++ over.first ∷ []) over.more front here (with_over text rest over ∙ e) (omega (arith, long, lt)) on }
-
--- there is only one first byte over
-nothing_left : (xs ys zs : List ℕ) → xs ≡ zs ++ ys → length xs ≤ length ys → xs ≡ ys
-nothing_left xs ys [] e le = e
-nothing_left xs ys (z ∷ zs) e le = absurd (omega (arith, le, length-append zs ys, ap (λ (u : List ℕ). length u) e))
-
-over_once : (text rest other : List ℕ) → FirstOver text rest → FirstOver text other → other ≡ rest
-over_once text rest other over again =
-    elim (told (nat_lt (length other) (length rest))) [
-      | inl h ↦ absurd (over_behind text rest other again.front over (grind (arith, nat_tests)) (over_parts text other again) again.within)
-      | inr h ↦ elim (told (nat_lt (length rest) (length other))) [
-        | inl k ↦ absurd (over_behind text other rest over.front again (grind (arith, nat_tests)) (over_parts text rest over) over.within)
-        | inr k ↦
-            let le : length rest ≤ length other = grind (arith, nat_tests) in
-            let ge : length other ≤ length rest = grind (arith, nat_tests) in
-            let same : again.front ++ other ≡ over.front ++ rest = sym (over_parts text other again) ∙ over_parts text rest over in
-            let on = goes_on again.front other over.front rest same le in
-            let left : again.front ++ other ≡ again.front ++ (on.0 ++ rest) = same ∙ ap (λ (u : List ℕ). u ++ rest) on.1 ∙ append_assoc again.front on.0 rest in
-            nothing_left other rest on.0 (append_cancel_left again.front other (on.0 ++ rest) left) ge
-      ]
-    ]
-
--- ---- bytes that are cut behind a place
-
--- the first byte over stays so where the bytes are cut behind it
-over_shorter : (text here behind : List ℕ) → 0 < length here → FirstOver (text ++ behind) (here ++ behind) → FirstOver text here
-over_shorter text [] behind lt over = absurd (omega (arith, lt))
-over_shorter text (c ∷ here) behind lt over =
-    let first : over.first ≡ c = let e = over.is in cc in
-    record {
-      front = over.front;
-      first = c;
-      more = here;
-      parts = append_cancel_right text (over.front ++ c ∷ here) behind (over_parts (text ++ behind) ((c ∷ here) ++ behind) over ∙ sym (append_assoc over.front (c ∷ here) behind));
-      is = refl;
-      within = over.within;
-      over = subst (λ (b : ℕ). IsOver (counts_of (over.front ++ b ∷ []))) first over.over;
-    }
-
-longer_parts : (text front here behind : List ℕ) → text ≡ front ++ here → text ++ behind ≡ front ++ (here ++ behind)
-longer_parts text front here behind e = ap (λ (u : List ℕ). u ++ behind) e ∙ append_assoc front here behind
-
--- a bad byte stays bad, whatever stands behind it
-bad_longer : (text here behind : List ℕ) → 0 < length here → FirstBadValue text here → FirstBadValue (text ++ behind) (here ++ behind)
-bad_longer text [] behind lt bad = absurd (omega (arith, lt))
-bad_longer text (c ∷ here) behind lt bad = record {
-  front = bad.front;
-  parts = longer_parts text bad.front (c ∷ here) behind bad.parts;
-  viable = bad.viable;
-  dead = λ t tail e on.
-      let first : t ≡ c = cc in
-      bad.dead c here refl (subst (λ (b : ℕ). CanGoOn value_text IsSpelled (bad.front ++ b ∷ [])) first on);
-}
-
--- a name that begins here ends in front of what stands behind
-name_inside : (here behind name tail : List ℕ) → (behind ≡ []) ⊎ (32 ≤ length here) → IsName name → here ++ behind ≡ name ++ tail → length behind ≤ length tail
-name_inside here behind name tail room fits e = shorter room (name_whole name fits).1 (sym (length-append here behind) ∙ ap (λ (u : List ℕ). length u) e ∙ length-append name tail)
-  where
-    shorter : (behind ≡ []) ⊎ (32 ≤ length here) → length name ≤ 32 → length here + length behind ≡ length name + length tail → length behind ≤ length tail
-    shorter (inl none) few sizes = omega (arith, ap (λ (u : List ℕ). length u) none)
-    shorter (inr many) few sizes = omega (arith, many, few, sizes)
-
-record Inside (here behind name tail : List ℕ) : Type 0 where
-  pub more : List ℕ
-  pub parts : here ≡ name ++ more
-  pub is : tail ≡ more ++ behind
-
-inside_of : (here behind name tail : List ℕ) → length behind ≤ length tail → here ++ behind ≡ name ++ tail → Inside here behind name tail
-inside_of here behind name tail short e =
-    let on = goes_on name tail here behind (sym e) short in
-    record { more = on.0; parts = on.1; is = append_cancel_left name tail (on.0 ++ behind) (sym e ∙ ap (λ (u : List ℕ). u ++ behind) on.1 ∙ append_assoc name on.0 behind) }
-
--- the longest name stays so, where more bytes stand here than a name has
-longest_longer : (here name more behind : List ℕ) → (behind ≡ []) ⊎ (32 ≤ length here) → IsLongest own IsName here name more → IsLongest own IsName (here ++ behind) name (more ++ behind)
-longest_longer here name more behind room l = record {
-  parts = longer_parts here name more behind l.parts;
-  fits = l.fits;
-  longest = λ other tail fits e.
-      let i = inside_of here behind other tail (name_inside here behind other tail room fits e) e in
-      let le : length more ≤ length i.more = l.longest other i.more fits i.parts in
-      subst (λ (u : List ℕ). length (more ++ behind) ≤ length u) (sym i.is) (omega (arith, le, length-append more behind, length-append i.more behind));
-}
-
--- and so it is without what stands behind
-low_shorter : (prev here behind : List ℕ) → (behind ≡ []) ⊎ (32 ≤ length here) → NameStandsLow prev (here ++ behind) → NameStandsLow prev here
-low_shorter prev here behind room low =
-    let l = low.longest in
-    let i = inside_of here behind low.name low.more (name_inside here behind low.name low.more room l.fits l.parts) l.parts in
-    record {
-      name = low.name;
-      more = i.more;
-      longest = record {
-        parts = i.parts;
-        fits = l.fits;
-        longest = λ other tail fits e.
-            let le : length low.more ≤ length (tail ++ behind) = l.longest other (tail ++ behind) fits (longer_parts here other tail behind e) in
-            omega (arith, le, length-append tail behind, length-append i.more behind, ap (λ (u : List ℕ). length u) i.is);
-      };
-      low = low.low;
-    }
-
--- a low name stays low
-low_longer : (text here behind : List ℕ) → (behind ≡ []) ⊎ (32 ≤ length here) → FirstLowName text here → FirstLowName (text ++ behind) (here ++ behind)
-low_longer text here behind room low =
-    let stands = low.low.low in
-    record {
-      front = low.front;
-      parts = longer_parts text low.front here behind low.parts;
-      viable = low.viable;
-      low = record {
-        opened = low.low.opened;
-        are = low.low.are;
-        es = low.low.es;
-        last = low.low.last;
-        other = low.low.other;
-        may = low.low.may;
-        is = low.low.is;
-        low = record { name = stands.name; more = stands.more ++ behind; longest = longest_longer here stands.name stands.more behind room stands.longest; low = stands.low };
-      };
-    }
+use Rattle.df_value_text.proofs.LimitFronts.{viable_before, with_over, over_length, over_parts, within_in_front, over_behind, first_too_large, over_once, over_shorter, longer_parts, bad_longer, inside_of, low_shorter, low_longer}
 
 -- ---- a value that is over the limits
 
@@ -367,6 +204,19 @@ module _ (text : List ℕ) (at over end : ℕ) (c : IsCut text at over end) wher
   no_low_cut p stop h rest low within = let l = low_in_cut rest low within in no_low_name cut at (p, drop stop cut) (λ n lt. (h n lt).1) l.more l.low
 
 -- ---- all answers
+
+-- where no count is passed, the value that is read may be frozen
+pub read_within : (text : List ℕ) (at end : ℕ) (p : Plain) → NeverOver (drop at text) → Enough text at (λ n. (end ≤ length text) × (value_within n (drop at text) ≡ Ok (p, drop end text))) → IsWithinLimits p
+read_within text at end p never h =
+    let n : ℕ = suc (length text) in
+    let f = (value_format n).found (drop at text) p (drop end text) (h n (omega arith)).1 in
+    counted_within p f.fits.0 (drop end text) (subst NeverOver f.parts never)
+
+-- what is within the limits isn't too large
+pub not_too_large : (p : Plain) → IsWithinLimits p → IsTooLarge p → ⊥
+not_too_large p within (inl over) = omega (arith, within.nodes)
+not_too_large p within (inr (inl over)) = omega (arith, within.bytes)
+not_too_large p within (inr (inr over)) = omega (arith, within.flat)
 
 -- where no count is passed, a fault is told as it stands
 pub fault_within : (text : List ℕ) (at : ℕ) (e : Fault) → NeverOver (drop at text) → Enough text at (λ n. Fails text e (value_within n (drop at text))) → NamesValueFault text at (refusal e) × NamesTooLarge text at (refusal e)

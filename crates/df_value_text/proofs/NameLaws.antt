@@ -6,6 +6,7 @@ use Rattle.std.proofs.lemmas.Bool.Decides.{nat_tests}
 use Rattle.std.proofs.lemmas.List.{append-nil}
 use Rattle.std.proofs.lemmas.List.Folds.{list_all-append}
 use Rattle.std.proofs.Math.Seq.{take-append_seam, drop-append_seam}
+use Rattle.df_frozen.specs.Limits.{longest_name}
 use Rattle.df_frozen.specs.Name.{is_letter, is_name_byte, is_name}
 use Rattle.df_format.specs.Reading.{Stop, Bad, Low}
 use Rattle.df_format.specs.Grammar.{CanGoOn}
@@ -19,7 +20,7 @@ IsName name = is_name name ≡ true
 
 -- a name is as long as it can be, or the byte isn't one of a name
 abbrev pub name_goes : List ℕ → ℕ → Bool
-name_goes name c = nat_lt (length name) 32 && is_name_byte c
+name_goes name c = nat_lt (length name) longest_name && is_name_byte c
 
 -- what the count says of the bytes
 record Counted (most : ℕ) (cs : List ℕ) (k : ℕ) : Type 0 where

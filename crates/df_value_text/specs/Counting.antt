@@ -1,9 +1,9 @@
 -- Counting a value's nodes, bytes and depth from left to right, and the first byte by which a count of freezing is passed.
 use Rattle.std.specs.Prelude.{◌≡◌, ℕ, ◌+◌, ◌<◌, ◌≤◌, max, Bool, true, false, ◌||◌, List, [], ◌∷◌, ◌++◌, length, drop, Option, Some, None, ◌==◌, nat_lt, if◌then◌else◌, ◌⊎◌}
 use Rattle.std.specs.Char.{is_ascii_digit}
+use Rattle.df_frozen.specs.Limits.{most_nodes, most_bytes, most_depth}
 use Rattle.df_frozen.specs.Name.{is_name_byte}
 use Rattle.df_frozen.specs.Plain.{Plain, node_count, byte_count, depth}
-use Rattle.df_frozen.specs.declared.freeze.TheConstants.{MOST_NODES, MOST_BYTES, MOST_DEPTH}
 use Rattle.df_value_text.specs.ReadBytes.{is_hex}
 use Rattle.df_value_text.specs.ReadEscape.{is_quoted}
 use Rattle.df_value_text.specs.declared.place.Place.{Place}
@@ -124,13 +124,13 @@ pub record AreCountsOf (p : Plain) (w : Walk) : Type 0 where
 
 -- no count of freezing is passed
 pub record AreWithin (w : Walk) : Type 0 where
-  pub nodes : w.nodes ≤ MOST_NODES
-  pub bytes : w.bytes ≤ MOST_BYTES
-  pub flat : w.deep ≤ MOST_DEPTH
+  pub nodes : w.nodes ≤ most_nodes
+  pub bytes : w.bytes ≤ most_bytes
+  pub flat : w.deep ≤ most_depth
 
 -- a count of freezing is passed
 abbrev pub IsOver : Walk → Type 0
-IsOver w = (MOST_NODES < w.nodes) ⊎ ((MOST_BYTES < w.bytes) ⊎ (MOST_DEPTH < w.deep))
+IsOver w = (most_nodes < w.nodes) ⊎ ((most_bytes < w.bytes) ⊎ (most_depth < w.deep))
 
 -- the brackets that are open are within the depth
 abbrev pub IsCounted : Walk → Type 0

@@ -1,5 +1,6 @@
 -- Reading a name.
-use Rattle.std.specs.Prelude.{ℕ, zero, suc, List, [], ◌∷◌, take, drop, Ok, Err, if◌then◌else◌}
+use Rattle.std.specs.Prelude.{ℕ, zero, suc, ◌-◌, List, [], ◌∷◌, take, drop, Ok, Err, if◌then◌else◌}
+use Rattle.df_frozen.specs.Limits.{longest_name}
 use Rattle.df_frozen.specs.Name.{is_letter, is_name_byte}
 use Rattle.df_format.specs.Reading.{Bad, Read}
 
@@ -12,4 +13,4 @@ name_bytes (suc most) (c ∷ cs) = if is_name_byte c then suc (name_bytes most c
 -- the longest name
 abbrev pub name_at : List ℕ → Read ℕ (List ℕ)
 name_at [] = Err (Bad [])
-name_at (c ∷ cs) = if is_letter c then Ok (c ∷ take (name_bytes 31 cs) cs, drop (name_bytes 31 cs) cs) else Err (Bad (c ∷ cs))
+name_at (c ∷ cs) = if is_letter c then Ok (c ∷ take (name_bytes (longest_name - 1) cs) cs, drop (name_bytes (longest_name - 1) cs) cs) else Err (Bad (c ∷ cs))

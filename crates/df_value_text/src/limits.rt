@@ -1,7 +1,9 @@
 //! Values within the limits of freezing, and over them.
 ghost use Rattle.std.specs.Prelude.{◌≡◌, ◌≤◌, ◌<◌, ℕ, List, length, drop, IfErr, IfOk};
 ghost use Rattle.df_format.specs.Grammar.{Stands};
+ghost use Rattle.df_frozen.specs.Limits.{IsWithinLimits};
 ghost use Rattle.df_frozen.specs.Plain.{Plain};
+ghost use Rattle.df_frozen.specs.Value.{plain};
 ghost use Rattle.df_value_text.specs.Answer.{IsFound, IsRead, IsSyntaxAt};
 ghost use Rattle.df_value_text.specs.Counting.{FirstOver, NeverOver};
 ghost use Rattle.df_value_text.specs.Fits.{IsValue};
@@ -11,14 +13,25 @@ ghost use Rattle.df_value_text.specs.ValueFault.{IsWithinBefore, NamesTooLarge, 
 
 use crate::value_reader::value_at;
 use crate::{Fault, TextRefused};
-use df_frozen::Frozen;
+use df_frozen::{FreezeCause, Frozen, LONGEST_NAME, NoMemory, Value};
 use std::alloc::Global;
 
-/// How many bytes a name has at most.
-const LONGEST_NAME: usize = 32;
+/// A value within the limits of freezing, frozen: only memory can be wanting.
+fn frozen(alloc: Global, value: Value) -> Result<Frozen, NoMemory>
+    requires { IsWithinLimits (plain value) }
+    ensures { IfOk result (λ frozen. frozen ≡ plain value) }
+{
+    match value.freeze(alloc) {
+        Ok(frozen) => Ok(frozen),
+        Err(unfrozen) => match unfrozen.cause {
+            FreezeCause::NoMemory => Err(NoMemory),
+            FreezeCause::TooLarge { .. } => unreachable!(),
+        },
+    }
+}
 
 /// The longest value at the place, frozen, and the place behind it. From the place on no count of
-/// freezing is passed, so that freezing can only lack memory.
+/// freezing is passed.
 pub(crate) fn within_at(
     alloc: Global,
     bytes: &[u8],
@@ -33,9 +46,9 @@ pub(crate) fn within_at(
     ensures too_large { IfErr result (NamesTooLarge bytes.now at) }
 {
     let (value, end) = value_at(alloc, bytes, at)?;
-    match value.freeze(alloc) {
+    match frozen(alloc, value) {
         Ok(frozen) => Ok((frozen, end)),
-        Err(_) => Err(TextRefused::NoMemory),
+        Err(NoMemory) => Err(TextRefused::NoMemory),
     }
 }
 

@@ -1,35 +1,22 @@
 //! Reading names.
-ghost use Rattle.std.specs.Prelude.{◌≡◌, ◌≤◌, ◌<◌, ◌+◌, length, drop, true, IfOk};
-ghost use Rattle.df_frozen.specs.Name.{is_letter, is_name, is_name_byte};
+ghost use Rattle.std.specs.Prelude.{◌≡◌, ◌≤◌, ◌<◌, ◌+◌, ◌-◌, length, drop, true, IfOk};
+ghost use Rattle.df_frozen.specs.Limits.{longest_name};
+ghost use Rattle.df_frozen.specs.Name.{is_name};
 ghost use Rattle.df_value_text.specs.Answer.{Gives};
 ghost use Rattle.df_value_text.specs.ReadName.{name_at, name_bytes};
 
 use crate::Fault;
-use df_frozen::Name;
+use df_frozen::{LONGEST_NAME, Name, is_letter, is_name_byte};
 use std::str;
 
-/// Whether this is a letter a to z.
-fn is_letter(byte: u8) -> bool
-    ensures { result ≡ is_letter byte }
-{
-    byte.is_ascii_lowercase()
-}
-
-/// Whether this is a letter a to z, a digit or `_`.
-pub fn is_name_byte(byte: u8) -> bool
-    ensures { result ≡ is_name_byte byte }
-{
-    is_letter(byte) || byte.is_ascii_digit() || byte == b'_'
-}
-
-/// The place behind the further bytes of a name, of which there are at most 31.
+/// The place behind the further bytes of a name, of which there is room for all but one.
 fn name_end(bytes: &[u8], at: usize) -> usize
     requires { at ≤ length bytes.now }
     ensures place { result ≤ length bytes.now }
-    ensures value { result ≡ at + name_bytes 31 (drop at bytes.now) }
+    ensures value { result ≡ at + name_bytes (longest_name - 1) (drop at bytes.now) }
 {
     let mut count = 0;
-    while count < 31 && at + count < bytes.len() && is_name_byte(bytes[at + count]) {
+    while count < LONGEST_NAME - 1 && at + count < bytes.len() && is_name_byte(bytes[at + count]) {
         count += 1;
     }
     at + count

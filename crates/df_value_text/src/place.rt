@@ -5,7 +5,7 @@ ghost use Rattle.df_value_text.specs.declared.place.Place.TheVariants as place;
 
 use crate::brackets::Brackets;
 use crate::bytes_reader::is_hex;
-use crate::name_reader::is_name_byte;
+use df_frozen::is_name_byte;
 
 /// Where in a literal a byte stands.
 #[derive(Clone, Copy)]

@@ -3,17 +3,21 @@ use Rattle.std.proofs.lemmas.Result.{err_from_is_err_and}
 use Rattle.df_frozen.specs.Value.{plain}
 use Rattle.df_frozen.specs.declared.frozen.Frozen.{Frozen}
 use Rattle.df_value_text.specs.Answer.{refusal}
-use Rattle.df_value_text.proofs.LimitLaws.{fault_within, order_within, syntax_told}
+use Rattle.df_value_text.proofs.LimitLaws.{fault_within, order_within, read_within, syntax_told}
 use Rattle.df_value_text.proofs.ValueAnswers.{found_value, only_value, only_fault, no_low_name}
 use Rattle.df_value_text.proofs.limits.within_at.Goals as goal
+
+pub frozen-requires : goal.frozen-requires
+frozen-requires c = read_within c.args.bytes.now c.args.at c.in_ok-value.end (plain c.in_ok-value.value) c.requires.within c.in_ok-value.ensures.exact
 
 pub returns-in-Ok-clause-found : goal.returns-in-Ok-clause-found
 returns-in-Ok-clause-found c =
     let n : ℕ = suc (length c.args.bytes.now) in
-    found_value n c.args.bytes.now c.args.at c.in_ok-value.end (plain c.in_ok-value.value) c.in-Ok.frozen c.in-Ok.ensures.frozen c.in-Ok.ensures.within (c.in_ok-value.ensures.exact n (omega arith))
+    let within = read_within c.args.bytes.now c.args.at c.in_ok-value.end (plain c.in_ok-value.value) c.requires.within c.in_ok-value.ensures.exact in
+    found_value n c.args.bytes.now c.args.at c.in_ok-value.end (plain c.in_ok-value.value) c.in-Ok.frozen c.in-Ok.ensures within (c.in_ok-value.ensures.exact n (omega arith))
 
 pub returns-in-Ok-clause-only : goal.returns-in-Ok-clause-only
-returns-in-Ok-clause-only c = only_value c.args.bytes.now c.args.at c.in_ok-value.end (plain c.in_ok-value.value) c.in-Ok.frozen c.in-Ok.ensures.frozen c.in_ok-value.ensures.exact
+returns-in-Ok-clause-only c = only_value c.args.bytes.now c.args.at c.in_ok-value.end (plain c.in_ok-value.value) c.in-Ok.frozen c.in-Ok.ensures c.in_ok-value.ensures.exact
 
 pub returns-in_err-value-clause-only : goal.returns-in_err-value-clause-only
 returns-in_err-value-clause-only c =
