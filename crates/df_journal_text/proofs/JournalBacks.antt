@@ -39,7 +39,7 @@ use Rattle.df_journal_text.proofs.StartBacks.{start_back}
 -- ---- the first byte of an entry
 
 -- what begins with a digit does so with anything behind it
-more_first : (bytes more : List ℕ) → begins_digit bytes ≡ true → begins_digit (bytes ++ more) ≡ true
+pub more_first : (bytes more : List ℕ) → begins_digit bytes ≡ true → begins_digit (bytes ++ more) ≡ true
 more_first [] more digit = absurd cc
 more_first (c ∷ cs) more digit = digit
 
@@ -82,7 +82,7 @@ digit_no_word : (bytes : List ℕ) → begins_digit bytes ≡ true → begins_wi
 digit_no_word [] digit = refl
 digit_no_word (c ∷ cs) digit = other c 101 digit refl
 
-digit_some : (bytes : List ℕ) → begins_digit bytes ≡ true → 0 < length bytes
+pub digit_some : (bytes : List ℕ) → begins_digit bytes ≡ true → 0 < length bytes
 digit_some [] digit = absurd cc
 digit_some (c ∷ cs) digit = omega arith
 

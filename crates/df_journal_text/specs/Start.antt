@@ -4,12 +4,18 @@ use Rattle.std.specs.List.{flat_map}
 use Rattle.df_value_text.specs.Label.{label_text, privilege_text}
 use Rattle.df_machine.specs.declared.start.RootStart.{RootStart}
 use Rattle.df_unit.specs.declared.entry.Noted.{Noted}
-use Rattle.df_journal_text.specs.Line.{line}
+use Rattle.df_journal_text.specs.Line.{line, spaced}
 use Rattle.df_journal_text.specs.Entry.{noted_text}
 
--- the line of a root: its number, its label and its privileges
+-- the line of a root, without its line feed: its number, its label and its privileges
+abbrev pub root_text : ℕ → RootStart → List ℕ
+root_text number root =
+    codes "unit" ++
+    spaced (decimal number ∷ label_text root.label ∷ map privilege_text root.privileges)
+
+-- the line of a root
 abbrev pub root_line : ℕ → RootStart → List ℕ
-root_line number root = line (codes "unit") (decimal number ∷ label_text root.label ∷ map privilege_text root.privileges)
+root_line number root = root_text number root ++ 10 ∷ []
 
 -- the lines of these roots, of which the first has this number
 abbrev pub roots_text : ℕ → List RootStart → List ℕ

@@ -9,9 +9,11 @@ use Rattle.df_machine.specs.declared.start.RootStart.{RootStart}
 use Rattle.df_value_text.specs.Label.{label_text, privilege_text}
 use Rattle.df_journal_text.specs.Start.{roots_text, start_text}
 use Rattle.df_script_text.specs.declared.line.ScriptLine.{ScriptLine}
-use Rattle.df_script_text.specs.Lines.{call_line, root_line, numbered, body_lines, script_lines}
+use Rattle.df_journal_text.specs.Start.{root_text}
+use Rattle.df_script_text.specs.Lines.{call_line, numbered, body_lines, script_lines}
 use Rattle.df_script_text.specs.Reads.{Reads}
-use Rattle.df_script_text.specs.Script.{IsReadLine, IsReadRoot, IsScript, script_line, script_text}
+use Rattle.df_journal_text.specs.Fits.{IsRoot}
+use Rattle.df_script_text.specs.Script.{IsReadLine, IsScript, script_line, script_text}
 use Rattle.df_script_text.proofs.Calls.{Avoids-call}
 use Rattle.df_script_text.proofs.Splits.{Avoids, Avoids-word, Avoids-words, Avoids-line, AreWords-root}
 use Rattle.df_script_text.proofs.Numbered.{numbered-each}
@@ -33,9 +35,9 @@ join_with_byte-ended (l ∷ []) = sym (append-nil (l ++ 10 ∷ []))
 join_with_byte-ended (l ∷ m ∷ ls) = ap (λ (k : List ℕ). l ++ (10 ∷ k)) (join_with_byte-ended (m ∷ ls)) ∙ sym (append_assoc l (10 ∷ []) (flat_map ended (m ∷ ls)))
 
 -- the lines of roots
-roots_text-numbered : (n : ℕ) (roots : List RootStart) → roots_text n roots ≡ flat_map ended (numbered root_line n roots)
+roots_text-numbered : (n : ℕ) (roots : List RootStart) → roots_text n roots ≡ flat_map ended (numbered root_text n roots)
 roots_text-numbered n [] = refl
-roots_text-numbered n (root ∷ roots) = ap (λ (l : List ℕ). ended (root_line n root) ++ l) (roots_text-numbered (n + 1) roots)
+roots_text-numbered n (root ∷ roots) = ap (λ (l : List ℕ). ended (root_text n root) ++ l) (roots_text-numbered (n + 1) roots)
 
 -- the lines of calls
 flat_map-script_line : (n : ℕ) (ls : List ScriptLine) → flat_map script_line ls ≡ flat_map ended (numbered (λ _ l. call_line l) n ls)
@@ -47,12 +49,12 @@ script_text-lines : (roots : List RootStart) (ls : List ScriptLine) → script_t
 script_text-lines roots ls =
     let header : List ℕ = ended (codes "defcon-script 1") in
     let run : List ℕ = ended (codes "run") in
-    let us : List (List ℕ) = numbered root_line 0 roots in
+    let us : List (List ℕ) = numbered root_text 0 roots in
     let vs : List (List ℕ) = numbered (λ _ l. call_line l) 0 ls in
     append_assoc (header ++ start_text roots) run (flat_map script_line ls) ∙ append_assoc header (start_text roots) (run ++ flat_map script_line ls) ∙ ap (λ (l : List ℕ). header ++ l) (ap (λ (l : List ℕ). l ++ (run ++ flat_map script_line ls)) (roots_text-numbered 0 roots) ∙ ap (λ (l : List ℕ). flat_map ended us ++ (run ++ l)) (flat_map-script_line 0 ls) ∙ sym (flat_map-append ended us (codes "run" ∷ vs)))
 
 -- a root's line has no line feed
-Avoids-root : (k : ℕ) (root : RootStart) → k < 2 ^ 32 → IsReadRoot root → Avoids 10 (root_line k root)
+Avoids-root : (k : ℕ) (root : RootStart) → k < 2 ^ 32 → IsRoot root → Avoids 10 (root_text k root)
 Avoids-root k root small f =
     let w = AreWords-root k small root f in
     Avoids-line (codes "unit") (decimal k ∷ label_text root.label ∷ map privilege_text root.privileges) (Avoids-word 10 (codes "unit") (lit≤ tt) w.0) (Avoids-words (decimal k ∷ label_text root.label ∷ map privilege_text root.privileges) w.1)
@@ -60,10 +62,10 @@ Avoids-root k root small f =
 -- no line of a script has a line feed
 Avoids-script : (roots : List RootStart) (ls : List ScriptLine) → IsScript roots ls → AllByRecursion (Avoids 10) (codes "defcon-script 1" ∷ body_lines roots ls)
 Avoids-script roots ls h =
-    let root_lines : AllByRecursion (Avoids 10) (numbered root_line 0 roots) = numbered-each root_line (Avoids 10) IsReadRoot (2 ^ 32) Avoids-root 0 roots (omega (arith, h.0.0)) (recursion_from_All IsReadRoot roots h.0.1) in
+    let root_lines : AllByRecursion (Avoids 10) (numbered root_text 0 roots) = numbered-each root_text (Avoids 10) IsRoot (2 ^ 32) Avoids-root 0 roots (omega (arith, h.0.0)) (recursion_from_All IsRoot roots h.0.1) in
     let call_lines : AllByRecursion (Avoids 10) (numbered (λ _ l. call_line l) 0 ls) = numbered-each (λ _ l. call_line l) (Avoids 10) IsReadLine (length ls) (λ k l small f. Avoids-call l f) 0 ls (omega arith) (recursion_from_All IsReadLine ls h.1) in
     let header : Avoids 10 (codes "defcon-script 1") = Avoids-line (codes "defcon-script") (codes "1" ∷ []) (Avoids-word 10 (codes "defcon-script") (lit≤ tt) refl) (Avoids-words (codes "1" ∷ []) (refl, tt)) in
-    let body : AllByRecursion (Avoids 10) (body_lines roots ls) = recursion_from_All (Avoids 10) _ (All-append (Avoids 10) (numbered root_line 0 roots) (codes "run" ∷ numbered (λ _ l. call_line l) 0 ls) (All-from_recursion (Avoids 10) _ root_lines) (All-cons (Avoids 10) (codes "run") _ (Avoids-word 10 (codes "run") (lit≤ tt) refl) (All-from_recursion (Avoids 10) _ call_lines))) in
+    let body : AllByRecursion (Avoids 10) (body_lines roots ls) = recursion_from_All (Avoids 10) _ (All-append (Avoids 10) (numbered root_text 0 roots) (codes "run" ∷ numbered (λ _ l. call_line l) 0 ls) (All-from_recursion (Avoids 10) _ root_lines) (All-cons (Avoids 10) (codes "run") _ (Avoids-word 10 (codes "run") (lit≤ tt) refl) (All-from_recursion (Avoids 10) _ call_lines))) in
     (header, body)
 
 -- what reads the lines of a script reads the script

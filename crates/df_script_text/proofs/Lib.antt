@@ -9,3 +9,4 @@ pub mod Privileges
 pub mod Splits
 pub mod Values
 pub mod Words
+pub mod ScriptBacks

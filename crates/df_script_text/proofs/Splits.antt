@@ -9,9 +9,10 @@ use Rattle.df_machine.specs.declared.start.RootStart.{RootStart}
 use Rattle.df_value_text.specs.Fits.{IsPrivilege}
 use Rattle.df_value_text.specs.Label.{label_text, privilege_text}
 use Rattle.df_journal_text.specs.Line.{spaced}
-use Rattle.df_script_text.specs.Lines.{root_line, root_words}
+use Rattle.df_journal_text.specs.Start.{root_text}
+use Rattle.df_script_text.specs.Lines.{root_words}
 use Rattle.df_script_text.specs.Reads.{Reads}
-use Rattle.df_script_text.specs.Script.{IsReadRoot}
+use Rattle.df_journal_text.specs.Fits.{IsRoot}
 use Rattle.df_script_text.proofs.Words.{is_word, AreWords, both, is_word-decimal, is_word-label, AreWords-privileges}
 
 -- no byte of this text is the byte
@@ -64,14 +65,14 @@ Reads-spaced first words Fits each text ws is None r =
     λ x f e. r x f (is ∙ ap (slice_split (λ b. eqb b 32)) e ∙ slice_split-spaced (first x) (words x) (each x f).0 (each x f).1)
 
 -- the words of a root's line are words
-pub AreWords-root : (number : ℕ) → number < 2 ^ 32 → (root : RootStart) → IsReadRoot root → (is_word (codes "unit") ≡ true) × AreWords (decimal number ∷ label_text root.label ∷ map privilege_text root.privileges)
+pub AreWords-root : (number : ℕ) → number < 2 ^ 32 → (root : RootStart) → IsRoot root → (is_word (codes "unit") ≡ true) × AreWords (decimal number ∷ label_text root.label ∷ map privilege_text root.privileges)
 AreWords-root number small root f =
     (refl, (is_word-decimal number (omega (arith, small)), (is_word-label root.label f.0, AreWords-privileges root.privileges (recursion_from_All IsPrivilege root.privileges f.1.0))))
 
 -- what reads the words of a root's line reads the line
-pub Reads-root_line : (number : ℕ) → number < 2 ^ 32 → (text : List ℕ) (ws : List (List ℕ)) → ws ≡ slice_split (λ b. eqb b 32) text → (o : Option RootStart) → Reads (root_words number) IsReadRoot ws o → Reads (root_line number) IsReadRoot text o
+pub Reads-root_line : (number : ℕ) → number < 2 ^ 32 → (text : List ℕ) (ws : List (List ℕ)) → ws ≡ slice_split (λ b. eqb b 32) text → (o : Option RootStart) → Reads (root_words number) IsRoot ws o → Reads (root_text number) IsRoot text o
 Reads-root_line number small text ws is o r =
-    Reads-spaced (λ root. codes "unit") (λ root. decimal number ∷ label_text root.label ∷ map privilege_text root.privileges) IsReadRoot (AreWords-root number small) text ws is o r
+    Reads-spaced (λ root. codes "unit") (λ root. decimal number ∷ label_text root.label ∷ map privilege_text root.privileges) IsRoot (AreWords-root number small) text ws is o r
 
 -- what follows of each value that is returned
 pub IfOk-weaker : {X E : Type 0} {P Q : X → Type 0} (r : Result X E) → ((x : X) → P x → Q x) → IfOk r P → IfOk r Q

@@ -1,5 +1,6 @@
 pub mod Cut
 pub mod Lines
+pub mod ReadScript
 pub mod Reads
 pub mod Script
 pub mod Whole

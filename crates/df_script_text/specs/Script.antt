@@ -1,9 +1,6 @@
 -- Which scripts are read, and how they are spelled.
-use Rattle.std.specs.Prelude.{◌≡◌, ℕ, ◌<◌, ◌^◌, true, ⊤, List, [], ◌∷◌, ◌++◌, length, codes}
+use Rattle.std.specs.Prelude.{◌≡◌, ℕ, ◌<◌, ◌^◌, true, ⊤, List, [], ◌∷◌, ◌++◌, length, codes, Result, Ok, Err}
 use Rattle.std.specs.List.{All, flat_map}
-use Rattle.df_label.specs.Ascending.{IsAscending}
-use Rattle.df_label.specs.Privilege.{privilege_cmp}
-use Rattle.df_label.specs.declared.privilege.Privilege.{Privilege}
 use Rattle.df_frozen.specs.Name.{is_name}
 use Rattle.df_value_text.specs.Fits.{IsLabel, IsPrivilege, IsTag, IsValue}
 use Rattle.df_filter_text.specs.Fits.{IsFilter}
@@ -12,6 +9,7 @@ use Rattle.df_unit.specs.declared.name.UnitName.TheVariants.{Root, Managed}
 use Rattle.df_unit.specs.declared.call.Call.{Call}
 use Rattle.df_unit.specs.declared.call.Call.TheVariants.{CreateEvent, AddPart, DelPart, ReadPart, CloneEvent, AttachPrivilege, ChangeOutLabel, CreateTag, DropEvent, Subscribe, SubscribeManaged, Get, Publish, Release, ChangeInOut, Instantiate}
 use Rattle.df_machine.specs.declared.start.RootStart.{RootStart}
+use Rattle.df_journal_text.specs.Fits.{AreRoots, IsCall, IsUnit}
 use Rattle.df_journal_text.specs.Line.{line}
 use Rattle.df_journal_text.specs.Name.{unit_text}
 use Rattle.df_journal_text.specs.Call.{call_words}
@@ -58,21 +56,22 @@ IsReadCall (Instantiate s privileges) = ⊥
 abbrev pub IsReadLine : ScriptLine → Type 0
 IsReadLine l = IsReadActor l.actor × IsReadCall l.call
 
--- privileges in ascending order
-abbrev pub AreReadPrivileges : List Privilege → Type 0
-AreReadPrivileges ps = All IsPrivilege ps × IsAscending privilege_cmp ps
-
--- a root: its label, and its privileges in ascending order
-abbrev pub IsReadRoot : RootStart → Type 0
-IsReadRoot root = IsLabel root.label × AreReadPrivileges root.privileges
-
--- fewer than 2 ^ 32 such roots
-abbrev pub AreReadRoots : List RootStart → Type 0
-AreReadRoots roots = (length roots < 2 ^ 32) × All IsReadRoot roots
-
 -- a script that is read: such roots, and such calls of roots
 abbrev pub IsScript : List RootStart → List ScriptLine → Type 0
-IsScript roots lines = AreReadRoots roots × All IsReadLine lines
+IsScript roots lines = AreRoots roots × All IsReadLine lines
+
+-- a line of a script: any call of any unit
+abbrev pub IsScriptLine : ScriptLine → Type 0
+IsScriptLine l = IsUnit l.actor × IsCall l.call
+
+-- a script that has a spelling, whether it is read so far or not
+abbrev pub IsSpelledScript : List RootStart → List ScriptLine → Type 0
+IsSpelledScript roots lines = AreRoots roots × All IsScriptLine lines
+
+-- what is answered is this script, unless there was no memory
+abbrev pub IsReadScript : {X : Type 0} → (X → List RootStart × List ScriptLine) → List RootStart → List ScriptLine → Result X FileRefused → Type 0
+IsReadScript view roots lines (Ok script) = view script ≡ (roots, lines)
+IsReadScript view roots lines (Err e) = e ≡ NoMemory
 
 -- where a file is refused, no line is named
 abbrev pub NamesNoLine : FileRefused → Type 0

@@ -6,7 +6,7 @@ ghost use Rattle.std.specs.Str.{bytes_eq};
 ghost use Rattle.df_machine.specs.declared.start.RootStart.{RootStart};
 ghost use Rattle.df_script_text.specs.Lines.{script_lines};
 ghost use Rattle.df_script_text.specs.Reads.{Reads};
-ghost use Rattle.df_script_text.specs.Script.{IsScript, NamesNoLine, script_text};
+ghost use Rattle.df_script_text.specs.Script.{IsReadScript, IsScript, NamesNoLine, script_text};
 ghost use Rattle.df_script_text.specs.declared.line.ScriptLine.{ScriptLine};
 
 use crate::FileRefused;
@@ -55,9 +55,15 @@ fn read_whole(alloc: Global, lines: &[&[u8]]) -> Result<Option<(Start, Vec<Scrip
 /// Reads a script. A file that isn't spelled as one is refused as a whole: the line of the answer
 /// is 0, whichever line is bad.
 pub fn read_script(alloc: Global, bytes: &[u8]) -> Result<(Start, Vec<ScriptLine>), FileRefused>
-    ensures read { IfOk result (λ s. IsScript s.0 s.1.items × (bytes.now ≡ script_text s.0 s.1.items)) }
-    ensures syntax { result ≡ Err (FileRefused.Syntax 0) → (roots : List RootStart) (lines : List ScriptLine) → IsScript roots lines → bytes.now ≡ script_text roots lines → ⊥ }
+    ensures read { IfOk result (λ s. IsScript s.0 s.1.items ×
+        (bytes.now ≡ script_text s.0 s.1.items)) }
+    ensures syntax { result ≡ Err (FileRefused.Syntax 0) →
+        (roots : List RootStart) (lines : List ScriptLine) → IsScript roots lines
+        → bytes.now ≡ script_text roots lines → ⊥ }
     ensures line { IfErr result NamesNoLine }
+    ensures only { (roots : List RootStart) (lines : List ScriptLine) → IsScript roots lines
+        → bytes.now ≡ script_text roots lines
+        → IsReadScript (λ s. (s.0, s.1.items)) roots lines result }
 {
     let lines = pieces(alloc, bytes, b'\n')?;
     match read_whole(alloc, lines.as_slice())? {

@@ -3,6 +3,7 @@
 
 mod call;
 mod file;
+mod laws;
 mod line;
 mod pieces;
 mod refused;
@@ -10,6 +11,7 @@ mod root;
 mod word;
 
 pub use file::read_script;
+pub use laws::{a_script_is_read_back, a_text_is_one_script};
 pub use line::ScriptLine;
 pub use refused::FileRefused;
 

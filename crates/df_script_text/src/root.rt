@@ -6,9 +6,10 @@ ghost use Rattle.df_label.specs.Ascending.{IsAscending};
 ghost use Rattle.df_label.specs.Privilege.{privilege_cmp};
 ghost use Rattle.df_value_text.specs.Fits.{IsPrivilege};
 ghost use Rattle.df_value_text.specs.Label.{privilege_text};
-ghost use Rattle.df_script_text.specs.Lines.{numbered, root_line, root_words};
+ghost use Rattle.df_journal_text.specs.Start.{root_text};
+ghost use Rattle.df_script_text.specs.Lines.{numbered, root_words};
 ghost use Rattle.df_script_text.specs.Reads.{Reads};
-ghost use Rattle.df_script_text.specs.Script.{AreReadPrivileges, AreReadRoots, IsReadRoot};
+ghost use Rattle.df_journal_text.specs.Fits.{ArePrivileges, AreRoots, IsRoot};
 
 use crate::pieces::pieces;
 use crate::word::{read_label, read_number, read_privilege};
@@ -44,7 +45,7 @@ fn read_each(alloc: Global, words: &[&[u8]]) -> Result<Option<Vec<Privilege>>, N
 
 /// Privileges in ascending order.
 fn read_privileges(alloc: Global, words: &[&[u8]]) -> Result<Option<Privileges>, NoMemory>
-    ensures { IfOk result (Reads (map privilege_text) AreReadPrivileges (map (λ w. w.now) words.now)) }
+    ensures { IfOk result (Reads (map privilege_text) ArePrivileges (map (λ w. w.now) words.now)) }
 {
     let Some(read) = read_each(alloc, words)? else {
         return Ok(None);
@@ -75,7 +76,7 @@ fn begins_root(number: u32, keyword: &[u8], place: &[u8]) -> bool
 
 /// The words of the line of the root that has this number.
 fn read_words(alloc: Global, number: u32, words: &[&[u8]]) -> Result<Option<RootStart>, NoMemory>
-    ensures { IfOk result (Reads (root_words number) IsReadRoot (map (λ w. w.now) words.now)) }
+    ensures { IfOk result (Reads (root_words number) IsRoot (map (λ w. w.now) words.now)) }
 {
     let [keyword, place, label, privileges @ ..] = words else {
         return Ok(None);
@@ -94,7 +95,7 @@ fn read_words(alloc: Global, number: u32, words: &[&[u8]]) -> Result<Option<Root
 
 /// The line of the root that has this number, without its line feed.
 fn read_root(alloc: Global, number: u32, line: &[u8]) -> Result<Option<RootStart>, NoMemory>
-    ensures { IfOk result (Reads (root_line number) IsReadRoot line.now) }
+    ensures { IfOk result (Reads (root_text number) IsRoot line.now) }
 {
     let words = pieces(alloc, line, b' ')?;
     read_words(alloc, number, words.as_slice())
@@ -102,7 +103,7 @@ fn read_root(alloc: Global, number: u32, line: &[u8]) -> Result<Option<RootStart
 
 /// The lines of all roots, without their line feeds.
 pub fn read_roots(alloc: Global, lines: &[&[u8]]) -> Result<Option<Start>, NoMemory>
-    ensures { IfOk result (Reads (numbered root_line 0) AreReadRoots (map (λ l. l.now) lines.now)) }
+    ensures { IfOk result (Reads (numbered root_text 0) AreRoots (map (λ l. l.now) lines.now)) }
 {
     if lines.len() > u32::MAX as usize {
         return Ok(None);

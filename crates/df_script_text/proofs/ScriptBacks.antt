@@ -1,0 +1,101 @@
+-- Scripts that are spelled are read back, so a text is that of one script.
+use Rattle.std.proofs.Common.{◌≡◌, ℕ, ◌<◌, Bool, true, false, List, [], ◌∷◌, ◌++◌, length, map, Ok, codes, refl, sym, ap, subst, ◌∙◌, append_assoc, arith, inl, inr}
+use Rattle.std.specs.List.{All, AllByRecursion, flat_map}
+use Rattle.std.proofs.lemmas.List.{append-nil}
+use Rattle.std.proofs.lemmas.List.Elements.{All-weaker, recursion_from_All}
+use Rattle.df_format.proofs.Backs.{Back, all_back}
+use Rattle.df_format.proofs.Laws.{ok_is}
+use Rattle.df_machine.specs.declared.start.RootStart.{RootStart}
+use Rattle.df_unit.specs.declared.name.UnitName.{UnitName}
+use Rattle.df_unit.specs.declared.name.UnitName.TheVariants.{Root, Managed}
+use Rattle.df_unit.specs.declared.call.Call.{Call}
+use Rattle.df_unit.specs.declared.call.Call.TheVariants.{CreateEvent, AddPart, DelPart, ReadPart, CloneEvent, AttachPrivilege, ChangeOutLabel, CreateTag, DropEvent, Subscribe, SubscribeManaged, Get, Publish, Release, ChangeInOut, Instantiate}
+use Rattle.df_value_text.specs.ReadTag.{begins_digit}
+use Rattle.df_journal_text.specs.Call.{call_words}
+use Rattle.df_journal_text.specs.Fits.{IsCall, IsRoot, IsUnit}
+use Rattle.df_journal_text.specs.Line.{spaced}
+use Rattle.df_journal_text.specs.Name.{unit_text}
+use Rattle.df_journal_text.specs.ReadName.{unit_at}
+use Rattle.df_journal_text.specs.Start.{start_text}
+use Rattle.df_journal_text.proofs.CallBacks.{call_back}
+use Rattle.df_journal_text.proofs.JournalBacks.{digit_some, more_first, unit_first}
+use Rattle.df_journal_text.proofs.NameBacks.{unit_word}
+use Rattle.df_journal_text.proofs.StartBacks.{start_back}
+use Rattle.df_journal_text.proofs.WordBacks.{ends_spaced, line-rest}
+use Rattle.df_script_text.specs.ReadScript.{script_at, script_line_at}
+use Rattle.df_script_text.specs.Script.{IsReadActor, IsReadCall, IsReadLine, IsScript, IsScriptLine, IsSpelledScript, script_line, script_text}
+use Rattle.df_script_text.specs.declared.line.ScriptLine.{ScriptLine}
+
+-- ---- lines
+
+line_first : (l : ScriptLine) (rest : List ℕ) → IsScriptLine l → begins_digit (script_line l ++ rest) ≡ true
+line_first l rest fits =
+    more_first (script_line l) rest
+    (more_first (unit_text l.actor ++ spaced (call_words l.call)) (10 ∷ [])
+    (more_first (unit_text l.actor) (spaced (call_words l.call)) (unit_first l.actor fits.0)))
+
+lines_are : Back begins_digit script_line IsScriptLine (λ rest. Unit {0}) script_line_at
+lines_are = record {
+  back = λ l rest fits next.
+      let e1 = unit_word.back l.actor (spaced (call_words l.call) ++ 10 ∷ rest) fits.0 (ends_spaced (call_words l.call) (10 ∷ rest) (inr refl)) in
+      let e2 = call_back l.call (10 ∷ rest) fits.1 (inr refl) refl in
+      ap script_line_at (line-rest (unit_text l.actor) (call_words l.call) rest) ∙ rw (e1, e2) refl;
+  stand = λ l rest fits. line_first l rest fits;
+  some = λ l fits. subst (λ (u : List ℕ). 0 < length u) (append-nil (script_line l)) (digit_some (script_line l ++ []) (line_first l [] fits));
+  next = λ l rest fits. tt;
+}
+
+-- ---- scripts
+
+pub script_back : (roots : List RootStart) (lines : List ScriptLine) (rest : List ℕ) → IsSpelledScript roots lines → begins_digit rest ≡ false → script_at (script_text roots lines ++ rest) ≡ Ok ((roots, lines), rest)
+script_back roots lines rest fits end =
+    let calls : List ℕ = flat_map script_line lines ++ rest in
+    let whole : script_text roots lines ++ rest ≡ codes "defcon-script 1\n" ++ (start_text roots ++ (codes "run\n" ++ calls)) =
+        append_assoc ((codes "defcon-script 1\n" ++ start_text roots) ++ codes "run\n") (flat_map script_line lines) rest
+        ∙ append_assoc (codes "defcon-script 1\n" ++ start_text roots) (codes "run\n") calls in
+    let e1 = start_back roots (codes "run\n" ++ calls) (recursion_from_All IsRoot roots fits.0.1) refl in
+    let e2 = all_back lines_are lines rest (recursion_from_All IsScriptLine lines fits.1) tt end in
+    ap script_at whole ∙ rw (e1, e2) refl
+
+pub script_is_one : (roots others : List RootStart) (lines more : List ScriptLine) → IsSpelledScript roots lines → IsSpelledScript others more → script_text roots lines ≡ script_text others more → (roots ≡ others) × (lines ≡ more)
+script_is_one roots others lines more fits fits' same =
+    let one : (List RootStart × List ScriptLine) × List ℕ = ((roots, lines), []) in
+    let two : (List RootStart × List ScriptLine) × List ℕ = ((others, more), []) in
+    let both : one ≡ two = ok_is one two (sym (script_back roots lines [] fits refl) ∙ ap (λ (u : List ℕ). script_at (u ++ [])) same ∙ script_back others more [] fits' refl) in
+    (ap (λ (q : (List RootStart × List ScriptLine) × List ℕ). q.0.0) both, ap (λ (q : (List RootStart × List ScriptLine) × List ℕ). q.0.1) both)
+
+-- ---- the scripts that are read so far are among those that have a spelling
+
+is_unit : (actor : UnitName) → IsReadActor actor → IsUnit actor
+is_unit (Root []) f = absurd f
+is_unit (Root (number ∷ [])) f = (f, tt)
+is_unit (Root (number ∷ next ∷ numbers)) f = absurd f
+is_unit (Managed owner sub s) f = absurd f
+
+is_call : (call : Call) → IsReadCall call → IsCall call
+is_call CreateEvent f = f
+is_call (AddPart h label name value) f = f
+is_call (DelPart h label name) f = f
+is_call (ReadPart h name) f = f
+is_call (CloneEvent h label) f = f
+is_call (AttachPrivilege h label name p) f = f
+is_call (ChangeOutLabel half act tag) f = f
+is_call CreateTag f = f
+is_call (DropEvent h) f = f
+is_call (Subscribe filter) f = f
+is_call (SubscribeManaged filter) f = absurd f
+is_call Get f = f
+is_call (Publish h) f = f
+is_call (Release h) f = f
+is_call (ChangeInOut half act tag) f = f
+is_call (Instantiate s privileges) f = absurd f
+
+pub is_spelled : (roots : List RootStart) (lines : List ScriptLine) → IsScript roots lines → IsSpelledScript roots lines
+is_spelled roots lines fits = (fits.0, All-weaker IsReadLine IsScriptLine (λ l f. (is_unit l.actor f.0, is_call l.call f.1)) lines fits.1)
+
+-- ---- what is answered
+
+pub only_script : (bytes : List ℕ) (read : List RootStart × List ScriptLine) → IsScript read.0 read.1 × (bytes ≡ script_text read.0 read.1) → (roots : List RootStart) (lines : List ScriptLine) → IsScript roots lines → bytes ≡ script_text roots lines → read ≡ (roots, lines)
+only_script bytes read found roots lines fits is =
+    let same = script_is_one read.0 roots read.1 lines (is_spelled read.0 read.1 found.0) (is_spelled roots lines fits) (sym found.1 ∙ is) in
+    ap (λ (rs : List RootStart). (rs, read.1)) same.0 ∙ ap (λ (ls : List ScriptLine). (roots, ls)) same.1
