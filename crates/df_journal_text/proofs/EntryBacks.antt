@@ -241,9 +241,9 @@ call_line_back actor call r rest fits_actor fits_call fits_reply =
     let behind : List ℕ = spaced (reply_words r) ++ 10 ∷ rest in
     let arrow : List ℕ = 32 ∷ 45 ∷ 62 ∷ behind in
     let words : spaced (call_words call ++ codes "->" ∷ reply_words r) ++ 10 ∷ rest ≡ spaced (call_words call) ++ arrow =
-        ap (λ (u : List ℕ). u ++ 10 ∷ rest) (flat_map-append word (call_words call) (codes "->" ∷ reply_words r)) ∙ append_assoc (spaced (call_words call)) (spaced (codes "->" ∷ reply_words r)) (10 ∷ rest) in
+    ap (λ (u : List ℕ). u ++ 10 ∷ rest) (flat_map-append word (call_words call) (codes "->" ∷ reply_words r)) ∙ append_assoc (spaced (call_words call)) (spaced (codes "->" ∷ reply_words r)) (10 ∷ rest) in
     let whole : call_line actor call r ++ rest ≡ unit_text actor ++ (spaced (call_words call) ++ arrow) =
-        line-rest (unit_text actor) (call_words call ++ codes "->" ∷ reply_words r) rest ∙ ap (λ (u : List ℕ). unit_text actor ++ u) words in
+    line-rest (unit_text actor) (call_words call ++ codes "->" ∷ reply_words r) rest ∙ ap (λ (u : List ℕ). unit_text actor ++ u) words in
     let e1 = unit_word.back actor (spaced (call_words call) ++ arrow) fits_actor (ends_spaced (call_words call) arrow (inl refl)) in
     let e2 = call_back call arrow fits_call (inl refl) refl in
     let e3 = reply_back r (10 ∷ rest) fits_reply (inr refl) in
@@ -258,9 +258,9 @@ done_back actor call r e note rest fits_actor fits_call fits_reply fits_effect f
     let behind_note : List ℕ = reads_text r ++ behind_reads in
     let behind_line : List ℕ = note_text note ++ behind_note in
     let whole : entry_text note (Done actor call r e) ++ rest ≡ call_line actor call r ++ behind_line =
-        append_assoc ((call_line actor call r ++ note_text note) ++ reads_text r) (effect_text e) rest
-        ∙ append_assoc (call_line actor call r ++ note_text note) (reads_text r) behind_reads
-        ∙ append_assoc (call_line actor call r) (note_text note) behind_note in
+    append_assoc ((call_line actor call r ++ note_text note) ++ reads_text r) (effect_text e) rest
+    ∙ append_assoc (call_line actor call r ++ note_text note) (reads_text r) behind_reads
+    ∙ append_assoc (call_line actor call r) (note_text note) behind_note in
     let e1 = call_line_back actor call r behind_line fits_actor fits_call fits_reply in
     let e2 = note_back note behind_note fits_note (reads_begin r behind_reads (effect_begins e rest 64 refl refl end.note)) in
     let e3 = shown_back r behind_reads fits_reply (effect_begins e rest 58 refl refl end.shown) in

@@ -142,8 +142,8 @@ pub journal_back : (roots : List RootStart) (noted : List Noted) (rest : List �
 journal_back roots noted rest fits end =
     let entries : List ℕ = flat_map noted_text noted ++ rest in
     let whole : journal_text roots noted ++ rest ≡ codes "defcon-journal 2\n" ++ (start_text roots ++ (codes "run\n" ++ entries)) =
-        append_assoc ((codes "defcon-journal 2\n" ++ start_text roots) ++ codes "run\n") (flat_map noted_text noted) rest
-        ∙ append_assoc (codes "defcon-journal 2\n" ++ start_text roots) (codes "run\n") entries in
+    append_assoc ((codes "defcon-journal 2\n" ++ start_text roots) ++ codes "run\n") (flat_map noted_text noted) rest
+    ∙ append_assoc (codes "defcon-journal 2\n" ++ start_text roots) (codes "run\n") entries in
     let e1 = start_back roots (codes "run\n" ++ entries) (recursion_from_All IsRoot roots fits.0.1) refl in
     let e2 = all_back entries_are noted rest (recursion_from_All IsNoted noted fits.1) end.unmarked end.last in
     ap journal_at whole ∙ rw (e1, e2) refl

@@ -1,5 +1,5 @@
 ghost use Rattle.std.specs.Prelude.{◌≡◌, ◌++◌, ◌∷◌, [], OnOk, codes, option_copied};
-ghost use Rattle.df_journal_text.specs.Entry.{call_line, edit_text, entry_text, note_text, noted_text, reads_text};
+ghost use Rattle.df_journal_text.specs.Entry.{call_line, edit_text, entry_text, note_text, reads_text};
 ghost use Rattle.df_journal_text.specs.Line.{line};
 ghost use Rattle.df_journal_text.specs.Name.{event_text};
 
@@ -9,7 +9,7 @@ use crate::line::{append_label_word, append_word};
 use crate::name::append_unit;
 use crate::reply::append_reply;
 use df_label::{Label, NoMemory};
-use df_unit::{Call, Commit, Entry, Noted, Reply, UnitName};
+use df_unit::{Call, Commit, Entry, Reply, UnitName};
 
 /// Appends the line of a call and its reply.
 fn append_call_line(
@@ -81,11 +81,4 @@ pub fn append_entry(
         }
         Entry::Emitted(commit) => append_emitted(commit, to),
     }
-}
-
-/// Appends the lines of a noted entry.
-pub fn append_noted(noted: &Noted, to: &mut Vec<u8>) -> Result<(), NoMemory>
-    ensures { OnOk result (to.new.items ≡ to.old.items ++ noted_text noted.now) }
-{
-    append_entry(&noted.entry, &noted.contamination, to)
 }

@@ -9,8 +9,12 @@ mod line;
 mod name;
 mod reply;
 mod start;
+mod writers;
 
 pub use laws::{a_journal_is_read_back, a_text_is_one_journal};
-pub use entry::{append_entry, append_noted};
-pub use name::{append_event, append_unit};
-pub use start::{append_head, append_start};
+pub use writers::{
+    write_entry, write_event, write_head, write_noted, write_noting, write_start, write_unit,
+};
+
+#[cfg(test)]
+mod tests;

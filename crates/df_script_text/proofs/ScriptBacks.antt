@@ -1,6 +1,6 @@
 -- Scripts that are spelled are read back, so a text is that of one script.
-use Rattle.std.proofs.Common.{◌≡◌, ℕ, ◌<◌, Bool, true, false, List, [], ◌∷◌, ◌++◌, length, map, Ok, codes, refl, sym, ap, subst, ◌∙◌, append_assoc, arith, inl, inr}
-use Rattle.std.specs.List.{All, AllByRecursion, flat_map}
+use Rattle.std.proofs.Common.{◌≡◌, ℕ, ◌<◌, true, false, List, [], ◌∷◌, ◌++◌, length, Ok, codes, refl, sym, ap, subst, ◌∙◌, append_assoc, inr}
+use Rattle.std.specs.List.{flat_map}
 use Rattle.std.proofs.lemmas.List.{append-nil}
 use Rattle.std.proofs.lemmas.List.Elements.{All-weaker, recursion_from_All}
 use Rattle.df_format.proofs.Backs.{Back, all_back}
@@ -15,7 +15,6 @@ use Rattle.df_journal_text.specs.Call.{call_words}
 use Rattle.df_journal_text.specs.Fits.{IsCall, IsRoot, IsUnit}
 use Rattle.df_journal_text.specs.Line.{spaced}
 use Rattle.df_journal_text.specs.Name.{unit_text}
-use Rattle.df_journal_text.specs.ReadName.{unit_at}
 use Rattle.df_journal_text.specs.Start.{start_text}
 use Rattle.df_journal_text.proofs.CallBacks.{call_back}
 use Rattle.df_journal_text.proofs.JournalBacks.{digit_some, more_first, unit_first}

@@ -1,5 +1,5 @@
 -- Which scripts are read, and how they are spelled.
-use Rattle.std.specs.Prelude.{◌≡◌, ℕ, ◌<◌, ◌^◌, true, ⊤, List, [], ◌∷◌, ◌++◌, length, codes, Result, Ok, Err}
+use Rattle.std.specs.Prelude.{◌≡◌, ℕ, ◌<◌, ◌^◌, true, ⊤, List, [], ◌∷◌, ◌++◌, codes, Result, Ok, Err}
 use Rattle.std.specs.List.{All, flat_map}
 use Rattle.df_frozen.specs.Name.{is_name}
 use Rattle.df_value_text.specs.Fits.{IsLabel, IsPrivilege, IsTag, IsValue}
