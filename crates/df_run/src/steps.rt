@@ -7,7 +7,7 @@ ghost use Rattle.df_script_text.specs.declared.refused.FileRefused.{FileRefused}
 ghost use Rattle.df_machine.specs.Journal.{appended};
 ghost use Rattle.df_run.specs.Steps.{AppendsStep, Records, RecordsScript, RefusesLine, contamination_in};
 
-use df_journal_text::{append_entry, append_head};
+use df_journal_text::{write_head, write_noting};
 use df_label::{Label, NoMemory};
 use df_machine::{Core, Start};
 use df_script_text::{FileRefused, ScriptLine, read_script};
@@ -36,7 +36,7 @@ fn journal_of(alloc: Global, start: Start, mut lines: Vec<ScriptLine>) -> Result
     ensures { IfOk result (λ text. Records start lines.items text.items) }
 {
     let mut text = Vec::new(alloc);
-    append_head(&start, &mut text)?;
+    write_head(&start, &mut text)?;
     let mut core = Core::start(alloc, start)?;
     lines.reverse();
     while let Some(line) = lines.pop() {
@@ -88,5 +88,5 @@ fn append_newest(
     let Some(entry) = core.newest() else {
         unreachable!()
     };
-    append_entry(entry, contamination, text)
+    write_noting(entry, contamination, text)
 }

@@ -8,7 +8,7 @@ use Rattle.df_run.proofs.steps.journal_of.Goals as goal
 
 pub loop-line-init : goal.loop-line-init
 loop-line-init c =
-    ([], ap reverse c.reverse.ensures.items ∙ reverse-reverse c.args.lines.items, written_none c.args.start c.in_ok-core.core c.append_head.new.to.items c.in_ok-core.ensures (c.in_ok-append_head.ensures ∙ ap (λ (t : List ℕ). t ++ head_text c.args.start) c.new-text.ensures.items))
+    ([], ap reverse c.reverse.ensures.items ∙ reverse-reverse c.args.lines.items, written_none c.args.start c.in_ok-core.core c.write_head.new.to.items c.in_ok-core.ensures (c.in_ok-write_head.ensures.ok ∙ ap (λ (t : List ℕ). t ++ head_text c.args.start) c.new-text.ensures.items))
 
 pub append_step-requires : goal.append_step-requires
 append_step-requires c =
