@@ -181,7 +181,11 @@ fn names_and_starts_are_written(rt: HostRuntime) -> Result<(), Fail> {
 fn calls(alloc: Global) -> Result<Vec<(Call, Reply, &'static [u8])>, Fail> {
     let h = 1;
     let mut rows: Vec<(Call, Reply, &'static [u8])> = Vec::new(alloc);
-    rows.push((Call::CreateEvent, Reply::Handle(0), b"0 create -> handle 0\n"))?;
+    rows.push((
+        Call::CreateEvent,
+        Reply::Handle(0),
+        b"0 create -> handle 0\n",
+    ))?;
     rows.push((
         Call::AddPart {
             h,
@@ -237,8 +241,16 @@ fn calls(alloc: Global) -> Result<Vec<(Call, Reply, &'static [u8])>, Fail> {
         Reply::NoSuchUnit,
         b"0 inout I del #0 -> no unit\n",
     ))?;
-    rows.push((Call::CreateTag, Reply::Tag(tag(alloc, 9)?), b"0 tag -> tag #9\n"))?;
-    rows.push((Call::DropEvent { h }, Reply::NoSuchHandle, b"0 drop 1 -> no handle\n"))?;
+    rows.push((
+        Call::CreateTag,
+        Reply::Tag(tag(alloc, 9)?),
+        b"0 tag -> tag #9\n",
+    ))?;
+    rows.push((
+        Call::DropEvent { h },
+        Reply::NoSuchHandle,
+        b"0 drop 1 -> no handle\n",
+    ))?;
     rows.push((
         Call::Subscribe {
             filter: filter(alloc)?,
@@ -254,7 +266,11 @@ fn calls(alloc: Global) -> Result<Vec<(Call, Reply, &'static [u8])>, Fail> {
         b"0 msub a? -> too many subs\n",
     ))?;
     rows.push((Call::Get, Reply::Nothing, b"0 get -> nothing\n"))?;
-    rows.push((Call::Publish { h }, Reply::EmptyEvent, b"0 publish 1 -> empty event\n"))?;
+    rows.push((
+        Call::Publish { h },
+        Reply::EmptyEvent,
+        b"0 publish 1 -> empty event\n",
+    ))?;
     rows.push((
         Call::Release { h },
         Reply::CannotWrite {
@@ -298,7 +314,12 @@ fn effects_and_notes_are_written(rt: HostRuntime) -> Result<(), Fail> {
             b"1.2/3{#0} read 1 a -> parts\n@ {#0|}\n: {#0|} -5 #0+auth\n",
         ),
         (
-            noted(alloc, Call::Publish { h: 1 }, Reply::Ok, Effect::Commit(commit(alloc)?))?,
+            noted(
+                alloc,
+                Call::Publish { h: 1 },
+                Reply::Ok,
+                Effect::Commit(commit(alloc)?),
+            )?,
             b"1.2/3{#0} publish 1 -> ok\n@ {#0|}\n= 0!7\n- {|} b\n+ {#0|} a -5 #0+auth\n",
         ),
         (
