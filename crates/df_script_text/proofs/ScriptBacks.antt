@@ -50,8 +50,8 @@ pub script_back : (roots : List RootStart) (lines : List ScriptLine) (rest : Lis
 script_back roots lines rest fits end =
     let calls : List ℕ = flat_map script_line lines ++ rest in
     let whole : script_text roots lines ++ rest ≡ codes "defcon-script 1\n" ++ (start_text roots ++ (codes "run\n" ++ calls)) =
-        append_assoc ((codes "defcon-script 1\n" ++ start_text roots) ++ codes "run\n") (flat_map script_line lines) rest
-        ∙ append_assoc (codes "defcon-script 1\n" ++ start_text roots) (codes "run\n") calls in
+    append_assoc ((codes "defcon-script 1\n" ++ start_text roots) ++ codes "run\n") (flat_map script_line lines) rest
+    ∙ append_assoc (codes "defcon-script 1\n" ++ start_text roots) (codes "run\n") calls in
     let e1 = start_back roots (codes "run\n" ++ calls) (recursion_from_All IsRoot roots fits.0.1) refl in
     let e2 = all_back lines_are lines rest (recursion_from_All IsScriptLine lines fits.1) tt end in
     ap script_at whole ∙ rw (e1, e2) refl

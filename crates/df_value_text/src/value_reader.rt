@@ -13,7 +13,7 @@ use crate::bytes_reader::bytes_at;
 use crate::name_reader::name_at;
 use crate::number_reader::{byte_at, byte_stands, whole_at};
 use crate::words_reader::words_at;
-use df_frozen::{Entries, Items, Name, Value};
+use df_frozen::{Entries, Items, LONGEST_NAME, Name, Value};
 use std::alloc::Global;
 
 /// The longest value at the place, and the place behind it. It takes a stack as deep as the value.
@@ -163,7 +163,7 @@ fn is_greatest(name: &Name) -> bool
     ensures { result ≡ is_greatest name.now }
 {
     let text = name.as_bytes();
-    32 <= text.len() && are_z(text)
+    LONGEST_NAME <= text.len() && are_z(text)
 }
 
 /// Whether a comma stands at the place, behind which an entry may stand.
