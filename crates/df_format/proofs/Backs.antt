@@ -1,17 +1,7 @@
 -- What is spelled is read back, and what stands behind it is left.
 use Rattle.std.proofs.Common.{◌≡◌, ℕ, zero, suc, ◌<◌, ◌≤◌, Bool, true, false, List, [], ◌∷◌, ◌++◌, length, Ok, refl, sym, ap, subst, ◌∙◌, append_assoc, arith, length-append}
 use Rattle.std.specs.List.{AllByRecursion, flat_map}
-use Rattle.df_format.specs.Reading.{Read, then_at, as_at, while_at, all_at}
-
--- something made of what is read
-pub as_back : {T X Y : Type 0} (make : X → Y) (read : List T → Read T X) (tokens : List T) (x : X) (rest : List T) → read tokens ≡ Ok (x, rest) → as_at make read tokens ≡ Ok (make x, rest)
-as_back make read tokens x rest e = rw e refl
-
--- one thing and then another
-pub then_back : {T X Y : Type 0} (first : List T → Read T X) (second : List T → Read T Y) (tokens : List T) (x : X) (between : List T) (y : Y) (rest : List T) → first tokens ≡ Ok (x, between) → second between ≡ Ok (y, rest) → then_at first second tokens ≡ Ok ((x, y), rest)
-then_back first second tokens x between y rest e f = rw (e, f) refl
-
--- ---- several
+use Rattle.df_format.specs.Reading.{Read, while_at, all_at}
 
 -- What is spelled is read back before what may follow, it stands there, and it may follow itself.
 pub record Back {T X : Type 0} (stands : List T → Bool) (spell : X → List T) (Fits : X → Type 0) (Next : List T → Type 0) (read : List T → Read T X) : Type 0 where
