@@ -1,0 +1,5 @@
+pub mod Stairs
+pub mod Matching
+pub mod Ranking
+pub mod Clearing
+pub mod Auction
