@@ -5,3 +5,5 @@ pub mod Starting
 pub mod Finishing
 pub mod Resting
 pub mod Theorem
+pub mod Fields
+pub mod Reading

@@ -3,3 +3,5 @@ pub mod Matching
 pub mod Ranking
 pub mod Clearing
 pub mod Auction
+pub mod OrderFile
+pub mod Refusing

@@ -3,9 +3,12 @@
 
 mod lot;
 mod market;
+mod orders;
 mod outcome;
+mod record;
 mod shown;
 mod sweep;
 
 pub use market::{auction, certified};
+pub use orders::{OrdersRefused, read_orders};
 pub use outcome::Auction;

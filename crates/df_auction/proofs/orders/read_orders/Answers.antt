@@ -1,0 +1,50 @@
+use Rattle.std.proofs.Common.{Bor, List, ℕ, ◌≡◌, ◌∙◌, ◌++◌, ◌∷◌, [], sym, refl, inl, inr, true, Some}
+use Rattle.csv.specs.Reading.{Reached, default_config, strip_bom}
+use Rattle.csv.specs.Records.{fields_of}
+use Rattle.csv.specs.declared.parser.State.TheVariants as st
+use Rattle.csv.proofs.ReadFacts.{rows-more}
+use Rattle.df_auction.proofs.Reading.{read_more, read_bad}
+use Rattle.df_auction.proofs.orders.read_orders.Goals as goal
+
+pub loop-line-init : goal.loop-line-init
+unfolding Reached
+loop-line-init c =
+    let fr = c.from_reader-reader.ensures in
+    let e = c.flexible.ensures in
+    let g = c.has_headers.ensures in (
+      rw (e, g) at fr.trim ∙ c.new.ensures.trim,
+      inr (inr (rw (e, g) at fr.has_headers, fr.headers)),
+      rw (e, g) at fr.config ∙ c.new.ensures.config,
+      strip_bom c.args.bytes.now,
+      fr.source,
+      [],
+      (sym fr.state, refl),
+      inl (refl, c.new-orders.ensures.items, refl),
+    )
+
+pub loop-line-preserved : goal.loop-line-preserved
+loop-line-preserved c =
+    let inv = c.loop-line.invariant in
+    let fields = fields_of c.read_byte_record.new.row in
+    let read = rw c.if-not-found.false at (c.in-Ok.ensures.reads inv.0 inv.1) in
+    let m = rows-more (λ (s : Bor (List ℕ)). Some s.now) c.loop-line.reader c.read_byte_record.new.self fields default_config st.StartRecord (strip_bom c.args.bytes.now) inv.3 inv.5 inv.2 inv.4 inv.6 read in
+    let took = rw c.if-not-good.false at c.in_ok-good.ensures in (
+      read.3 ∙ inv.0,
+      inl (c.in-Ok.ensures.ready inv.0),
+      read.2 ∙ inv.2,
+      m.0,
+      m.1,
+      inv.5 ++ fields ∷ [],
+      m.2,
+      read_more inv.5 c.loop-line.orders.items c.take_row.new.orders.items fields c.loop-line.line inv.7 took,
+    )
+
+pub returns-then-not-good-clause-refused : goal.returns-then-not-good-clause-refused
+returns-then-not-good-clause-refused c =
+    let inv = c.loop-line.invariant in
+    let fields = fields_of c.read_byte_record.new.row in
+    let read = rw c.if-not-found.false at (c.in-Ok.ensures.reads inv.0 inv.1) in
+    let m = rows-more (λ (s : Bor (List ℕ)). Some s.now) c.loop-line.reader c.read_byte_record.new.self fields default_config st.StartRecord (strip_bom c.args.bytes.now) inv.3 inv.5 inv.2 inv.4 inv.6 read in
+    let took = rw c.if-not-good.true at c.in_ok-good.ensures in
+    let bad = read_bad inv.5 c.loop-line.orders.items c.take_row.new.orders.items fields c.loop-line.line inv.7 took in
+    inr (inv.5, fields, (c.read_byte_record.new.self.state, m.0, m.2), bad.0, bad.1)

@@ -1,0 +1,6 @@
+use Rattle.std.proofs.Common.{◌≡◌, refl, sym, ◌∙◌}
+use Rattle.df_auction.proofs.Fields.{symbol_is_text}
+use Rattle.df_auction.proofs.record.words.Goals as goal
+
+pub unreachable-requires : goal.unreachable-requires
+unreachable-requires c = c.in-Err.ensures.cases.0 (symbol_is_text c.args.symbol.now c.requires)
