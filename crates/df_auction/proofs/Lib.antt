@@ -7,3 +7,4 @@ pub mod Resting
 pub mod Theorem
 pub mod Fields
 pub mod Reading
+pub mod Symbols

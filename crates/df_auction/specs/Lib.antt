@@ -3,5 +3,6 @@ pub mod Matching
 pub mod Ranking
 pub mod Clearing
 pub mod Auction
+pub mod AuctionText
 pub mod OrderFile
 pub mod Refusing

@@ -14,13 +14,13 @@ abbrev pub lots : (Order → Bool) → ℕ → List Order → List Lot
 lots P k [] = []
 lots P k (o ∷ orders) = if P o then lot_of k o ∷ lots P (k + 1) orders else lots P (k + 1) orders
 
--- a lot goes before the first one that isn't better
-abbrev pub put : (Lot → Lot → Bool) → Lot → List Lot → List Lot
+-- one goes before the first that isn't better
+abbrev pub put : {X : Type 0} → (X → X → Bool) → X → List X → List X
 put better x [] = x ∷ []
 put better x (y ∷ ys) = if better y x then y ∷ put better x ys else x ∷ y ∷ ys
 
--- lots in rank: the better before the worse, and else in the order in which they came
-abbrev pub ranked : (Lot → Lot → Bool) → List Lot → List Lot
+-- a list in rank: the better before the worse, and else in the order in which they came
+abbrev pub ranked : {X : Type 0} → (X → X → Bool) → List X → List X
 ranked better [] = []
 ranked better (x ∷ xs) = put better x (ranked better xs)
 

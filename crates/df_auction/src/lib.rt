@@ -8,7 +8,9 @@ mod outcome;
 mod record;
 mod shown;
 mod sweep;
+mod text;
 
 pub use market::{auction, certified};
 pub use orders::{OrdersRefused, read_orders};
 pub use outcome::Auction;
+pub use text::write_auctions;
