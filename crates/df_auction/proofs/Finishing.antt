@@ -1,5 +1,5 @@
 -- Where the first purchase and the first sale can't trade, the fills clear the orders.
-use Rattle.std.proofs.Common.{◌≡◌, ◌≢◌, ℕ, zero, suc, ◌+◌, ◌-◌, ◌≤◌, ◌<◌, Bool, true, false, cond, not, ◌&&◌, List, [], ◌∷◌, ◌++◌, refl, sym, ap, subst, ◌∙◌, ◌⊎◌, inl, inr, ⊎_elim, arith, nat_le, nat_eq, if◌then◌else◌, append-nil, drop, length, get_or}
+use Rattle.std.proofs.Common.{◌≡◌, ℕ, zero, suc, ◌+◌, ◌-◌, ◌≤◌, ◌<◌, Bool, true, false, cond, not, ◌&&◌, List, [], ◌∷◌, refl, ap, subst, ◌⊎◌, inl, inr, ⊎_elim, arith, nat_le, nat_eq, if◌then◌else◌, append-nil, drop, length, get_or}
 use Rattle.std.proofs.lemmas.List.Sums.{sum_by-cons, sum_by-append}
 use Rattle.std.proofs.lemmas.Bool.{cases_Bool}
 use Rattle.std.proofs.lemmas.Bool.Decides.{nat_tests}
@@ -7,8 +7,8 @@ use Rattle.std.proofs.lemmas.Grind.{common_steps}
 use Rattle.df_book.specs.declared.order.Order.{Order}
 use Rattle.df_auction.specs.declared.lot.Fill.{Fill}
 use Rattle.df_auction.specs.declared.lot.Lot.{Lot}
-use Rattle.df_auction.specs.Stairs.{limit_of, qty_of, is_purchase, is_sale, buys_at, sells_at, qty_among, demand, supply}
-use Rattle.df_auction.specs.Matching.{given, bought, sold, total, limit_at, qty_at, IsMatching}
+use Rattle.df_auction.specs.Stairs.{limit_of, qty_of, is_purchase, is_sale, buys_at, sells_at, demand, supply}
+use Rattle.df_auction.specs.Matching.{given, bought, sold, total, limit_at, qty_at}
 use Rattle.df_auction.specs.Ranking.{purchases, sales, GoesThrough}
 use Rattle.df_auction.specs.Ranking.GoesThrough.{done}
 use Rattle.df_auction.specs.Clearing.{Clears, split_of}

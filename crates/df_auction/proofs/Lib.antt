@@ -8,3 +8,4 @@ pub mod Theorem
 pub mod Fields
 pub mod Reading
 pub mod Symbols
+pub mod Ranges

@@ -1,12 +1,11 @@
 -- A list that is sorted by a test, and keeps the order of what ties, is the ranked one.
-use Rattle.std.proofs.Common.{◌≡◌, ℕ, zero, suc, ◌≤◌, ◌<◌, Bool, true, false, not, ◌&&◌, cond, List, [], ◌∷◌, length, get_or, refl, sym, ap, subst, ◌∙◌, ◌⊎◌, inl, inr, ⊎_elim, arith, filter, nat_lt}
+use Rattle.std.proofs.Common.{◌≡◌, ℕ, suc, ◌≤◌, ◌<◌, Bool, true, false, not, ◌&&◌, cond, List, [], ◌∷◌, length, get_or, refl, sym, ap, subst, ◌∙◌, ⊎_elim, arith, filter, nat_lt}
 use Rattle.std.specs.Cmp.{IsStrictWeakOrder}
 use Rattle.std.specs.Ordering.{is_lt, nat_cmp}
 use Rattle.std.proofs.lemmas.Bool.Decides.{nat_tests}
 use Rattle.std.specs.List.Sorted.{IsSortedBy, IsStableBy, ties}
 use Rattle.std.proofs.lemmas.List.Sorted.{sorted_far, IsStrictWeakOrder-by_number, IsStrictWeakOrder-flip}
 use Rattle.std.proofs.lemmas.Bool.{cases_Bool}
-use Rattle.df_auction.specs.declared.lot.Lot.{Lot}
 use Rattle.df_auction.specs.Ranking.{put, ranked, asks_less, bids_more}
 
 module _ {X : Type 0} (by : X → X → Bool) (o : IsStrictWeakOrder by) where

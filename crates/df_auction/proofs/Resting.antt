@@ -1,12 +1,11 @@
 -- The orders with what is left of them, place by place.
-use Rattle.std.proofs.Common.{◌≡◌, ℕ, zero, suc, ◌+◌, ◌-◌, ◌≤◌, ◌<◌, Bool, true, false, cond, List, [], ◌∷◌, ◌++◌, refl, sym, ap, subst, ◌∙◌, ⊎_elim, arith, nat_eq, pos, drop, length, get_or, append_assoc}
+use Rattle.std.proofs.Common.{◌≡◌, ℕ, suc, ◌+◌, ◌≤◌, ◌<◌, true, false, cond, List, [], ◌∷◌, ◌++◌, sym, ap, ◌∙◌, arith, nat_eq, pos, drop, length, get_or, append_assoc}
 use Rattle.std.proofs.lemmas.Bool.Decides.{nat_tests}
 use Rattle.std.proofs.lemmas.Grind.{common_steps}
 use Rattle.std.proofs.Math.Seq.{drop-cons}
 use Rattle.df_book.specs.declared.order.Order.{Order}
 use Rattle.df_auction.specs.declared.lot.Fill.{Fill}
 use Rattle.df_auction.specs.Stairs.{qty_of}
-use Rattle.df_auction.specs.Matching.{bought, sold, qty_at}
 use Rattle.df_auction.specs.Clearing.{IsLeft}
 use Rattle.df_auction.specs.Auction.{left_of, rest_from, rest_of}
 use Rattle.df_auction.proofs.Sides.{read_is}

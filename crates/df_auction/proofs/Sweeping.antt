@@ -1,5 +1,5 @@
 -- What holds at each moment of a sweep, and that a trade of the first two lots keeps it.
-use Rattle.std.proofs.Common.{◌≡◌, ℕ, zero, suc, ◌+◌, ◌-◌, ◌≤◌, ◌<◌, Bool, true, false, cond, List, [], ◌∷◌, ◌++◌, refl, sym, ap, subst, ◌∙◌, ◌⊎◌, inl, inr, ⊎_elim, arith, sum_by, min, nat_lt, nat_eq, if◌then◌else◌, append_assoc, drop, take, length, get_or}
+use Rattle.std.proofs.Common.{◌≡◌, ℕ, zero, suc, ◌+◌, ◌-◌, ◌≤◌, ◌<◌, Bool, true, false, cond, List, [], ◌∷◌, ◌++◌, refl, sym, ap, subst, ◌∙◌, ◌⊎◌, inr, arith, sum_by, min, nat_lt, nat_eq, if◌then◌else◌, append_assoc, drop, take, length, get_or}
 use Rattle.std.specs.Prelude.{All}
 use Rattle.std.proofs.lemmas.List.Sums.{sum_by-cons, sum_by-append}
 use Rattle.std.proofs.lemmas.Bool.Decides.{nat_tests}
@@ -11,7 +11,7 @@ use Rattle.df_auction.specs.declared.lot.Lot.{Lot}
 use Rattle.df_auction.specs.Stairs.{is_purchase, is_sale}
 use Rattle.df_auction.specs.Matching.{given, bought, sold, total, limit_at, qty_at}
 use Rattle.df_auction.specs.Ranking.{after, fill_of, purchases, sales, GoesThrough}
-use Rattle.df_auction.specs.Ranking.GoesThrough.{done, trade}
+use Rattle.df_auction.specs.Ranking.GoesThrough.{trade}
 use Rattle.df_auction.proofs.Sides.{given-cons, given-append}
 
 -- each of a list

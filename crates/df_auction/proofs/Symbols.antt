@@ -1,6 +1,6 @@
 -- Orders that stand by symbol, cut into those of one symbol each.
-use Rattle.std.proofs.Common.{◌≡◌, ◌≢◌, ℕ, zero, suc, ◌+◌, ◌-◌, ◌*◌, ◌^◌, ◌≤◌, ◌<◌, List, [], ◌∷◌, ◌++◌, refl, sym, ap, subst, ◌∙◌, ◌⊎◌, inl, inr, ⊎_elim, arith, nat_lt, drop, take, length, get_or, append_assoc, append-nil}
-use Rattle.std.specs.Prelude.{All, Contains}
+use Rattle.std.proofs.Common.{◌≡◌, ◌≢◌, ℕ, suc, ◌+◌, ◌-◌, ◌^◌, ◌≤◌, ◌<◌, List, [], ◌∷◌, ◌++◌, refl, sym, ap, subst, ◌∙◌, ◌⊎◌, inl, inr, ⊎_elim, arith, nat_lt, drop, take, length, get_or, append_assoc, append-nil}
+use Rattle.std.specs.Prelude.{All}
 use Rattle.std.specs.Cmp.{IsStrictWeakOrder}
 use Rattle.std.proofs.lemmas.List.{get_or-take, get_or-drop, get_or_default, take-append-drop, drop-drop, length-take, length-drop}
 use Rattle.std.proofs.lemmas.List.Sorted.{ranks_by}
@@ -46,12 +46,12 @@ module _ (xs : List Order) (i n : ℕ) (some : i < n) (bound : n ≤ length xs) 
     few = omega (arith, long);
     in_range = λ k d lt. let l = long in subst IsInRange (sym (at k d (omega arith))) (all (i + k) d (omega arith));
     one_symbol = λ a b in_a in_b. let l = long in
-      let sa = is_at in_a.0 a (omega (arith, in_a.1)) in
-      let sb = is_at in_b.0 b (omega (arith, in_b.1)) in
-      let ea = ap (λ o. o.symbol) in_a.2 in
-      let eb = ap (λ o. o.symbol) in_b.2 in
-      let first = ap (λ o. o.symbol) (get_or_default xs i a b (omega arith)) in
-      sym ea ∙ (sa ∙ (first ∙ (sym sb ∙ eb)))
+        let sa = is_at in_a.0 a (omega (arith, in_a.1)) in
+        let sb = is_at in_b.0 b (omega (arith, in_b.1)) in
+        let ea = ap (λ o. o.symbol) in_a.2 in
+        let eb = ap (λ o. o.symbol) in_b.2 in
+        let first = ap (λ o. o.symbol) (get_or_default xs i a b (omega arith)) in
+        sym ea ∙ (sa ∙ (first ∙ (sym sb ∙ eb)));
   }
 
   module _ (o : Order) (rest : List Order) (is : market ≡ o ∷ rest) where
@@ -76,10 +76,10 @@ module _ (xs : List Order) (i n : ℕ) (some : i < n) (bound : n ≤ length xs) 
 
     without : ((d : Order) → n < length xs → (get_or xs n d).symbol ≢ (get_or xs i d).symbol) → BeginsWithout o.symbol (drop n xs)
     without other = ⊎_elim
-      (λ lt. let d = drop-cons xs n o lt in
-             subst (BeginsWithout o.symbol) (sym d) (λ e. other o lt (e ∙ ap (λ x. x.symbol) (sym (first_is o)))))
-      (λ le. let e : drop n xs ≡ [] = grind (arith, common_steps) in subst (BeginsWithout o.symbol) (sym e) tt)
-      (order n (length xs))
+        (λ lt. let d = drop-cons xs n o lt in
+        subst (BeginsWithout o.symbol) (sym d) (λ e. other o lt (e ∙ ap (λ x. x.symbol) (sym (first_is o)))))
+        (λ le. let e : drop n xs ≡ [] = grind (arith, common_steps) in subst (BeginsWithout o.symbol) (sym e) tt)
+        (order n (length xs))
 
   shape : (l : List Order) → 0 < length l → (o : Order) × (rest : List Order) × (l ≡ o ∷ rest)
   shape [] lt = absurd (omega arith)
@@ -93,9 +93,9 @@ module _ (xs : List Order) (i n : ℕ) (some : i < n) (bound : n ≤ length xs) 
     where
       go : (o : Order) (rest : List Order) → market ≡ o ∷ rest → AreLines xs (new ++ more)
       go o rest is =
-        let a = appends o rest is in
-        let step : AreLines (o ∷ (rest ++ drop n xs)) (auction_lines o.symbol a.0 ++ more) =
-            auction o rest (drop n xs) a.0 more (rest_same o rest is) (without o rest is other) (subst (λ m. Settles m a.0) is a.1) lines in
-        let all = h (auction_lines o.symbol a.0 ++ more) (subst (λ l. AreLines l (auction_lines o.symbol a.0 ++ more)) (sym (whole o rest is)) step) in
-        let e : old ++ (auction_lines o.symbol a.0 ++ more) ≡ new ++ more = sym (again old (auction_lines o.symbol a.0) more) ∙ ap (λ l. l ++ more) (sym a.2) in
-        subst (AreLines xs) e all
+          let a = appends o rest is in
+          let step : AreLines (o ∷ (rest ++ drop n xs)) (auction_lines o.symbol a.0 ++ more) =
+          auction o rest (drop n xs) a.0 more (rest_same o rest is) (without o rest is other) (subst (λ m. Settles m a.0) is a.1) lines in
+          let all = h (auction_lines o.symbol a.0 ++ more) (subst (λ l. AreLines l (auction_lines o.symbol a.0 ++ more)) (sym (whole o rest is)) step) in
+          let e : old ++ (auction_lines o.symbol a.0 ++ more) ≡ new ++ more = sym (again old (auction_lines o.symbol a.0) more) ∙ ap (λ l. l ++ more) (sym a.2) in
+          subst (AreLines xs) e all

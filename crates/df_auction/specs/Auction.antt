@@ -1,5 +1,5 @@
 -- The outcome of an auction, and what makes it the best.
-use Rattle.std.specs.Prelude.{◌≡◌, ◌+◌, ◌-◌, ◌^◌, ◌<◌, ◌≤◌, ◌==◌, ℕ, Bool, true, false, List, [], ◌∷◌, if◌then◌else◌, map, Option, Some, None, option_map, unwrap_or, pos, All, Contains, length, MatchOption}
+use Rattle.std.specs.Prelude.{◌≡◌, ◌+◌, ◌-◌, ◌^◌, ◌<◌, ◌≤◌, ◌==◌, ℕ, true, false, List, [], ◌∷◌, if◌then◌else◌, map, Option, option_map, unwrap_or, pos, All, Contains, length, MatchOption}
 use Rattle.df_book.specs.declared.order.Order.{Order}
 use Rattle.df_book.specs.declared.trade.Trade.{Trade}
 use Rattle.df_auction.specs.declared.lot.Fill.{Fill}
@@ -14,7 +14,7 @@ pub record IsMarket (orders : List Order) : Type 0 where
   pub in_range : All IsInRange orders
   pub one_symbol : (a b : Order) → Contains orders a → Contains orders b → a.symbol ≡ b.symbol
 
--- what an auction settles: the volume, the price if there is one, the split, and who trades with whom
+-- what an auction settles: volume, price (if there is one), split, and who trades with whom
 pub record Settlement : Type 0 where
   pub volume : ℕ
   pub price : Option ℕ
@@ -79,7 +79,8 @@ shown orders s = record {
 -- no purchase of these orders has a limit that is at least the limit of a sale
 abbrev pub CannotTrade : List Order → Type 0
 CannotTrade orders =
-    (a b : Order) → Contains orders a → Contains orders b → a.sell ≡ false → b.sell ≡ true → limit_of a < limit_of b
+    (a b : Order) → Contains orders a → Contains orders b
+    → a.sell ≡ false → b.sell ≡ true → limit_of a < limit_of b
 
 -- what makes a settlement the best
 pub record IsBest (orders : List Order) (s : Settlement) : Type 0 where

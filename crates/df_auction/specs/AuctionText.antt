@@ -1,5 +1,5 @@
 -- The lines that an auction of each symbol writes.
-use Rattle.std.specs.Prelude.{◌≡◌, ◌≢◌, ℕ, Bool, List, [], ◌∷◌, ◌++◌, Option, Some, None, ℤ, pos, codes, if◌then◌else◌, All}
+use Rattle.std.specs.Prelude.{◌≡◌, ◌≢◌, ℕ, Bool, List, [], ◌∷◌, ◌++◌, Option, Some, None, ℤ, codes, All}
 use Rattle.std.specs.List.{flat_map}
 use Rattle.std.specs.Fmt.{decimal, signed_decimal}
 use Rattle.std.specs.Ordering.{is_lt, nat_cmp}
@@ -9,6 +9,7 @@ use Rattle.df_book.specs.declared.trade.Trade.{Trade}
 use Rattle.df_auction.specs.declared.outcome.Auction.{Auction}
 use Rattle.df_auction.specs.Ranking.{ranked}
 use Rattle.df_auction.specs.Auction.{Settles}
+use Rattle.df_auction.specs.OrderFile.{IsOrderFile}
 
 -- the line of the price
 abbrev pub price_line : Option ℤ → List ℕ
@@ -18,7 +19,8 @@ price_line (Some p) = codes "price " ++ signed_decimal p ++ codes "\n"
 -- the line of a trade
 abbrev pub trade_line : Trade → List ℕ
 trade_line t =
-    codes "trade " ++ decimal t.buyer ++ codes " " ++ decimal t.seller ++ codes " " ++ signed_decimal t.qty ++ codes "\n"
+    codes "trade " ++ decimal t.buyer ++ codes " " ++ decimal t.seller
+    ++ codes " " ++ signed_decimal t.qty ++ codes "\n"
 
 -- the lines of an auction: symbol, price, volume, split, and one for each trade
 abbrev pub auction_lines : List ℕ → Auction → List ℕ
@@ -44,7 +46,7 @@ abbrev pub BeginsWithout : List ℕ → List Order → Type 0
 BeginsWithout symbol [] = Unit {0}
 BeginsWithout symbol (o ∷ orders) = o.symbol ≢ symbol
 
--- the lines of the auctions of orders that stand by symbol: all that begin with one symbol are one auction
+-- the lines of the auctions of orders that stand by symbol: those of one symbol are one auction
 pub data AreLines : List Order → List ℕ → Type 0 where
   none : AreLines [] []
   auction : (o : Order) (same others : List Order) (a : Auction) (lines : List ℕ)
@@ -57,3 +59,7 @@ pub data AreLines : List Order → List ℕ → Type 0 where
 -- the text of orders: by symbol, ascending, the orders of each in the order in which they came
 abbrev pub IsText : List Order → List ℕ → Type 0
 IsText orders text = AreLines (ranked symbol_below orders) text
+
+-- the text of the orders of a file
+abbrev pub IsTextOfFile : List ℕ → List ℕ → Type 0
+IsTextOfFile bytes text = (orders : List Order) × IsOrderFile bytes orders × IsText orders text

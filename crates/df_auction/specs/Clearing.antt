@@ -22,7 +22,8 @@ StaysWithin orders fills = (k : ℕ) → bought k fills + sold k fills ≤ qty_a
 
 -- what is left at each place: with what the fills give, the quantity
 abbrev pub IsLeft : List Order → List Fill → List ℕ → Type 0
-IsLeft orders fills left = (k : ℕ) → slice_index left k + (bought k fills + sold k fills) ≡ qty_at (λ o. true) orders k
+IsLeft orders fills left = (k : ℕ)
+    → slice_index left k + (bought k fills + sold k fills) ≡ qty_at (λ o. true) orders k
 
 -- the price, where 0 stands for none
 abbrev pub price_of : ℕ → Option ℕ

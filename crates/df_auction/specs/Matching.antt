@@ -1,5 +1,5 @@
 -- What a matching gives to pairs of a purchase and a sale, by their places in the list of orders.
-use Rattle.std.specs.Prelude.{◌≡◌, ◌+◌, ◌-◌, ◌<◌, ◌≤◌, ◌==◌, ℕ, suc, zero, Bool, List, [], ◌∷◌, if◌then◌else◌, sum_by}
+use Rattle.std.specs.Prelude.{◌≤◌, ◌==◌, ℕ, suc, zero, Bool, List, [], ◌∷◌, if◌then◌else◌, sum_by}
 use Rattle.df_book.specs.declared.order.Order.{Order}
 use Rattle.df_auction.specs.declared.lot.Fill.{Fill}
 use Rattle.df_auction.specs.Stairs.{limit_of, qty_of, buys_at, sells_at}

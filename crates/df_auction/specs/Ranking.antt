@@ -1,5 +1,5 @@
 -- The rankings of purchases and sales, and the trades that go through them.
-use Rattle.std.specs.Prelude.{◌≡◌, ◌+◌, ◌-◌, ◌<◌, ◌≤◌, ℕ, Bool, List, [], ◌∷◌, if◌then◌else◌, not, min, nat_lt}
+use Rattle.std.specs.Prelude.{◌≡◌, ◌+◌, ◌-◌, ◌<◌, ℕ, Bool, List, [], ◌∷◌, if◌then◌else◌, min, nat_lt}
 use Rattle.df_book.specs.declared.order.Order.{Order}
 use Rattle.df_auction.specs.declared.lot.Fill.{Fill}
 use Rattle.df_auction.specs.declared.lot.Lot.{Lot}

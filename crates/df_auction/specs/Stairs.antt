@@ -1,5 +1,5 @@
--- Demand and supply of one symbol's orders: two stairs, one that falls with the price and one that rises.
-use Rattle.std.specs.Prelude.{◌≡◌, ◌+◌, ◌-◌, ◌<◌, ◌≤◌, ◌&&◌, ℕ, suc, zero, Bool, true, false, List, [], ◌∷◌, pos, ◌≤ℤ◌, ℤ, not, min, nat_le, sum_by, filter, unsigned_abs}
+-- Demand and supply of one symbol's orders: two stairs, of which one falls with the price.
+use Rattle.std.specs.Prelude.{◌-◌, ◌&&◌, ℕ, Bool, true, false, List, pos, ◌≤ℤ◌, ℤ, not, min, nat_le, sum_by, filter, unsigned_abs}
 use Rattle.df_book.specs.declared.order.Order.{Order}
 
 -- the limit of an order, which is at least 1
@@ -56,4 +56,6 @@ pub record IsInRange (o : Order) : Type 0 where
 
 -- a split certifies a volume: no more is asked for at the split, and no more offered below it
 abbrev pub Certifies : List Order → ℤ → ℤ → Type 0
-Certifies orders volume split = (pos 1 ≤ℤ split) × (pos (demand orders (unsigned_abs split)) ≤ℤ volume) × (pos (supply orders (unsigned_abs split - 1)) ≤ℤ volume)
+Certifies orders volume split = (pos 1 ≤ℤ split)
+    × (pos (demand orders (unsigned_abs split)) ≤ℤ volume)
+    × (pos (supply orders (unsigned_abs split - 1)) ≤ℤ volume)

@@ -13,4 +13,7 @@ mod text;
 pub use market::{auction, certified};
 pub use orders::{OrdersRefused, read_orders};
 pub use outcome::Auction;
-pub use text::write_auctions;
+pub use text::{auction_text, write_auctions};
+
+#[cfg(test)]
+mod tests;

@@ -3,6 +3,8 @@
 ghost use Rattle.std.specs.Prelude.{◌≡◌, ◌++◌, ◌∷◌, [], ◌^◌, ◌<◌, Some, None, IfOk, IfErr, IsTrue, ◌↔◌, MatchOption, OnErr};
 ghost use Rattle.csv.specs.Records.{fields_of};
 ghost use Rattle.df_auction.specs.OrderFile.{IsOrderFile, order_of};
+ghost use Rattle.std.specs.Prelude.{All, length};
+ghost use Rattle.df_auction.specs.Stairs.{IsInRange};
 ghost use Rattle.df_auction.specs.Refusing.{IsRightRefusal, TakesRecord};
 
 use crate::record::{Six, read_order, six_fields};
@@ -46,6 +48,8 @@ impl From<NoMemory> for OrdersRefused {
 /// The orders of a file: a header, and then a record for each.
 pub fn read_orders(alloc: Global, bytes: &[u8]) -> Result<Vec<Order>, OrdersRefused>
     ensures read { IfOk result (λ v. IsOrderFile bytes.now v.items) }
+    ensures in_range { IfOk result (λ v. All IsInRange v.items) }
+    ensures few { IfOk result (λ v. length v.items < length bytes.now) }
     ensures refused { IfErr result (IsRightRefusal bytes.now) }
 {
     let mut reader = ReaderBuilder::new()
@@ -74,7 +78,8 @@ pub fn read_orders(alloc: Global, bytes: &[u8]) -> Result<Vec<Order>, OrdersRefu
 
 /// Whether a record is in form: the header where it is the first, or an order, which is appended.
 fn take_row(orders: &mut Vec<Order>, row: &ByteRecord, first: bool) -> Result<bool, NoMemory>
-    ensures { IfOk result (TakesRecord first (fields_of row.now) orders.old.items orders.new.items) }
+    ensures { IfOk result
+        (TakesRecord first (fields_of row.now) orders.old.items orders.new.items) }
 {
     if first {
         return Ok(is_header(row));

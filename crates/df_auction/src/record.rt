@@ -73,7 +73,8 @@ fn order_of_six(
     limit: &[u8],
     qty: &[u8],
 ) -> Result<Option<Order>, NoMemory>
-    ensures { IfOk result (λ o. o ≡ order_of_six id.now trader.now symbol.now sell.now limit.now qty.now) }
+    ensures { IfOk result
+        (λ o. o ≡ order_of_six id.now trader.now symbol.now sell.now limit.now qty.now) }
 {
     if !is_symbol(symbol) {
         return Ok(None);

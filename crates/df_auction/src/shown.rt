@@ -106,7 +106,8 @@ fn quantities(alloc: Global, orders: &[Order]) -> Result<Vec<u32>, NoMemory>
 fn give(left: &mut [u32], place: u32, qty: u32)
     requires inside { place < length left.old }
     requires fits { qty ≤ slice_index left.old place }
-    ensures { (k : ℕ) → slice_index left.new k + (if place == k then qty else 0) ≡ slice_index left.old k }
+    ensures { (k : ℕ)
+        → slice_index left.new k + (if place == k then qty else 0) ≡ slice_index left.old k }
 {
     left[place as usize] -= qty;
 }

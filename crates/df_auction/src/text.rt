@@ -1,21 +1,36 @@
 //! The lines of the auctions of a list of orders.
 
-ghost use Rattle.std.specs.Prelude.{◌≡◌, ◌++◌, ◌<◌, ◌^◌, All, IfOk, OnOk, codes, vec_len, string_bytes};
+ghost use Rattle.std.specs.Prelude.{◌≡◌, ◌++◌, ◌<◌, ◌^◌, All, IfOk, OnOk, codes, string_bytes};
 ghost use Rattle.std.specs.List.{flat_map};
 ghost use Rattle.std.specs.Fmt.{signed_decimal};
 ghost use Rattle.df_auction.specs.AuctionText.{auction_lines, price_line, trade_line};
 
 use crate::market::auction;
+use crate::orders::{OrdersRefused, read_orders};
 use crate::outcome::Auction;
 use df_book::{Order, Trade};
 use df_frozen::NoMemory;
 use std::alloc::Global;
 use std::fmt::Write;
 
+/// The lines of the auctions of a file of orders.
+pub fn auction_text(alloc: Global, bytes: &[u8]) -> Result<Vec<u8>, OrdersRefused>
+    requires { length bytes.now < 2 ^ 32 }
+    ensures text { IfOk result (λ v. IsTextOfFile bytes.now v.items) }
+    ensures refused { IfErr result (IsRightRefusal bytes.now) }
+{
+    let orders = read_orders(alloc, bytes)?;
+    Ok(write_auctions(alloc, orders)?)
+}
+
+ghost use Rattle.std.specs.Prelude.{IfErr};
+ghost use Rattle.df_auction.specs.Refusing.{IsRightRefusal};
+ghost use Rattle.df_auction.specs.AuctionText.{IsTextOfFile};
+
 /// The lines of the auctions of these orders: by symbol, ascending, each symbol's orders in the
 /// order in which they came.
 pub fn write_auctions(alloc: Global, mut orders: Vec<Order>) -> Result<Vec<u8>, NoMemory>
-    requires few { vec_len orders < 2 ^ 32 }
+    requires few { length orders.items < 2 ^ 32 }
     requires in_range { All IsInRange orders.items }
     ensures { IfOk result (λ v. IsText orders.items v.items) }
 {
@@ -62,7 +77,8 @@ ghost use Rattle.df_auction.specs.Stairs.{IsInRange};
 fn append_market(alloc: Global, text: &mut String, market: &[Order]) -> Result<(), NoMemory>
     requires some { 0 < length market.now }
     requires market { IsMarket market.now }
-    ensures { OnOk result (AppendsMarket market.now (string_bytes text.old) (string_bytes text.new)) }
+    ensures { OnOk result
+        (AppendsMarket market.now (string_bytes text.old) (string_bytes text.new)) }
 {
     let outcome = auction(alloc, market)?;
     append_auction(text, market[0].symbol.as_str(), &outcome)
@@ -70,7 +86,8 @@ fn append_market(alloc: Global, text: &mut String, market: &[Order]) -> Result<(
 
 /// Appends the lines of an auction.
 fn append_auction(text: &mut String, symbol: &str, auction: &Auction) -> Result<(), NoMemory>
-    ensures { OnOk result (string_bytes text.new ≡ string_bytes text.old ++ auction_lines symbol.now auction.now) }
+    ensures { OnOk result
+        (string_bytes text.new ≡ string_bytes text.old ++ auction_lines symbol.now auction.now) }
 {
     text.push_str("symbol ")?;
     text.push_str(symbol)?;
@@ -92,7 +109,8 @@ fn append_price(text: &mut String, price: Option<i64>) -> Result<(), NoMemory>
 }
 
 fn append_trades(text: &mut String, trades: &[Trade]) -> Result<(), NoMemory>
-    ensures { OnOk result (string_bytes text.new ≡ string_bytes text.old ++ flat_map trade_line trades.now) }
+    ensures { OnOk result
+        (string_bytes text.new ≡ string_bytes text.old ++ flat_map trade_line trades.now) }
 {
     for trade in trades {
         append_trade(text, trade)?;

@@ -1,8 +1,7 @@
 use Rattle.std.proofs.Common.{◌≡◌, ◌∙◌, ap, rules}
 use Rattle.std.specs.Ordering.{is_lt, nat_cmp}
 use Rattle.std.proofs.lemmas.List.Sorted.{answers_always}
-use Rattle.df_auction.specs.declared.lot.Lot.{Lot}
-use Rattle.df_auction.specs.Ranking.{asks_less, bids_more, ranked}
+use Rattle.df_auction.specs.Ranking.{asks_less, ranked}
 use Rattle.df_auction.proofs.Ranks.{sort_ranks, less_is, asks_order}
 use Rattle.df_auction.proofs.lot.sales.Goals as goal
 

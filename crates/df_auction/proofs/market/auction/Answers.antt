@@ -1,12 +1,12 @@
-use Rattle.std.proofs.Common.{◌≡◌, ℕ, Bool, true, false, cond, arith, ap, sym, ◌∙◌, rules, refl, None, Some, pos, map, option_map, unwrap_or, nat_eq, w64, ⊎_elim}
-use Rattle.std.proofs.lemmas.Int.{to_z-of_z, ints}
+use Rattle.std.proofs.Common.{◌≡◌, ℕ, cond, arith, ap, sym, ◌∙◌, rules, None, Some, pos, map, unwrap_or, nat_eq, w64, ⊎_elim}
+use Rattle.std.proofs.lemmas.Int.{to_z-of_z}
 use Rattle.std.proofs.lemmas.Bool.{cases_Bool}
 use Rattle.std.proofs.lemmas.Bool.Decides.{nat_tests}
 use mir.Syntax.{w128}
-use mir.Val.{to_z, of_z, SFits}
+use mir.Val.{SFits}
 use Rattle.df_auction.specs.Matching.{total}
 use Rattle.df_auction.specs.Clearing.{price_of}
-use Rattle.df_auction.specs.Auction.{trade_of, rest_of, shown}
+use Rattle.df_auction.specs.Auction.{trade_of, rest_of}
 use Rattle.df_auction.proofs.Theorem.{settled, called_for, best}
 use Rattle.df_auction.proofs.market.auction.Goals as goal
 

@@ -1,4 +1,4 @@
-use Rattle.std.proofs.Common.{◌≡◌, arith}
+use Rattle.std.proofs.Common.{arith}
 use Rattle.df_auction.specs.Stairs.{sells_at}
 use Rattle.df_auction.proofs.Sides.{among-drop, among-none}
 use Rattle.df_auction.proofs.market.supply.Goals as goal

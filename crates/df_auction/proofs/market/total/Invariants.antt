@@ -1,4 +1,4 @@
-use Rattle.std.proofs.Common.{◌≡◌, ◌+◌, ◌*◌, ◌≤◌, ◌^◌, take}
+use Rattle.std.proofs.Common.{◌≡◌, ◌*◌, ◌≤◌, take}
 use Rattle.df_auction.specs.Matching.{total}
 use Rattle.df_auction.proofs.market.total.Given as goal
 

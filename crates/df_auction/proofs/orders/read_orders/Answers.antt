@@ -1,9 +1,10 @@
-use Rattle.std.proofs.Common.{Bor, List, ℕ, ◌≡◌, ◌∙◌, ◌++◌, ◌∷◌, [], sym, refl, inl, inr, true, Some}
+use Rattle.std.proofs.Common.{Bor, List, ℕ, ◌∙◌, ◌++◌, ◌∷◌, [], sym, refl, inl, inr, Some}
 use Rattle.csv.specs.Reading.{Reached, default_config, strip_bom}
 use Rattle.csv.specs.Records.{fields_of}
 use Rattle.csv.specs.declared.parser.State.TheVariants as st
-use Rattle.csv.proofs.ReadFacts.{rows-more}
-use Rattle.df_auction.proofs.Reading.{read_more, read_bad}
+use Rattle.csv.proofs.ReadFacts.{rows-more, rows-end}
+use Rattle.df_auction.proofs.Reading.{read_more, read_bad, read_all}
+use Rattle.df_auction.proofs.Ranges.{file_in_range, file_is_longer}
 use Rattle.df_auction.proofs.orders.read_orders.Goals as goal
 
 pub loop-line-init : goal.loop-line-init
@@ -48,3 +49,21 @@ returns-then-not-good-clause-refused c =
     let took = rw c.if-not-good.true at c.in_ok-good.ensures in
     let bad = read_bad inv.5 c.loop-line.orders.items c.take_row.new.orders.items fields c.loop-line.line inv.7 took in
     inr (inv.5, fields, (c.read_byte_record.new.self.state, m.0, m.2), bad.0, bad.1)
+
+pub returns-then-line-gt1-clause-in_range : goal.returns-then-line-gt1-clause-in_range
+returns-then-line-gt1-clause-in_range c =
+    let inv = c.loop-line.invariant in
+    let fields = fields_of c.read_byte_record.new.row in
+    let read = rw c.if-not-found.true at (c.in-Ok.ensures.reads inv.0 inv.1) in
+    let last = rows-end (λ (s : Bor (List ℕ)). Some s.now) c.loop-line.reader c.read_byte_record.new.self fields default_config inv.3 inv.2 inv.4 read in
+    file_in_range c.args.bytes.now c.loop-line.orders.items
+    (inv.5, (c.loop-line.reader.state, inv.3, inv.6, last), read_all inv.5 c.loop-line.orders.items c.loop-line.line inv.7 c.if-line-gt1.true)
+
+pub returns-then-line-gt1-clause-few : goal.returns-then-line-gt1-clause-few
+returns-then-line-gt1-clause-few c =
+    let inv = c.loop-line.invariant in
+    let fields = fields_of c.read_byte_record.new.row in
+    let read = rw c.if-not-found.true at (c.in-Ok.ensures.reads inv.0 inv.1) in
+    let last = rows-end (λ (s : Bor (List ℕ)). Some s.now) c.loop-line.reader c.read_byte_record.new.self fields default_config inv.3 inv.2 inv.4 read in
+    file_is_longer c.args.bytes.now c.loop-line.orders.items
+    (inv.5, (c.loop-line.reader.state, inv.3, inv.6, last), read_all inv.5 c.loop-line.orders.items c.loop-line.line inv.7 c.if-line-gt1.true)

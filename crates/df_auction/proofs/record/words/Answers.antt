@@ -1,4 +1,3 @@
-use Rattle.std.proofs.Common.{◌≡◌, refl, sym, ◌∙◌}
 use Rattle.df_auction.proofs.Fields.{symbol_is_text}
 use Rattle.df_auction.proofs.record.words.Goals as goal
 

@@ -1,7 +1,6 @@
-use Rattle.std.proofs.Common.{◌≡◌, ◌≤◌, ◌+◌, ℕ, arith, sym, ap, ◌∙◌, length, get_or, rules, refl}
+use Rattle.std.proofs.Common.{◌≡◌, arith, ap, ◌∙◌, length, get_or, rules, refl}
 use Rattle.std.proofs.lemmas.List.{length-map}
 use Rattle.std.proofs.lemmas.Grind.{common_steps}
-use Rattle.df_auction.specs.Stairs.{qty_of}
 use Rattle.df_auction.proofs.Sides.{read_map, given-drop, this-place}
 use Rattle.df_auction.proofs.Sweeping.{given_back}
 use Rattle.df_auction.proofs.shown.left.Goals as goal

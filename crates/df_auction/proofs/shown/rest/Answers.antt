@@ -1,4 +1,4 @@
-use Rattle.std.proofs.Common.{◌≡◌, ◌<◌, length, arith, sym, ap, ◌∙◌, true, rules}
+use Rattle.std.proofs.Common.{◌<◌, length, ap, ◌∙◌, rules}
 use Rattle.df_auction.proofs.Resting.{rest_more, rest_same}
 use Rattle.df_auction.proofs.shown.rest.Goals as goal
 use Rattle.df_auction.proofs.shown.rest.Goals.{then-qty-gt0+in_ok-with_qty+in_ok-push, else-qty-gt0}

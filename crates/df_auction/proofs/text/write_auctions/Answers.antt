@@ -1,8 +1,7 @@
-use Rattle.std.proofs.Common.{◌≡◌, ◌<◌, ◌≤◌, ◌^◌, length, ap, sym, subst, ◌∙◌, rules, arith}
-use Rattle.std.specs.Prelude.{All}
+use Rattle.std.proofs.Common.{◌≡◌, ◌<◌, ◌≤◌, ◌^◌, length, ap, sym, subst, rules}
 use Rattle.std.specs.Ordering.{is_lt, nat_cmp}
 use Rattle.std.specs.Cmp.Lexicographic.{slice_cmp}
-use Rattle.std.proofs.lemmas.List.Sorted.{answers_always, All-permutation, length_permutation}
+use Rattle.std.proofs.lemmas.List.Sorted.{answers_always, All-permutation}
 use Rattle.df_auction.specs.Stairs.{IsInRange}
 use Rattle.df_auction.specs.AuctionText.{AreLines, symbol_below}
 use Rattle.df_auction.proofs.Ranks.{sort_ranks}
@@ -24,9 +23,11 @@ loop-i-preserved c =
     let xs = c.sort_by.new.self.items in
     let run = c.run_end-end.ensures in
     let slice = c.as_slice.ensures.value in
-    let bound : c.run_end-end.result ≤ length xs = subst (λ l. c.run_end-end.result ≤ length l) slice run.bound in
-    (bound, more_lines xs c.loop-i.i c.run_end-end.result run.some bound (rw slice at run.same) _ _ (rw slice at run.other) c.loop-i.invariant.1
-      (rw c.deref.ensures.value at c.in_ok-append_market.ensures))
+    let bound : c.run_end-end.result ≤ length xs = subst (λ l. c.run_end-end.result ≤ length l) slice run.bound in (
+      bound,
+      more_lines xs c.loop-i.i c.run_end-end.result run.some bound (rw slice at run.same) _ _ (rw slice at run.other) c.loop-i.invariant.1
+          (rw c.deref.ensures.value at c.in_ok-append_market.ensures),
+    )
 
 pub returns : goal.returns
 returns c =

@@ -1,4 +1,4 @@
-use Rattle.std.proofs.Common.{◌≡◌, ◌≤◌, ◌-◌, ◌++◌, ℕ, List, length, drop, string_bytes}
+use Rattle.std.proofs.Common.{◌≤◌, ◌-◌, ◌++◌, ℕ, List, length, drop, string_bytes}
 use Rattle.df_auction.specs.AuctionText.{AreLines}
 use Rattle.df_auction.proofs.text.write_auctions.Given as goal
 
