@@ -16,6 +16,8 @@ mod read;
 mod receive;
 mod tags;
 mod take;
+#[cfg(test)]
+mod tests;
 
 pub use answer::Answer;
 pub use close::{Close, EditRefused};

@@ -6,6 +6,8 @@ mod events;
 mod line;
 mod moves;
 mod news;
+#[cfg(test)]
+mod tests;
 mod units;
 
 pub use events::{EventRow, put_contents};

@@ -9,6 +9,8 @@ mod name;
 mod parts;
 mod path;
 mod reply;
+#[cfg(test)]
+mod tests;
 
 pub use call::Call;
 pub use commit::{Commit, Given};
