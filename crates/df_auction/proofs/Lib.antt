@@ -9,3 +9,4 @@ pub mod Fields
 pub mod Reading
 pub mod Symbols
 pub mod Ranges
+pub mod OneReading

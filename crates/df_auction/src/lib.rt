@@ -1,6 +1,7 @@
 //! An opening auction: one price at which the greatest quantity trades, with a certificate.
 #![tactic(auto)]
 
+pub mod laws;
 mod lot;
 mod market;
 mod orders;
