@@ -1,4 +1,5 @@
 pub mod Outcome
 pub mod Status
 pub mod Steps
+pub mod Tasks
 pub mod Words

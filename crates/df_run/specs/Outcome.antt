@@ -1,24 +1,19 @@
--- When each status comes, and what is written then. `told` is what is in the script's file, where
+-- When each status comes, and what is written then. `told` is what is in the command's file, where
 -- the shelf tells it.
 use Rattle.std.specs.Prelude.{◌≡◌, ◌↔◌, ◌⊎◌, ⊤, ℕ, ◌<◌, ◌≤◌, List, length, Option, Some, None, String}
-use Rattle.std.specs.Option.{option_and_then}
 use Rattle.std.specs.declared.alloc.Global.{Global}
 use Rattle.df_io.specs.Faults.{Rose}
-use Rattle.df_io.specs.Pieces.{HasAll, HasFront}
 use Rattle.df_io.specs.Limits.{longest_file}
-use Rattle.df_run.specs.declared.status.BadKind.TheVariants.{Syntax}
+use Rattle.df_io.specs.Pieces.{HasAll, HasFront}
 use Rattle.df_run.specs.declared.status.Status.{Status}
 use Rattle.df_run.specs.declared.status.Status.TheVariants as status
-use Rattle.df_run.specs.Steps.{IsScriptText, RecordsScript}
-use Rattle.df_run.specs.Words.{script_of}
+use Rattle.df_run.specs.declared.words.Task.{Task}
+use Rattle.df_run.specs.Tasks.{BlamesBytes, IsInput, IsOutput, kind_of}
+use Rattle.df_run.specs.Words.{command_of}
 
--- what is in the file that the words name, where it is told
-abbrev pub told_of : (List ℕ → Option (List ℕ)) → List (String Global) → Option (List ℕ)
-told_of bytes words = option_and_then bytes (script_of words)
-
--- Usage comes exactly where the words aren't `steps` and one word of at least one byte
+-- Usage comes exactly where the words ask for nothing
 abbrev pub UsageIsExact : List (String Global) → Status → Type 0
-UsageIsExact words result = (result ≡ status.Usage) ↔ (script_of words ≡ None)
+UsageIsExact words result = (result ≡ status.Usage) ↔ (command_of words ≡ None)
 
 -- the run was cut off while the file was read or for want of memory
 abbrev pub IsCutOff : Status → Type 0
@@ -29,32 +24,38 @@ abbrev pub IfTold : Option (List ℕ) → (List ℕ → Type 0) → Type 0
 IfTold None P = ⊤
 IfTold (Some bytes) P = P bytes
 
--- the status blames the script
-abbrev pub BlamesScript : Status → Type 0
-BlamesScript result = result ≡ status.BadInput 1 0 Syntax
+-- these bytes were read, which are the file's where it is told
+abbrev pub WasRead : Option (List ℕ) → List ℕ → Type 0
+WasRead told bytes = (length bytes ≤ longest_file) × IfTold told (λ file. bytes ≡ file)
 
--- a status that blames an input blames the script, which is whole and isn't one
-abbrev pub BadInputIsDue : Option (List ℕ) → Status → Type 0
-BadInputIsDue told (status.BadInput input line kind) =
-    BlamesScript (status.BadInput input line kind)
-    × IfTold told (λ bytes. (length bytes ≤ longest_file) × ¬ IsScriptText bytes)
-BadInputIsDue told _ = ⊤
+-- a status that blames an input blames the file that was read, which is whole and isn't what the
+-- task reads
+abbrev pub BadInputIsDue : Task → Option (List ℕ) → Status → Type 0
+BadInputIsDue task told (status.BadInput input line kind) =
+    (input ≡ 1) × ((bytes : List ℕ) × WasRead told bytes × BlamesBytes task bytes line kind)
+BadInputIsDue task told _ = ⊤
 
--- BadInput comes exactly where the file, read whole, is no script
-abbrev pub BadInputIsExact : Option (List ℕ) → Status → Type 0
-BadInputIsExact told result = BadInputIsDue told result
-    × IfTold told (λ bytes. length bytes ≤ longest_file → ¬ IsScriptText bytes →
-    BlamesScript result ⊎ IsCutOff result)
+-- the status blames the file
+abbrev pub BlamesFile : Task → Status → Type 0
+BlamesFile task result = (line : ℕ) × (result ≡ status.BadInput 1 line (kind_of task))
 
--- a status that calls an input too long says so of the script
+-- BadInput comes exactly where the file, read whole, isn't what the task reads
+abbrev pub BadInputIsExact : Task → Option (List ℕ) → Status → Type 0
+BadInputIsExact task told result =
+    BadInputIsDue task told result
+    × IfTold told (λ bytes. length bytes ≤ longest_file → ¬ IsInput task bytes →
+    BlamesFile task result ⊎ IsCutOff result)
+
+-- a status that calls an input too long says so of the file
 abbrev pub TooLongIsDue : Option (List ℕ) → Status → Type 0
 TooLongIsDue told (status.TooLong input) = (input ≡ 1)
     × IfTold told (λ bytes. longest_file < length bytes)
 TooLongIsDue told _ = ⊤
 
--- TooLong comes exactly where the file has a byte past the 67,108,864th
+-- TooLong comes exactly where the file has a byte past the most
 abbrev pub TooLongIsExact : Option (List ℕ) → Status → Type 0
-TooLongIsExact told result = TooLongIsDue told result
+TooLongIsExact told result =
+    TooLongIsDue told result
     × IfTold told (λ bytes. longest_file < length bytes →
     (result ≡ status.TooLong 1) ⊎ IsCutOff result)
 
@@ -66,23 +67,24 @@ ReadFaultIsDue before now result = result ≡ status.ReadFault → Rose before n
 abbrev pub WriteFaultIsDue : ℕ → ℕ → Status → Type 0
 WriteFaultIsDue before now result = result ≡ status.WriteFault → Rose before now
 
--- the text is that of the journal of some script's calls, which is sound; where the shelf tells
--- what is in the file, that is the
--- script
-abbrev pub RecordsSome : Option (List ℕ) → List ℕ → Type 0
-RecordsSome told text = (bytes : List ℕ) × RecordsScript bytes text
+-- the text is what the task writes of bytes that were read
+abbrev pub IsOutputOfSome : Task → Option (List ℕ) → List ℕ → Type 0
+IsOutputOfSome task told text = (bytes : List ℕ) × IsOutput task bytes text
     × IfTold told (λ file. bytes ≡ file)
 
 -- after Done the whole output was written, after WriteFault a front of it, and after any other
 -- status nothing; whatever the shelf
--- tells, the output is the text of a sound journal of a script's calls
-abbrev pub Writes : Option (List ℕ) → Option (List ℕ) → Option (List ℕ) → Status → Type 0
-Writes told old new status.Done = (text : List ℕ) × RecordsSome told text × HasAll old text new
-Writes told old new status.WriteFault = (text : List ℕ) × RecordsSome told text
+-- tells, it is the output of bytes that the task reads
+abbrev pub Writes : Task → Option (List ℕ) → Option (List ℕ) → Option (List ℕ) → Status → Type 0
+Writes task told old new status.Done = (text : List ℕ) × IsOutputOfSome task told text
+    × HasAll old text new
+Writes task told old new status.WriteFault = (text : List ℕ) × IsOutputOfSome task told text
     × HasFront old text new
-Writes told old new _ = new ≡ old
+Writes task told old new _ = new ≡ old
 
--- a script that fits is run: what is left is Done, a fault or want of memory
-abbrev pub RunsScripts : Option (List ℕ) → Status → Type 0
-RunsScripts told result = IfTold told (λ bytes. length bytes ≤ longest_file → IsScriptText bytes →
+-- a file that fits and is what the task reads is done: what is left is Done, a fault or want of
+-- memory
+abbrev pub DoesInput : Task → Option (List ℕ) → Status → Type 0
+DoesInput task told result =
+    IfTold told (λ bytes. length bytes ≤ longest_file → IsInput task bytes →
     (result ≡ status.Done) ⊎ ((result ≡ status.WriteFault) ⊎ IsCutOff result))

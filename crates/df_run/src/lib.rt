@@ -8,6 +8,7 @@ mod program;
 mod run;
 mod status;
 mod steps;
+mod tasks;
 #[cfg(test)]
 mod tests;
 mod words;

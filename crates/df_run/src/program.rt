@@ -11,16 +11,19 @@ use std::rt::Files;
 use std::{env, io};
 
 /// What `--help` prints.
-const HELP: &str = "usage: defcon steps FILE
+const HELP: &str = "usage: defcon steps SCRIPT
+       defcon auction ORDERS
 
-Runs the script of unit calls in FILE and writes the journal of all calls, replies, commits
-and events handed out.
+steps runs the unit calls of the file SCRIPT, and writes the journal of all calls, replies,
+commits and events handed out. auction reads the order file ORDERS, and writes for each symbol
+the price at which the greatest quantity trades, and the trades.
 
   --help     this text
   --version  the version
 
 Ends with 0 where all was written, 2 for words that have none of these forms, 3 for a file that
-is no script, 5 for a file that can't be read, 6 for output that can't be written, 7 where memory
+isn't in its form, 5 for a file that can't be read, 6 for output that can't be written, 7 where
+    memory
 runs out, and 8 for a file of more than 67,108,864 bytes.
 ";
 

@@ -1,14 +1,14 @@
-ghost use Rattle.std.specs.Prelude.{◌≡◌, ◌↔◌};
-ghost use Rattle.df_run.specs.Outcome.{BadInputIsExact, ReadFaultIsDue, RunsScripts, TooLongIsExact, UsageIsExact, WriteFaultIsDue, Writes, told_of};
+ghost use Rattle.std.specs.Prelude.{◌≡◌, ◌↔◌, IsNone};
+ghost use Rattle.df_run.specs.Outcome.{BadInputIsExact, DoesInput, ReadFaultIsDue, TooLongIsExact, UsageIsExact, WriteFaultIsDue, Writes};
+ghost use Rattle.df_run.specs.Words.{IfCommand, command_of};
 
-use crate::status::{BadKind, Status};
-use crate::steps::steps;
-use crate::words::script_of;
+use crate::status::Status;
+use crate::tasks::{Refused, output_of};
+use crate::words::command_of;
 use df_io::{NotRead, Shelf, Sink, read_file, write_all};
-use df_script_text::FileRefused;
 use std::alloc::Global;
 
-/// Does what the words ask for. The shelf is read and the run made before anything is written.
+/// Does what the words ask for. The shelf is read and the text made before anything is written.
 pub fn run_plain<F: Shelf, W: Sink>(
     alloc: Global,
     words: &[String],
@@ -16,15 +16,19 @@ pub fn run_plain<F: Shelf, W: Sink>(
     out: &mut W,
 ) -> Status
     ensures usage { UsageIsExact words.now result }
-    ensures bad_input { BadInputIsExact (told_of (F.bytes shelf.old) words.now) result }
-    ensures too_long { TooLongIsExact (told_of (F.bytes shelf.old) words.now) result }
+    ensures unused { IsNone (command_of words.now) → W.written out.new ≡ W.written out.old }
+    ensures bad_input { IfCommand words.now (λ task name. BadInputIsExact task
+        (F.bytes shelf.old name) result) }
+    ensures too_long { IfCommand words.now (λ task name. TooLongIsExact (F.bytes shelf.old name)
+        result) }
     ensures read_fault { ReadFaultIsDue (F.faults shelf.old) (F.faults shelf.new) result }
     ensures write_fault { WriteFaultIsDue (W.faults out.old) (W.faults out.new) result }
-    ensures writes { Writes (told_of (F.bytes shelf.old) words.now) (W.written out.old)
-        (W.written out.new) result }
-    ensures runs { RunsScripts (told_of (F.bytes shelf.old) words.now) result }
+    ensures writes { IfCommand words.now (λ task name. Writes task (F.bytes shelf.old name)
+        (W.written out.old) (W.written out.new) result) }
+    ensures does { IfCommand words.now (λ task name. DoesInput task (F.bytes shelf.old name)
+        result) }
 {
-    let Some(name) = script_of(words) else {
+    let Some((task, name)) = command_of(words) else {
         return Status::Usage;
     };
     let bytes = match read_file(alloc, shelf, name) {
@@ -33,16 +37,16 @@ pub fn run_plain<F: Shelf, W: Sink>(
         Err(NotRead::TooLong) => return Status::TooLong { input: 1 },
         Err(NotRead::NoMemory) => return Status::NoMemory,
     };
-    let text = match steps(alloc, bytes.as_slice()) {
+    let text = match output_of(alloc, task, bytes.as_slice()) {
         Ok(text) => text,
-        Err(FileRefused::Syntax { line }) => {
+        Err(Refused::BadInput { line, kind }) => {
             return Status::BadInput {
                 input: 1,
                 line,
-                kind: BadKind::Syntax,
+                kind,
             };
         }
-        Err(FileRefused::NoMemory) => return Status::NoMemory,
+        Err(Refused::NoMemory) => return Status::NoMemory,
     };
     match write_all(out, text.as_slice()) {
         Ok(()) => Status::Done,
@@ -50,7 +54,7 @@ pub fn run_plain<F: Shelf, W: Sink>(
     }
 }
 
-/// What `main` calls with the real shelf and sink.
+/// What the program calls with the real shelf and sink.
 pub fn run_main<F: Shelf, W: Sink>(
     alloc: Global,
     words: &[String],
@@ -58,13 +62,17 @@ pub fn run_main<F: Shelf, W: Sink>(
     out: &mut W,
 ) -> Status
     ensures usage { UsageIsExact words.now result }
-    ensures bad_input { BadInputIsExact (told_of (F.bytes shelf.old) words.now) result }
-    ensures too_long { TooLongIsExact (told_of (F.bytes shelf.old) words.now) result }
+    ensures unused { IsNone (command_of words.now) → W.written out.new ≡ W.written out.old }
+    ensures bad_input { IfCommand words.now (λ task name. BadInputIsExact task
+        (F.bytes shelf.old name) result) }
+    ensures too_long { IfCommand words.now (λ task name. TooLongIsExact (F.bytes shelf.old name)
+        result) }
     ensures read_fault { ReadFaultIsDue (F.faults shelf.old) (F.faults shelf.new) result }
     ensures write_fault { WriteFaultIsDue (W.faults out.old) (W.faults out.new) result }
-    ensures writes { Writes (told_of (F.bytes shelf.old) words.now) (W.written out.old)
-        (W.written out.new) result }
-    ensures runs { RunsScripts (told_of (F.bytes shelf.old) words.now) result }
+    ensures writes { IfCommand words.now (λ task name. Writes task (F.bytes shelf.old name)
+        (W.written out.old) (W.written out.new) result) }
+    ensures does { IfCommand words.now (λ task name. DoesInput task (F.bytes shelf.old name)
+        result) }
 {
     run_plain(alloc, words, shelf, out)
 }

@@ -7,6 +7,7 @@ use std::fmt;
 #[derive(Clone, Copy, Debug, PartialEq, Eq)]
 pub enum BadKind {
     Syntax,
+    BadOrder,
 }
 
 /// How a run ended.
@@ -53,6 +54,7 @@ impl fmt::Display for BadKind {
     fn fmt<W: fmt::Write>(&self, f: &mut fmt::Formatter<W>) -> fmt::Result {
         match self {
             BadKind::Syntax => f.write_str("syntax"),
+            BadKind::BadOrder => f.write_str("order"),
         }
     }
 }

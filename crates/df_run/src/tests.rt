@@ -21,13 +21,18 @@ fn words_of(alloc: Global, words: &[&str]) -> Result<Vec<String>, AllocError> {
     Ok(own)
 }
 
-/// The status of a run of this file, and what it wrote.
+/// The status of a run of this script, and what it wrote.
 fn run_of(rt: &HostRuntime, bytes: &[u8]) -> Result<(Status, MemorySink), Fail> {
+    done_to(rt, "steps", bytes)
+}
+
+/// The status of what this word asks to be done to this file, and what it wrote.
+fn done_to(rt: &HostRuntime, task: &str, bytes: &[u8]) -> Result<(Status, MemorySink), Fail> {
     let alloc = rt.alloc();
     let mut shelf = MemoryShelf::new(alloc);
     shelf.put("a", bytes)?;
     let mut sink = MemorySink::new(alloc, 8192, 1024)?;
-    let words = words_of(alloc, &["steps", "a"])?;
+    let words = words_of(alloc, &[task, "a"])?;
     let status = run_main(alloc, words.as_slice(), &mut shelf, &mut sink);
     Ok((status, sink))
 }
@@ -127,9 +132,11 @@ fn each_write_may_fail(rt: HostRuntime) -> Result<(), Fail> {
 #[test]
 fn other_words_are_usage(rt: HostRuntime) -> Result<(), Fail> {
     let alloc = rt.alloc();
-    let lines: [&[&str]; 7] = [
+    let lines: [&[&str]; 9] = [
         &[],
         &["steps"],
+        &["auction", ""],
+        &["auction", "a", "--help"],
         &["steps", ""],
         &["steps", "a", "a"],
         &["Steps", "a"],
@@ -211,5 +218,50 @@ fn a_unit_comes_to_each_of_its_limits(rt: HostRuntime) -> Result<(), Fail> {
     let (status, sink) = run_of(&rt, told.script.as_bytes())?;
     assert_eq!(rt; status, Status::Done);
     assert_eq!(rt; sink.bytes(), told.journal.as_bytes());
+    Ok(())
+}
+
+const ORDERS: &[u8] = b"id,trader,symbol,sell,limit,qty
+0,0,AAA,0,105,10
+1,1,AAA,1,100,4
+2,2,AAA,1,103,8
+3,3,AAA,0,101,5
+";
+
+const AUCTIONS: &[u8] = b"symbol AAA
+price 103
+volume 10
+split 102
+trade 0 1 4
+trade 0 2 6
+";
+
+#[test]
+fn order_files_are_auctioned_or_refused(rt: HostRuntime) -> Result<(), Fail> {
+    let blamed = |line| Status::BadInput {
+        input: 1,
+        line,
+        kind: BadKind::BadOrder,
+    };
+    let files: [(&[u8], Status, &[u8]); 5] = [
+        (ORDERS, Status::Done, AUCTIONS),
+        (
+            b"id,trader,symbol,sell,limit,qty\n0,1,BBB,0,50,7\n",
+            Status::Done,
+            b"symbol BBB\nprice none\nvolume 0\nsplit 51\n",
+        ),
+        (b"id,trader,symbol,sell,limit,qty\n", Status::Done, b""),
+        (b"", blamed(1), b""),
+        (
+            b"id,trader,symbol,sell,limit,qty\n0,1,BBB,0,50,0\n",
+            blamed(2),
+            b"",
+        ),
+    ];
+    for (bytes, status, written) in files {
+        let (ended, sink) = done_to(&rt, "auction", bytes)?;
+        assert_eq!(rt; ended, status);
+        assert_eq!(rt; sink.bytes(), written);
+    }
     Ok(())
 }

@@ -1,0 +1,70 @@
+ghost use Rattle.std.specs.Prelude.{◌≤◌, ℕ, List, IfErr, IfOk, length};
+ghost use Rattle.df_auction.specs.Refusing.{IsRightRefusal};
+ghost use Rattle.df_io.specs.Limits.{longest_file};
+ghost use Rattle.df_run.specs.Tasks.{IsOutput, RefusesInput};
+
+use crate::status::BadKind;
+use crate::steps::steps;
+use crate::words::Task;
+use df_auction::{OrdersRefused, auction_text};
+use df_script_text::FileRefused;
+use std::alloc::Global;
+
+/// Why a task makes no text of a file.
+#[derive(Clone, Copy, Debug, PartialEq, Eq)]
+pub enum Refused {
+    /// The file isn't what the task reads.
+    BadInput { line: u64, kind: BadKind },
+    NoMemory,
+}
+
+/// The text that the task writes of these bytes.
+pub fn output_of(alloc: Global, task: Task, bytes: &[u8]) -> Result<Vec<u8>, Refused>
+    requires { length bytes.now ≤ longest_file }
+    ensures gives { IfOk result (λ text. IsOutput task bytes.now text.items) }
+    ensures refuses { IfErr result (RefusesInput task bytes.now) }
+{
+    match task {
+        Task::Steps => journal_of_script(alloc, bytes),
+        Task::Auction => auctions_of_orders(alloc, bytes),
+    }
+}
+
+fn journal_of_script(alloc: Global, bytes: &[u8]) -> Result<Vec<u8>, Refused>
+    ensures gives { IfOk result (λ text. IsOutput Task.Steps bytes.now text.items) }
+    ensures refuses { IfErr result (RefusesInput Task.Steps bytes.now) }
+{
+    match steps(alloc, bytes) {
+        Ok(text) => Ok(text),
+        Err(FileRefused::Syntax { line }) => Err(Refused::BadInput {
+            line,
+            kind: BadKind::Syntax,
+        }),
+        Err(FileRefused::NoMemory) => Err(Refused::NoMemory),
+    }
+}
+
+fn auctions_of_orders(alloc: Global, bytes: &[u8]) -> Result<Vec<u8>, Refused>
+    requires { length bytes.now ≤ longest_file }
+    ensures gives { IfOk result (λ text. IsOutput Task.Auction bytes.now text.items) }
+    ensures refuses { IfErr result (RefusesInput Task.Auction bytes.now) }
+{
+    match auction_text(alloc, bytes) {
+        Ok(text) => Ok(text),
+        Err(refused) => Err(blamed(refused)),
+    }
+}
+
+/// The record of an order file that is blamed, or want of memory.
+fn blamed(refused: OrdersRefused) -> Refused
+    ensures { (bytes : List ℕ) → IsRightRefusal bytes refused →
+        RefusesInput Task.Auction bytes result }
+{
+    match refused {
+        OrdersRefused::BadOrder { line } => Refused::BadInput {
+            line,
+            kind: BadKind::BadOrder,
+        },
+        OrdersRefused::NoMemory => Refused::NoMemory,
+    }
+}
