@@ -33,7 +33,9 @@ pub record HasFifth (bytes : List ℕ) : Type 0 where
 abbrev pub IsRefusedBy : List ℕ → FilterTextRefused → Type 0
 IsRefusedBy bytes refused.NoClause = bytes ≡ []
 IsRefusedBy bytes refused.TooManyClauses = HasFifth bytes
-IsRefusedBy bytes (refused.Syntax offset) = (offset ≤ length bytes) × FirstBad filter_text IsFilter bytes (drop offset bytes) × (bytes ≡ [] → ⊥) × (HasFifth bytes → ⊥)
+IsRefusedBy bytes (refused.Syntax offset) = (offset ≤ length bytes)
+    × FirstBad filter_text IsFilter bytes (drop offset bytes) × (bytes ≡ [] → ⊥)
+    × (HasFifth bytes → ⊥)
 IsRefusedBy bytes refused.NoMemory = ⊤
 
 -- it is refused so, unless there was no memory

@@ -32,7 +32,9 @@ range_of ends = IntIn ends.0 ends.1
 
 -- `:` and both numbers, with `..` between them
 abbrev pub range_at : List ℕ → Read ℕ FieldTest
-range_at bytes = as_at range_of (behind_at (58 ∷ []) (then_at (closed_at (46 ∷ 46 ∷ []) whole_at) whole_at)) bytes
+range_at bytes =
+    as_at range_of (behind_at (58 ∷ []) (then_at (closed_at (46 ∷ 46 ∷ []) whole_at) whole_at))
+    bytes
 
 -- `^` and the words with which a value is to begin
 abbrev pub prefix_at : List ℕ → Read ℕ FieldTest

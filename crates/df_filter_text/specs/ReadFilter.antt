@@ -55,7 +55,9 @@ clause_at bytes = as_at clause_of (then_at name_at test_at) bytes
 -- at most so many clauses, each behind `&`
 abbrev pub more_clauses_at : ℕ → List ℕ → Read ℕ (List Clause)
 more_clauses_at zero bytes = Ok ([], bytes)
-more_clauses_at (suc most) bytes = as_at optional (maybe_at (λ c. c == 38) (behind_at (38 ∷ []) (then_at clause_at (more_clauses_at most)))) bytes
+more_clauses_at (suc most) bytes =
+    as_at optional (maybe_at (λ c. c == 38) (behind_at (38 ∷ [])
+    (then_at clause_at (more_clauses_at most)))) bytes
 
 -- at least one clause
 abbrev pub filter_at : List ℕ → Read ℕ (List Clause)

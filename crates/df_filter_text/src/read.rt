@@ -15,7 +15,8 @@ use std::alloc::Global;
 /// The filter of which these bytes are the whole text.
 pub fn read_filter(alloc: Global, bytes: &[u8]) -> Result<Filter, FilterTextRefused>
     ensures found { IfOk result (λ filter. IsFilter filter × (bytes.now ≡ filter_text filter)) }
-    ensures only { (filter : List Clause) → IsFilter filter → bytes.now ≡ filter_text filter → IsReadWhole filter result }
+    ensures only { (filter : List Clause) → IsFilter filter → bytes.now ≡ filter_text filter →
+        IsReadWhole filter result }
     ensures none { bytes.now ≡ [] → result ≡ Err refused.NoClause }
     ensures many { HasFifth bytes.now → IsRefused refused.TooManyClauses result }
     ensures refused { IfErr result (IsRefusedBy bytes.now) }

@@ -61,7 +61,8 @@ fn append_test(test: &Test, to: &mut Vec<u8>) -> Result<(), NoMemory>
 
 /// Appends a test of a field: `.`, the field's name, and the spelling of what is asked of it.
 fn append_key(field: &Name, test: &FieldTest, to: &mut Vec<u8>) -> Result<(), NoMemory>
-    ensures { OnOk result (to.new.items ≡ to.old.items ++ (codes "." ++ field.now ++ field_test_text test.now)) }
+    ensures { OnOk result (to.new.items ≡ to.old.items
+        ++ (codes "." ++ field.now ++ field_test_text test.now)) }
 {
     to.push(b'.')?;
     to.extend_from_slice(field.as_bytes())?;

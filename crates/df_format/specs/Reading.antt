@@ -14,12 +14,14 @@ Read T X = Result (X × List T) (Stop T)
 
 -- what is read next, unless reading stopped
 infixl 10 ◌>>=◌
-abbrev pub ◌>>=◌ : {T A B : Type 0} → Result A (Stop T) → (A → Result B (Stop T)) → Result B (Stop T)
+abbrev pub ◌>>=◌ : {T A B : Type 0} → Result A (Stop T) → (A → Result B (Stop T)) →
+    Result B (Stop T)
 (Ok x) >>= f = f x
 (Err s) >>= f = Err s
 
 -- one thing and then another
-abbrev pub then_at : {T X Y : Type 0} → (List T → Read T X) → (List T → Read T Y) → List T → Read T (X × Y)
+abbrev pub then_at : {T X Y : Type 0} → (List T → Read T X) → (List T → Read T Y) → List T →
+    Read T (X × Y)
 then_at first second tokens = first tokens >>= λ x. second x.1 >>= λ y. Ok ((x.0, y.0), y.1)
 
 -- something made of what is read
@@ -29,10 +31,12 @@ as_at make read tokens = read tokens >>= λ x. Ok (make x.0, x.1)
 -- something or nothing, as the first token tells
 abbrev pub maybe_at : {T X : Type 0} → (T → Bool) → (List T → Read T X) → List T → Read T (Option X)
 maybe_at begins read [] = Ok (None, [])
-maybe_at begins read (t ∷ ts) = if begins t then (read (t ∷ ts) >>= λ x. Ok (Some x.0, x.1)) else Ok (None, t ∷ ts)
+maybe_at begins read (t ∷ ts) = if begins t then (read (t ∷ ts) >>= λ x. Ok (Some x.0, x.1))
+    else Ok (None, t ∷ ts)
 
 -- one of two kinds, as the first token tells
-abbrev pub either_at : {T X : Type 0} → (T → Bool) → (List T → Read T X) → (List T → Read T X) → List T → Read T X
+abbrev pub either_at : {T X : Type 0} → (T → Bool) → (List T → Read T X) → (List T → Read T X) →
+    List T → Read T X
 either_at begins read other [] = Err (Bad [])
 either_at begins read other (t ∷ ts) = if begins t then read (t ∷ ts) else other (t ∷ ts)
 
@@ -46,22 +50,26 @@ one_at decode [] = Err (Bad [])
 one_at decode (t ∷ ts) = decoded (decode t) t ts
 
 -- as many as there are tokens that begin one; the k-th is read by read k
-abbrev pub many_at : {T X : Type 0} → (ℕ → T → Bool) → (ℕ → List T → Read T X) → ℕ → ℕ → List T → Read T (List X)
+abbrev pub many_at : {T X : Type 0} → (ℕ → T → Bool) → (ℕ → List T → Read T X) → ℕ → ℕ → List T →
+    Read T (List X)
 many_at begins read n k [] = Ok ([], [])
 many_at begins read zero k (t ∷ ts) = Ok ([], t ∷ ts)
 many_at begins read (suc n) k (t ∷ ts) =
     if begins k t
-    then (read k (t ∷ ts) >>= λ x. many_at begins read n (suc k) x.1 >>= λ xs. Ok (x.0 ∷ xs.0, xs.1))
+    then (read k (t ∷ ts) >>= λ x. many_at begins read n (suc k) x.1 >>= λ xs. Ok
+    (x.0 ∷ xs.0, xs.1))
     else Ok ([], t ∷ ts)
 
-abbrev pub many_of : {T X : Type 0} → (ℕ → T → Bool) → (ℕ → List T → Read T X) → ℕ → List T → Read T (List X)
+abbrev pub many_of : {T X : Type 0} → (ℕ → T → Bool) → (ℕ → List T → Read T X) → ℕ → List T →
+    Read T (List X)
 many_of begins read k ts = many_at begins read (length ts) k ts
 
 -- just these bytes
 abbrev pub text_at : List ℕ → List ℕ → Read ℕ (List ℕ)
 text_at [] bytes = Ok ([], bytes)
 text_at (w ∷ ws) [] = Err (Bad [])
-text_at (w ∷ ws) (c ∷ cs) = if c == w then (text_at ws cs >>= λ x. Ok (w ∷ x.0, x.1)) else Err (Bad (c ∷ cs))
+text_at (w ∷ ws) (c ∷ cs) = if c == w then (text_at ws cs >>= λ x. Ok (w ∷ x.0, x.1))
+    else Err (Bad (c ∷ cs))
 
 -- something behind these bytes
 abbrev pub behind_at : {X : Type 0} → List ℕ → (List ℕ → Read ℕ X) → List ℕ → Read ℕ X
@@ -71,9 +79,11 @@ behind_at ws read bytes = text_at ws bytes >>= λ h. read h.1
 abbrev pub closed_at : {X : Type 0} → List ℕ → (List ℕ → Read ℕ X) → List ℕ → Read ℕ X
 closed_at ws read bytes = read bytes >>= λ x. text_at ws x.1 >>= λ h. Ok (x.0, h.1)
 
--- further items; leads tells of an item, a token and the tokens behind it whether another item stands
+-- further items; leads tells of an item, a token and the tokens behind it whether another item
+-- stands
 -- there, and next reads what may stand behind an item
-abbrev pub more_at : {T X : Type 0} → (X → T → List T → Bool) → (X → List T → Read T X) → ℕ → X → List T → Read T (List X)
+abbrev pub more_at : {T X : Type 0} → (X → T → List T → Bool) → (X → List T → Read T X) → ℕ → X →
+    List T → Read T (List X)
 more_at leads next n prev [] = Ok ([], [])
 more_at leads next zero prev (t ∷ ts) = Ok ([], t ∷ ts)
 more_at leads next (suc n) prev (t ∷ ts) =
@@ -81,19 +91,23 @@ more_at leads next (suc n) prev (t ∷ ts) =
     then (next prev ts >>= λ x. more_at leads next n x.0 x.1 >>= λ xs. Ok (x.0 ∷ xs.0, xs.1))
     else Ok ([], t ∷ ts)
 
-abbrev pub more_of : {T X : Type 0} → (X → T → List T → Bool) → (X → List T → Read T X) → X → List T → Read T (List X)
+abbrev pub more_of : {T X : Type 0} → (X → T → List T → Bool) → (X → List T → Read T X) → X →
+    List T → Read T (List X)
 more_of leads next prev tokens = more_at leads next (length tokens) prev tokens
 
 -- at least one item
-abbrev pub items_at : {T X : Type 0} → (X → T → List T → Bool) → (List T → Read T X) → (X → List T → Read T X) → List T → Read T (X × List X)
-items_at leads first next tokens = first tokens >>= λ x. more_of leads next x.0 x.1 >>= λ xs. Ok ((x.0, xs.0), xs.1)
+abbrev pub items_at : {T X : Type 0} → (X → T → List T → Bool) → (List T → Read T X) →
+    (X → List T → Read T X) → List T → Read T (X × List X)
+items_at leads first next tokens =
+    first tokens >>= λ x. more_of leads next x.0 x.1 >>= λ xs. Ok ((x.0, xs.0), xs.1)
 
 -- what was read before, and what is still to be read
 abbrev pub with_front : {T X : Type 0} → List X → Read T (List X) → Read T (List X)
 with_front front read = read >>= λ xs. Ok (front ++ xs.0, xs.1)
 
 -- as many as one of them stands in front, and at most so many
-abbrev pub while_at : {T X : Type 0} → (List T → Bool) → (List T → Read T X) → ℕ → List T → Read T (List X)
+abbrev pub while_at : {T X : Type 0} → (List T → Bool) → (List T → Read T X) → ℕ → List T →
+    Read T (List X)
 while_at stands read zero tokens = Ok ([], tokens)
 while_at stands read (suc most) tokens =
     if stands tokens
@@ -101,5 +115,6 @@ while_at stands read (suc most) tokens =
     else Ok ([], tokens)
 
 -- as many as one of them stands in front
-abbrev pub all_at : {T X : Type 0} → (List T → Bool) → (List T → Read T X) → List T → Read T (List X)
+abbrev pub all_at : {T X : Type 0} → (List T → Bool) → (List T → Read T X) → List T →
+    Read T (List X)
 all_at stands read tokens = while_at stands read (length tokens) tokens

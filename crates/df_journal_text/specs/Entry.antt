@@ -25,7 +25,9 @@ use Rattle.df_journal_text.specs.Reply.{reply_words}
 
 -- a part behind a mark: its label, name, value and privileges
 abbrev pub part_line : List ℕ → Part → List ℕ
-part_line mark part = line mark (label_text part.label ∷ part.name ∷ value_text part.value ∷ map privilege_text part.privileges)
+part_line mark part =
+    line mark (label_text part.label ∷ part.name ∷ value_text part.value
+    ∷ map privilege_text part.privileges)
 
 -- a deleted spot
 abbrev pub spot_line : Spot → List ℕ
@@ -33,7 +35,9 @@ spot_line spot = line (codes "-") (label_text spot.label ∷ spot.name ∷ [])
 
 -- what a read shows of a part
 abbrev pub read_line : PartRead → List ℕ
-read_line part = line (codes ":") (label_text part.label ∷ value_text part.value ∷ map privilege_text part.privileges)
+read_line part =
+    line (codes ":") (label_text part.label ∷ value_text part.value
+    ∷ map privilege_text part.privileges)
 
 -- what a commit deletes and then what it adds
 abbrev pub edit_text : List Spot × List Part → List ℕ
@@ -41,12 +45,14 @@ edit_text edit = flat_map spot_line edit.0 ++ flat_map (part_line (codes "+")) e
 
 -- an event that was handed, with its parts
 abbrev pub given_text : Given → List ℕ
-given_text given = line (codes "<") (event_text given.event ∷ []) ++ flat_map (part_line (codes ".")) given.parts
+given_text given = line (codes "<") (event_text given.event ∷ [])
+    ++ flat_map (part_line (codes ".")) given.parts
 
 -- the lines of an effect
 abbrev pub effect_text : Effect → List ℕ
 effect_text effect.Nothing = []
-effect_text (effect.Commit commit) = line (codes "=") (event_text commit.event ∷ []) ++ edit_text commit.edit
+effect_text (effect.Commit commit) = line (codes "=") (event_text commit.event ∷ [])
+    ++ edit_text commit.edit
 effect_text (effect.Given given) = given_text given
 
 -- the lines of what a read shows
@@ -56,7 +62,8 @@ reads_text _ = []
 
 -- the line of a call and its reply
 abbrev pub call_line : UnitName → Call → Reply → List ℕ
-call_line actor call reply = line (unit_text actor) (call_words call ++ codes "->" ∷ reply_words reply)
+call_line actor call reply =
+    line (unit_text actor) (call_words call ++ codes "->" ∷ reply_words reply)
 
 -- the line of a contamination, where one is noted
 abbrev pub note_text : Option Label → List ℕ
@@ -65,8 +72,10 @@ note_text (Some label) = line (codes "@") (label_text label ∷ [])
 
 -- the lines of an entry, with its actor's contamination before it where that is noted
 abbrev pub entry_text : Option Label → Entry → List ℕ
-entry_text contamination (Done actor call reply effect) = call_line actor call reply ++ note_text contamination ++ reads_text reply ++ effect_text effect
-entry_text _ (Emitted commit) = line (codes "emitted") (event_text commit.event ∷ []) ++ edit_text commit.edit
+entry_text contamination (Done actor call reply effect) =
+    call_line actor call reply ++ note_text contamination ++ reads_text reply ++ effect_text effect
+entry_text _ (Emitted commit) = line (codes "emitted") (event_text commit.event ∷ [])
+    ++ edit_text commit.edit
 
 -- the lines of a noted entry
 abbrev pub noted_text : Noted → List ℕ

@@ -57,11 +57,13 @@ AreRoots roots = (length roots < 2 ^ 32) × All IsRoot roots
 -- a call: its handle has 32 bits, and each of its words is a literal
 abbrev pub IsCall : Call → Type 0
 IsCall CreateEvent = ⊤
-IsCall (AddPart h label name value) = (h < 2 ^ 32) × IsLabel label × (is_name name ≡ true) × IsValue value
+IsCall (AddPart h label name value) = (h < 2 ^ 32) × IsLabel label × (is_name name ≡ true)
+    × IsValue value
 IsCall (DelPart h label name) = (h < 2 ^ 32) × IsLabel label × (is_name name ≡ true)
 IsCall (ReadPart h name) = (h < 2 ^ 32) × (is_name name ≡ true)
 IsCall (CloneEvent h label) = (h < 2 ^ 32) × IsLabel label
-IsCall (AttachPrivilege h label name p) = (h < 2 ^ 32) × IsLabel label × (is_name name ≡ true) × IsPrivilege p
+IsCall (AttachPrivilege h label name p) = (h < 2 ^ 32) × IsLabel label × (is_name name ≡ true)
+    × IsPrivilege p
 IsCall (ChangeOutLabel half act tag) = IsTag tag
 IsCall CreateTag = ⊤
 IsCall (DropEvent h) = h < 2 ^ 32
@@ -77,7 +79,8 @@ IsCall (Instantiate s privileges) = IsTagSet s × ArePrivileges privileges
 abbrev pub IsPartRead : PartRead → Type 0
 IsPartRead part = IsLabel part.label × IsValue part.value × ArePrivileges part.privileges
 
--- a reply: its numbers have 32 bits, that of the parts that are wanted 64, and its words are literals
+-- a reply: its numbers have 32 bits, that of the parts that are wanted 64, and its words are
+-- literals
 abbrev pub IsReply : Reply → Type 0
 IsReply (reply.Handle h) = h < 2 ^ 32
 IsReply (reply.Tag tag) = IsTag tag
@@ -94,7 +97,8 @@ IsReply _ = ⊤
 
 -- a part: its name, its label, its value and its privileges
 abbrev pub IsPart : Part → Type 0
-IsPart part = (is_name part.name ≡ true) × IsLabel part.label × IsValue part.value × ArePrivileges part.privileges
+IsPart part = (is_name part.name ≡ true) × IsLabel part.label × IsValue part.value
+    × ArePrivileges part.privileges
 
 abbrev pub IsSpot : Spot → Type 0
 IsSpot spot = (is_name spot.name ≡ true) × IsLabel spot.label
@@ -108,7 +112,8 @@ IsCommit commit = IsEvent commit.event × IsEdit commit.edit
 
 -- what was given: its subscription is that of the reply, which is `event`
 abbrev pub IsGivenOf : Given → Reply → Type 0
-IsGivenOf given (reply.Event h sub) = (given.sub ≡ sub) × IsEvent given.event × All IsPart given.parts
+IsGivenOf given (reply.Event h sub) = (given.sub ≡ sub) × IsEvent given.event
+    × All IsPart given.parts
 IsGivenOf given _ = ⊥
 
 -- an effect of a call with this reply

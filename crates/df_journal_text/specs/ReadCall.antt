@@ -28,7 +28,8 @@ abbrev pub handle_at : {X : Type 0} → (List ℕ → Read ℕ X) → List ℕ �
 handle_at read bytes = then_at (word_at short_at) read bytes
 
 -- a handle, a label, a name and what is read behind them
-abbrev pub spot_at : {X : Type 0} → (List ℕ → Read ℕ X) → List ℕ → Read ℕ (ℕ × (Label × (List ℕ × X)))
+abbrev pub spot_at : {X : Type 0} → (List ℕ → Read ℕ X) → List ℕ →
+    Read ℕ (ℕ × (Label × (List ℕ × X)))
 spot_at read bytes = handle_at (then_at (word_at label_at) (then_at (word_at name_at) read)) bytes
 
 -- a half of a label, what is done there, and a tag
@@ -43,11 +44,23 @@ braced_at bytes = behind_at (123 ∷ []) (closed_at (125 ∷ []) tags_at) bytes
 abbrev pub call_kinds : List (List ℕ × (List ℕ → Read ℕ Call))
 call_kinds =
     (codes "create", bare_at CreateEvent)
-    ∷ (codes "add", λ bytes. as_at (λ x. AddPart x.0 x.1.0 x.1.1.0 x.1.1.1) (spot_at (word_at value_at)) bytes)
-    ∷ (codes "del", λ bytes. as_at (λ x. DelPart x.0 x.1.0 x.1.1) (handle_at (then_at (word_at label_at) (word_at name_at))) bytes)
+    ∷ (
+      codes "add",
+      λ bytes. as_at (λ x. AddPart x.0 x.1.0 x.1.1.0 x.1.1.1)
+          (spot_at (word_at value_at)) bytes,
+    )
+    ∷ (
+      codes "del",
+      λ bytes. as_at (λ x. DelPart x.0 x.1.0 x.1.1)
+          (handle_at (then_at (word_at label_at) (word_at name_at))) bytes,
+    )
     ∷ (codes "read", λ bytes. as_at (λ x. ReadPart x.0 x.1) (handle_at (word_at name_at)) bytes)
     ∷ (codes "clone", λ bytes. as_at (λ x. CloneEvent x.0 x.1) (handle_at (word_at label_at)) bytes)
-    ∷ (codes "attach", λ bytes. as_at (λ x. AttachPrivilege x.0 x.1.0 x.1.1.0 x.1.1.1) (spot_at (word_at privilege_at)) bytes)
+    ∷ (
+      codes "attach",
+      λ bytes. as_at (λ x. AttachPrivilege x.0 x.1.0 x.1.1.0 x.1.1.1)
+          (spot_at (word_at privilege_at)) bytes,
+    )
     ∷ (codes "out", λ bytes. as_at (λ x. ChangeOutLabel x.0 x.1.0 x.1.1) change_at bytes)
     ∷ (codes "tag", bare_at CreateTag)
     ∷ (codes "drop", λ bytes. as_at (λ h. DropEvent h) (word_at short_at) bytes)
@@ -57,7 +70,11 @@ call_kinds =
     ∷ (codes "publish", λ bytes. as_at (λ h. Publish h) (word_at short_at) bytes)
     ∷ (codes "release", λ bytes. as_at (λ h. Release h) (word_at short_at) bytes)
     ∷ (codes "inout", λ bytes. as_at (λ x. ChangeInOut x.0 x.1.0 x.1.1) change_at bytes)
-    ∷ (codes "spawn", λ bytes. as_at (λ x. Instantiate x.0 x.1) (then_at (word_at braced_at) privileges_at) bytes)
+    ∷ (
+      codes "spawn",
+      λ bytes. as_at (λ x. Instantiate x.0 x.1)
+          (then_at (word_at braced_at) privileges_at) bytes,
+    )
     ∷ []
 
 -- the words of a call

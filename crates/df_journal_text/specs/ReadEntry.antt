@@ -46,14 +46,17 @@ part_of x = record { name = x.1.0; label = x.0; value = x.1.1.0; privileges = x.
 
 -- the words of a part
 abbrev pub part_at : List ℕ → Read ℕ Part
-part_at bytes = as_at part_of (then_at (word_at label_at) (then_at (word_at name_at) (then_at (word_at value_at) privileges_at))) bytes
+part_at bytes =
+    as_at part_of (then_at (word_at label_at)
+    (then_at (word_at name_at) (then_at (word_at value_at) privileges_at))) bytes
 
 abbrev pub part_read_of : Label × (Plain × List Privilege) → PartRead
 part_read_of x = record { label = x.0; value = x.1.0; privileges = x.1.1 }
 
 -- the words of what a read shows of a part
 abbrev pub part_read_at : List ℕ → Read ℕ PartRead
-part_read_at bytes = as_at part_read_of (then_at (word_at label_at) (then_at (word_at value_at) privileges_at)) bytes
+part_read_at bytes =
+    as_at part_read_of (then_at (word_at label_at) (then_at (word_at value_at) privileges_at)) bytes
 
 abbrev pub spot_of : Label × List ℕ → Spot
 spot_of x = record { name = x.1; label = x.0 }
@@ -77,11 +80,14 @@ commit_at bytes = as_at commit_of (then_at (line_at (word_at event_at)) edit_at)
 
 -- the contamination, where one is noted
 abbrev pub note_at : List ℕ → Read ℕ (Option Label)
-note_at bytes = if begins_pair 64 32 bytes then as_at (λ label. Some label) (marked_at 64 (word_at label_at)) bytes else Ok (None, bytes)
+note_at bytes =
+    if begins_pair 64 32 bytes then as_at (λ label. Some label) (marked_at 64 (word_at label_at))
+    bytes else Ok (None, bytes)
 
 -- the reply with what a read shows, which stands below `parts` alone
 abbrev pub shown_at : Reply → List ℕ → Read ℕ Reply
-shown_at (reply.Parts parts) bytes = as_at (λ shown. reply.Parts shown) (all_marked_at 58 part_read_at) bytes
+shown_at (reply.Parts parts) bytes =
+    as_at (λ shown. reply.Parts shown) (all_marked_at 58 part_read_at) bytes
 shown_at r bytes = Ok (r, bytes)
 
 -- the subscription of the reply `event`
@@ -95,15 +101,18 @@ given_of sub x = effect.Given (record { event = x.0; sub = sub; parts = x.1 })
 -- the lines of an effect: `=`, `<` or none tells which
 abbrev pub effect_at : Reply → List ℕ → Read ℕ Effect
 effect_at r bytes =
-    if begins_pair 61 32 bytes then as_at (λ commit. effect.Commit commit) (behind_at (61 ∷ []) commit_at) bytes
-    else if begins_pair 60 32 bytes then as_at (given_of (sub_of r)) (then_at (marked_at 60 (word_at event_at)) (all_marked_at 46 part_at)) bytes
+    if begins_pair 61 32 bytes then as_at (λ commit. effect.Commit commit)
+    (behind_at (61 ∷ []) commit_at) bytes
+    else if begins_pair 60 32 bytes then as_at (given_of (sub_of r))
+    (then_at (marked_at 60 (word_at event_at)) (all_marked_at 46 part_at)) bytes
     else Ok (effect.Nothing, bytes)
 
 -- ---- entries
 
 -- a unit, its call, and the reply behind the arrow
 abbrev pub call_line_at : List ℕ → Read ℕ (UnitName × (Call × Reply))
-call_line_at bytes = then_at unit_at (then_at call_at (line_at (behind_at (codes " ->") reply_at))) bytes
+call_line_at bytes =
+    then_at unit_at (then_at call_at (line_at (behind_at (codes " ->") reply_at))) bytes
 
 abbrev pub done_of : UnitName → Call → Option Label → Reply → Effect → Noted
 done_of actor call note r effect = record { entry = Done actor call r effect; contamination = note }
@@ -122,7 +131,9 @@ emitted_of commit = record { entry = Emitted commit; contamination = None }
 
 -- an entry: what the world emitted, or one of a unit
 abbrev pub noted_at : List ℕ → Read ℕ Noted
-noted_at bytes = if begins_with 101 bytes then as_at emitted_of (behind_at (codes "emitted") commit_at) bytes else done_at bytes
+noted_at bytes =
+    if begins_with 101 bytes then as_at emitted_of (behind_at (codes "emitted") commit_at) bytes
+    else done_at bytes
 
 -- whether an entry stands in front
 abbrev pub begins_entry : List ℕ → Bool
@@ -130,7 +141,9 @@ begins_entry bytes = begins_digit bytes || begins_with 101 bytes
 
 -- a journal in its second version: its start and its entries
 abbrev pub journal_at : List ℕ → Read ℕ (List RootStart × List Noted)
-journal_at bytes = behind_at (codes "defcon-journal 2\n") (then_at start_at (behind_at (codes "run\n") (all_at begins_entry noted_at))) bytes
+journal_at bytes =
+    behind_at (codes "defcon-journal 2\n") (then_at start_at
+    (behind_at (codes "run\n") (all_at begins_entry noted_at))) bytes
 
 -- none of the marks of a journal and a space stand in front
 pub record IsUnmarked (rest : List ℕ) : Type 0 where

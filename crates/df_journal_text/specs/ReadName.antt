@@ -8,7 +8,9 @@ use Rattle.df_value_text.specs.ReadTag.{numbers_at, short_at, tags_at}
 
 -- `/`, a subscription's number, and tags in braces
 abbrev pub instance_at : List ℕ → Read ℕ (ℕ × List (List ℕ))
-instance_at bytes = behind_at (47 ∷ []) (then_at short_at (behind_at (123 ∷ []) (closed_at (125 ∷ []) tags_at))) bytes
+instance_at bytes =
+    behind_at (47 ∷ []) (then_at short_at (behind_at (123 ∷ []) (closed_at (125 ∷ []) tags_at)))
+    bytes
 
 -- the unit of a path, and of what stands behind it
 abbrev pub unit_of : List ℕ × Option (ℕ × List (List ℕ)) → UnitName

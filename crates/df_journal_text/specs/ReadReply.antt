@@ -20,7 +20,11 @@ reply_kinds =
     ∷ (codes "tag", λ bytes. as_at (λ tag. reply.Tag tag) (word_at tag_at) bytes)
     ∷ (codes "sub", λ bytes. as_at (λ n. reply.Sub n) (word_at short_at) bytes)
     ∷ (codes "unit", λ bytes. as_at (λ n. reply.Unit n) (word_at short_at) bytes)
-    ∷ (codes "event", λ bytes. as_at (λ x. reply.Event x.0 x.1) (then_at (word_at short_at) (word_at short_at)) bytes)
+    ∷ (
+      codes "event",
+      λ bytes. as_at (λ x. reply.Event x.0 x.1)
+          (then_at (word_at short_at) (word_at short_at)) bytes,
+    )
     ∷ (codes "parts", bare_at (reply.Parts []))
     ∷ (codes "nothing", bare_at reply.Nothing)
     ∷ (codes "no unit", bare_at reply.NoSuchUnit)
@@ -31,13 +35,21 @@ reply_kinds =
     ∷ (codes "empty event", bare_at reply.EmptyEvent)
     ∷ (codes "not in managed", bare_at reply.NotInManaged)
     ∷ (codes "too many handles", bare_at reply.TooManyHandles)
-    ∷ (codes "too many parts", λ bytes. as_at (λ wanted. reply.TooManyParts wanted) (word_at long_at) bytes)
+    ∷ (
+      codes "too many parts",
+      λ bytes. as_at (λ wanted. reply.TooManyParts wanted)
+          (word_at long_at) bytes,
+    )
     ∷ (codes "too many subs", bare_at reply.TooManySubs)
     ∷ (codes "too many units", bare_at reply.TooManyUnits)
     ∷ (codes "too deep", bare_at reply.TooDeep)
     ∷ (codes "exhausted", bare_at reply.Exhausted)
     ∷ (codes "lacks", λ bytes. as_at (λ p. reply.Lacks p) (word_at privilege_at) bytes)
-    ∷ (codes "cannot write", λ bytes. as_at (λ x. reply.CannotWrite x.0 x.1) (then_at (word_at label_at) (word_at label_at)) bytes)
+    ∷ (
+      codes "cannot write",
+      λ bytes. as_at (λ x. reply.CannotWrite x.0 x.1)
+          (then_at (word_at label_at) (word_at label_at)) bytes,
+    )
     ∷ []
 
 -- the words of a reply

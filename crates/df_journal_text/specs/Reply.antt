@@ -28,4 +28,5 @@ reply_words reply.TooManyUnits = codes "too many units" ∷ []
 reply_words reply.TooDeep = codes "too deep" ∷ []
 reply_words reply.Exhausted = codes "exhausted" ∷ []
 reply_words (reply.Lacks p) = codes "lacks" ∷ privilege_text p ∷ []
-reply_words (reply.CannotWrite out part) = codes "cannot write" ∷ label_text out ∷ label_text part ∷ []
+reply_words (reply.CannotWrite out part) = codes "cannot write" ∷ label_text out ∷ label_text part
+    ∷ []

@@ -26,9 +26,11 @@ roots_text number (root ∷ roots) = root_line number root ++ roots_text (number
 abbrev pub start_text : List RootStart → List ℕ
 start_text roots = roots_text 0 roots
 
--- what stands before a journal's entries: its first line, in its second version, its start, and a line
+-- what stands before a journal's entries: its first line, in its second version, its start, and a
+-- line
 abbrev pub head_text : List RootStart → List ℕ
-head_text roots = line (codes "defcon-journal") (codes "2" ∷ []) ++ start_text roots ++ line (codes "run") []
+head_text roots = line (codes "defcon-journal") (codes "2" ∷ []) ++ start_text roots
+    ++ line (codes "run") []
 
 -- a journal in its second version
 abbrev pub journal_text : List RootStart → List Noted → List ℕ

@@ -82,7 +82,8 @@ fn append_spot(
     name: &Name,
     to: &mut Vec<u8>,
 ) -> Result<(), NoMemory>
-    ensures { OnOk result (to.new.items ≡ to.old.items ++ spaced (keyword.now ∷ decimal h ∷ label_text label.now ∷ name.now ∷ [])) }
+    ensures { OnOk result (to.new.items ≡ to.old.items
+        ++ spaced (keyword.now ∷ decimal h ∷ label_text label.now ∷ name.now ∷ [])) }
 {
     append_at(keyword, h, to)?;
     append_label_word(label, to)?;
@@ -98,7 +99,8 @@ fn append_change(
     tag: &Tag,
     to: &mut Vec<u8>,
 ) -> Result<(), NoMemory>
-    ensures { OnOk result (to.new.items ≡ to.old.items ++ spaced (keyword.now ∷ half_text half ∷ act_text act ∷ tag_text tag.now ∷ [])) }
+    ensures { OnOk result (to.new.items ≡ to.old.items
+        ++ spaced (keyword.now ∷ half_text half ∷ act_text act ∷ tag_text tag.now ∷ [])) }
 {
     append_word(keyword, to)?;
     append_word(half_word(half), to)?;
@@ -127,7 +129,8 @@ fn act_word(act: Act) -> &'static [u8]
 
 /// Appends a keyword and a filter.
 fn append_subscription(keyword: &[u8], filter: &Filter, to: &mut Vec<u8>) -> Result<(), NoMemory>
-    ensures { OnOk result (to.new.items ≡ to.old.items ++ spaced (keyword.now ∷ filter_text filter.now ∷ [])) }
+    ensures { OnOk result (to.new.items ≡ to.old.items
+        ++ spaced (keyword.now ∷ filter_text filter.now ∷ [])) }
 {
     append_word(keyword, to)?;
     to.push(b' ')?;
@@ -137,7 +140,8 @@ fn append_subscription(keyword: &[u8], filter: &Filter, to: &mut Vec<u8>) -> Res
 
 /// Appends `spawn` and a set of tags in braces.
 fn append_spawn(s: &TagSet, to: &mut Vec<u8>) -> Result<(), NoMemory>
-    ensures { OnOk result (to.new.items ≡ to.old.items ++ spaced (codes "spawn" ∷ (codes "{" ++ tags_text s.now ++ codes "}") ∷ [])) }
+    ensures { OnOk result (to.new.items ≡ to.old.items
+        ++ spaced (codes "spawn" ∷ (codes "{" ++ tags_text s.now ++ codes "}") ∷ [])) }
 {
     append_word(b"spawn", to)?;
     to.extend_from_slice(b" {")?;

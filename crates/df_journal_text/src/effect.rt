@@ -83,7 +83,8 @@ pub fn append_reads(parts: &[PartRead], to: &mut Vec<u8>) -> Result<(), NoMemory
 
 /// Appends a mark, an event's name and a line feed.
 pub fn append_event_line(mark: &[u8], event: &EventName, to: &mut Vec<u8>) -> Result<(), NoMemory>
-    ensures { OnOk result (to.new.items ≡ to.old.items ++ line mark.now (event_text event.now ∷ [])) }
+    ensures { OnOk result (to.new.items ≡ to.old.items
+        ++ line mark.now (event_text event.now ∷ [])) }
 {
     to.extend_from_slice(mark)?;
     append_event_word(event, to)?;

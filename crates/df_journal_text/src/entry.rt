@@ -51,7 +51,9 @@ fn append_reply_reads(reply: &Reply, to: &mut Vec<u8>) -> Result<(), NoMemory>
 }
 
 fn append_emitted(commit: &Commit, to: &mut Vec<u8>) -> Result<(), NoMemory>
-    ensures { OnOk result (to.new.items ≡ to.old.items ++ (line (codes "emitted") (event_text commit.now.event ∷ []) ++ edit_text commit.now.edit)) }
+    ensures { OnOk result (to.new.items ≡ to.old.items
+        ++ (line (codes "emitted") (event_text commit.now.event ∷ [])
+        ++ edit_text commit.now.edit)) }
 {
     append_event_line(b"emitted", &commit.event, to)?;
     append_edit(&commit.edit, to)?;

@@ -75,7 +75,8 @@ pub fn append_value_word(value: &Frozen, to: &mut Vec<u8>) -> Result<(), NoMemor
 
 /// Appends privileges, each as a word.
 pub fn append_privilege_words(privileges: &[Privilege], to: &mut Vec<u8>) -> Result<(), NoMemory>
-    ensures { OnOk result (to.new.items ≡ to.old.items ++ spaced (map privilege_text privileges.now)) }
+    ensures { OnOk result (to.new.items ≡ to.old.items
+        ++ spaced (map privilege_text privileges.now)) }
 {
     for privilege in privileges {
         append_privilege_word(privilege, to)?;

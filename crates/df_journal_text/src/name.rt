@@ -25,7 +25,8 @@ ghost use Rattle.df_value_text.specs.Label.{tags_text};
 
 /// Appends what an instance's name has behind its owner's path.
 fn append_instance(sub: u32, s: &TagSet, to: &mut Vec<u8>) -> Result<(), NoMemory>
-    ensures { OnOk result (to.new.items ≡ to.old.items ++ (codes "/" ++ decimal sub ++ codes "{" ++ tags_text s.now ++ codes "}")) }
+    ensures { OnOk result (to.new.items ≡ to.old.items
+        ++ (codes "/" ++ decimal sub ++ codes "{" ++ tags_text s.now ++ codes "}")) }
 {
     to.push(b'/')?;
     append_number(u64::from(sub), to)?;

@@ -54,7 +54,8 @@ pub fn append_reply(reply: &Reply, to: &mut Vec<u8>) -> Result<(), NoMemory>
 
 /// Appends a keyword and a number.
 fn append_numbered(keyword: &[u8], number: u64, to: &mut Vec<u8>) -> Result<(), NoMemory>
-    ensures { OnOk result (to.new.items ≡ to.old.items ++ spaced (keyword.now ∷ decimal number ∷ [])) }
+    ensures { OnOk result (to.new.items ≡ to.old.items
+        ++ spaced (keyword.now ∷ decimal number ∷ [])) }
 {
     append_word(keyword, to)?;
     append_number_word(number, to)?;
@@ -68,7 +69,8 @@ fn append_labels(
     second: &Label,
     to: &mut Vec<u8>,
 ) -> Result<(), NoMemory>
-    ensures { OnOk result (to.new.items ≡ to.old.items ++ spaced (keyword.now ∷ label_text first.now ∷ label_text second.now ∷ [])) }
+    ensures { OnOk result (to.new.items ≡ to.old.items
+        ++ spaced (keyword.now ∷ label_text first.now ∷ label_text second.now ∷ [])) }
 {
     append_word(keyword, to)?;
     append_label_word(first, to)?;

@@ -24,7 +24,8 @@ fn append_between(
     last: &[u8],
     to: &mut Vec<u8>,
 ) -> Result<(), NoMemory>
-    ensures { OnOk result (to.new.items ≡ to.old.items ++ (first.now ++ start_text start.now ++ last.now)) }
+    ensures { OnOk result (to.new.items ≡ to.old.items
+        ++ (first.now ++ start_text start.now ++ last.now)) }
 {
     to.extend_from_slice(first)?;
     append_start(start, to)?;

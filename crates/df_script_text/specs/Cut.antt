@@ -17,17 +17,22 @@ abbrev pub in_front : ℕ → List (List ℕ) → List (List ℕ)
 in_front b [] = []
 in_front b (piece ∷ pieces) = (b ∷ piece) ∷ pieces
 
--- the pieces between the first spaces, of which there are at most so many, and the rest in one piece
+-- the pieces between the first spaces, of which there are at most so many, and the rest in one
+-- piece
 abbrev pub cut_pieces : ℕ → List ℕ → List (List ℕ)
 cut_pieces zero text = text ∷ []
 cut_pieces (suc spaces) [] = [] ∷ []
-cut_pieces (suc spaces) (b ∷ bs) = if b == 32 then [] ∷ cut_pieces spaces bs else in_front b (cut_pieces (suc spaces) bs)
+cut_pieces (suc spaces) (b ∷ bs) = if b == 32 then [] ∷ cut_pieces spaces bs
+    else in_front b (cut_pieces (suc spaces) bs)
 
 -- the first of these pieces and what is cut next; nothing, where the text is the last piece
 abbrev pub IsNextPiece : ℕ → List ℕ → Option (List ℕ × List ℕ) → Type 0
 IsNextPiece spaces text None = cut_pieces spaces text ≡ text ∷ []
-IsNextPiece spaces text (Some parts) = (0 < spaces) × (cut_pieces spaces text ≡ parts.0 ∷ cut_pieces (spaces - 1) parts.1)
+IsNextPiece spaces text (Some parts) = (0 < spaces)
+    × (cut_pieces spaces text ≡ parts.0 ∷ cut_pieces (spaces - 1) parts.1)
 
--- the pieces of a call: a filter is the second of two, a value the last of five, and both may have spaces
+-- the pieces of a call: a filter is the second of two, a value the last of five, and both may have
+-- spaces
 abbrev pub call_pieces : List ℕ → List (List ℕ)
-call_pieces text = if starts_with eqb text (codes "sub ") then cut_pieces 1 text else cut_pieces 4 text
+call_pieces text = if starts_with eqb text (codes "sub ") then cut_pieces 1 text
+    else cut_pieces 4 text

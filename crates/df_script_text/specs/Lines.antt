@@ -20,7 +20,8 @@ call_line l = unit_text l.actor ++ spaced (call_words l.call)
 
 -- the words of the line of the root that has this number
 abbrev pub root_words : ℕ → RootStart → List (List ℕ)
-root_words number root = codes "unit" ∷ decimal number ∷ label_text root.label ∷ map privilege_text root.privileges
+root_words number root = codes "unit" ∷ decimal number ∷ label_text root.label
+    ∷ map privilege_text root.privileges
 
 -- the lines of these, of which the first has this number
 abbrev pub numbered : {X : Type 0} → (ℕ → X → List ℕ) → ℕ → List X → List (List ℕ)
@@ -29,7 +30,8 @@ numbered spell number (x ∷ xs) = spell number x ∷ numbered spell (number + 1
 
 -- the lines behind the first
 abbrev pub body_lines : List RootStart → List ScriptLine → List (List ℕ)
-body_lines roots lines = numbered root_text 0 roots ++ codes "run" ∷ numbered (λ _ l. call_line l) 0 lines
+body_lines roots lines = numbered root_text 0 roots ++ codes "run"
+    ∷ numbered (λ _ l. call_line l) 0 lines
 
 -- the lines of a script, and the empty one behind its last line feed
 abbrev pub script_lines : List RootStart × List ScriptLine → List (List ℕ)

@@ -20,4 +20,6 @@ script_line_at bytes = line_at (as_at script_line_of (then_at unit_at call_at)) 
 
 -- a script: its start and its calls
 abbrev pub script_at : List ℕ → Read ℕ (List RootStart × List ScriptLine)
-script_at bytes = behind_at (codes "defcon-script 1\n") (then_at start_at (behind_at (codes "run\n") (all_at begins_digit script_line_at))) bytes
+script_at bytes =
+    behind_at (codes "defcon-script 1\n") (then_at start_at
+    (behind_at (codes "run\n") (all_at begins_digit script_line_at))) bytes

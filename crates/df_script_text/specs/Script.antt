@@ -24,7 +24,8 @@ script_line l = line (unit_text l.actor) (call_words l.call)
 
 -- a script: the first line, the lines of the roots, `run`, and the lines of the calls
 abbrev pub script_text : List RootStart → List ScriptLine → List ℕ
-script_text roots lines = line (codes "defcon-script") (codes "1" ∷ []) ++ start_text roots ++ line (codes "run") [] ++ flat_map script_line lines
+script_text roots lines = line (codes "defcon-script") (codes "1" ∷ []) ++ start_text roots
+    ++ line (codes "run") [] ++ flat_map script_line lines
 
 -- a unit that makes calls of a script: a root
 abbrev pub IsReadActor : UnitName → Type 0
@@ -36,11 +37,13 @@ IsReadActor (Managed owner sub s) = ⊥
 -- a call that scripts have so far: its handle has 32 bits, and each of its words is a literal
 abbrev pub IsReadCall : Call → Type 0
 IsReadCall CreateEvent = ⊤
-IsReadCall (AddPart h label name value) = (h < 2 ^ 32) × IsLabel label × (is_name name ≡ true) × IsValue value
+IsReadCall (AddPart h label name value) = (h < 2 ^ 32) × IsLabel label × (is_name name ≡ true)
+    × IsValue value
 IsReadCall (DelPart h label name) = (h < 2 ^ 32) × IsLabel label × (is_name name ≡ true)
 IsReadCall (ReadPart h name) = (h < 2 ^ 32) × (is_name name ≡ true)
 IsReadCall (CloneEvent h label) = (h < 2 ^ 32) × IsLabel label
-IsReadCall (AttachPrivilege h label name p) = (h < 2 ^ 32) × IsLabel label × (is_name name ≡ true) × IsPrivilege p
+IsReadCall (AttachPrivilege h label name p) =
+    (h < 2 ^ 32) × IsLabel label × (is_name name ≡ true) × IsPrivilege p
 IsReadCall (ChangeOutLabel half act tag) = IsTag tag
 IsReadCall CreateTag = ⊤
 IsReadCall (DropEvent h) = h < 2 ^ 32
@@ -69,7 +72,8 @@ abbrev pub IsSpelledScript : List RootStart → List ScriptLine → Type 0
 IsSpelledScript roots lines = AreRoots roots × All IsScriptLine lines
 
 -- what is answered is this script, unless there was no memory
-abbrev pub IsReadScript : {X : Type 0} → (X → List RootStart × List ScriptLine) → List RootStart → List ScriptLine → Result X FileRefused → Type 0
+abbrev pub IsReadScript : {X : Type 0} → (X → List RootStart × List ScriptLine) → List RootStart →
+    List ScriptLine → Result X FileRefused → Type 0
 IsReadScript view roots lines (Ok script) = view script ≡ (roots, lines)
 IsReadScript view roots lines (Err e) = e ≡ NoMemory
 

@@ -118,7 +118,8 @@ fn read_with_three(
     second: &[u8],
     third: &[u8],
 ) -> Result<Option<Call>, NoMemory>
-    ensures { IfOk result (Reads call_words IsReadCall (keyword.now ∷ first.now ∷ second.now ∷ third.now ∷ [])) }
+    ensures { IfOk result (Reads call_words IsReadCall
+        (keyword.now ∷ first.now ∷ second.now ∷ third.now ∷ [])) }
 {
     if keyword == b"del".as_slice() {
         read_del(alloc, first, second, third)
@@ -133,7 +134,8 @@ fn read_with_three(
 
 /// The call that deletes parts of an event.
 fn read_del(alloc: Global, h: &[u8], label: &[u8], name: &[u8]) -> Result<Option<Call>, NoMemory>
-    ensures { IfOk result (Reads call_words IsReadCall (codes "del" ∷ h.now ∷ label.now ∷ name.now ∷ [])) }
+    ensures { IfOk result (Reads call_words IsReadCall
+        (codes "del" ∷ h.now ∷ label.now ∷ name.now ∷ [])) }
 {
     let Some(h) = read_number(h) else {
         return Ok(None);
@@ -149,7 +151,8 @@ fn read_del(alloc: Global, h: &[u8], label: &[u8], name: &[u8]) -> Result<Option
 
 /// The call that changes the label of what a unit adds.
 fn read_out(alloc: Global, half: &[u8], act: &[u8], tag: &[u8]) -> Result<Option<Call>, NoMemory>
-    ensures { IfOk result (Reads call_words IsReadCall (codes "out" ∷ half.now ∷ act.now ∷ tag.now ∷ [])) }
+    ensures { IfOk result (Reads call_words IsReadCall
+        (codes "out" ∷ half.now ∷ act.now ∷ tag.now ∷ [])) }
 {
     let Some(half) = read_half(half) else {
         return Ok(None);
@@ -165,7 +168,8 @@ fn read_out(alloc: Global, half: &[u8], act: &[u8], tag: &[u8]) -> Result<Option
 
 /// The call that changes both labels of a unit.
 fn read_inout(alloc: Global, half: &[u8], act: &[u8], tag: &[u8]) -> Result<Option<Call>, NoMemory>
-    ensures { IfOk result (Reads call_words IsReadCall (codes "inout" ∷ half.now ∷ act.now ∷ tag.now ∷ [])) }
+    ensures { IfOk result (Reads call_words IsReadCall
+        (codes "inout" ∷ half.now ∷ act.now ∷ tag.now ∷ [])) }
 {
     let Some(half) = read_half(half) else {
         return Ok(None);
@@ -188,7 +192,8 @@ fn read_with_four(
     name: &[u8],
     word: &[u8],
 ) -> Result<Option<Call>, NoMemory>
-    ensures { IfOk result (Reads call_words IsReadCall (keyword.now ∷ h.now ∷ label.now ∷ name.now ∷ word.now ∷ [])) }
+    ensures { IfOk result (Reads call_words IsReadCall
+        (keyword.now ∷ h.now ∷ label.now ∷ name.now ∷ word.now ∷ [])) }
 {
     let Some(h) = read_number(h) else {
         return Ok(None);

@@ -26,7 +26,8 @@ fn run_place(lines: &[&[u8]]) -> Option<usize>
 
 /// The lines of a script, without their line feeds, and what is behind the last line feed.
 fn read_whole(alloc: Global, lines: &[&[u8]]) -> Result<Option<(Start, Vec<ScriptLine>)>, NoMemory>
-    ensures { IfOk result (λ o. Reads script_lines (λ s. IsScript s.0 s.1) (map (λ l. l.now) lines.now) (option_map (λ s. (s.0, s.1.items)) o)) }
+    ensures { IfOk result (λ o. Reads script_lines (λ s. IsScript s.0 s.1)
+        (map (λ l. l.now) lines.now) (option_map (λ s. (s.0, s.1.items)) o)) }
 {
     let Some((header, rest)) = lines.split_first() else {
         return Ok(None);

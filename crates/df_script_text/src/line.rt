@@ -38,7 +38,8 @@ fn read_line(alloc: Global, line: &[u8]) -> Result<Option<ScriptLine>, NoMemory>
 
 /// Lines, without their line feeds.
 pub fn read_lines(alloc: Global, lines: &[&[u8]]) -> Result<Option<Vec<ScriptLine>>, NoMemory>
-    ensures { IfOk result (λ o. Reads (numbered (λ _ l. call_line l) 0) (All IsReadLine) (map (λ l. l.now) lines.now) (option_map (λ v. v.items) o)) }
+    ensures { IfOk result (λ o. Reads (numbered (λ _ l. call_line l) 0) (All IsReadLine)
+        (map (λ l. l.now) lines.now) (option_map (λ v. v.items) o)) }
 {
     let mut read = Vec::new(alloc);
     for line in lines {

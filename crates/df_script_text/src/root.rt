@@ -31,7 +31,8 @@ fn are_ascending(privileges: &[Privilege]) -> bool
 
 /// Privileges, whatever their order.
 fn read_each(alloc: Global, words: &[&[u8]]) -> Result<Option<Vec<Privilege>>, NoMemory>
-    ensures { IfOk result (λ o. Reads (map privilege_text) (All IsPrivilege) (map (λ w. w.now) words.now) (option_map (λ v. v.items) o)) }
+    ensures { IfOk result (λ o. Reads (map privilege_text) (All IsPrivilege)
+        (map (λ w. w.now) words.now) (option_map (λ v. v.items) o)) }
 {
     let mut read = Vec::new(alloc);
     for word in words {

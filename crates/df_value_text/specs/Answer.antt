@@ -27,7 +27,8 @@ refusal (fault.Low place) = refused.Syntax place
 
 -- what is answered stands at the place, and no text goes on with the byte behind it
 abbrev pub IsFound : {X : Type 0} → (X → List ℕ) → (X → Type 0) → List ℕ → ℕ → X × ℕ → Type 0
-IsFound spell Fits bytes at read = (read.1 ≤ length bytes) × Stands spell Fits (drop at bytes) read.0 (drop read.1 bytes)
+IsFound spell Fits bytes at read = (read.1 ≤ length bytes)
+    × Stands spell Fits (drop at bytes) read.0 (drop read.1 bytes)
 
 -- the answer is this, and the place before these bytes, unless there was no memory
 abbrev pub IsRead : {X : Type 0} → List ℕ → X → List ℕ → Result (X × ℕ) TextRefused → Type 0
@@ -35,7 +36,8 @@ IsRead bytes x rest (Ok read) = (read.0 ≡ x) × (drop read.1 bytes ≡ rest)
 IsRead bytes x rest (Err e) = e ≡ refused.NoMemory
 
 -- the first bytes of these can go on, and what stands behind them is low
-pub record FirstLow {X : Type 0} (IsLow : List ℕ → List ℕ → Type 0) (spell : X → List ℕ) (Fits : X → Type 0) (bytes rest : List ℕ) : Type 0 where
+pub record FirstLow {X : Type 0} (IsLow : List ℕ → List ℕ → Type 0) (spell : X → List ℕ)
+    (Fits : X → Type 0) (bytes rest : List ℕ) : Type 0 where
   pub front : List ℕ
   pub parts : bytes ≡ front ++ rest
   pub viable : CanGoOn spell Fits front
@@ -44,20 +46,25 @@ pub record FirstLow {X : Type 0} (IsLow : List ℕ → List ℕ → Type 0) (spe
 -- a refusal names the first bad byte
 abbrev pub NamesBad : {X : Type 0} → (X → List ℕ) → (X → Type 0) → List ℕ → ℕ → TextRefused → Type 0
 NamesBad spell Fits bytes at refused.NoMemory = ⊤
-NamesBad spell Fits bytes at (refused.Syntax place) = (place ≤ length bytes) × FirstBad spell Fits (drop at bytes) (drop place bytes)
+NamesBad spell Fits bytes at (refused.Syntax place) =
+    (place ≤ length bytes) × FirstBad spell Fits (drop at bytes) (drop place bytes)
 NamesBad spell Fits bytes at (refused.TooLarge place) = ⊥
 
 -- a refusal names the first bad byte or a low place
-abbrev pub NamesBadOrLow : {X : Type 0} → (List ℕ → List ℕ → Type 0) → (X → List ℕ) → (X → Type 0) → List ℕ → ℕ → TextRefused → Type 0
+abbrev pub NamesBadOrLow : {X : Type 0} → (List ℕ → List ℕ → Type 0) → (X → List ℕ) →
+    (X → Type 0) → List ℕ → ℕ → TextRefused → Type 0
 NamesBadOrLow IsLow spell Fits bytes at refused.NoMemory = ⊤
-NamesBadOrLow IsLow spell Fits bytes at (refused.Syntax place) = (place ≤ length bytes) × (FirstBad spell Fits (drop at bytes) (drop place bytes) ⊎ FirstLow IsLow spell Fits (drop at bytes) (drop place bytes))
+NamesBadOrLow IsLow spell Fits bytes at (refused.Syntax place) =
+    (place ≤ length bytes) × (FirstBad spell Fits (drop at bytes) (drop place bytes)
+    ⊎ FirstLow IsLow spell Fits (drop at bytes) (drop place bytes))
 NamesBadOrLow IsLow spell Fits bytes at (refused.TooLarge place) = ⊥
 
 -- no dot stands at the place, or the byte behind it is bad
 abbrev pub EndsAt : List ℕ → ℕ → Result (Unit {0}) Fault → Type 0
 EndsAt bytes place (Ok none) = (x : List ℕ) → ended (x, drop place bytes) ≡ Ok (x, drop place bytes)
 EndsAt bytes place (Err fault.NoMemory) = ⊥
-EndsAt bytes place (Err (fault.Bad k)) = (k ≤ length bytes) × ((x : List ℕ) → ended (x, drop place bytes) ≡ Err (Bad (drop k bytes)))
+EndsAt bytes place (Err (fault.Bad k)) = (k ≤ length bytes)
+    × ((x : List ℕ) → ended (x, drop place bytes) ≡ Err (Bad (drop k bytes)))
 EndsAt bytes place (Err (fault.Low k)) = ⊥
 
 -- the answer is Syntax at the place before these bytes, unless there was no memory

@@ -1,4 +1,5 @@
--- Counting a value's nodes, bytes and depth from left to right, and the first byte by which a count of freezing is passed.
+-- Counting a value's nodes, bytes and depth from left to right, and the first byte by which a count
+-- of freezing is passed.
 use Rattle.std.specs.Prelude.{◌≡◌, ℕ, ◌+◌, ◌<◌, ◌≤◌, max, Bool, true, false, ◌||◌, List, [], ◌∷◌, ◌++◌, length, drop, Option, Some, None, ◌==◌, nat_lt, if◌then◌else◌, ◌⊎◌}
 use Rattle.std.specs.Char.{is_ascii_digit}
 use Rattle.df_frozen.specs.Limits.{most_nodes, most_bytes, most_depth}
@@ -12,7 +13,8 @@ use Rattle.df_value_text.specs.declared.counting.Walk.{Walk}
 
 -- a literal begins with this byte
 abbrev pub begins_literal : ℕ → Bool
-begins_literal c = is_ascii_digit c || ((c == 45) || ((c == 34) || ((c == 120) || ((c == 91) || (c == 40)))))
+begins_literal c =
+    is_ascii_digit c || ((c == 45) || ((c == 34) || ((c == 120) || ((c == 91) || (c == 40)))))
 
 -- a value stands where one may begin
 abbrev pub begins : Place → ℕ → Bool
@@ -40,7 +42,8 @@ weight other c = 0
 abbrev pub closes : ℕ → Bool
 closes c = (c == 93) || (c == 41)
 
--- where a byte behind a value leads: with `,` to the next name or value, and nowhere behind the whole value
+-- where a byte behind a value leads: with `,` to the next name or value, and nowhere behind the
+-- whole value
 abbrev pub behind : List Bool → ℕ → Place
 behind [] c = place.Done
 behind (map ∷ brackets) c =
@@ -71,11 +74,13 @@ named c =
 abbrev pub next : Place → List Bool → ℕ → Place
 next place.Before brackets c = begun c
 next place.Number brackets c = if is_ascii_digit c then place.Number else behind brackets c
-next place.Words brackets c = if c == 34 then place.Behind else if c == 92 then place.Escape else place.Words
+next place.Words brackets c = if c == 34 then place.Behind else if c == 92 then place.Escape
+    else place.Words
 next place.Escape brackets c = if is_quoted c then place.Words else place.EscapeDigit
 next place.EscapeDigit brackets c = place.Words
 next place.Marked brackets c = if c == 34 then place.Bytes else place.Done
-next place.Bytes brackets c = if c == 34 then place.Behind else if is_hex c then place.BytesDigit else place.Done
+next place.Bytes brackets c = if c == 34 then place.Behind else if is_hex c then place.BytesDigit
+    else place.Done
 next place.BytesDigit brackets c = place.Bytes
 next place.Name brackets c = named c
 next place.Behind brackets c = behind brackets c
@@ -87,13 +92,15 @@ closed brackets c = if closes c then drop 1 brackets else brackets
 
 -- the brackets that are open behind a byte, the innermost first: false for lists, true for maps
 abbrev pub nested : Place → List Bool → ℕ → List Bool
-nested place.Before brackets c = if c == 91 then false ∷ brackets else if c == 40 then true ∷ brackets else closed brackets c
+nested place.Before brackets c = if c == 91 then false ∷ brackets
+    else if c == 40 then true ∷ brackets else closed brackets c
 nested place.Number brackets c = closed brackets c
 nested place.Name brackets c = closed brackets c
 nested place.Behind brackets c = closed brackets c
 nested other brackets c = brackets
 
--- a walk goes on by a byte: the first byte of a literal counts its node, and its depth, one more than the brackets that are open
+-- a walk goes on by a byte: the first byte of a literal counts its node, and its depth, one more
+-- than the brackets that are open
 abbrev pub walk : Walk → ℕ → Walk
 walk w c = record {
   place = next w.place w.brackets c;
@@ -153,4 +160,5 @@ NeverOver bytes = (front rest : List ℕ) → bytes ≡ front ++ rest → AreWit
 -- what is told is the place of the first byte by which a count is passed, or that there is none
 abbrev pub TellsOver : List ℕ → ℕ → Option ℕ → Type 0
 TellsOver bytes at None = NeverOver (drop at bytes)
-TellsOver bytes at (Some place) = (place < length bytes) × FirstOver (drop at bytes) (drop place bytes)
+TellsOver bytes at (Some place) = (place < length bytes)
+    × FirstOver (drop at bytes) (drop place bytes)

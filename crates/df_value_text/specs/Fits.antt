@@ -57,7 +57,8 @@ abbrev mutual
 
   pub AreBehind : List ℕ → Pairs → Type 0
   AreBehind prev no_entries = ⊤
-  AreBehind prev (entry name p es) = (is_name name ≡ true) × (name_cmp prev name ≡ Less) × IsSpelled p × AreBehind name es
+  AreBehind prev (entry name p es) = (is_name name ≡ true) × (name_cmp prev name ≡ Less)
+      × IsSpelled p × AreBehind name es
 
 -- a value that is read: one that has a spelling and may be frozen
 abbrev pub IsValue : Plain → Type 0

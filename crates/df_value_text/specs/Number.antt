@@ -6,7 +6,8 @@ use Rattle.df_format.specs.Reading.{Bad, Read}
 -- further digits, as long as the number is at most this
 abbrev pub digits_at : ℕ → ℕ → List ℕ → ℕ × List ℕ
 digits_at most n [] = (n, [])
-digits_at most n (c ∷ cs) = if is_ascii_digit c && nat_le (10 * n + (c - 48)) most then digits_at most (10 * n + (c - 48)) cs else (n, c ∷ cs)
+digits_at most n (c ∷ cs) = if is_ascii_digit c && nat_le (10 * n + (c - 48)) most
+    then digits_at most (10 * n + (c - 48)) cs else (n, c ∷ cs)
 
 -- the longest number of at most this
 abbrev pub number_at : ℕ → List ℕ → Read ℕ ℕ

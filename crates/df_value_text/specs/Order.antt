@@ -20,7 +20,8 @@ pub record IsLowTag (front rest : List ℕ) : Type 0 where
   pub is : front ≡ before ++ (tag_text prev ++ codes ",")
   pub low : StandsLow prev rest
 
--- behind these bytes stand tags of a set and a comma, and the tag at rest isn't above the last of them
+-- behind these bytes stand tags of a set and a comma, and the tag at rest isn't above the last of
+-- them
 pub record LowBehind (opened bytes rest : List ℕ) : Type 0 where
   pub tags : List (List ℕ)
   pub prev : List ℕ
@@ -30,4 +31,6 @@ pub record LowBehind (opened bytes rest : List ℕ) : Type 0 where
 
 -- the tag at rest stands in one of a label's sets, and isn't above the one before it
 abbrev pub LowInLabel : List ℕ → List ℕ → Type 0
-LowInLabel bytes rest = LowBehind (codes "{") bytes rest ⊎ ((s : List (List ℕ)) × IsTagSet s × LowBehind (codes "{" ++ (tags_text s ++ codes "|")) bytes rest)
+LowInLabel bytes rest = LowBehind (codes "{") bytes rest
+    ⊎ ((s : List (List ℕ)) × IsTagSet s × LowBehind
+    (codes "{" ++ (tags_text s ++ codes "|")) bytes rest)

@@ -20,7 +20,8 @@ pairs_at [] = Ok ([], [])
 pairs_at (a ∷ []) = if is_hex a then Err (Bad []) else Ok ([], a ∷ [])
 pairs_at (a ∷ b ∷ cs) =
     if is_hex a
-    then (if is_hex b then (pairs_at cs >>= λ xs. Ok (hex_byte a b ∷ xs.0, xs.1)) else Err (Bad (b ∷ cs)))
+    then (if is_hex b then (pairs_at cs >>= λ xs. Ok (hex_byte a b ∷ xs.0, xs.1))
+    else Err (Bad (b ∷ cs)))
     else Ok ([], a ∷ b ∷ cs)
 
 -- bytes, behind `x"` and in front of `"`

@@ -42,4 +42,5 @@ escape_at bytes = either_at is_quoted (one_at (kept is_quoted)) control_at bytes
 
 -- a byte of ASCII, as it is escaped
 abbrev pub ascii_at : List ℕ → Read ℕ ℕ
-ascii_at bytes = either_at (λ c. c == 92) (behind_at (92 ∷ []) escape_at) (one_at (kept is_plain)) bytes
+ascii_at bytes =
+    either_at (λ c. c == 92) (behind_at (92 ∷ []) escape_at) (one_at (kept is_plain)) bytes

@@ -12,7 +12,10 @@ abbrev pub label_of : List (List ℕ) × List (List ℕ) → Label
 label_of sets = record { s = sets.0; i = sets.1 }
 
 abbrev pub label_at : List ℕ → Read ℕ Label
-label_at bytes = behind_at (123 ∷ []) (as_at label_of (then_at (closed_at (124 ∷ []) tags_at) (closed_at (125 ∷ []) tags_at))) bytes
+label_at bytes =
+    behind_at (123
+    ∷ []) (as_at label_of (then_at (closed_at (124 ∷ []) tags_at) (closed_at (125 ∷ []) tags_at)))
+    bytes
 
 -- what stands behind a sign: nothing, or `auth`
 abbrev pub auth_at : List ℕ → Read ℕ (Option (List ℕ))
@@ -27,7 +30,9 @@ minus_of None = Minus
 minus_of (Some word) = MinusAuth
 
 abbrev pub right_at : List ℕ → Read ℕ Right
-right_at bytes = either_at (λ c. c == 43) (behind_at (43 ∷ []) (as_at plus_of auth_at)) (behind_at (45 ∷ []) (as_at minus_of auth_at)) bytes
+right_at bytes =
+    either_at (λ c. c == 43) (behind_at (43 ∷ []) (as_at plus_of auth_at))
+    (behind_at (45 ∷ []) (as_at minus_of auth_at)) bytes
 
 -- the privilege of a tag and a right
 abbrev pub privilege_of : List ℕ × Right → Privilege

@@ -13,4 +13,10 @@ name_bytes (suc most) (c ∷ cs) = if is_name_byte c then suc (name_bytes most c
 -- the longest name
 abbrev pub name_at : List ℕ → Read ℕ (List ℕ)
 name_at [] = Err (Bad [])
-name_at (c ∷ cs) = if is_letter c then Ok (c ∷ take (name_bytes (longest_name - 1) cs) cs, drop (name_bytes (longest_name - 1) cs) cs) else Err (Bad (c ∷ cs))
+name_at (c ∷ cs) =
+    if is_letter c
+    then Ok (
+      c ∷ take (name_bytes (longest_name - 1) cs) cs,
+      drop
+          (name_bytes (longest_name - 1) cs) cs,
+    ) else Err (Bad (c ∷ cs))

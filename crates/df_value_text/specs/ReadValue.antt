@@ -20,7 +20,9 @@ none_listed text = []
 
 -- items, of which there may be none, in front of this byte
 abbrev pub ended_at : {X : Type 0} → ℕ → (List ℕ → Read ℕ (X × List X)) → List ℕ → Read ℕ (List X)
-ended_at last some text = either_at (λ c. c == last) (as_at none_listed (text_at (last ∷ []))) (closed_at (last ∷ []) (as_at listed some)) text
+ended_at last some text =
+    either_at (λ c. c == last) (as_at none_listed (text_at (last ∷ [])))
+    (closed_at (last ∷ []) (as_at listed some)) text
 
 -- ---- lists
 
@@ -69,17 +71,23 @@ map_of es = entries (from_pairs es)
 
 -- what stands behind `(`, each value read by inner
 abbrev pub map_at : (List ℕ → Read ℕ Plain) → List ℕ → Read ℕ Plain
-map_at inner text = as_at map_of (ended_at 41 (items_at leads_entry (entry_at inner) (λ prev. next_entry_at inner prev.0))) text
+map_at inner text =
+    as_at map_of (ended_at 41 (items_at leads_entry (entry_at inner)
+    (λ prev. next_entry_at inner prev.0))) text
 
 -- ---- values
 
 -- a value in which none lies: words, bytes or a number
 abbrev pub leaf_at : List ℕ → Read ℕ Plain
-leaf_at text = either_at (λ c. c == 34) (as_at words words_at) (either_at (λ c. c == 120) (as_at bytes bytes_at) (as_at int whole_at)) text
+leaf_at text =
+    either_at (λ c. c == 34) (as_at words words_at)
+    (either_at (λ c. c == 120) (as_at bytes bytes_at) (as_at int whole_at)) text
 
 -- a list, a map or a leaf, each value in it read by inner
 abbrev pub node_at : (List ℕ → Read ℕ Plain) → List ℕ → Read ℕ Plain
-node_at inner text = either_at (λ c. c == 91) (behind_at (91 ∷ []) (list_at inner)) (either_at (λ c. c == 40) (behind_at (40 ∷ []) (map_at inner)) leaf_at) text
+node_at inner text =
+    either_at (λ c. c == 91) (behind_at (91 ∷ []) (list_at inner))
+    (either_at (λ c. c == 40) (behind_at (40 ∷ []) (map_at inner)) leaf_at) text
 
 -- a value in which lists and maps nest so deep at most; no text nests deeper than it is long
 unfoldable pub value_within : ℕ → List ℕ → Read ℕ Plain

@@ -18,4 +18,6 @@ abbrev pub minus : ℕ → ℤ
 minus n = negsuc (n - 1)
 
 abbrev pub whole_at : List ℕ → Read ℕ ℤ
-whole_at bytes = either_at (λ c. c == 45) (behind_at (45 ∷ []) (as_at minus (positive_at 9223372036854775808))) (as_at pos (number_at 9223372036854775807)) bytes
+whole_at bytes =
+    either_at (λ c. c == 45) (behind_at (45 ∷ []) (as_at minus (positive_at 9223372036854775808)))
+    (as_at pos (number_at 9223372036854775807)) bytes

@@ -25,7 +25,8 @@ most_second lead = if lead == 237 then 159 else if lead == 244 then 143 else 191
 -- a byte that passes the test, and what stands behind it
 abbrev pub led_at : (ℕ → Bool) → (ℕ → List ℕ → Read ℕ (List ℕ)) → List ℕ → Read ℕ (List ℕ)
 led_at test next [] = Err (Bad [])
-led_at test next (b ∷ bs) = if test b then (next b bs >>= λ r. Ok (b ∷ r.0, r.1)) else Err (Bad (b ∷ bs))
+led_at test next (b ∷ bs) = if test b then (next b bs >>= λ r. Ok (b ∷ r.0, r.1))
+    else Err (Bad (b ∷ bs))
 
 -- so many bytes, the first of this range and the others from 80 to BF
 abbrev pub trail_at : ℕ → ℕ → ℕ → List ℕ → Read ℕ (List ℕ)
@@ -34,4 +35,6 @@ trail_at (suc n) least most bytes = led_at (is_between least most) (λ b. trail_
 
 -- a character of several bytes: its bytes
 abbrev pub wide_at : List ℕ → Read ℕ (List ℕ)
-wide_at bytes = led_at is_lead (λ lead. trail_at (trail_length lead) (least_second lead) (most_second lead)) bytes
+wide_at bytes =
+    led_at is_lead (λ lead. trail_at (trail_length lead) (least_second lead) (most_second lead))
+    bytes

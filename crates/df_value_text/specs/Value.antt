@@ -12,7 +12,8 @@ hex_digit digit = if nat_lt digit 10 then 48 + digit else 87 + digit
 abbrev pub hex : ℕ → List ℕ
 hex byte = hex_digit (byte / 16) ∷ hex_digit (byte % 16) ∷ []
 
--- a byte of words: `"` and `\` behind a `\`, the control bytes as a `\` and two digits, any other as itself
+-- a byte of words: `"` and `\` behind a `\`, the control bytes as a `\` and two digits, any other
+-- as itself
 abbrev pub escaped : ℕ → List ℕ
 escaped byte =
     if (byte == 34) || (byte == 92) then 92 ∷ byte ∷ []
@@ -36,13 +37,15 @@ abbrev mutual
   pub items_text : Plains → List ℕ
   items_text no_items = []
   items_text (item value no_items) = value_text value
-  items_text (item value (item next values)) = value_text value ++ (44 ∷ items_text (item next values))
+  items_text (item value (item next values)) =
+      value_text value ++ (44 ∷ items_text (item next values))
 
   -- entries with `,` between them
   pub entries_text : Pairs → List ℕ
   entries_text no_entries = []
   entries_text (entry name value no_entries) = name ++ (61 ∷ value_text value)
-  entries_text (entry name value (entry next next_value values)) = (name ++ (61 ∷ value_text value)) ++ (44 ∷ entries_text (entry next next_value values))
+  entries_text (entry name value (entry next next_value values)) =
+      (name ++ (61 ∷ value_text value)) ++ (44 ∷ entries_text (entry next next_value values))
 
 -- an entry of a map: its name, `=` and its value
 abbrev pub entry_text : List ℕ × Plain → List ℕ

@@ -23,28 +23,37 @@ FirstLowName bytes rest = FirstLow LowWithin value_text IsSpelled bytes rest
 abbrev pub IsWithinBefore : List ℕ → List ℕ → Type 0
 IsWithinBefore bytes rest = (front : List ℕ) → bytes ≡ front ++ rest → AreWithin (counts_of front)
 
--- rest begins with the first byte by which a count of freezing is passed, and with it a value can go on
+-- rest begins with the first byte by which a count of freezing is passed, and with it a value can
+-- go on
 pub record FirstTooLarge (bytes rest : List ℕ) : Type 0 where
   pub over : FirstOver bytes rest
   pub viable : CanGoOn value_text IsSpelled (over.front ++ over.first ∷ [])
 
--- a Syntax names the first byte with which no value can go on, or a low name, and no count is passed before it
+-- a Syntax names the first byte with which no value can go on, or a low name, and no count is
+-- passed before it
 abbrev pub NamesValueFault : List ℕ → ℕ → TextRefused → Type 0
 NamesValueFault bytes at refused.NoMemory = ⊤
-NamesValueFault bytes at (refused.Syntax place) = (place ≤ length bytes) × (FirstBadValue (drop at bytes) (drop place bytes) ⊎ FirstLowName (drop at bytes) (drop place bytes)) × IsWithinBefore (drop at bytes) (drop place bytes)
+NamesValueFault bytes at (refused.Syntax place) =
+    (place ≤ length bytes) × (FirstBadValue (drop at bytes) (drop place bytes)
+    ⊎ FirstLowName (drop at bytes) (drop place bytes))
+    × IsWithinBefore (drop at bytes) (drop place bytes)
 NamesValueFault bytes at (refused.TooLarge place) = ⊤
 
--- a TooLarge names the first byte by which a count of freezing is passed, with which a value can go on
+-- a TooLarge names the first byte by which a count of freezing is passed, with which a value can go
+-- on
 abbrev pub NamesTooLarge : List ℕ → ℕ → TextRefused → Type 0
 NamesTooLarge bytes at refused.NoMemory = ⊤
 NamesTooLarge bytes at (refused.Syntax place) = ⊤
-NamesTooLarge bytes at (refused.TooLarge place) = (place < length bytes) × FirstTooLarge (drop at bytes) (drop place bytes)
+NamesTooLarge bytes at (refused.TooLarge place) =
+    (place < length bytes) × FirstTooLarge (drop at bytes) (drop place bytes)
 
 -- a fault where a count is passed at this place: behind it a fault isn't told
 abbrev pub up_to : ℕ → Fault → TextRefused
 up_to over fault.NoMemory = refused.NoMemory
-up_to over (fault.Bad place) = if nat_le place over then refused.Syntax place else refused.TooLarge over
-up_to over (fault.Low place) = if nat_le place over then refused.Syntax place else refused.TooLarge over
+up_to over (fault.Bad place) = if nat_le place over then refused.Syntax place
+    else refused.TooLarge over
+up_to over (fault.Low place) = if nat_le place over then refused.Syntax place
+    else refused.TooLarge over
 
 -- each low name stands behind the first byte of rest
 abbrev pub NoLowBefore : List ℕ → List ℕ → Type 0

@@ -148,7 +148,8 @@ fn append_trail(
     text: &mut Vec<u8>,
 ) -> Result<((), usize), Fault>
     requires { at ≤ length bytes.now }
-    ensures exact { Gives (λ none. text.new.items) bytes.now result (with_front text.old.items (trail_at count least most (drop at bytes.now))) }
+    ensures exact { Gives (λ none. text.new.items) bytes.now result
+        (with_front text.old.items (trail_at count least most (drop at bytes.now))) }
     ensures onward { IfOk result (λ r. at ≤ r.1) }
 {
     if count == 0 {
@@ -164,7 +165,8 @@ fn append_trail(
 /// Appends the character of several bytes at the place, and gives the place behind it.
 fn append_wide(bytes: &[u8], at: usize, text: &mut Vec<u8>) -> Result<((), usize), Fault>
     requires { at ≤ length bytes.now }
-    ensures exact { Gives (λ none. text.new.items) bytes.now result (with_front text.old.items (wide_at (drop at bytes.now))) }
+    ensures exact { Gives (λ none. text.new.items) bytes.now result
+        (with_front text.old.items (wide_at (drop at bytes.now))) }
     ensures onward { IfOk result (λ r. at < r.1) }
 {
     if at == bytes.len() || !is_lead(bytes[at]) {
@@ -186,7 +188,8 @@ fn append_wide(bytes: &[u8], at: usize, text: &mut Vec<u8>) -> Result<((), usize
 /// behind it.
 pub fn append_char(bytes: &[u8], at: usize, text: &mut Vec<u8>) -> Result<((), usize), Fault>
     requires { at ≤ length bytes.now }
-    ensures exact { Gives (λ none. text.new.items) bytes.now result (with_front text.old.items (char_at (drop at bytes.now))) }
+    ensures exact { Gives (λ none. text.new.items) bytes.now result
+        (with_front text.old.items (char_at (drop at bytes.now))) }
     ensures onward { IfOk result (λ r. at < r.1) }
 {
     if stands_between(bytes, at, 0, 127) {

@@ -8,13 +8,18 @@ ghost use Rattle.df_value_text.specs.Value.{value_text};
 
 /// What is counted over a value's spelling is what the value has, whatever stands behind it.
 pub fn counts_are_exact()
-    ensures { (p : Plain) → IsSpelled p → (rest : List ℕ) → AreCountsOf p (counts_of (value_text p ++ rest)) }
+    ensures { (p : Plain) → IsSpelled p → (rest : List ℕ) →
+        AreCountsOf p (counts_of (value_text p ++ rest)) }
 {}
 
 /// A count is passed within the spelling of a value exactly where the value may not be frozen.
 pub fn counts_decide()
-    ensures never { (p : Plain) → IsSpelled p → IsWithinLimits p → (rest : List ℕ) → NeverOver (value_text p ++ rest) }
-    ensures within { (p : Plain) → IsSpelled p → (rest : List ℕ) → NeverOver (value_text p ++ rest) → IsWithinLimits p }
-    ensures over { (p : Plain) → IsSpelled p → (rest left : List ℕ) → FirstOver (value_text p ++ rest) left → IsWithinLimits p → ⊥ }
-    ensures inside { (p : Plain) → IsSpelled p → (rest left : List ℕ) → FirstOver (value_text p ++ rest) left → length rest < length left }
+    ensures never { (p : Plain) → IsSpelled p → IsWithinLimits p → (rest : List ℕ) →
+        NeverOver (value_text p ++ rest) }
+    ensures within { (p : Plain) → IsSpelled p → (rest : List ℕ) →
+        NeverOver (value_text p ++ rest) → IsWithinLimits p }
+    ensures over { (p : Plain) → IsSpelled p → (rest left : List ℕ) →
+        FirstOver (value_text p ++ rest) left → IsWithinLimits p → ⊥ }
+    ensures inside { (p : Plain) → IsSpelled p → (rest left : List ℕ) →
+        FirstOver (value_text p ++ rest) left → length rest < length left }
 {}

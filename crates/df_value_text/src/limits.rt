@@ -40,9 +40,12 @@ pub(crate) fn within_at(
     requires start { at ≤ length bytes.now }
     requires within { NeverOver (drop at bytes.now) }
     ensures found { IfOk result (IsFound value_text IsValue bytes.now at) }
-    ensures only { (value : Plain) (rest : List ℕ) → Stands value_text IsValue (drop at bytes.now) value rest → IsRead bytes.now value rest result }
+    ensures only { (value : Plain) (rest : List ℕ) →
+        Stands value_text IsValue (drop at bytes.now) value rest →
+        IsRead bytes.now value rest result }
     ensures syntax { IfErr result (NamesValueFault bytes.now at) }
-    ensures order { (rest : List ℕ) → LowInValue (drop at bytes.now) rest → IsSyntaxAt bytes.now rest result }
+    ensures order { (rest : List ℕ) → LowInValue (drop at bytes.now) rest →
+        IsSyntaxAt bytes.now rest result }
     ensures too_large { IfErr result (NamesTooLarge bytes.now at) }
 {
     let (value, end) = value_at(alloc, bytes, at)?;
@@ -76,7 +79,8 @@ pub(crate) fn over_fault(alloc: Global, bytes: &[u8], at: usize, over: usize) ->
     requires below { over < length bytes.now }
     requires first { FirstOver (drop at bytes.now) (drop over bytes.now) }
     ensures syntax { NamesValueFault bytes.now at result }
-    ensures order { (rest : List ℕ) → LowInValue (drop at bytes.now) rest → IsWithinBefore (drop at bytes.now) rest → TellsSyntaxAt bytes.now rest result }
+    ensures order { (rest : List ℕ) → LowInValue (drop at bytes.now) rest →
+        IsWithinBefore (drop at bytes.now) rest → TellsSyntaxAt bytes.now rest result }
     ensures too_large { NamesTooLarge bytes.now at result }
 {
     let end = bytes.len().min(over + LONGEST_NAME);

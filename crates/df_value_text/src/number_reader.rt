@@ -64,7 +64,8 @@ pub fn short_at(bytes: &[u8], at: usize) -> Result<(u32, usize), Fault>
 /// The place behind this byte, which has to stand at the place.
 pub fn byte_at(bytes: &[u8], at: usize, byte: u8) -> Result<((), usize), Fault>
     requires { at ≤ length bytes.now }
-    ensures exact { Gives (λ none. byte ∷ []) bytes.now result (text_at (byte ∷ []) (drop at bytes.now)) }
+    ensures exact { Gives (λ none. byte ∷ []) bytes.now result
+        (text_at (byte ∷ []) (drop at bytes.now)) }
     ensures onward { IfOk result (λ r. at < r.1) }
 {
     if at == bytes.len() || bytes[at] != byte {

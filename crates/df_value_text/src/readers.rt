@@ -25,7 +25,8 @@ use std::alloc::Global;
 pub fn read_tag(alloc: Global, bytes: &[u8], at: usize) -> Result<(Tag, usize), TextRefused>
     requires { at ≤ length bytes.now }
     ensures found { IfOk result (IsFound tag_text IsTag bytes.now at) }
-    ensures only { (tag rest : List ℕ) → Stands tag_text IsTag (drop at bytes.now) tag rest → IsRead bytes.now tag rest result }
+    ensures only { (tag rest : List ℕ) → Stands tag_text IsTag (drop at bytes.now) tag rest →
+        IsRead bytes.now tag rest result }
     ensures syntax { IfErr result (NamesBad tag_text IsTag bytes.now at) }
 {
     Ok(tag_at(alloc, bytes, at)?)
@@ -35,9 +36,12 @@ pub fn read_tag(alloc: Global, bytes: &[u8], at: usize) -> Result<(Tag, usize), 
 pub fn read_label(alloc: Global, bytes: &[u8], at: usize) -> Result<(Label, usize), TextRefused>
     requires { at ≤ length bytes.now }
     ensures found { IfOk result (IsFound label_text IsLabel bytes.now at) }
-    ensures only { (label : Label) (rest : List ℕ) → Stands label_text IsLabel (drop at bytes.now) label rest → IsRead bytes.now label rest result }
+    ensures only { (label : Label) (rest : List ℕ) →
+        Stands label_text IsLabel (drop at bytes.now) label rest →
+        IsRead bytes.now label rest result }
     ensures syntax { IfErr result (NamesBadOrLow IsLowTag label_text IsLabel bytes.now at) }
-    ensures order { (rest : List ℕ) → LowInLabel (drop at bytes.now) rest → IsSyntaxAt bytes.now rest result }
+    ensures order { (rest : List ℕ) → LowInLabel (drop at bytes.now) rest →
+        IsSyntaxAt bytes.now rest result }
 {
     Ok(label_at(alloc, bytes, at)?)
 }
@@ -50,7 +54,9 @@ pub fn read_privilege(
 ) -> Result<(Privilege, usize), TextRefused>
     requires { at ≤ length bytes.now }
     ensures found { IfOk result (IsFound privilege_text IsPrivilege bytes.now at) }
-    ensures only { (privilege : Privilege) (rest : List ℕ) → Stands privilege_text IsPrivilege (drop at bytes.now) privilege rest → IsRead bytes.now privilege rest result }
+    ensures only { (privilege : Privilege) (rest : List ℕ) →
+        Stands privilege_text IsPrivilege (drop at bytes.now) privilege rest →
+        IsRead bytes.now privilege rest result }
     ensures syntax { IfErr result (NamesBad privilege_text IsPrivilege bytes.now at) }
 {
     Ok(privilege_at(alloc, bytes, at)?)
@@ -60,11 +66,15 @@ pub fn read_privilege(
 pub fn read_value(alloc: Global, bytes: &[u8], at: usize) -> Result<(Frozen, usize), TextRefused>
     requires { at ≤ length bytes.now }
     ensures found { IfOk result (IsFound value_text IsValue bytes.now at) }
-    ensures only { (value : Plain) (rest : List ℕ) → Stands value_text IsValue (drop at bytes.now) value rest → IsRead bytes.now value rest result }
+    ensures only { (value : Plain) (rest : List ℕ) →
+        Stands value_text IsValue (drop at bytes.now) value rest →
+        IsRead bytes.now value rest result }
     ensures syntax { IfErr result (NamesValueFault bytes.now at) }
-    ensures order { (rest : List ℕ) → LowInValue (drop at bytes.now) rest → IsWithinBefore (drop at bytes.now) rest → IsSyntaxAt bytes.now rest result }
+    ensures order { (rest : List ℕ) → LowInValue (drop at bytes.now) rest →
+        IsWithinBefore (drop at bytes.now) rest → IsSyntaxAt bytes.now rest result }
     ensures too_large { IfErr result (NamesTooLarge bytes.now at) }
-    ensures over { (rest : List ℕ) → FirstTooLarge (drop at bytes.now) rest → NoLowBefore (drop at bytes.now) rest → IsTooLargeAt bytes.now rest result }
+    ensures over { (rest : List ℕ) → FirstTooLarge (drop at bytes.now) rest →
+        NoLowBefore (drop at bytes.now) rest → IsTooLargeAt bytes.now rest result }
 {
     match over_at(bytes, at) {
         None => within_at(alloc, bytes, at),

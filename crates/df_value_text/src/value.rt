@@ -34,7 +34,8 @@ pub fn append_value(value: &Value, to: &mut Vec<u8>) -> Result<(), NoMemory>
 
 #[cycle(append)]
 fn append_items(items: &[Value], to: &mut Vec<u8>) -> Result<(), NoMemory>
-    ensures { OnOk result (to.new.items ≡ to.old.items ++ joined 44 value_text (map plain items.now)) }
+    ensures { OnOk result (to.new.items ≡ to.old.items
+        ++ joined 44 value_text (map plain items.now)) }
 {
     for (i, value) in items.iter().enumerate() {
         append_separator(b',', i, to)?;
@@ -45,7 +46,8 @@ fn append_items(items: &[Value], to: &mut Vec<u8>) -> Result<(), NoMemory>
 
 #[cycle(append)]
 fn append_entries(entries: &[(Name, Value)], to: &mut Vec<u8>) -> Result<(), NoMemory>
-    ensures { OnOk result (to.new.items ≡ to.old.items ++ joined 44 entry_text (map named entries.now)) }
+    ensures { OnOk result (to.new.items ≡ to.old.items
+        ++ joined 44 entry_text (map named entries.now)) }
 {
     for (i, entry) in entries.iter().enumerate() {
         append_separator(b',', i, to)?;
@@ -78,7 +80,8 @@ pub fn append_words(text: &str, to: &mut Vec<u8>) -> Result<(), NoMemory>
 }
 
 fn append_bytes(bytes: &[u8], to: &mut Vec<u8>) -> Result<(), NoMemory>
-    ensures { OnOk result (to.new.items ≡ to.old.items ++ (codes "x\"" ++ flat_map hex bytes.now ++ codes "\"")) }
+    ensures { OnOk result (to.new.items ≡ to.old.items
+        ++ (codes "x\"" ++ flat_map hex bytes.now ++ codes "\"")) }
 {
     to.extend_from_slice(b"x\"")?;
     for byte in bytes {

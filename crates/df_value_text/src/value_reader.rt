@@ -20,7 +20,8 @@ use std::alloc::Global;
 #[cycle(read)]
 pub(crate) fn value_at(alloc: Global, bytes: &[u8], at: usize) -> Result<(Value, usize), Fault>
     requires { at ≤ length bytes.now }
-    ensures exact { (n : ℕ) → length bytes.now < at + n → Gives plain bytes.now result (value_within n (drop at bytes.now)) }
+    ensures exact { (n : ℕ) → length bytes.now < at + n →
+        Gives plain bytes.now result (value_within n (drop at bytes.now)) }
     ensures onward { IfOk result (λ r. at < r.1) }
 {
     if byte_stands(bytes, at, b'[') {
@@ -54,7 +55,8 @@ fn leaf_at(alloc: Global, bytes: &[u8], at: usize) -> Result<(Value, usize), Fau
 #[cycle(read)]
 fn list_at(alloc: Global, bytes: &[u8], at: usize) -> Result<(Value, usize), Fault>
     requires { at ≤ length bytes.now }
-    ensures exact { (n : ℕ) → length bytes.now < at + n → Gives plain bytes.now result (list_at (value_within n) (drop at bytes.now)) }
+    ensures exact { (n : ℕ) → length bytes.now < at + n →
+        Gives plain bytes.now result (list_at (value_within n) (drop at bytes.now)) }
     ensures onward { IfOk result (λ r. at < r.1) }
 {
     let mut list = Value::Items(Items::new(alloc));
@@ -77,7 +79,8 @@ fn list_at(alloc: Global, bytes: &[u8], at: usize) -> Result<(Value, usize), Fau
 #[cycle(read)]
 fn map_at(alloc: Global, bytes: &[u8], at: usize) -> Result<(Value, usize), Fault>
     requires { at ≤ length bytes.now }
-    ensures exact { (n : ℕ) → length bytes.now < at + n → Gives plain bytes.now result (map_at (value_within n) (drop at bytes.now)) }
+    ensures exact { (n : ℕ) → length bytes.now < at + n →
+        Gives plain bytes.now result (map_at (value_within n) (drop at bytes.now)) }
     ensures onward { IfOk result (λ r. at < r.1) }
 {
     let mut map = Value::Map(Entries::new(alloc));
@@ -102,7 +105,8 @@ fn map_at(alloc: Global, bytes: &[u8], at: usize) -> Result<(Value, usize), Faul
 #[cycle(read)]
 fn entry_at(alloc: Global, bytes: &[u8], at: usize) -> Result<((Name, Value), usize), Fault>
     requires { at ≤ length bytes.now }
-    ensures exact { (n : ℕ) → length bytes.now < at + n → Gives named bytes.now result (entry_at (value_within n) (drop at bytes.now)) }
+    ensures exact { (n : ℕ) → length bytes.now < at + n →
+        Gives named bytes.now result (entry_at (value_within n) (drop at bytes.now)) }
     ensures onward { IfOk result (λ r. at < r.1) }
 {
     let (name, behind) = name_at(bytes, at)?;
@@ -119,7 +123,8 @@ fn next_entry_at(
     last: &Name,
 ) -> Result<((Name, Value), usize), Fault>
     requires { at ≤ length bytes.now }
-    ensures exact { (n : ℕ) → length bytes.now < at + n → Gives named bytes.now result (next_entry_at (value_within n) last.now (drop at bytes.now)) }
+    ensures exact { (n : ℕ) → length bytes.now < at + n →
+        Gives named bytes.now result (next_entry_at (value_within n) last.now (drop at bytes.now)) }
     ensures onward { IfOk result (λ r. at < r.1) }
 {
     let (name, behind) = higher_at(bytes, at, last)?;
@@ -131,7 +136,8 @@ fn next_entry_at(
 #[cycle(read)]
 fn given_at(alloc: Global, bytes: &[u8], at: usize) -> Result<(Value, usize), Fault>
     requires { at ≤ length bytes.now }
-    ensures exact { (n : ℕ) → length bytes.now < at + n → Gives plain bytes.now result (given_at (value_within n) (drop at bytes.now)) }
+    ensures exact { (n : ℕ) → length bytes.now < at + n →
+        Gives plain bytes.now result (given_at (value_within n) (drop at bytes.now)) }
     ensures onward { IfOk result (λ r. at < r.1) }
 {
     let (_, start) = byte_at(bytes, at, b'=')?;
@@ -176,7 +182,8 @@ fn leads_entry(bytes: &[u8], place: usize, last: &Name) -> bool
 
 /// Appends the value to the list.
 fn push(list: &mut Value, value: Value) -> Result<(), Fault>
-    ensures pushed { OnOk result (push_at [] (plain value) (plain list.old) ≡ Some (plain list.new)) }
+    ensures pushed { OnOk result (push_at [] (plain value) (plain list.old)
+        ≡ Some (plain list.new)) }
     ensures cause { IfErr result (λ e. e ≡ fault.NoMemory) }
 {
     match list.push_at(&[], value) {
@@ -187,7 +194,8 @@ fn push(list: &mut Value, value: Value) -> Result<(), Fault>
 
 /// Puts the entry into the map.
 fn put(map: &mut Value, entry: (Name, Value)) -> Result<(), Fault>
-    ensures put { OnOk result (put_at [] entry.0 (plain entry.1) (plain map.old) ≡ Some (plain map.new)) }
+    ensures put { OnOk result (put_at [] entry.0 (plain entry.1) (plain map.old)
+        ≡ Some (plain map.new)) }
     ensures cause { IfErr result (λ e. e ≡ fault.NoMemory) }
 {
     match map.put_at(&[], entry.0, entry.1) {

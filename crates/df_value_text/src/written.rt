@@ -12,8 +12,13 @@ ghost use Rattle.df_value_text.specs.WordEnd.{EndsWord};
 /// A literal that is written stands there, where nothing, a space or a line feed follows. So its
 /// reader gives it back, with the place behind it: by the clause `only` of each.
 pub fn what_is_written_stands()
-    ensures tag { (tag rest : List ℕ) → IsTag tag → EndsWord rest → Stands tag_text IsTag (tag_text tag ++ rest) tag rest }
-    ensures label { (label : Label) (rest : List ℕ) → IsLabel label → EndsWord rest → Stands label_text IsLabel (label_text label ++ rest) label rest }
-    ensures privilege { (privilege : Privilege) (rest : List ℕ) → IsPrivilege privilege → EndsWord rest → Stands privilege_text IsPrivilege (privilege_text privilege ++ rest) privilege rest }
-    ensures value { (value : Plain) (rest : List ℕ) → IsValue value → EndsWord rest → Stands value_text IsValue (value_text value ++ rest) value rest }
+    ensures tag { (tag rest : List ℕ) → IsTag tag → EndsWord rest →
+        Stands tag_text IsTag (tag_text tag ++ rest) tag rest }
+    ensures label { (label : Label) (rest : List ℕ) → IsLabel label → EndsWord rest →
+        Stands label_text IsLabel (label_text label ++ rest) label rest }
+    ensures privilege { (privilege : Privilege) (rest : List ℕ) → IsPrivilege privilege →
+        EndsWord rest →
+        Stands privilege_text IsPrivilege (privilege_text privilege ++ rest) privilege rest }
+    ensures value { (value : Plain) (rest : List ℕ) → IsValue value → EndsWord rest →
+        Stands value_text IsValue (value_text value ++ rest) value rest }
 {}
