@@ -27,17 +27,6 @@ six_is (p ∷ q ∷ r ∷ s ∷ t ∷ []) a b c d e f n ea eb ec ed ee ef = absu
 six_is (p ∷ q ∷ r ∷ s ∷ t ∷ u ∷ []) a b c d e f n ea eb ec ed ee ef = cc
 six_is (p ∷ q ∷ r ∷ s ∷ t ∷ u ∷ v ∷ fs) a b c d e f n ea eb ec ed ee ef = absurd (omega arith)
 
--- a record of another length is no order
-pub not_six : (fs : Fields) → length fs ≢ 6 → order_of fs ≡ None
-not_six [] ne = refl
-not_six (p ∷ []) ne = refl
-not_six (p ∷ q ∷ []) ne = refl
-not_six (p ∷ q ∷ r ∷ []) ne = refl
-not_six (p ∷ q ∷ r ∷ s ∷ []) ne = refl
-not_six (p ∷ q ∷ r ∷ s ∷ t ∷ []) ne = refl
-not_six (p ∷ q ∷ r ∷ s ∷ t ∷ u ∷ []) ne = absurd (ne refl)
-not_six (p ∷ q ∷ r ∷ s ∷ t ∷ u ∷ v ∷ fs) ne = refl
-
 both_true : (a b : Bool) → a && b ≡ true → (a ≡ true) × (b ≡ true)
 both_true true b h = (refl, h)
 both_true false b h = (h, let e : false ≡ true = h in absurd cc)

@@ -44,6 +44,3 @@ read_bad records orders more fields line r t = ⊎_elim
 
 pub read_all : (records : List Fields) (orders : List Order) (line : ℕ) → Read records orders line → 1 < line → Gives records orders
 read_all records orders line r lt = ⊎_elim (λ no. absurd (omega (arith, no.2))) (λ so. so.0) r
-
-pub read_none : (records : List Fields) (orders : List Order) (line : ℕ) → Read records orders line → line ≤ 1 → (records ≡ []) × (line ≡ 1)
-read_none records orders line r le = ⊎_elim (λ no. (no.0, no.2)) (λ so. absurd (omega (arith, so.2))) r

@@ -82,11 +82,6 @@ fifth_read bytes m = ap filter_at m.is ∙ law.again m.clauses (38 ∷ m.more) (
 pub none_is_whole : (bytes : List ℕ) (filter : List Clause) → bytes ≡ [] → IsFilter filter → bytes ≡ filter_text filter → ⊥
 none_is_whole bytes filter none fits is = not_both (filter, []) (Bad []) (sym (whole_read [] filter fits (sym none ∙ is)))
 
-pub none_has_fifth : (bytes : List ℕ) → bytes ≡ [] → HasFifth bytes → ⊥
-none_has_fifth bytes none m =
-    let here : List Clause × List ℕ = (m.clauses, 38 ∷ m.more) in
-    not_both here (Bad []) (sym (ap filter_at (sym none) ∙ fifth_read bytes m))
-
 -- ---- reading failed
 
 pub failed_only : (bytes : List ℕ) (e : Fault) → Fails bytes e (filter_at bytes) → (filter : List Clause) → IsFilter filter → bytes ≡ filter_text filter → refusal e ≡ refused.NoMemory

@@ -1,3 +1,2 @@
 pub mod Journals
 pub mod Sound
-pub mod Told

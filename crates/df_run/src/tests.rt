@@ -265,3 +265,25 @@ fn order_files_are_auctioned_or_refused(rt: HostRuntime) -> Result<(), Fail> {
     }
     Ok(())
 }
+
+#[test]
+fn each_status_has_its_line(rt: HostRuntime) -> Result<(), Fail> {
+    let bad = |kind| Status::BadInput {
+        input: 1,
+        line: 17,
+        kind,
+    };
+    for (status, line) in [
+        (Status::Usage, "defcon: usage"),
+        (bad(BadKind::Syntax), "defcon: bad input 1 line 17: syntax"),
+        (bad(BadKind::BadOrder), "defcon: bad input 1 line 17: order"),
+        (Status::ReadFault, "defcon: read fault"),
+        (Status::WriteFault, "defcon: write fault"),
+        (Status::NoMemory, "defcon: no memory"),
+        (Status::TooLong { input: 1 }, "defcon: input 1 too long"),
+    ] {
+        let told = format!(in rt.alloc(); "{status}")?;
+        assert_eq!(rt; told.as_str(), line);
+    }
+    Ok(())
+}

@@ -45,11 +45,6 @@ pub numbered-privileges : (n : ℕ) (ps : List Privilege) → numbered (λ _ p. 
 numbered-privileges n [] = refl
 numbered-privileges n (p ∷ ps) = ap (λ (l : List (List ℕ)). privilege_text p ∷ l) (numbered-privileges (n + 1) ps)
 
--- at most one privilege is in order
-pub ascending_one : (ps : List Privilege) → IsAscending privilege_cmp (take 1 ps)
-ascending_one [] = tt
-ascending_one (p ∷ ps) = (tt, tt)
-
 -- what comes before all comes before the one at a place
 below_at : (p : Privilege) (ps : List Privilege) (i : ℕ) (d : Privilege) → i < length ps → IsBelow privilege_cmp p ps → privilege_cmp p (get_or ps i d) ≡ Less
 below_at p [] i d h b = absurd (omega arith)

@@ -28,20 +28,8 @@ pair_read bytes place out more total lt ha hb is so_far =
 half_read : (a : ℕ) (cs : List ℕ) → is_hex a ≡ true → cs ≡ [] → pairs_at (a ∷ cs) ≡ Err (Bad cs)
 half_read a cs ha e = rw e (rw ha refl)
 
--- behind a digit nothing stands
-pub digit_lacks : (bytes : List ℕ) (place : ℕ) (out : List ℕ) (total : Read ℕ (List ℕ)) → place + 1 ≡ length bytes → is_hex (get_or bytes place 0) ≡ true → with_front out (pairs_at (drop place bytes)) ≡ total → total ≡ Err (Bad (drop (place + 1) bytes))
-digit_lacks bytes place out total end ha so_far =
-    let none : drop (place + 1) bytes ≡ [] = drop_all (place + 1) bytes (omega (arith, end)) in
-    sym so_far ∙ ap (with_front out) (ap pairs_at (first_of bytes place (omega (arith, end))) ∙ half_read (get_or bytes place 0) (drop (place + 1) bytes) ha none)
-
 other_first : (a b : ℕ) (cs : List ℕ) → is_hex a ≡ true → is_hex b ≡ false → pairs_at (a ∷ b ∷ cs) ≡ Err (Bad (b ∷ cs))
 other_first a b cs ha hb = rw (ha, hb) refl
-
--- behind a digit stands another byte
-pub digit_bad : (bytes : List ℕ) (place : ℕ) (out : List ℕ) (total : Read ℕ (List ℕ)) → place + 1 < length bytes → is_hex (get_or bytes place 0) ≡ true → is_hex (get_or bytes (place + 1) 0) ≡ false → with_front out (pairs_at (drop place bytes)) ≡ total → total ≡ Err (Bad (drop (place + 1) bytes))
-digit_bad bytes place out total lt ha hb so_far =
-    let next : drop (place + 1) bytes ≡ get_or bytes (place + 1) 0 ∷ drop ((place + 1) + 1) bytes = first_of bytes (place + 1) lt in
-    sym so_far ∙ ap (with_front out) (ap pairs_at (first_of bytes place (omega (arith, lt)) ∙ ap (λ (u : List ℕ). get_or bytes place 0 ∷ u) next) ∙ other_first (get_or bytes place 0) (get_or bytes (place + 1) 0) (drop ((place + 1) + 1) bytes) ha hb ∙ ap (λ (u : List ℕ). Err (Bad u)) (sym next))
 
 all_of : (out rest : List ℕ) → with_front out (Ok ([], rest)) ≡ Ok (out, rest)
 all_of out rest = ap (λ (u : List ℕ). Ok (u, rest)) (append-nil out)

@@ -132,9 +132,3 @@ pub front_whole : (text : List ℕ) (stop n : ℕ) → stop ≤ length text → 
 front_whole text stop n within below =
     let short : length (take stop text) ≡ stop = length-take-le stop text within in
     sym (drop-append-le n (take stop text) (drop stop text) (omega (arith, short, below))) ∙ ap (λ (u : List ℕ). drop n u) (take-append-drop stop text)
-
--- the first byte by which a count is passed in front of a place is so of all bytes
-pub over_in_front : (text : List ℕ) (from stop here : ℕ) → from ≤ stop → stop ≤ length text → here ≤ stop → FirstOver (drop from (take stop text)) (drop here (take stop text)) → FirstOver (drop from text) (drop here text)
-over_in_front text from stop here le within below over =
-    subst (λ (u : List ℕ). FirstOver (drop from text) u) (front_whole text stop here within below)
-    (subst (λ (u : List ℕ). FirstOver u (drop here (take stop text) ++ drop stop text)) (front_whole text stop from within le) (over_longer (drop from (take stop text)) (drop here (take stop text)) (drop stop text) over))

@@ -14,9 +14,6 @@ pub record Reached (bytes : List ℕ) (at here : ℕ) (w : Walk) : Type 0 where
   pub parts : drop at bytes ≡ front ++ drop here bytes
   pub is : counts_of front ≡ w
 
-pub reached_first : (bytes : List ℕ) (at : ℕ) (w : Walk) → w ≡ start → Reached bytes at at w
-reached_first bytes at w e = record { front = []; parts = refl; is = sym e }
-
 counts_more : (front : List ℕ) (c : ℕ) (w : Walk) → counts_of front ≡ w → counts_of (front ++ c ∷ []) ≡ walk w c
 counts_more front c w e = walked-append start front (c ∷ []) ∙ ap (λ (w : Walk). walk w c) e
 

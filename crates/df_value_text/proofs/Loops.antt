@@ -52,13 +52,6 @@ items_stop leads first next tokens start x stop one others = rw (one, front_stop
 
 -- ---- a text, byte by byte
 
-pub text_first : (bytes text : List ℕ) (place : ℕ) → with_front (take 0 text) (text_at (drop 0 text) (drop place bytes)) ≡ text_at text (drop place bytes)
-text_first bytes text place = by (text_at text (drop place bytes))
-  where
-    by : (r : Read ℕ (List ℕ)) → with_front [] r ≡ r
-    by (Ok x) = refl
-    by (Err s) = refl
-
 pub text_on : (bytes text : List ℕ) (i place b d : ℕ) (total : Read ℕ (List ℕ)) → i < length text → b ≡ get_or text i d → begins_with b (drop place bytes) ≡ true
     → with_front (take i text) (text_at (drop i text) (drop place bytes)) ≡ total → (place < length bytes) × (with_front (take (i + 1) text) (text_at (drop (i + 1) text) (drop (place + 1) bytes)) ≡ total)
 text_on bytes text i place b d total lt is h e = by (drop place bytes) refl h
@@ -75,17 +68,3 @@ text_on bytes text i place b d total lt is h e = by (drop place bytes) refl h
               ∙ ap (λ (u : List ℕ). with_front (take i text ++ b ∷ []) (text_at (drop (i + 1) text) u)) (sym t.1)
               ∙ sym (regroup (take i text) b (text_at (drop (i + 1) text) cs)) ∙ ap (with_front (take i text)) (sym step) ∙ e,
         )
-
-pub text_off : (bytes text : List ℕ) (i place b d : ℕ) (total : Read ℕ (List ℕ)) → i < length text → b ≡ get_or text i d → begins_with b (drop place bytes) ≡ false
-    → with_front (take i text) (text_at (drop i text) (drop place bytes)) ≡ total → total ≡ Err (Bad (drop place bytes))
-text_off bytes text i place b d total lt is h e =
-    let ws : drop i text ≡ b ∷ drop (i + 1) text = drop_more text i d lt ∙ ap (λ (v : ℕ). v ∷ drop (i + 1) text) (sym is) in
-    sym e ∙ ap (with_front (take i text)) (ap (λ (u : List ℕ). text_at u (drop place bytes)) ws ∙ by (drop place bytes) h)
-  where
-    by : (t : List ℕ) → begins_with b t ≡ false → text_at (b ∷ drop (i + 1) text) t ≡ Err (Bad t)
-    by [] h = refl
-    by (c ∷ cs) h = rw h refl
-
-pub text_done : (bytes text : List ℕ) (i place : ℕ) (total : Read ℕ (List ℕ)) → length text ≤ i → with_front (take i text) (text_at (drop i text) (drop place bytes)) ≡ total → total ≡ Ok (text, drop place bytes)
-text_done bytes text i place total le e =
-    sym e ∙ ap (λ (u : List ℕ). with_front (take i text) (text_at u (drop place bytes))) (drop_all i text le) ∙ ap (λ (u : List ℕ). Ok (u, drop place bytes)) (append-nil (take i text) ∙ take_all i text le)

@@ -22,12 +22,6 @@ minus_stops bytes at stop h e = whole_minus bytes at h ∙ rw e refl
 pub minus_reads : (bytes : List ℕ) (at end n : ℕ) → begins_with 45 (drop at bytes) ≡ true → positive_at 9223372036854775808 (drop (at + 1) bytes) ≡ Ok (n, drop end bytes) → whole_at (drop at bytes) ≡ Ok (minus n, drop end bytes)
 minus_reads bytes at end n h e = whole_minus bytes at h ∙ rw e refl
 
-pub plain_stops : (bytes : List ℕ) (at : ℕ) (stop : Stop ℕ) → begins_with 45 (drop at bytes) ≡ false → number_at 9223372036854775807 (drop at bytes) ≡ Err stop → whole_at (drop at bytes) ≡ Err stop
-plain_stops bytes at stop h e = whole_plain (drop at bytes) h ∙ rw e refl
-
-pub plain_reads : (bytes : List ℕ) (at end n : ℕ) → begins_with 45 (drop at bytes) ≡ false → number_at 9223372036854775807 (drop at bytes) ≡ Ok (n, drop end bytes) → whole_at (drop at bytes) ≡ Ok (pos n, drop end bytes)
-plain_reads bytes at end n h e = whole_plain (drop at bytes) h ∙ rw e refl
-
 -- what is read behind the sign isn't 0
 pub is_positive : (bytes : List ℕ) (n : ℕ) (rest : List ℕ) → positive_at 9223372036854775808 bytes ≡ Ok (n, rest) → 0 < n
 is_positive bytes n rest e = ((positive_format (λ front rest. ⊥) 9223372036854775808 (omega arith)).found bytes n rest e).fits.0
