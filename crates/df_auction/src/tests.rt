@@ -204,8 +204,7 @@ const WORKED: [(&str, &str); 6] = [
     ),
     (
         "id,trader,symbol,sell,limit,qty\r\n\r\n9,1,B,0,10,5\r\n9,2,A,1,10,2\n8,3,B,0,10,5\r7,4,\"B\",1,9,6\n6,5,A,0,10,1\n",
-        "symbol A\nprice 10\nvolume 1\nsplit 1\ntrade 5 2 1\nsymbol B\nprice 9\nvolume 6\nsplit
-            11\ntrade 1 4 5\ntrade 3 4 1\n",
+        "symbol A\nprice 10\nvolume 1\nsplit 1\ntrade 5 2 1\nsymbol B\nprice 9\nvolume 6\nsplit 11\ntrade 1 4 5\ntrade 3 4 1\n",
     ),
     (
         "\u{feff}id,trader,symbol,sell,limit,qty\n4294967295,4294967295,ABCDEFGH,0,1000000000,1000000\n0,0,ABCDEFGH,1,1,1000000\n",

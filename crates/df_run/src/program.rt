@@ -23,8 +23,7 @@ the price at which the greatest quantity trades, and the trades.
 
 Ends with 0 where all was written, 2 for words that have none of these forms, 3 for a file that
 isn't in its form, 5 for a file that can't be read, 6 for output that can't be written, 7 where
-    memory
-runs out, and 8 for a file of more than 67,108,864 bytes.
+memory runs out, and 8 for a file of more than 67,108,864 bytes.
 ";
 
 /// What `--version` prints.

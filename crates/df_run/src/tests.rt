@@ -158,8 +158,7 @@ fn other_words_are_usage(rt: HostRuntime) -> Result<(), Fail> {
 }
 
 /// How many times in a row unit 0 makes a call, the call, its reply, whether the replies end with
-/// the
-/// numbers from 0 upwards, and what the last of them makes of an event.
+/// the numbers from 0 upwards, and what the last of them makes of an event.
 type Calls = (u32, &'static str, &'static str, bool, &'static str);
 
 /// A unit that comes to each of its limits.

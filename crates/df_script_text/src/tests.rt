@@ -3,8 +3,7 @@ use std::alloc::{AllocError, Global};
 use std::test::Fail;
 
 static ALL: &[u8] =
-    b"defcon-script 1\nunit 0 {|}\nunit 1 {#0|#0.1,#1} #0+ #0- #2+auth\nrun\n0 create\n0 del 0 {|}
-        a\n1 read 0 a\n1 get\n";
+    b"defcon-script 1\nunit 0 {|}\nunit 1 {#0|#0.1,#1} #0+ #0- #2+auth\nrun\n0 create\n0 del 0 {|} a\n1 read 0 a\n1 get\n";
 
 /// A script of one root and this line.
 fn with_line(alloc: Global, line: &[u8]) -> Result<Vec<u8>, AllocError> {
