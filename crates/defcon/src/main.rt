@@ -1,4 +1,4 @@
-//! The program `defcon`: reads a script of unit calls and writes the journal of their replies.
+//! The program `defcon`, which does what the user's words ask for.
 #![tactic(auto)]
 
 use df_run::run_program;
