@@ -172,8 +172,7 @@ fn names_and_starts_are_written(rt: HostRuntime) -> Result<(), Fail> {
     write_head(&start(alloc)?, &mut text)?;
     assert_eq!(rt;
         text.as_slice(),
-        b"1.2/3{#0}\n0!7\nunit 0 {#0|} #0+auth\ndefcon-journal 2\nunit 0 {#0|} #0+auth\nrun\n"
-            .as_slice()
+        b"1.2/3{#0}\n0!7\nunit 0 {#0|} #0+auth\ndefcon-journal 2\nunit 0 {#0|} #0+auth\nrun\n".as_slice()
     );
     Ok(())
 }
