@@ -1,0 +1,2 @@
+pub mod SpreadFacts
+pub mod Windows

@@ -1,0 +1,3 @@
+pub mod Divergence
+pub mod AllSpreads
+pub mod Spreads
