@@ -1,0 +1,3 @@
+pub mod TickFile
+pub mod Refusing
+pub mod TickText
