@@ -1,0 +1,9 @@
+//! Ticks that a generator makes of a key.
+#![tactic(auto)]
+
+mod generate;
+
+pub use generate::gen_ticks;
+
+#[cfg(test)]
+mod tests;
