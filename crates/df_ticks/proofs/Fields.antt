@@ -21,7 +21,7 @@ two_is (p ∷ []) a b n ea eb = absurd (omega arith)
 two_is (p ∷ q ∷ []) a b n ea eb = cc
 two_is (p ∷ q ∷ r ∷ fs) a b n ea eb = absurd (omega arith)
 
-both_true : (a b : Bool) → a && b ≡ true → (a ≡ true) × (b ≡ true)
+pub both_true : (a b : Bool) → a && b ≡ true → (a ≡ true) × (b ≡ true)
 both_true true b h = (refl, h)
 both_true false b h = (h, let e : false ≡ true = h in absurd cc)
 

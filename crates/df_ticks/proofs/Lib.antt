@@ -2,3 +2,4 @@ pub mod Fields
 pub mod Reading
 pub mod Ranges
 pub mod OneReading
+pub mod Written

@@ -13,7 +13,7 @@ use Rattle.csv.specs.declared.parser.Terminator.TheVariants as term
 use Rattle.df_ticks.specs.declared.tick.Tick.{Tick}
 use Rattle.df_ticks.specs.TickFile.{Fields, number, number_from, from_least, is_digit, is_symbol, tick_with, tick_of_two, tick_of, IsTick, IsTickFile}
 
-some_is : {X : Type 0} (a b : X) → Some a ≡ Some b → a ≡ b
+pub some_is : {X : Type 0} (a b : X) → Some a ≡ Some b → a ≡ b
 some_is a b h = cc
 
 both_le : (a b : Bool) → a && b ≡ true → b ≡ true
