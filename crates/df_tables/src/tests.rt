@@ -1,12 +1,12 @@
-//! What a commit brings to a unit, and the parts that its event then has.
+//! What a commit brings to a unit.
+use crate::first_unit;
 use crate::news::news;
 use crate::units::Unit;
-use crate::{EventRow, first_unit, prepare, put_contents};
 use df_filter::{Clause, Filter, Test};
 use df_frozen::{Name, Value};
 use df_label::{Label, Privileges, Tag, TagSet};
 use df_part::{Contents, Edit, Part, PartRef};
-use df_unit::{Commit, EventName, Path, Reply, UnitName};
+use df_unit::{Commit, EventName, Path, UnitName};
 use std::alloc::Global;
 use std::test::Fail;
 
@@ -67,38 +67,5 @@ fn a_commit_brings_what_is_readable_and_matches(rt: HostRuntime) -> Result<(), F
         let brought = news(alloc, &unit, &commit, &after(alloc, &commit)?)?;
         assert_eq!(rt; brought.len(), count, "{name} {secret}");
     }
-    Ok(())
-}
-
-#[test]
-fn a_delivery_is_left_once_it_is_settled_and_comes_once(rt: HostRuntime) -> Result<(), Fail> {
-    let alloc = rt.alloc();
-    let mut unit = subscriber(alloc)?;
-    let commit = commit(alloc, "price", false)?;
-    let after = after(alloc, &commit)?;
-    let brought = news(alloc, &unit, &commit, &after)?;
-    unit.line.stage(brought)?;
-    assert!(rt; unit.line.is_empty());
-    unit.line.settle();
-    assert!(rt; unit.line.was_handed(&commit.event, 0) && !unit.line.was_handed(&commit.event, 1));
-    assert!(rt; !unit.line.is_empty() && news(alloc, &unit, &commit, &after)?.is_empty());
-    unit.line.pop();
-    assert!(rt; unit.line.is_empty());
-    Ok(())
-}
-
-#[test]
-fn an_event_keeps_the_parts_of_its_commits(rt: HostRuntime) -> Result<(), Fail> {
-    let alloc = rt.alloc();
-    let mut rows: Vec<EventRow> = Vec::new(alloc);
-    for (name, count) in [("price", 1), ("size", 2)] {
-        let commit = commit(alloc, name, false)?;
-        let actor = UnitName::Root(Path::root(0));
-        rows.reserve(1)?;
-        let ready = prepare(alloc, rows.as_slice(), &actor, &Reply::Ok, &commit)?;
-        assert_eq!(rt; ready.after.parts().len(), count, "{name}");
-        put_contents(&mut rows, ready.event, ready.after);
-    }
-    assert!(rt; rows.len() == 1);
     Ok(())
 }
