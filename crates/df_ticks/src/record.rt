@@ -1,8 +1,8 @@
 //! A tick of the fields of a record.
 
-ghost use Rattle.std.specs.Prelude.{◌≡◌, ◌<◌, ◌^◌, IfOk, IsTrue, Some, None};
+ghost use Rattle.std.specs.Prelude.{◌≡◌, ◌<◌, IfOk, Some, None};
 ghost use Rattle.csv.specs.Records.{fields_of};
-ghost use Rattle.df_ticks.specs.TickFile.{tick_of, tick_of_two, number, is_symbol, is_digit};
+ghost use Rattle.df_ticks.specs.TickFile.{tick_of, tick_of_two, number, is_symbol};
 
 use crate::tick::Tick;
 use csv::ByteRecord;

@@ -1,16 +1,15 @@
 //! Reading a tick file.
 
-ghost use Rattle.std.specs.Prelude.{◌≡◌, ◌++◌, ◌∷◌, [], ◌^◌, ◌<◌, Some, None, IfOk, IfErr, IsTrue, ◌↔◌, MatchOption, OnErr};
+ghost use Rattle.std.specs.Prelude.{◌≡◌, ◌<◌, ◌↔◌, All, IfErr, IfOk, IsTrue, length};
 ghost use Rattle.csv.specs.Records.{fields_of};
-ghost use Rattle.df_ticks.specs.TickFile.{IsTickFile, IsTick, tick_of};
-ghost use Rattle.std.specs.Prelude.{All, length};
+ghost use Rattle.df_ticks.specs.TickFile.{IsTickFile, IsTick};
 ghost use Rattle.df_ticks.specs.Refusing.{IsRightRefusal, TakesRecord};
 
 use crate::record::{Two, read_tick, two_fields};
 use crate::tick::Tick;
 use csv::{ByteRecord, ReaderBuilder};
 use df_frozen::NoMemory;
-use std::alloc::{AllocError, AllocFailed, Global};
+use std::alloc::Global;
 use std::error::Error;
 use std::fmt;
 
