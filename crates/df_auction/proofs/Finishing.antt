@@ -11,7 +11,7 @@ use Rattle.df_auction.specs.Stairs.{limit_of, qty_of, is_purchase, is_sale, buys
 use Rattle.df_auction.specs.Matching.{given, bought, sold, total, limit_at, qty_at}
 use Rattle.df_auction.specs.Ranking.{purchases, sales, GoesThrough}
 use Rattle.df_auction.specs.Ranking.GoesThrough.{done}
-use Rattle.df_auction.specs.Clearing.{Clears, split_of}
+use Rattle.df_auction.specs.code.Clearing.{Clears, split_of}
 use Rattle.df_auction.proofs.Sides.{given-cons, given-append, total_at_most, total_at_least}
 use Rattle.df_auction.proofs.Sweeping.{Each, each_map, all_of_each, held, held-cons, IsLot, Falls, Rises, Ends, Sweeps, at_front}
 

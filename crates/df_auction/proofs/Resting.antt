@@ -6,7 +6,7 @@ use Rattle.std.proofs.Math.Seq.{drop-cons}
 use Rattle.df_book.specs.declared.order.Order.{Order}
 use Rattle.df_auction.specs.declared.lot.Fill.{Fill}
 use Rattle.df_auction.specs.Stairs.{qty_of}
-use Rattle.df_auction.specs.Clearing.{IsLeft}
+use Rattle.df_auction.specs.code.Clearing.{IsLeft}
 use Rattle.df_auction.specs.Auction.{left_of, rest_from, rest_of}
 use Rattle.df_auction.proofs.Sides.{read_is}
 

@@ -8,7 +8,7 @@ use Rattle.df_book.specs.declared.order.Order.{Order}
 use Rattle.df_auction.specs.declared.lot.Fill.{Fill}
 use Rattle.df_auction.specs.Stairs.{limit_of, qty_of, is_purchase, is_sale, buys_at, sells_at, qty_among, demand, supply, volume_at}
 use Rattle.df_auction.specs.Matching.{bought, sold, total, qty_at, IsMatching}
-use Rattle.df_auction.specs.Clearing.{Clears, price_of}
+use Rattle.df_auction.specs.code.Clearing.{Clears, price_of}
 use Rattle.df_auction.specs.Auction.{Settlement, IsSettlement, IsLeastPrice, IsBest, CannotTrade, left_of, rest_from, rest_of}
 use Rattle.df_auction.proofs.Sides.{among-cons, total_at_most, total_at_least}
 use Rattle.df_auction.proofs.Sweeping.{Each, all_of_each}

@@ -34,7 +34,7 @@ pub fn auction(alloc: Global, orders: &[Order]) -> Result<Auction, NoMemory>
 }
 
 ghost use Rattle.std.specs.Prelude.{option_map};
-ghost use Rattle.df_auction.specs.Clearing.{price_of};
+ghost use Rattle.df_auction.specs.code.Clearing.{price_of};
 
 fn price_of(price: u32) -> Option<i64>
     ensures { result ≡ option_map pos (price_of price) }

@@ -3,7 +3,7 @@
 ghost use Rattle.std.specs.Prelude.{◌≡◌, ◌+◌, ◌<◌, ◌≤◌, ◌^◌, ◌==◌, ℕ, All, IfOk, length, map, vec_len, slice_index, if◌then◌else◌, true};
 ghost use Rattle.df_auction.specs.Stairs.{IsInRange, qty_of};
 ghost use Rattle.df_auction.specs.Matching.{bought, sold, qty_at};
-ghost use Rattle.df_auction.specs.Clearing.{ArePlaced, StaysWithin};
+ghost use Rattle.df_auction.specs.code.Clearing.{ArePlaced, StaysWithin};
 ghost use Rattle.df_auction.specs.Auction.{trade_of, rest_of};
 
 use crate::lot::Fill;
@@ -89,7 +89,7 @@ fn left(alloc: Global, orders: &[Order], fills: &[Fill]) -> Result<Vec<u32>, NoM
     Ok(left)
 }
 
-ghost use Rattle.df_auction.specs.Clearing.{IsLeft};
+ghost use Rattle.df_auction.specs.code.Clearing.{IsLeft};
 
 fn quantities(alloc: Global, orders: &[Order]) -> Result<Vec<u32>, NoMemory>
     requires { All IsInRange orders.now }

@@ -3,7 +3,7 @@
 ghost use Rattle.std.specs.Prelude.{◌≡◌, ◌<◌, ◌≤◌, ◌^◌, All, IfOk, length, drop};
 ghost use Rattle.df_auction.specs.Stairs.{IsInRange};
 ghost use Rattle.df_auction.specs.Ranking.{after, fill_of, first_left};
-ghost use Rattle.df_auction.specs.Clearing.{Clears, split_of};
+ghost use Rattle.df_auction.specs.code.Clearing.{Clears, split_of};
 
 use crate::lot::{Fill, Lot, purchases, sales};
 use df_book::Order;

@@ -7,7 +7,7 @@ use Rattle.df_filter_text.specs.Fits.{IsFilter}
 use Rattle.df_filter_text.specs.ReadFilter.{filter_at}
 use Rattle.df_filter_text.proofs.ClauseLaws.{clause_goes, test_ends}
 use Rattle.df_filter_text.proofs.FilterLaws.{filter_format, filter_goes, leads_on, more_goes}
-use Rattle.df_value_text.specs.WordEnd.{IsBreak, EndsWord}
+use Rattle.df_value_text.specs.code.WordEnd.{IsBreak, EndsWord}
 use Rattle.df_value_text.proofs.TagLaws.{nowhere, nowhere_is_local}
 use Rattle.df_value_text.proofs.WordEnds.{at_break}
 

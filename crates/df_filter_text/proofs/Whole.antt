@@ -11,12 +11,12 @@ use Rattle.df_format.specs.Reading.{Bad, Low}
 use Rattle.df_format.specs.Grammar.{FirstBad}
 use Rattle.df_format.specs.Format.{Format}
 use Rattle.df_format.proofs.Laws.{ok_is, not_both, ends_of, first_bad}
-use Rattle.df_value_text.specs.Answer.{Fails}
+use Rattle.df_value_text.specs.code.Answer.{Fails}
 use Rattle.df_value_text.specs.Number.{begins_with}
 use Rattle.df_value_text.specs.declared.refused.Fault.{Fault}
 use Rattle.df_value_text.specs.declared.refused.Fault.TheVariants as fault
 use Rattle.df_value_text.proofs.TagLaws.{nowhere, nowhere_is_local}
-use Rattle.df_filter_text.specs.Answer.{HasFifth, IsRefused, IsRefusedBy, refusal}
+use Rattle.df_filter_text.specs.code.Answer.{HasFifth, IsRefused, IsRefusedBy, refusal}
 use Rattle.df_filter_text.specs.Filter.{filter_text}
 use Rattle.df_filter_text.specs.Fits.{IsFilter}
 use Rattle.df_filter_text.specs.ReadFilter.{filter_at}

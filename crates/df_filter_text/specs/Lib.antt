@@ -3,4 +3,4 @@ pub mod Filter
 pub mod Fits
 pub mod ReadFieldTest
 pub mod ReadFilter
-pub mod Answer
+pub mod code

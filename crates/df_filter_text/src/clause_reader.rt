@@ -1,7 +1,7 @@
 //! Reading clauses.
 ghost use Rattle.std.specs.Prelude.{◌≡◌, ◌≤◌, length, drop};
 ghost use Rattle.df_filter_text.specs.ReadFilter.{clause_at, filter_at, key_at, present_at, test_at, test_of, value_test_at};
-ghost use Rattle.df_value_text.specs.Answer.{Gives};
+ghost use Rattle.df_value_text.specs.code.Answer.{Gives};
 
 use crate::field_test_reader::field_test_at;
 use df_filter::{Clause, FieldTest, MOST_CLAUSES, Test};

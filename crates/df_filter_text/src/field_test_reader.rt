@@ -1,7 +1,7 @@
 //! Reading tests of fields.
 ghost use Rattle.std.specs.Prelude.{◌≤◌, length, drop};
 ghost use Rattle.df_filter_text.specs.ReadFieldTest.{above_at, below_at, equal_at, field_test_at, prefix_at, range_at, whole_equal_at, words_equal_at};
-ghost use Rattle.df_value_text.specs.Answer.{Gives};
+ghost use Rattle.df_value_text.specs.code.Answer.{Gives};
 
 use df_filter::FieldTest;
 use df_value_text::{Fault, byte_at, byte_stands, text_at, whole_at, words_at};

@@ -1,7 +1,7 @@
 //! Reading filters.
 ghost use Rattle.std.specs.Prelude.{◌≡◌, List, [], Err, IfErr, IfOk};
 ghost use Rattle.df_filter.specs.declared.clause.Clause.{Clause};
-ghost use Rattle.df_filter_text.specs.Answer.{HasFifth, IsReadWhole, IsRefused, IsRefusedBy};
+ghost use Rattle.df_filter_text.specs.code.Answer.{HasFifth, IsReadWhole, IsRefused, IsRefusedBy};
 ghost use Rattle.df_filter_text.specs.Filter.{filter_text};
 ghost use Rattle.df_filter_text.specs.Fits.{IsFilter};
 ghost use Rattle.df_filter_text.specs.declared.refused.FilterTextRefused.TheVariants as refused;

@@ -1,6 +1,6 @@
 //! Why a text isn't read as a filter.
 ghost use Rattle.std.specs.Prelude.{◌≡◌};
-ghost use Rattle.df_filter_text.specs.Answer.{refusal};
+ghost use Rattle.df_filter_text.specs.code.Answer.{refusal};
 ghost use Rattle.df_filter_text.specs.declared.refused.FilterTextRefused.TheVariants as refused;
 
 use df_label::NoMemory;

@@ -5,7 +5,7 @@ use Rattle.std.specs.Borrow.{Bor}
 use Rattle.std.specs.Slice.{IsItemAt}
 use Rattle.df_frozen.specs.Plain.{Plain, int, from_list, from_pairs, node_count, items_node_count, entries_node_count}
 use Rattle.df_frozen.specs.Entries.{names, values, IsAscending}
-use Rattle.df_frozen.specs.Copying.{content, rest, first, IsCopied, IsFresh}
+use Rattle.df_frozen.specs.code.Copying.{content, rest, first, IsCopied, IsFresh}
 use Rattle.df_frozen.specs.Place.{item_at}
 use Rattle.df_frozen.specs.Value.{plain, named}
 use Rattle.df_frozen.specs.declared.value.Value.{Value}

@@ -1,8 +1,8 @@
 -- Counts of what is left, before and after a step.
 use Rattle.std.proofs.Common.{◌≡◌, ℕ, zero, suc, ◌+◌, ◌<◌, List, [], ◌∷◌, ◌++◌, map, take, get_or, length, max, arith, refl, ap, sym, ◌∙◌}
 use Rattle.df_frozen.specs.Plain.{Plain, Plains, Pairs, int, words, bytes, items, entries, no_items, item, no_entries, entry, from_pairs, node_count, items_node_count, entries_node_count, byte_count, items_byte_count, entries_byte_count, depth, items_depth, entries_depth}
-use Rattle.df_frozen.specs.Inner.{children, values_of}
-use Rattle.df_frozen.specs.Counting.{name_byte_count, own_byte_count, left, rows_of, pushed, rows_node_count, rows_byte_count, row_depth, rows_depth, rows_steps}
+use Rattle.df_frozen.specs.code.Inner.{children, values_of}
+use Rattle.df_frozen.specs.code.Counting.{name_byte_count, own_byte_count, left, rows_of, pushed, rows_node_count, rows_byte_count, row_depth, rows_depth, rows_steps}
 use Rattle.df_frozen.specs.Limits.{counted}
 use Rattle.df_frozen.specs.Value.{named}
 use Rattle.df_frozen.specs.declared.row.Row.{Row}

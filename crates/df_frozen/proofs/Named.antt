@@ -3,7 +3,7 @@ use Rattle.std.proofs.Common.{◌≡◌, ℕ, zero, suc, ◌<◌, List, [], ◌�
 use Rattle.std.specs.List.{insert}
 use Rattle.df_frozen.specs.Plain.{Plain, item, from_list, from_pairs}
 use Rattle.df_frozen.specs.Entries.{names, values, IsBelow, IsAscending}
-use Rattle.df_frozen.specs.Inner.{values_of}
+use Rattle.df_frozen.specs.code.Inner.{values_of}
 use Rattle.df_frozen.specs.Value.{named}
 use Rattle.df_frozen.specs.declared.value.Value.{Value}
 

@@ -6,7 +6,7 @@ use Rattle.df_frozen.specs.Plain.{Plain, items, entries, item, from_list, from_p
 use Rattle.df_frozen.specs.Value.{plain, named}
 use Rattle.df_frozen.specs.Entries.{names}
 use Rattle.df_frozen.specs.Place.{change_item, change_value, push_item}
-use Rattle.df_frozen.specs.Search.{place_of}
+use Rattle.df_frozen.specs.code.Search.{place_of}
 use Rattle.df_frozen.specs.Change.{Changes, IsCause}
 use Rattle.df_frozen.specs.declared.value.Value.{Value}
 use Rattle.df_frozen.specs.declared.change.Change.{Change}

@@ -15,7 +15,7 @@ use Rattle.df_frozen.specs.Plain.{Plain, entry, from_pairs}
 use Rattle.df_frozen.specs.Name.{name_cmp}
 use Rattle.df_frozen.specs.Entries.{names, get, IsBelow, IsAscending}
 use Rattle.df_frozen.specs.Place.{change_value, put_entry}
-use Rattle.df_frozen.specs.Search.{place_of, behind_one}
+use Rattle.df_frozen.specs.code.Search.{place_of, behind_one}
 use Rattle.df_frozen.specs.declared.value.Value.{Value}
 use Rattle.df_frozen.specs.declared.value.Value.TheVariants.{Int}
 use Rattle.df_frozen.proofs.Named.{map-insert}

@@ -5,7 +5,7 @@ use Rattle.std.proofs.lemmas.List.{length-set, get_or-set_same, get_or-set_other
 use Rattle.df_frozen.specs.Plain.{Plain, int, words, bytes, items, entries, from_list, from_pairs}
 use Rattle.df_frozen.specs.Entries.{values}
 use Rattle.df_frozen.specs.Value.{plain}
-use Rattle.df_frozen.specs.LetGo.{listed, cost, full_cost, steps, items_steps, entries_steps, first_steps, items_first_steps, entries_first_steps}
+use Rattle.df_frozen.specs.code.LetGo.{listed, cost, full_cost, steps, items_steps, entries_steps, first_steps, items_first_steps, entries_first_steps}
 use Rattle.df_frozen.specs.declared.value.Value.{Value}
 use Rattle.df_frozen.specs.declared.value.Value.TheVariants.{Int, Words, Bytes, Items, Map}
 

@@ -4,7 +4,7 @@
 //! one around it waits, and takes the copy once that is whole.
 
 ghost use Rattle.std.specs.Prelude.{◌≡◌, Some, [], ◌∷◌, map, option_map, IfOk, OnOk};
-ghost use Rattle.df_frozen.specs.Copying.{content, rest, first, IsCopied, IsBegun, IsList, IsMap};
+ghost use Rattle.df_frozen.specs.code.Copying.{content, rest, first, IsCopied, IsBegun, IsList, IsMap};
 ghost use Rattle.df_frozen.specs.Entries.{names, IsAscending};
 ghost use Rattle.df_frozen.specs.Plain.{items, entries, from_list, from_pairs};
 ghost use Rattle.df_frozen.specs.Value.{plain, named};

@@ -2,12 +2,12 @@
 
 ghost use Rattle.std.specs.Prelude.{◌≡◌, ◌<◌, ◌≤◌, [], ◌∷◌, ◌++◌, length, map, option_map, get_or, set, MatchResult, IfOk, OnOk, OnErr, IfErr};
 ghost use Rattle.df_frozen.specs.Change.{changed, Changes};
-ghost use Rattle.df_frozen.specs.Copying.{content, IsFresh};
+ghost use Rattle.df_frozen.specs.code.Copying.{content, IsFresh};
 ghost use Rattle.df_frozen.specs.Entries.{names, values, get, IsAscending};
 ghost use Rattle.df_frozen.specs.Place.{change_at, change_value, put_entry};
 ghost use Rattle.df_frozen.specs.Plain.{entries, from_pairs};
-ghost use Rattle.df_frozen.specs.Search.{place_of};
-ghost use Rattle.df_frozen.specs.Counting.{name_byte_count};
+ghost use Rattle.df_frozen.specs.code.Search.{place_of};
+ghost use Rattle.df_frozen.specs.code.Counting.{name_byte_count};
 ghost use Rattle.df_frozen.specs.Limits.{counted};
 ghost use Rattle.df_frozen.specs.Value.{plain, named};
 
@@ -33,7 +33,7 @@ impl Model for Entries {
     ghost use Rattle.std.specs.Prelude.{ℕ, List, map};
     ghost use Rattle.std.specs.Coded.{coded_list, coded×, coded_ℕ};
     ghost use Rattle.df_frozen.specs.Plain.{Plain, deepest_entry};
-    ghost use Rattle.df_frozen.specs.Code.{plain_code};
+    ghost use Rattle.df_frozen.specs.code.Code.{plain_code};
     ghost use Rattle.df_frozen.specs.Entries.{names, IsAscending};
 
     ghost Value = { List (List ℕ × Plain) };
@@ -48,7 +48,7 @@ impl Model for Entries {
 
     ghost size = { deepest_entry };
 
-    ghost use Rattle.df_frozen.specs.Nesting.{most_le-deepest_entry};
+    ghost use Rattle.df_frozen.specs.code.Nesting.{most_le-deepest_entry};
     ghost use Rattle.std.proofs.Common.{arith};
 
     ghost size_decreases = { λ a h. omega (arith, most_le-deepest_entry a.entries.items) };

@@ -22,7 +22,7 @@ pub struct Frozen {
 impl Model for Frozen {
     ghost use Rattle.std.specs.Arc.{arc_value};
     ghost use Rattle.df_frozen.specs.Plain.{Plain};
-    ghost use Rattle.df_frozen.specs.Code.{plain_code};
+    ghost use Rattle.df_frozen.specs.code.Code.{plain_code};
 
     ghost Value = { Plain };
 

@@ -2,7 +2,7 @@
 
 ghost use Rattle.std.specs.Prelude.{◌≡◌, ◌<◌, [], ◌∷◌, ◌++◌, length, map, option_map, get_or, set, IfOk, OnOk, OnErr, IfErr};
 ghost use Rattle.df_frozen.specs.Change.{changed, Changes};
-ghost use Rattle.df_frozen.specs.Copying.{content, IsFresh};
+ghost use Rattle.df_frozen.specs.code.Copying.{content, IsFresh};
 ghost use Rattle.df_frozen.specs.Place.{change_at, change_item};
 ghost use Rattle.df_frozen.specs.Plain.{items, from_list};
 ghost use Rattle.df_frozen.specs.Value.{plain};
@@ -28,7 +28,7 @@ impl Model for Items {
     ghost use Rattle.std.specs.Prelude.{List, map};
     ghost use Rattle.std.specs.Coded.{coded_list};
     ghost use Rattle.df_frozen.specs.Plain.{Plain, deepest_item};
-    ghost use Rattle.df_frozen.specs.Code.{plain_code};
+    ghost use Rattle.df_frozen.specs.code.Code.{plain_code};
 
     ghost Value = { List Plain };
 
@@ -40,7 +40,7 @@ impl Model for Items {
 
     ghost size = { deepest_item };
 
-    ghost use Rattle.df_frozen.specs.Nesting.{most_le-deepest_item};
+    ghost use Rattle.df_frozen.specs.code.Nesting.{most_le-deepest_item};
     ghost use Rattle.std.proofs.Common.{arith};
 
     ghost size_decreases = { λ a h. omega (arith, most_le-deepest_item a.values.items) };

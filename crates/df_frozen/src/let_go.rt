@@ -6,7 +6,7 @@
 
 ghost use Rattle.std.specs.Prelude.{◌≡◌, ◌<◌, ◌+◌, length, get_or, pos};
 ghost use Rattle.df_frozen.specs.Plain.{int};
-ghost use Rattle.df_frozen.specs.LetGo.{listed, cost, full_cost};
+ghost use Rattle.df_frozen.specs.code.LetGo.{listed, cost, full_cost};
 
 use crate::value::Value;
 

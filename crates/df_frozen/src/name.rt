@@ -28,7 +28,7 @@ pub struct Name {
 
 impl Model for Name {
     ghost use Rattle.std.specs.Prelude.{ℕ, List, take, length};
-    ghost use Rattle.df_frozen.specs.NameBytes.{IsKept, padded, padded-take, length-take_kept};
+    ghost use Rattle.df_frozen.specs.code.NameBytes.{IsKept, padded, padded-take, length-take_kept};
 
     ghost Value = { List ℕ };
 

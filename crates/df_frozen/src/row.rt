@@ -2,7 +2,7 @@
 
 ghost use Rattle.std.specs.Prelude.{◌≡◌, MatchOption};
 ghost use Rattle.df_frozen.specs.Plain.{no_items, item};
-ghost use Rattle.df_frozen.specs.Counting.{left};
+ghost use Rattle.df_frozen.specs.code.Counting.{left};
 ghost use Rattle.df_frozen.specs.Value.{plain};
 
 use crate::name::Name;

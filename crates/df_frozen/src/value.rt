@@ -1,9 +1,9 @@
 //! Values: numbers, words, bytes, lists and maps.
 
 ghost use Rattle.std.specs.Prelude.{◌≡◌, ◌<◌, [], ◌∷◌, ◌++◌, length, get_or, set};
-ghost use Rattle.df_frozen.specs.Inner.{children};
-ghost use Rattle.df_frozen.specs.Counting.{own_byte_count, left};
-ghost use Rattle.df_frozen.specs.LetGo.{listed};
+ghost use Rattle.df_frozen.specs.code.Inner.{children};
+ghost use Rattle.df_frozen.specs.code.Counting.{own_byte_count, left};
+ghost use Rattle.df_frozen.specs.code.LetGo.{listed};
 ghost use Rattle.df_frozen.specs.Limits.{counted};
 ghost use Rattle.df_frozen.specs.Value.{plain};
 

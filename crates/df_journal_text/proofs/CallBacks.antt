@@ -10,7 +10,7 @@ use Rattle.df_unit.specs.declared.call.Call.TheVariants.{CreateEvent, AddPart, D
 use Rattle.df_value_text.specs.Fits.{IsPrivilege}
 use Rattle.df_value_text.specs.Label.{label_text, privilege_text, tag_text}
 use Rattle.df_value_text.specs.Value.{value_text}
-use Rattle.df_value_text.specs.WordEnd.{EndsWord}
+use Rattle.df_value_text.specs.code.WordEnd.{EndsWord}
 use Rattle.df_journal_text.specs.Call.{act_text, half_text, call_words}
 use Rattle.df_journal_text.specs.Fits.{IsCall}
 use Rattle.df_journal_text.specs.Line.{spaced}

@@ -5,7 +5,7 @@ use Rattle.df_format.specs.Reading.{Read, then_at, maybe_at, behind_at, closed_a
 use Rattle.df_value_text.specs.Fits.{IsTag, IsTagSet}
 use Rattle.df_value_text.specs.Label.{path_text, tags_text}
 use Rattle.df_value_text.specs.ReadTag.{numbers_at, short_at, tags_at}
-use Rattle.df_value_text.specs.WordEnd.{IsBreak, EndsWord}
+use Rattle.df_value_text.specs.code.WordEnd.{IsBreak, EndsWord}
 use Rattle.df_value_text.proofs.Backs.{EndsPath, path_back, digits_back, short_back, braced_back}
 use Rattle.df_value_text.proofs.WordEnds.{at_break}
 use Rattle.df_unit.specs.declared.name.UnitName.{UnitName}

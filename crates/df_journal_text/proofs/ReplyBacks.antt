@@ -3,7 +3,7 @@ use Rattle.std.proofs.Common.{◌≡◌, ℕ, List, [], ◌∷◌, ◌++◌, Ok,
 use Rattle.df_unit.specs.declared.reply.Reply.{Reply}
 use Rattle.df_unit.specs.declared.reply.Reply.TheVariants as reply
 use Rattle.df_value_text.specs.Label.{label_text}
-use Rattle.df_value_text.specs.WordEnd.{EndsWord}
+use Rattle.df_value_text.specs.code.WordEnd.{EndsWord}
 use Rattle.df_journal_text.specs.Fits.{IsReply}
 use Rattle.df_journal_text.specs.Line.{spaced}
 use Rattle.df_journal_text.specs.ReadReply.{reply_at}

@@ -15,7 +15,7 @@ use Rattle.df_value_text.specs.ReadName.{name_at}
 use Rattle.df_value_text.specs.ReadTag.{short_at, tag_at}
 use Rattle.df_value_text.specs.ReadValue.{value_at}
 use Rattle.df_value_text.specs.Value.{value_text}
-use Rattle.df_value_text.specs.WordEnd.{EndsWord}
+use Rattle.df_value_text.specs.code.WordEnd.{EndsWord}
 use Rattle.df_value_text.proofs.Backs.{short_back, number_back, tag_back, label_back, privilege_back, name_back, value_back, braced_back}
 use Rattle.df_filter_text.specs.Filter.{filter_text}
 use Rattle.df_filter_text.specs.Fits.{IsFilter}

@@ -23,7 +23,7 @@ impl Model for Privileges {
     ghost use Rattle.df_label.specs.declared.privilege.Privilege.{Privilege};
     ghost use Rattle.df_label.specs.Ascending.{IsAscending};
     ghost use Rattle.df_label.specs.Privilege.{privilege_cmp};
-    ghost use Rattle.df_label.specs.Shared.{items_of};
+    ghost use Rattle.df_label.specs.code.Shared.{items_of};
 
     ghost Value = { List Privilege };
 

@@ -37,7 +37,7 @@ impl Model for Tag {
 
     ghost Value = { List ℕ };
 
-    ghost use Rattle.df_label.specs.Kept.{numbers_of, IsKept};
+    ghost use Rattle.df_label.specs.code.Kept.{numbers_of, IsKept};
 
     ghost view = { λ t. numbers_of t.kept };
 

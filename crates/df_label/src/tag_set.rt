@@ -27,7 +27,7 @@ pub struct TagSet {
 impl Model for TagSet {
     ghost use Rattle.std.specs.Prelude.{ℕ, List};
     ghost use Rattle.df_label.specs.Ascending.{IsAscending};
-    ghost use Rattle.df_label.specs.Shared.{items_of};
+    ghost use Rattle.df_label.specs.code.Shared.{items_of};
     ghost use Rattle.df_label.specs.Tag.{tag_cmp};
 
     ghost Value = { List (List ℕ) };

@@ -1,2 +1,2 @@
-pub mod LocalState
 pub mod Locally
+pub mod code

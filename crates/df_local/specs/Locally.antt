@@ -25,7 +25,7 @@ use Rattle.df_local.specs.declared.close.Close.{Close}
 use Rattle.df_local.specs.declared.close.Close.TheVariants.{Publish, Release}
 use Rattle.df_local.specs.declared.close.EditRefused.{EditRefused}
 use Rattle.df_local.specs.declared.close.EditRefused.TheVariants.{NoSuchHandle, NotDraft, NotReceived, EmptyEvent, CannotWrite, NoMemory}
-use Rattle.df_local.specs.LocalState.{LocalState}
+use Rattle.df_local.specs.code.LocalState.{LocalState}
 
 -- the unit with another state
 abbrev pub with_own : LocalState → OwnState → LocalState

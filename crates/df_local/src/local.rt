@@ -32,7 +32,7 @@ pub struct Local {
 
 impl Model for Local {
     ghost use Rattle.df_unit.specs.KeptFact.{AreAccounted};
-    ghost use Rattle.df_local.specs.LocalState.{LocalState, local_code};
+    ghost use Rattle.df_local.specs.code.LocalState.{LocalState, local_code};
 
     ghost Value = { LocalState };
 

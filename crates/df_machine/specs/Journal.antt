@@ -4,7 +4,7 @@ use Rattle.std.specs.Option.{option_map}
 use Rattle.df_label.specs.Ascending.{IsAscending, contains_by}
 use Rattle.df_label.specs.declared.label.Label.{Label}
 use Rattle.df_label.specs.declared.privilege.Privilege.{Privilege}
-use Rattle.df_local.specs.LocalState.{LocalState}
+use Rattle.df_local.specs.code.LocalState.{LocalState}
 use Rattle.df_rules.specs.Deliveries.{deliveries}
 use Rattle.df_rules.specs.Legal.{Legal, answer, answered, left}
 use Rattle.df_rules.specs.Own.{exists, own}

@@ -1,4 +1,4 @@
--- A journal of one more line, and the calls of scripts that are built.
+-- A journal of one more line.
 use Rattle.std.proofs.Common.{◌≡◌, List, ℕ, [], ◌∷◌, ◌++◌, ap, sym, ◌∙◌, append_assoc, Result, Ok, Err, OnOk, is_ok, true, map, reverse, All}
 use Rattle.std.proofs.lemmas.Bool.{true≢false}
 use Rattle.std.specs.List.{flat_map}
@@ -10,13 +10,11 @@ use Rattle.df_machine.specs.declared.start.RootStart.{RootStart}
 use Rattle.df_rules.specs.Legal.{answered, run}
 use Rattle.df_rules.specs.Start.{rows}
 use Rattle.df_unit.specs.declared.call.Call.{Call}
-use Rattle.df_unit.specs.declared.call.Call.TheVariants.{SubscribeManaged, Instantiate}
 use Rattle.df_unit.specs.declared.entry.Entry.{Entry}
 use Rattle.df_unit.specs.declared.name.UnitName.{UnitName}
-use Rattle.df_unit.specs.Served.{IsBuilt}
 use Rattle.df_journal_text.specs.Entry.{noted_text}
 use Rattle.df_journal_text.specs.Start.{head_text}
-use Rattle.df_script_text.specs.Script.{IsReadCall, IsScript, NamesNoLine, script_text}
+use Rattle.df_script_text.specs.Script.{IsScript, NamesNoLine, script_text}
 use Rattle.df_script_text.specs.declared.refused.FileRefused.{FileRefused}
 use Rattle.df_script_text.specs.declared.refused.FileRefused.TheVariants.{Syntax, NoMemory}
 use Rattle.df_script_text.specs.declared.line.ScriptLine.{ScriptLine}
@@ -69,12 +67,6 @@ written_more roots ls l old new before now w a =
           ∙ ap (λ (t : List ℕ). head_text roots ++ t) (sym (flat_map-append noted_text (noted roots past) (noted_in (roots, past) e ∷ []) ∙ ap (λ (t : List ℕ). flat_map noted_text (noted roots past) ++ t) (append-nil (noted_text (noted_in (roots, past) e)))))
           ∙ ap (λ (j : List Entry). head_text roots ++ flat_map noted_text (noted roots j)) (sym (journal_more roots ls l));
     }
-
--- the calls of scripts are built
-pub read_is_built : (c : Call) → IsReadCall c → IsBuilt c
-read_is_built (SubscribeManaged f) h = absurd h
-read_is_built (Instantiate a b) h = absurd h
-read_is_built _ h = tt
 
 -- a script that isn't read is the text of none
 pub refuses_line : (bytes : List ℕ) (refused : FileRefused) → (refused ≡ Syntax 0 → (roots : List RootStart) (lines : List ScriptLine) → IsScript roots lines → bytes ≡ script_text roots lines → ⊥) → NamesNoLine refused → RefusesLine bytes refused

@@ -73,8 +73,7 @@ IsOutputOfSome task told text = (bytes : List ℕ) × IsOutput task bytes text
     × IfTold told (λ file. bytes ≡ file)
 
 -- after Done the whole output was written, after WriteFault a front of it, and after any other
--- status nothing; whatever the shelf
--- tells, it is the output of bytes that the task reads
+-- status nothing; whatever the shelf tells, it is the output of bytes that the task reads
 abbrev pub Writes : Task → Option (List ℕ) → Option (List ℕ) → Option (List ℕ) → Status → Type 0
 Writes task told old new status.Done = (text : List ℕ) × IsOutputOfSome task told text
     × HasAll old text new

@@ -57,10 +57,9 @@ abbrev pub Records : List RootStart → List ScriptLine → List ℕ → Type 0
 Records roots lines text = text ≡ journal_text roots (noted roots (journal_of roots lines))
 
 -- the journal is legal and nothing was emitted into it; each unit's gets gave it just its
--- deliveries, in order, and what is left;
--- a get gave nothing only where none was left; and its purge at each label is legal, keeps what
--- units within the label have and
--- are handed, and leaves of the others only what privileges let out
+-- deliveries, in order, and what is left; a get gave nothing only where none was left; and its
+-- purge at each label is legal, keeps what units within the label have and are handed, and leaves
+-- of the others only what privileges let out
 pub record IsSound (s : List OwnState) (past : List Entry) : Type 0 where
   pub legal : Legal rows s past
   pub unaided : IsUnaided past

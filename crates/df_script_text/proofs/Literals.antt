@@ -7,7 +7,7 @@ use Rattle.std.proofs.lemmas.Str.{IsUtf8-from_ascii}
 use Rattle.std.proofs.lemmas.List.{drop_all}
 use Rattle.std.proofs.lemmas.Slice.Eq.{bytes_eq-Decides}
 use Rattle.df_format.specs.Grammar.{Stands}
-use Rattle.df_value_text.specs.Answer.{IsFound, IsRead}
+use Rattle.df_value_text.specs.code.Answer.{IsFound, IsRead}
 use Rattle.df_value_text.specs.declared.refused.TextRefused.{TextRefused}
 use Rattle.df_script_text.specs.Reads.{Reads}
 use Rattle.df_script_text.specs.Whole.{IsWhole}

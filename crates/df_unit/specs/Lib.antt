@@ -6,8 +6,8 @@ pub mod KeptFact
 pub mod Limits
 pub mod Name
 pub mod OwnState
-pub mod Path
 pub mod Rows
 pub mod Served
 pub mod UnitOrder
 pub mod UnitOrderLaws
+pub mod code

@@ -35,7 +35,7 @@ impl Model for Path {
 
     ghost Value = { List ℕ };
 
-    ghost use Rattle.df_unit.specs.Path.{numbers_of, HasRoom};
+    ghost use Rattle.df_unit.specs.code.Path.{numbers_of, HasRoom};
 
     ghost view = { λ p. numbers_of p.kept };
 

@@ -4,7 +4,7 @@ use Rattle.df_format.specs.Reading.{Bad, Low, Read}
 use Rattle.df_format.specs.Grammar.{Stands}
 use Rattle.df_format.specs.Format.{Format}
 use Rattle.df_format.proofs.Laws.{ok_is, err_is, not_both, stands, is_read, first_bad, can_go_on}
-use Rattle.df_value_text.specs.Answer.{Fails, refusal, IsFound, IsRead, NamesBad, NamesBadOrLow, IsSyntaxAt}
+use Rattle.df_value_text.specs.code.Answer.{Fails, refusal, IsFound, IsRead, NamesBad, NamesBadOrLow, IsSyntaxAt}
 use Rattle.df_value_text.specs.declared.refused.Fault.{Fault}
 use Rattle.df_value_text.specs.declared.refused.Fault.TheVariants as fault
 use Rattle.df_value_text.specs.declared.refused.TextRefused.TheVariants as refused

@@ -19,7 +19,7 @@ use Rattle.df_value_text.specs.ReadName.{name_at}
 use Rattle.df_value_text.specs.ReadTag.{numbers_at, short_at, tag_at, tags_at}
 use Rattle.df_value_text.specs.ReadValue.{value_at}
 use Rattle.df_value_text.specs.Value.{value_text}
-use Rattle.df_value_text.specs.WordEnd.{EndsWord}
+use Rattle.df_value_text.specs.code.WordEnd.{EndsWord}
 use Rattle.df_value_text.specs.declared.counting.Walk.{Walk}
 use Rattle.df_value_text.proofs.CountingEnds.{counted_behind}
 use Rattle.df_value_text.proofs.LabelLaws.{label_format, privilege_format, tags_end_at}

@@ -1,7 +1,7 @@
 -- How many bits there are, and how large a number of so many is.
 use Rattle.std.proofs.Common.{◌≡◌, ℕ, zero, suc, ◌/◌, ◌^◌, ◌<◌, ◌≤◌, length, refl, ap, arith}
 use Rattle.std.proofs.Math.Pow.{pow_mono}
-use Rattle.df_value_text.specs.Brackets.{bits}
+use Rattle.df_value_text.specs.code.Brackets.{bits}
 
 pub length-bits : (count n : ℕ) → length (bits count n) ≡ count
 length-bits zero n = refl

@@ -9,7 +9,7 @@ use Rattle.df_format.specs.Reading.{Bad, Low}
 use Rattle.df_format.proofs.Laws.{told}
 use Rattle.df_frozen.specs.Limits.{IsTooLarge, IsWithinLimits}
 use Rattle.df_frozen.specs.Plain.{Plain}
-use Rattle.df_value_text.specs.Answer.{Fails, Gives, IsSyntaxAt, refusal}
+use Rattle.df_value_text.specs.code.Answer.{Fails, Gives, IsSyntaxAt, refusal}
 use Rattle.df_value_text.specs.Counting.{FirstOver, NeverOver, counts_of}
 use Rattle.df_value_text.specs.Fits.{IsSpelled, IsValue}
 use Rattle.df_value_text.specs.OrderNames.{NameStandsLow, LowInValue}

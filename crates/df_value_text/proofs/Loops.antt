@@ -5,7 +5,7 @@ use Rattle.df_format.specs.Reading.{Stop, Bad, Low, Read, ◌>>=◌, as_at, more
 use Rattle.df_format.proofs.Laws.{ok_is, err_is, not_both}
 use Rattle.df_format.proofs.ItemSteps.{items_made, onto, regroup}
 use Rattle.std.proofs.lemmas.List.{append-nil, drop_all, drop_more, take_all, take_more}
-use Rattle.df_value_text.specs.Answer.{Fails}
+use Rattle.df_value_text.specs.code.Answer.{Fails}
 use Rattle.df_value_text.specs.Number.{begins_with}
 use Rattle.df_value_text.specs.ReadTag.{listed}
 use Rattle.df_value_text.specs.declared.refused.Fault.{Fault}

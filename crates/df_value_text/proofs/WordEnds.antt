@@ -14,7 +14,7 @@ use Rattle.df_value_text.specs.Order.{IsLowTag}
 use Rattle.df_value_text.specs.ReadLabel.{label_at, privilege_at}
 use Rattle.df_value_text.specs.ReadTag.{tag_at}
 use Rattle.df_value_text.specs.Value.{value_text}
-use Rattle.df_value_text.specs.WordEnd.{IsBreak, EndsWord}
+use Rattle.df_value_text.specs.code.WordEnd.{IsBreak, EndsWord}
 use Rattle.df_value_text.proofs.LabelLaws.{label_format, privilege_format, privilege_goes, right_goes}
 use Rattle.df_value_text.proofs.NumberLaws.{number_goes}
 use Rattle.df_value_text.proofs.TagLaws.{nowhere, nowhere_is_local, tag_goes, tag_format}

@@ -1,7 +1,7 @@
 -- Where a value is refused, and why.
 use Rattle.std.specs.Prelude.{◌≡◌, ◌≤◌, ◌<◌, ℕ, List, [], ◌∷◌, ◌++◌, length, drop, nat_le, if◌then◌else◌, Result, Ok, Err, ⊤, ◌⊎◌}
 use Rattle.df_format.specs.Grammar.{CanGoOn, FirstBad}
-use Rattle.df_value_text.specs.Answer.{FirstLow}
+use Rattle.df_value_text.specs.code.Answer.{FirstLow}
 use Rattle.df_value_text.specs.Counting.{AreWithin, FirstOver, counts_of}
 use Rattle.df_value_text.specs.Fits.{IsSpelled}
 use Rattle.df_value_text.specs.OrderNames.{LowWithin}

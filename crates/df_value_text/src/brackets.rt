@@ -1,6 +1,6 @@
 //! The brackets that are open at a place in a value.
 ghost use Rattle.std.specs.Prelude.{◌≡◌, ◌<◌, ◌≤◌, Bool, List, [], ◌∷◌, length, drop, ◌^◌, MatchOption};
-ghost use Rattle.df_value_text.specs.Brackets.{bits};
+ghost use Rattle.df_value_text.specs.code.Brackets.{bits};
 
 use std::marker::Model;
 

@@ -1,6 +1,6 @@
 //! Reading bytes in hexadecimal digits.
 ghost use Rattle.std.specs.Prelude.{◌≡◌, ◌≤◌, ◌<◌, length, drop, true, IfOk};
-ghost use Rattle.df_value_text.specs.Answer.{Gives};
+ghost use Rattle.df_value_text.specs.code.Answer.{Gives};
 ghost use Rattle.df_value_text.specs.ReadBytes.{bytes_at, hex_byte, hex_value, is_hex, pairs_at};
 
 use crate::Fault;

@@ -4,7 +4,7 @@ ghost use Rattle.df_format.specs.Grammar.{Stands};
 ghost use Rattle.df_frozen.specs.Limits.{IsWithinLimits};
 ghost use Rattle.df_frozen.specs.Plain.{Plain};
 ghost use Rattle.df_frozen.specs.Value.{plain};
-ghost use Rattle.df_value_text.specs.Answer.{IsFound, IsRead, IsSyntaxAt};
+ghost use Rattle.df_value_text.specs.code.Answer.{IsFound, IsRead, IsSyntaxAt};
 ghost use Rattle.df_value_text.specs.Counting.{FirstOver, NeverOver};
 ghost use Rattle.df_value_text.specs.Fits.{IsValue};
 ghost use Rattle.df_value_text.specs.OrderNames.{LowInValue};

@@ -2,7 +2,7 @@
 ghost use Rattle.std.specs.Prelude.{◌≡◌, ◌≤◌, ◌<◌, ◌+◌, ◌-◌, length, drop, true, IfOk};
 ghost use Rattle.df_frozen.specs.Limits.{longest_name};
 ghost use Rattle.df_frozen.specs.Name.{is_name};
-ghost use Rattle.df_value_text.specs.Answer.{Gives};
+ghost use Rattle.df_value_text.specs.code.Answer.{Gives};
 ghost use Rattle.df_value_text.specs.ReadName.{name_at, name_bytes};
 
 use crate::Fault;

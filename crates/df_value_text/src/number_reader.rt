@@ -1,7 +1,7 @@
 //! Reading numbers.
 ghost use Rattle.std.specs.Prelude.{◌≡◌, ◌≤◌, ◌<◌, ◌^◌, ◌∷◌, [], length, drop, IfOk};
 ghost use Rattle.df_format.specs.Reading.{text_at};
-ghost use Rattle.df_value_text.specs.Answer.{Gives};
+ghost use Rattle.df_value_text.specs.code.Answer.{Gives};
 ghost use Rattle.df_value_text.specs.ReadTag.{short_at};
 ghost use Rattle.df_value_text.specs.Number.{begins_with, number_at, digits_at};
 ghost use Rattle.df_value_text.specs.ReadWhole.{minus, positive_at, whole_at};

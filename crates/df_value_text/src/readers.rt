@@ -4,7 +4,7 @@ ghost use Rattle.df_format.specs.Grammar.{Stands};
 ghost use Rattle.df_frozen.specs.Plain.{Plain};
 ghost use Rattle.df_label.specs.declared.label.Label.{Label};
 ghost use Rattle.df_label.specs.declared.privilege.Privilege.{Privilege};
-ghost use Rattle.df_value_text.specs.Answer.{IsFound, IsRead, IsSyntaxAt, NamesBad, NamesBadOrLow};
+ghost use Rattle.df_value_text.specs.code.Answer.{IsFound, IsRead, IsSyntaxAt, NamesBad, NamesBadOrLow};
 ghost use Rattle.df_value_text.specs.Fits.{IsLabel, IsPrivilege, IsTag, IsValue};
 ghost use Rattle.df_value_text.specs.Label.{label_text, privilege_text, tag_text};
 ghost use Rattle.df_value_text.specs.Order.{IsLowTag, LowInLabel};

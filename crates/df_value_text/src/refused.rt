@@ -1,6 +1,6 @@
 //! Why a literal isn't read.
 ghost use Rattle.std.specs.Prelude.{◌≡◌};
-ghost use Rattle.df_value_text.specs.Answer.{refusal};
+ghost use Rattle.df_value_text.specs.code.Answer.{refusal};
 ghost use Rattle.df_value_text.specs.declared.refused.Fault.TheVariants as fault;
 
 use df_label::NoMemory;

@@ -3,7 +3,7 @@ ghost use Rattle.std.specs.Prelude.{◌≡◌, ◌≤◌, ◌<◌, ◌+◌, ◌&
 ghost use Rattle.std.specs.List.{list_all};
 ghost use Rattle.df_frozen.specs.Place.{push_at, put_at};
 ghost use Rattle.df_frozen.specs.Value.{named, plain};
-ghost use Rattle.df_value_text.specs.Answer.{Gives};
+ghost use Rattle.df_value_text.specs.code.Answer.{Gives};
 ghost use Rattle.df_value_text.specs.Number.{begins_with};
 ghost use Rattle.df_value_text.specs.ReadValue.{entry_at, given_at, higher_at, is_greatest, leaf_at, list_at, map_at, next_entry_at, value_within};
 ghost use Rattle.df_value_text.specs.declared.refused.Fault.TheVariants as fault;

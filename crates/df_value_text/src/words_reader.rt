@@ -1,6 +1,6 @@
 //! Reading words.
 ghost use Rattle.std.specs.Prelude.{◌≡◌, ◌≤◌, ◌<◌, length, drop, IfOk};
-ghost use Rattle.df_value_text.specs.Answer.{Gives};
+ghost use Rattle.df_value_text.specs.code.Answer.{Gives};
 ghost use Rattle.df_value_text.specs.ReadWords.{chars_at, words_at};
 
 use crate::Fault;

@@ -7,7 +7,7 @@ ghost use Rattle.df_label.specs.declared.privilege.Privilege.{Privilege};
 ghost use Rattle.df_value_text.specs.Fits.{IsLabel, IsPrivilege, IsTag, IsValue};
 ghost use Rattle.df_value_text.specs.Label.{label_text, privilege_text, tag_text};
 ghost use Rattle.df_value_text.specs.Value.{value_text};
-ghost use Rattle.df_value_text.specs.WordEnd.{EndsWord};
+ghost use Rattle.df_value_text.specs.code.WordEnd.{EndsWord};
 
 /// A literal that is written stands there, where nothing, a space or a line feed follows. So its
 /// reader gives it back, with the place behind it: by the clause `only` of each.

@@ -3,7 +3,7 @@ use Rattle.std.specs.Prelude.{option_map}
 use Rattle.std.proofs.lemmas.List.{length-map}
 use Rattle.df_frozen.specs.Plain.{items, entries, from_list}
 use Rattle.df_frozen.specs.Place.{change_at}
-use Rattle.df_frozen.specs.Search.{place_of}
+use Rattle.df_frozen.specs.code.Search.{place_of}
 use Rattle.df_frozen.specs.Change.{changed}
 use Rattle.df_frozen.specs.Entries.{names, IsAscending}
 use Rattle.df_frozen.specs.Value.{plain, named}

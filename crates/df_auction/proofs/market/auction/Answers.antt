@@ -5,7 +5,7 @@ use Rattle.std.proofs.lemmas.Bool.Decides.{nat_tests}
 use mir.Syntax.{w128}
 use mir.Val.{SFits}
 use Rattle.df_auction.specs.Matching.{total}
-use Rattle.df_auction.specs.Clearing.{price_of}
+use Rattle.df_auction.specs.code.Clearing.{price_of}
 use Rattle.df_auction.specs.Auction.{trade_of, rest_of}
 use Rattle.df_auction.proofs.Theorem.{settled, called_for, best}
 use Rattle.df_auction.proofs.market.auction.Goals as goal

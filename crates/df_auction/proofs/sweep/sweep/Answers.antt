@@ -1,6 +1,6 @@
 use Rattle.std.proofs.Common.{rules, ◌≡◌, ◌<◌, length, drop, arith, sym, ap, subst, ◌∙◌}
 use Rattle.df_auction.specs.Ranking.{after}
-use Rattle.df_auction.specs.Clearing.{Clears, split_of}
+use Rattle.df_auction.specs.code.Clearing.{Clears, split_of}
 use Rattle.df_auction.proofs.Sweeping.{turn, given_back}
 use Rattle.df_auction.proofs.Starting.{begun}
 use Rattle.df_auction.proofs.Finishing.{Stuck, stuck_bids, stuck_asks, stuck_both, split_small, finish}

@@ -1,5 +1,5 @@
 use Rattle.std.proofs.Common.{◌≡◌, ◌+◌, ◌*◌, ◌<◌, [], ◌∷◌, ◌++◌, Some, ap, sym, ◌∙◌, arith}
-use Rattle.df_frozen.specs.Copying.{content, rest}
+use Rattle.df_frozen.specs.code.Copying.{content, rest}
 use Rattle.df_frozen.specs.Plain.{node_count}
 use Rattle.df_frozen.specs.Value.{plain}
 use Rattle.df_frozen.proofs.Copies.{IsChain-popped, IsChain-same, IsChain-push, IsCopied-fresh, tail, nodes, nodes-first, nodes-fresh, layers_steps, layers_steps-push}

@@ -1,5 +1,5 @@
 use Rattle.std.proofs.Common.{◌+◌, ◌*◌}
-use Rattle.df_frozen.specs.Copying.{content, rest, IsCopied}
+use Rattle.df_frozen.specs.code.Copying.{content, rest, IsCopied}
 use Rattle.df_frozen.proofs.Copies.{IsChain, nodes, layers_steps}
 use Rattle.df_frozen.proofs.copy.complete.Given as goal
 

@@ -1,5 +1,5 @@
 use Rattle.std.proofs.Common.{◌∙◌, sym, ap, refl}
-use Rattle.df_frozen.specs.Counting.{rows_of}
+use Rattle.df_frozen.specs.code.Counting.{rows_of}
 use Rattle.df_frozen.proofs.Counts.{rows_of-push, pushed-item}
 use Rattle.df_frozen.proofs.count.push_row.Goals as goal
 

@@ -1,5 +1,5 @@
 use Rattle.std.proofs.Common.{◌-◌, ◌∙◌, ap, arith, set, get_or}
-use Rattle.df_frozen.specs.LetGo.{listed, cost}
+use Rattle.df_frozen.specs.code.LetGo.{listed, cost}
 use Rattle.df_frozen.specs.Value.{plain}
 use Rattle.df_frozen.proofs.Steps.{cost-hung}
 use Rattle.df_frozen.proofs.let_go.hang.Goals as goal

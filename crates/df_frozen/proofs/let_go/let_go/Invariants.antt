@@ -1,4 +1,4 @@
-use Rattle.df_frozen.specs.LetGo.{listed, cost}
+use Rattle.df_frozen.specs.code.LetGo.{listed, cost}
 use Rattle.df_frozen.proofs.let_go.let_go.Given as goal
 
 abbrev pub decreases-loop-waiting : goal.decreases-loop-waiting

@@ -1,5 +1,5 @@
 use Rattle.std.proofs.Common.{◌-◌, ◌∙◌, ap, sym, arith}
-use Rattle.df_frozen.specs.LetGo.{listed, cost}
+use Rattle.df_frozen.specs.code.LetGo.{listed, cost}
 use Rattle.df_frozen.specs.Value.{plain}
 use Rattle.df_frozen.proofs.Steps.{cost-only, cost-gone, cost-only_inner, cost-opened, listed-last}
 use Rattle.df_frozen.proofs.let_go.step.Goals as goal

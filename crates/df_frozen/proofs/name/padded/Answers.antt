@@ -1,4 +1,4 @@
-use Rattle.df_frozen.specs.NameBytes.{IsKept-copied}
+use Rattle.df_frozen.specs.code.NameBytes.{IsKept-copied}
 use Rattle.df_frozen.proofs.name.padded.Goals as goal
 
 pub invariant_of-result : goal.invariant_of-result

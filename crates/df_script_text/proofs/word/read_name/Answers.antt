@@ -1,5 +1,5 @@
 use Rattle.std.proofs.Common.{subst, sym, IsUtf8}
-use Rattle.df_frozen.specs.NameBytes.{IsUtf8-name}
+use Rattle.df_frozen.specs.code.NameBytes.{IsUtf8-name}
 use Rattle.df_script_text.proofs.word.read_name.Goals as goal
 
 pub returns-in_default : goal.returns-in_default

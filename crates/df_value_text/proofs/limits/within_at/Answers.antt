@@ -2,7 +2,7 @@ use Rattle.std.proofs.Common.{ℕ, suc, length, drop, arith}
 use Rattle.std.proofs.lemmas.Result.{err_from_is_err_and}
 use Rattle.df_frozen.specs.Value.{plain}
 use Rattle.df_frozen.specs.declared.frozen.Frozen.{Frozen}
-use Rattle.df_value_text.specs.Answer.{refusal}
+use Rattle.df_value_text.specs.code.Answer.{refusal}
 use Rattle.df_value_text.proofs.LimitLaws.{fault_within, order_within, read_within, syntax_told}
 use Rattle.df_value_text.proofs.ValueAnswers.{found_value, only_value, only_fault, no_low_name}
 use Rattle.df_value_text.proofs.limits.within_at.Goals as goal

@@ -1,4 +1,4 @@
-use Rattle.df_frozen.specs.NameBytes.{IsUtf8-name}
+use Rattle.df_frozen.specs.code.NameBytes.{IsUtf8-name}
 use Rattle.df_value_text.proofs.name_reader.name_of.Goals as goal
 
 pub from_utf8_unchecked-requires : goal.from_utf8_unchecked-requires

@@ -1,5 +1,5 @@
 use Rattle.std.proofs.Common.{◌≡◌, ◌∙◌, ap, sym, arith, drop, length}
-use Rattle.df_frozen.specs.Copying.{first}
+use Rattle.df_frozen.specs.code.Copying.{first}
 use Rattle.df_frozen.specs.Entries.{values}
 use Rattle.df_frozen.specs.Value.{plain}
 use Rattle.df_frozen.proofs.Copies.{first-seen, first-read, values-named}

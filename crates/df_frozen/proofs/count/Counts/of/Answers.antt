@@ -1,8 +1,8 @@
 use Rattle.std.proofs.Common.{◌≡◌, ◌+◌, [], ◌∷◌, ◌++◌, max, arith, sym, ap, ◌∙◌}
 use Rattle.std.proofs.lemmas.List.{nil_from_length}
 use Rattle.df_frozen.specs.Plain.{item, no_items}
-use Rattle.df_frozen.specs.Counting.{left, rows_of, pushed, rows_node_count, rows_byte_count, rows_depth}
-use Rattle.df_frozen.specs.Inner.{children}
+use Rattle.df_frozen.specs.code.Counting.{left, rows_of, pushed, rows_node_count, rows_byte_count, rows_depth}
+use Rattle.df_frozen.specs.code.Inner.{children}
 use Rattle.df_frozen.specs.Limits.{counted}
 use Rattle.df_frozen.specs.Value.{plain}
 use Rattle.df_frozen.proofs.Counts.{rows_of-last, rows_node_count-step, rows_byte_count-step, rows_depth-step, rows_steps-step, rows_node_count-empty, rows_byte_count-empty, rows_depth-empty, rows_steps-empty, rows_node_count-pushed, rows_byte_count-pushed, rows_depth-first, node_count-is, byte_count-is}

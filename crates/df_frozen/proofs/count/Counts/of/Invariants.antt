@@ -1,6 +1,6 @@
 use Rattle.std.proofs.Common.{◌≡◌, ◌+◌, ◌<◌, ◌^◌, max}
 use Rattle.df_frozen.specs.Plain.{node_count, byte_count, depth}
-use Rattle.df_frozen.specs.Counting.{rows_of, rows_node_count, rows_byte_count, rows_depth, rows_steps}
+use Rattle.df_frozen.specs.code.Counting.{rows_of, rows_node_count, rows_byte_count, rows_depth, rows_steps}
 use Rattle.df_frozen.specs.Limits.{counted}
 use Rattle.df_frozen.specs.Value.{plain}
 use Rattle.df_frozen.proofs.count.Counts.of.Given as goal

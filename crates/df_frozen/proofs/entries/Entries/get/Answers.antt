@@ -1,7 +1,7 @@
 use Rattle.std.proofs.Common.{◌≡◌, ◌<◌, ◌∙◌, ap, sym, map, length, arith, Ok, Err, Some}
 use Rattle.std.proofs.lemmas.List.{get_or-map, length-map}
 use Rattle.df_frozen.specs.Entries.{names, get}
-use Rattle.df_frozen.specs.Search.{place_of}
+use Rattle.df_frozen.specs.code.Search.{place_of}
 use Rattle.df_frozen.specs.Value.{plain, named}
 use Rattle.df_frozen.proofs.Named.{names-named}
 use Rattle.df_frozen.proofs.Search.{get-found, get-missing}

@@ -1,6 +1,6 @@
 use Rattle.std.proofs.Common.{◌≡◌, ◌∙◌, ap, arith, add-one, sym, take, take_all}
 use Rattle.df_frozen.specs.Plain.{from_pairs}
-use Rattle.df_frozen.specs.Counting.{name_byte_count}
+use Rattle.df_frozen.specs.code.Counting.{name_byte_count}
 use Rattle.df_frozen.specs.Limits.{counted}
 use Rattle.df_frozen.proofs.Counts.{names_length, names_length-take, name_byte_count-named}
 use Rattle.df_frozen.proofs.entries.Entries.name_byte_count.Goals as goal

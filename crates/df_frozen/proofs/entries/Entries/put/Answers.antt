@@ -4,7 +4,7 @@ use Rattle.std.specs.List.{insert}
 use Rattle.df_frozen.specs.Plain.{from_pairs}
 use Rattle.df_frozen.specs.Entries.{names, IsAscending}
 use Rattle.df_frozen.specs.Place.{put_entry}
-use Rattle.df_frozen.specs.Search.{place_of}
+use Rattle.df_frozen.specs.code.Search.{place_of}
 use Rattle.df_frozen.specs.Value.{plain, named}
 use Rattle.df_frozen.proofs.Named.{names-named, map-insert}
 use Rattle.df_frozen.proofs.Search.{put_entry-found, put_entry-new, set-found, IsAscending-inserted}

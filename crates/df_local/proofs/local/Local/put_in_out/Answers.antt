@@ -4,7 +4,7 @@ use Rattle.df_unit.specs.KeptFact.{IsKept}
 use Rattle.df_unit.specs.Rows.{changed}
 use Rattle.df_unit.specs.declared.call.Call.{Call}
 use Rattle.df_unit.specs.declared.entry.Effect.{Effect}
-use Rattle.df_local.specs.LocalState.{LocalState}
+use Rattle.df_local.specs.code.LocalState.{LocalState}
 use Rattle.df_local.proofs.local.Local.put_in_out.Goals as goal
 
 pub invariant_of-self : goal.invariant_of-self

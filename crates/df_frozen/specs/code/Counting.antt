@@ -2,7 +2,7 @@
 -- left.
 use Rattle.std.specs.Prelude.{ℕ, ◌+◌, ◌*◌, max, List, [], ◌∷◌, ◌++◌, length, map}
 use Rattle.df_frozen.specs.Plain.{Plain, Plains, Pairs, int, words, bytes, items, entries, no_items, item, no_entries, entry, from_pairs, items_node_count, items_byte_count, items_depth}
-use Rattle.df_frozen.specs.Inner.{values_of}
+use Rattle.df_frozen.specs.code.Inner.{values_of}
 use Rattle.df_frozen.specs.Value.{plain_all, named}
 use Rattle.df_frozen.specs.declared.row.Row.{Row}
 use Rattle.df_frozen.specs.declared.row.Row.TheVariants.{Items, Map}
