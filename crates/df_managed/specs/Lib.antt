@@ -1,0 +1,2 @@
+pub mod Contaminations
+pub mod code
