@@ -1,0 +1,7 @@
+pub mod Arrivals
+pub mod Planned
+pub mod Quantities
+pub mod Queued
+pub mod Settling
+pub mod Spans
+pub mod Standing
