@@ -1,4 +1,5 @@
 pub mod Arrivals
+pub mod Calm
 pub mod Planned
 pub mod Quantities
 pub mod Queued

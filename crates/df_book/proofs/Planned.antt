@@ -1,5 +1,5 @@
 -- What is planned over the queue is what the order does to the plain list.
-use Rattle.std.proofs.Common.{◌≡◌, ℕ, zero, suc, ◌≤◌, ◌≢◌, List, [], ◌∷◌, ◌++◌, Bool, true, false, cond, refl, sym, ◌∙◌, ap, ap₂, subst, Option, Some, None, append-nil, append_assoc, not, ◌&&◌, map, arith}
+use Rattle.std.proofs.Common.{◌≡◌, ℕ, zero, suc, ◌≤◌, List, [], ◌∷◌, ◌++◌, Bool, true, false, cond, refl, sym, ◌∙◌, ap, ap₂, append-nil, append_assoc, not, ◌&&◌, arith}
 use Rattle.std.proofs.lemmas.Bool.{and_right}
 use Rattle.std.proofs.lemmas.Int.{ints}
 use Rattle.std.specs.Prelude.{ℤ, pos, ◌-ℤ◌, int_lt, int_le, length, drop, bytes_eq}
@@ -8,10 +8,10 @@ use Rattle.df_book.specs.declared.order.Order.{Order}
 use Rattle.df_book.specs.declared.trade.Trade.{Trade}
 use Rattle.df_book.specs.declared.plan.Fill.{Fill}
 use Rattle.df_book.specs.declared.plan.Plan.{Plan}
-use Rattle.df_book.specs.Submitting.{Picked, Submitted, is_better, best, meets, crosses, lesser, trade_of, if_left, trade_first, rested, met, matched, submitted}
+use Rattle.df_book.specs.Submitting.{Submitted, is_better, best, meets, crosses, lesser, trade_of, if_left, trade_first, rested, met, matched, submitted}
 use Rattle.df_book.specs.code.Places.{MayRest, IsInOrder, IsPlan, rank_in, queue, resting_of, left_at, filled, Planned, behind_all, fill_of, plan_of, AreFills}
 use Rattle.df_book.proofs.Arrivals.{Arrived, left_in_order}
-use Rattle.df_book.proofs.Queued.{Found, Head, Heads, heads, picked, ahead_of, behind_of, left_between, left_length, left_more, queue_more}
+use Rattle.df_book.proofs.Queued.{Head, Heads, heads, left_between, left_length, left_more, queue_more}
 
 -- what a plan makes of the orders in order of arrival
 abbrev pub done : Order → List Arrived → Planned → Submitted
@@ -27,11 +27,11 @@ planned_first : (o : Order) (left : ℤ) (h : Arrived) (t : List Arrived) → in
 planned_first o left h t e =
     ap (λ b. cond b (behind_all (trade_of o h.1 (lesser left h.1.qty) ∷ []) (fill_of left h ∷ []) (plan_of o (left -ℤ lesser left h.1.qty) t)) (record { trades = []; fills = []; left = left })) e
 
-unmatched : (o : Order) (k : ℕ) (left : ℤ) (book : List Order) → int_lt (pos 0) left ≡ false → matched o k left book ≡ rested o left book
+pub unmatched : (o : Order) (k : ℕ) (left : ℤ) (book : List Order) → int_lt (pos 0) left ≡ false → matched o k left book ≡ rested o left book
 unmatched o zero left book e = refl
 unmatched o (suc k) left book e = ap (λ b. cond b (met (matched o k) o left book (best o book)) (rested o left book)) e
 
-none_left : (z : ℤ) → z -ℤ z ≡ pos 0
+pub none_left : (z : ℤ) → z -ℤ z ≡ pos 0
 none_left z = omega (arith, ints)
 
 -- the queue without its first order, or nothing left of the incoming one
@@ -189,7 +189,7 @@ values_of-append [] ys = refl
 values_of-append (x ∷ xs) ys = ap (λ (zs : List Order). x.1 ∷ zs) (values_of-append xs ys)
 
 -- no order meets itself
-not_itself : (o : Order) (left : ℤ) → meets o (record o { qty = left }) ≡ false
+pub not_itself : (o : Order) (left : ℤ) → meets o (record o { qty = left }) ≡ false
 not_itself o left = and_right (bytes_eq o.symbol o.symbol) (crosses o (record o { qty = left })) (go o.sell (int_le o.limit o.limit))
   where
     go : (b c : Bool) → cond b (not b && c) (b && c) ≡ false

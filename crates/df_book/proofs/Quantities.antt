@@ -1,5 +1,5 @@
 -- Quantities: what two orders trade, and whether anything is left.
-use Rattle.std.proofs.Common.{◌≡◌, Bool, true, false, cond, refl, ap, sym, ◌∙◌, subst, w64, to_z, of_z, arith}
+use Rattle.std.proofs.Common.{◌≡◌, Bool, true, false, cond, refl, subst, w64, to_z, of_z, arith}
 use Rattle.std.proofs.lemmas.Int.{ints, to_z-of_z}
 use Rattle.std.specs.Prelude.{ℤ, pos, ◌-ℤ◌, ◌≤ℤ◌, int_lt, FitsSigned}
 use Rattle.df_book.specs.Submitting.{lesser}

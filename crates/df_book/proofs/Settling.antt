@@ -6,9 +6,9 @@ use Rattle.df_book.specs.declared.place.Place.{Place}
 use Rattle.df_book.specs.declared.place.Rest.{Rest}
 use Rattle.df_book.specs.declared.plan.Fill.{Fill}
 use Rattle.df_book.specs.code.Places.{by_arrival, IsInOrder, AreFills, IsTaken}
-use Rattle.df_book.proofs.Planned.{NextFill, next_fill}
+use Rattle.df_book.proofs.Planned.{next_fill}
 use Rattle.df_book.proofs.Spans.{symbol_met, side_met}
-use Rattle.df_book.proofs.Standing.{IsPlaceOf, found_at}
+use Rattle.df_book.proofs.Standing.{found_at}
 
 pub place_taken : (o : Order) (m : ℕ) (f : Fill) (fs : List Fill) (es : List (Place × Rest)) (p : Place) → IsInOrder 0 m (by_arrival es) → AreFills o (f ∷ fs) (by_arrival es) →
     string_bytes p.symbol ≡ o.symbol → p.sell ≡ not o.sell → p.rank ≡ f.rank → p.arrival ≡ f.arrival → IsTaken p es

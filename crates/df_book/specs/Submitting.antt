@@ -1,5 +1,5 @@
 -- What an order does to a book, over the plain list of the resting orders in order of arrival.
-use Rattle.std.specs.Prelude.{zero, suc, ℕ, ℤ, pos, ◌-ℤ◌, int_lt, int_le, Bool, not, ◌&&◌, if◌then◌else◌, List, [], ◌∷◌, ◌++◌, length, Option, Some, None, bytes_eq}
+use Rattle.std.specs.Prelude.{◌≡◌, zero, suc, ℕ, ℤ, pos, ◌-ℤ◌, int_lt, int_le, Bool, false, not, ◌&&◌, if◌then◌else◌, List, [], ◌∷◌, ◌++◌, length, fold, Contains, Option, Some, None, bytes_eq}
 use Rattle.df_book.specs.declared.order.Order.{Order}
 use Rattle.df_book.specs.declared.trade.Trade.{Trade}
 
@@ -89,3 +89,11 @@ matched o (suc n) left book =
 -- what an order does to a book
 abbrev pub submitted : Order → List Order → Submitted
 submitted o book = matched o (length book) o.qty book
+
+-- what rests after some orders, one after another
+abbrev pub resting_after : List Order → List Order
+resting_after orders = fold (λ book o. (submitted o book).resting) [] orders
+
+-- no order of a book meets another, so that no purchase's limit reaches a sale's
+abbrev pub NoneMeets : List Order → Type 0
+NoneMeets book = (a b : Order) → Contains book a → Contains book b → meets a b ≡ false

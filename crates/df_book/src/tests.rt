@@ -1,7 +1,8 @@
 //! The orders of a small floor, with their trades.
 
 use crate::*;
-use df_frozen::Words;
+use df_frozen::{NoMemory, Words};
+use std::alloc::Global;
 use std::test::Fail;
 
 /// An order: trader, symbol, whether it sells, limit and quantity.
@@ -24,27 +25,51 @@ const SUBMITTED: [(Row, &[Traded]); 8] = [
     ((1, "BBB", false, 1015, 4), &[(1005, 4, 1, 0)]),
 ];
 
+fn order(alloc: Global, row: Row) -> Result<Order, NoMemory> {
+    let (trader, symbol, sell, limit, qty) = row;
+    Ok(Order {
+        id: 0,
+        limit,
+        qty,
+        symbol: Words::new(alloc, symbol)?,
+        trader,
+        sell,
+    })
+}
+
+fn is_trade(trade: &Trade, symbol: &str, traded: &Traded) -> bool {
+    let (price, qty, buyer, seller) = *traded;
+    trade.symbol.as_str() == symbol
+        && trade.price == price
+        && trade.qty == qty
+        && trade.buyer == buyer
+        && trade.seller == seller
+}
+
+fn are_trades(trades: &[Trade], symbol: &str, traded: &[Traded]) -> bool {
+    if trades.len() != traded.len() {
+        return false;
+    }
+    for i in 0..trades.len() {
+        if !is_trade(&trades[i], symbol, &traded[i]) {
+            return false;
+        }
+    }
+    true
+}
+
 #[test]
 fn orders_trade_as_on_the_small_floor(rt: HostRuntime) -> Result<(), Fail> {
     let mut book = Book::new(rt.alloc());
-    for ((trader, symbol, sell, limit, qty), traded) in SUBMITTED {
-        let order = Order {
-            id: 0,
-            limit,
-            qty,
-            symbol: Words::new(rt.alloc(), symbol)?,
-            trader,
-            sell,
-        };
+    for (row, traded) in SUBMITTED {
+        let order = order(rt.alloc(), row)?;
+        assert!(rt; order.limit > 0 && order.qty > 0);
         let trades = book.submit(order)?;
-        assert_eq!(rt; trades.len(), traded.len());
-        for (trade, (price, qty, buyer, seller)) in trades.iter().zip(traded) {
-            assert_eq!(rt; trade.price, *price);
-            assert_eq!(rt; trade.qty, *qty);
-            assert_eq!(rt; trade.buyer, *buyer);
-            assert_eq!(rt; trade.seller, *seller);
-            assert!(rt; trade.symbol.as_str() == symbol);
-        }
+        assert!(rt;
+            are_trades(trades.as_slice(), row.1, traded),
+            "of {}",
+            row.1
+        );
     }
     Ok(())
 }

@@ -1,5 +1,5 @@
 -- What the places of a book tell of its orders.
-use Rattle.std.specs.Prelude.{◌≡◌, ℕ, suc, ℤ, pos, negsuc, neg_ℤ, ◌-ℤ◌, ◌≤ℤ◌, ◌≤◌, ◌<◌, int_lt, nat_lt, ◌==◌, not, if◌then◌else◌, List, [], ◌∷◌, ◌++◌, ⊤, Option, Some, string_bytes, string_cmp}
+use Rattle.std.specs.Prelude.{◌≡◌, ℕ, suc, ℤ, pos, negsuc, neg_ℤ, ◌-ℤ◌, ◌≤ℤ◌, ◌≤◌, ◌<◌, int_lt, nat_lt, ◌==◌, not, if◌then◌else◌, List, [], ◌∷◌, ◌++◌, ⊤, Some, string_bytes, string_cmp}
 use Rattle.std.specs.Ordering.{nat_cmp, int_cmp, bool_cmp, ordering_then}
 use Rattle.std.specs.declared.cmp.Ordering.{Ordering}
 use Rattle.std.specs.Map.{lookup}
@@ -10,7 +10,7 @@ use Rattle.df_book.specs.declared.place.Place.{Place}
 use Rattle.df_book.specs.declared.place.Rest.{Rest}
 use Rattle.df_book.specs.declared.plan.Fill.{Fill}
 use Rattle.df_book.specs.declared.plan.Plan.{Plan}
-use Rattle.df_book.specs.Submitting.{meets, is_better, lesser, trade_of, if_left}
+use Rattle.df_book.specs.Submitting.{meets, is_better, lesser, trade_of}
 
 -- where a limit stands among those of its side: the less, the better to trade with
 abbrev pub rank_of : Order → ℤ

@@ -1,10 +1,10 @@
-use Rattle.std.proofs.Common.{rules, ◌≡◌, ◌≤◌, ℕ, List, ap, ap₂, sym, subst, ◌∙◌, map, w64, arith}
+use Rattle.std.proofs.Common.{rules, ap, ap₂, sym, subst, ◌∙◌, map, w64, arith}
 use Rattle.std.specs.Prelude.{FitsSigned}
 use Rattle.std.specs.Ordering.{is_gt}
 use Rattle.std.specs.BTreeMap.Range.{entries_between}
 use Rattle.std.specs.declared.ops.Bound.TheVariants.{Included}
 use Rattle.std.proofs.lemmas.Int.{to_z-of_z}
-use Rattle.df_book.specs.code.Places.{arrived, by_arrival, place_cmp, plan_of, queue, behind_all}
+use Rattle.df_book.specs.code.Places.{arrived, by_arrival, place_cmp, plan_of, behind_all}
 use Rattle.df_book.proofs.Planned.{AllMayRest, queue_may_rest, begun, grown, ended, nothing_left}
 use Rattle.df_book.proofs.Quantities.{none_left, some_left}
 use Rattle.df_book.proofs.Spans.{forwards, spans}

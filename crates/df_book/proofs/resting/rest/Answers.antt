@@ -1,9 +1,9 @@
-use Rattle.std.proofs.Common.{rules, ◌≡◌, ◌++◌, ◌∷◌, [], ◌≤◌, ◌+◌, List, ℕ, ap, ap₂, sym, subst, ◌∙◌, cond, w64, arith}
-use Rattle.std.specs.Prelude.{ℤ, pos, FitsSigned, int_lt}
+use Rattle.std.proofs.Common.{rules, ◌≡◌, ◌++◌, ◌∷◌, [], ◌+◌, ℕ, ap, ap₂, sym, subst, ◌∙◌, cond, w64, arith}
+use Rattle.std.specs.Prelude.{FitsSigned}
 use Rattle.std.proofs.lemmas.Int.{ints, to_z-of_z}
 use Rattle.df_book.specs.declared.order.Order.{Order}
-use Rattle.df_book.specs.code.Places.{by_arrival, IsInOrder, MayRest, resting_of}
-use Rattle.df_book.proofs.Arrivals.{Arrived, appended}
+use Rattle.df_book.specs.code.Places.{by_arrival, IsInOrder, MayRest}
+use Rattle.df_book.proofs.Arrivals.{appended}
 use Rattle.df_book.proofs.Quantities.{some_left}
 use Rattle.df_book.proofs.Standing.{inserted, placed}
 use Rattle.df_book.proofs.resting.rest.Goals as goal

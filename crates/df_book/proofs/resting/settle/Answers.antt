@@ -1,9 +1,8 @@
-use Rattle.std.proofs.Common.{rules, ◌≡◌, ◌+◌, ◌≤◌, ◌∷◌, [], List, ℕ, suc, refl, ap, sym, subst, ◌∙◌, drop, length, slice_index_or, w64, to_z, of_z, pos, arith}
+use Rattle.std.proofs.Common.{rules, ◌≡◌, ◌+◌, ◌∷◌, suc, refl, ap, sym, subst, ◌∙◌, drop, slice_index_or, w64, to_z, of_z, pos, arith}
 use Rattle.std.specs.Prelude.{FitsSigned}
 use Rattle.std.proofs.Math.Seq.{drop-cons}
 use Rattle.std.proofs.lemmas.Int.{to_z-of_z}
 use Rattle.std.proofs.lemmas.List.{drop_all}
-use Rattle.df_book.specs.declared.plan.Fill.{Fill}
 use Rattle.df_book.specs.code.Places.{by_arrival, IsInOrder, AreFills, filled, left_at}
 use Rattle.df_book.proofs.Arrivals.{left_in_order}
 use Rattle.df_book.proofs.Planned.{next_fill}

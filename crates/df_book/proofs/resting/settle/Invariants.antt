@@ -1,5 +1,4 @@
 use Rattle.std.proofs.Common.{◌≡◌, drop, not, string_bytes}
-use Rattle.std.specs.Prelude.{ℕ}
 use Rattle.df_book.specs.code.Places.{by_arrival, IsInOrder, AreFills, filled}
 use Rattle.df_book.proofs.resting.settle.Given as goal
 

@@ -1,4 +1,4 @@
-use Rattle.std.proofs.Common.{rules, ◌≡◌, ◌++◌, ◌≤◌, ◌<◌, ◌^◌, ℕ, w64, to_z, of_z, ap, sym, subst, ◌∙◌, arith}
+use Rattle.std.proofs.Common.{rules, ◌++◌, ◌<◌, ◌^◌, w64, to_z, of_z, ap, sym, subst, ◌∙◌, arith}
 use Rattle.std.specs.Prelude.{FitsSigned}
 use Rattle.std.specs.Map.{values_of}
 use Rattle.std.proofs.lemmas.Int.{to_z-of_z}
