@@ -37,11 +37,7 @@ impl Place {
         Ok(Place {
             symbol: String::from_str(alloc, order.symbol.as_str())?,
             sell: order.sell,
-            rank: if order.sell {
-                order.limit
-            } else {
-                -order.limit
-            },
+            rank: rank_of(order),
             arrival,
         })
     }
@@ -52,6 +48,17 @@ impl Place {
     {
         if self.sell { self.rank } else { -self.rank }
     }
+}
+
+/// Where an order stands among those of its side: the less, the better to trade with.
+fn rank_of(order: &Order) -> i64
+    requires { pos 1 ≤ℤ order.now.limit }
+    ensures { result ≡ rank_of order.now }
+{
+    if !order.sell {
+        return -order.limit;
+    }
+    order.limit
 }
 
 /// From the first to the last place at which an order may find one that it meets.
