@@ -99,12 +99,12 @@ rest_of f g fs gs e = ap (λ (hs : List Fill). drop 1 hs) e
 pub next_fill : (o : Order) (m : ℕ) (f : Fill) (fs : List Fill) (xs : List Arrived) → IsInOrder 0 m xs → AreFills o (f ∷ fs) xs → NextFill o m f fs xs
 next_fill o m f fs xs i a = go (queue o xs) refl (heads o 0 m xs i) (int_lt (pos 0) a.0) refl a.1
   where
-    none : (fs ≡ fs) → f ∷ fs ≡ [] → NextFill o m f fs xs
-    none r e = absurd (let size = ap length e in omega arith)
+    none : f ∷ fs ≡ [] → NextFill o m f fs xs
+    none e = absurd (let size = ap length e in omega arith)
 
     go : (q : List Arrived) → queue o xs ≡ q → Heads o 0 m xs q → (b : Bool) → int_lt (pos 0) a.0 ≡ b → f ∷ fs ≡ (plan_of o a.0 q).fills → NextFill o m f fs xs
-    go [] w d b k e = none refl e
-    go (h ∷ t) w d false k e = none refl (e ∙ ap (λ p. p.fills) (nothing_left o a.0 (h ∷ t) k))
+    go [] w d b k e = none e
+    go (h ∷ t) w d false k e = none (e ∙ ap (λ p. p.fills) (nothing_left o a.0 (h ∷ t) k))
     go (h ∷ t) w d true k e =
         let e' = e ∙ ap (λ p. p.fills) (planned_first o a.0 h t k) in
         let same = front f (fill_of a.0 h) fs (plan_of o (a.0 -ℤ lesser a.0 h.1.qty) t).fills e' in

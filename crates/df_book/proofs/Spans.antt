@@ -61,11 +61,11 @@ parted true false limit rank a h k =
 parted false true limit rank a h k =
     ap₂ (λ b c. b && c) (from_least rank (nat_cmp 0 a) h) (up_to (neg_ℤ (neg_ℤ limit)) rank a k) ∙ (let e : int_le rank (neg_ℤ (neg_ℤ limit)) ≡ int_le rank limit = grind (arith, ints) in e)
 
-spanned : (x : Ordering) (os qs : List ℕ) → slice_cmp nat_cmp os qs ≡ x → (p q c : Bool) → (below above : Ordering) → is_le below && not (is_lt above) ≡ c →
+spanned : (x : Ordering) (os qs : List ℕ) → slice_cmp nat_cmp os qs ≡ x → (c : Bool) → (below above : Ordering) → is_le below && not (is_lt above) ≡ c →
     is_le (ordering_then x below) && not (is_lt (ordering_then x above)) ≡ bytes_eq os qs && c
-spanned Less os qs e p q c below above h = ap (λ b. b && c) (ap is_eq (sym e) ∙ is_eq-slice_cmp os qs)
-spanned Equal os qs e p q c below above h = h ∙ ap (λ b. b && c) (ap is_eq (sym e) ∙ is_eq-slice_cmp os qs)
-spanned Greater os qs e p q c below above h = ap (λ b. b && c) (ap is_eq (sym e) ∙ is_eq-slice_cmp os qs)
+spanned Less os qs e c below above h = ap (λ b. b && c) (ap is_eq (sym e) ∙ is_eq-slice_cmp os qs)
+spanned Equal os qs e c below above h = h ∙ ap (λ b. b && c) (ap is_eq (sym e) ∙ is_eq-slice_cmp os qs)
+spanned Greater os qs e c below above h = ap (λ b. b && c) (ap is_eq (sym e) ∙ is_eq-slice_cmp os qs)
 
 least_rank : (p : Place) (r : Rest) → MayRest (order_at p r) → least <ℤ p.rank
 least_rank p r h = go p.sell h.limit h.limit_fits
@@ -80,7 +80,7 @@ in_span o first last p r s m a =
     ap₂ (λ f l. is_le f && not (is_lt l))
     (ends first s.first_symbol s.first_sell s.first_rank s.first_arrival)
     (ends last s.last_symbol s.last_sell s.last_rank s.last_arrival)
-    ∙ spanned (slice_cmp nat_cmp o.symbol (string_bytes p.symbol)) o.symbol (string_bytes p.symbol) refl true true (crosses o (order_at p r))
+    ∙ spanned (slice_cmp nat_cmp o.symbol (string_bytes p.symbol)) o.symbol (string_bytes p.symbol) refl (crosses o (order_at p r))
     (ordering_then (bool_cmp (not o.sell) p.sell) (ordering_then (int_cmp least p.rank) (nat_cmp 0 p.arrival)))
     (ordering_then (bool_cmp (not o.sell) p.sell) (ordering_then (int_cmp (neg_ℤ (rank_of o)) p.rank) (nat_cmp greatest p.arrival)))
     (parted o.sell p.sell o.limit p.rank p.arrival (least_rank p r m) a)
