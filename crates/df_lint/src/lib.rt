@@ -1,0 +1,11 @@
+//! Which privileges the units of each root's family can ever hold, whatever they do.
+#![tactic(auto)]
+
+mod find;
+mod first;
+mod spread;
+mod table;
+mod tags;
+
+pub use find::lint;
+pub use table::Lint;

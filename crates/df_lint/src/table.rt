@@ -1,0 +1,61 @@
+ghost use Rattle.std.specs.Prelude.{◌≡◌, ◌↔◌, ◌<◌, IsTrue, false, length, true};
+ghost use Rattle.df_family.specs.Family.{names};
+ghost use Rattle.df_family.specs.May.{MayHold};
+ghost use Rattle.df_family.specs.Never.{NeverHolds};
+ghost use Rattle.df_lint.specs.Tags.{AreTagsOf};
+
+use df_label::{Privilege, Privileges, TagSet};
+use df_machine::RootStart;
+use std::marker::Model;
+
+/// Which privileges the family of each root may hold. A contract sees it as the start: the label
+/// and the privileges of each root.
+#[derive(Drop)]
+pub struct Lint {
+    roots: Vec<RootStart>,
+    tags: TagSet,
+    rows: Vec<Privileges>,
+}
+
+impl Model for Lint {
+    ghost use Rattle.std.specs.Prelude.{map};
+    ghost use Rattle.df_lint.specs.code.Linted.{IsLinted};
+    ghost use Rattle.df_machine.specs.Journal.{begun};
+    ghost use Rattle.df_rules.specs.Always.{Roots};
+
+    ghost Value = { Roots };
+
+    ghost view = { λ l. map begun l.roots.items };
+
+    ghost invariant = { λ l. IsLinted l.roots.items l.tags l.rows.items };
+}
+
+impl Lint {
+    ghost use Rattle.std.specs.Prelude.{map};
+    ghost use Rattle.df_lint.specs.code.Linted.{IsLinted};
+    ghost use Rattle.df_machine.specs.Journal.{begun};
+
+    pub(crate) fn new(roots: Vec<RootStart>, tags: TagSet, rows: Vec<Privileges>) -> Lint
+        requires { IsLinted roots.items tags rows.items }
+        ensures { result ≡ map begun roots.items }
+    {
+        Lint { roots, tags, rows }
+    }
+
+    /// The tags in the labels and privileges of the start.
+    pub fn tags(&self) -> &TagSet
+        ensures { AreTagsOf self.now result.now }
+    {
+        &self.tags
+    }
+
+    /// Whether a unit of the root's family may ever hold the privilege.
+    pub fn may(&self, root: u32, p: &Privilege) -> bool
+        requires root { root < length self.now }
+        requires tag { names self.now p.now.tag ≡ true }
+        ensures exact { IsTrue result ↔ MayHold self.now root p.now }
+        ensures never { result ≡ false → NeverHolds self.now root p.now }
+    {
+        self.rows[root as usize].contains(p)
+    }
+}

@@ -1,0 +1,32 @@
+ghost use Rattle.std.specs.Prelude.{◌≡◌, ◌||◌, ℕ, List, IfOk, map};
+ghost use Rattle.df_family.specs.Family.{root_names};
+ghost use Rattle.df_label.specs.TagSet.{contains};
+ghost use Rattle.df_lint.specs.Tags.{AreTagsOf};
+ghost use Rattle.df_machine.specs.Journal.{begun};
+
+use df_label::{NoMemory, TagSet};
+use df_machine::RootStart;
+use std::alloc::Global;
+
+/// The tags in the labels and privileges of these roots.
+pub fn tags_of(alloc: Global, roots: &[RootStart]) -> Result<TagSet, NoMemory>
+    ensures { IfOk result (AreTagsOf (map begun roots.now)) }
+{
+    let mut tags = TagSet::new(alloc);
+    for root in roots {
+        tags = with_root(&tags, root)?;
+    }
+    Ok(tags)
+}
+
+/// The tags, and those of the root.
+fn with_root(tags: &TagSet, root: &RootStart) -> Result<TagSet, NoMemory>
+    ensures { IfOk result (λ all. (t : List ℕ) → contains all t ≡
+        (contains tags.now t || root_names t (begun root.now))) }
+{
+    let mut all = tags.union(&root.label.s)?.union(&root.label.i)?;
+    for p in root.privileges.as_slice() {
+        all = all.with(&p.tag)?;
+    }
+    Ok(all)
+}
