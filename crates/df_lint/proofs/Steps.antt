@@ -18,7 +18,7 @@ use Rattle.df_label.proofs.TagSetFacts.{contains-union, contains-with, tag_eq-ex
 use Rattle.df_lint.specs.code.Rows.{Gains, IsPassedOn}
 use Rattle.df_machine.specs.Journal.{begun}
 use Rattle.df_machine.specs.declared.start.RootStart.{RootStart}
-use Rattle.df_priv.specs.Needed.{auth_of, needed_to_attach}
+use Rattle.df_priv.specs.Needed.{needed_to_attach}
 use Rattle.df_label.proofs.PrivilegeFacts.{contains-add, privilege_eq-Decides}
 
 pub or_assoc : (a b c : Bool) → ((a || b) || c) ≡ (a || (b || c))
@@ -145,42 +145,6 @@ passed_more old now next items i x lt at step before q =
     let more : contains_privilege (take (i + 1) items) w ≡ (contains_privilege (take i items) w || privilege_eq x w) = any_more (λ y. is_eq (privilege_cmp y w)) items i x lt ∙ ap (λ (y : Privilege). contains_privilege (take i items) w || privilege_eq y w) (sym at) in
     step q ∙ ap (λ (b : Bool). b || privilege_eq x w) (before q) ∙ or_assoc (contains_privilege old q) (contains_privilege (take i items) w) (privilege_eq x w)
     ∙ ap (λ (b : Bool). contains_privilege old q || b) (sym more)
-
--- what an authority lets attach
-eq_over : (o : Ordering) (c : Bool) (r : Right) → (is_eq (ordering_then o (right_cmp PlusAuth r)) || (is_eq (ordering_then o (right_cmp Plus r)) || c)) ≡ (c || is_eq (ordering_then o (right_cmp PlusAuth (auth_of r))))
-eq_over Less c r = or_comm false c
-eq_over Greater c r = or_comm false c
-eq_over Equal c Plus = or_comm true c
-eq_over Equal c Minus = or_comm false c
-eq_over Equal c PlusAuth = or_comm true c
-eq_over Equal c MinusAuth = or_comm false c
-
-eq_over_minus : (o : Ordering) (c : Bool) (r : Right) → (is_eq (ordering_then o (right_cmp MinusAuth r)) || (is_eq (ordering_then o (right_cmp Minus r)) || c)) ≡ (c || is_eq (ordering_then o (right_cmp MinusAuth (auth_of r))))
-eq_over_minus Less c r = or_comm false c
-eq_over_minus Greater c r = or_comm false c
-eq_over_minus Equal c Plus = or_comm false c
-eq_over_minus Equal c Minus = or_comm true c
-eq_over_minus Equal c PlusAuth = or_comm false c
-eq_over_minus Equal c MinusAuth = or_comm true c
-
-none_over : (o : Ordering) (r : Right) → (is_eq (ordering_then o (right_cmp Plus (auth_of r))) ≡ false) × (is_eq (ordering_then o (right_cmp Minus (auth_of r))) ≡ false)
-none_over Less r = (refl, refl)
-none_over Greater r = (refl, refl)
-none_over Equal Plus = (refl, refl)
-none_over Equal Minus = (refl, refl)
-none_over Equal PlusAuth = (refl, refl)
-none_over Equal MinusAuth = (refl, refl)
-
-pub by_plus : (t : List ℕ) (old : List Privilege) (q : Privilege) → (privilege_eq (record { tag = t; right = PlusAuth }) q || (privilege_eq (record { tag = t; right = Plus }) q || contains_privilege old q)) ≡ (contains_privilege old q || privilege_eq (record { tag = t; right = PlusAuth }) (needed_to_attach q))
-by_plus t old q = eq_over (tag_cmp t q.tag) (contains_privilege old q) q.right
-
-pub by_minus : (t : List ℕ) (old : List Privilege) (q : Privilege) → (privilege_eq (record { tag = t; right = MinusAuth }) q || (privilege_eq (record { tag = t; right = Minus }) q || contains_privilege old q)) ≡ (contains_privilege old q || privilege_eq (record { tag = t; right = MinusAuth }) (needed_to_attach q))
-by_minus t old q = eq_over_minus (tag_cmp t q.tag) (contains_privilege old q) q.right
-
-pub by_plain : (t : List ℕ) (old : List Privilege) (q : Privilege) → (contains_privilege old q ≡ (contains_privilege old q || privilege_eq (record { tag = t; right = Plus }) (needed_to_attach q))) × (contains_privilege old q ≡ (contains_privilege old q || privilege_eq (record { tag = t; right = Minus }) (needed_to_attach q)))
-by_plain t old q =
-    let none = none_over (tag_cmp t q.tag) q.right in
-    (or_comm false (contains_privilege old q) ∙ ap (λ (b : Bool). contains_privilege old q || b) (sym none.0), or_comm false (contains_privilege old q) ∙ ap (λ (b : Bool). contains_privilege old q || b) (sym none.1))
 
 -- gains
 pub gain_kept : (a b c : List Privilege) (x : Privilege) → Gains a b → ((q : Privilege) → contains_privilege c q ≡ (contains_privilege b q || privilege_eq x (needed_to_attach q))) → Gains a c

@@ -1,4 +1,0 @@
-pub mod FirstBad
-pub mod Lines
-pub mod Refused
-pub mod code
