@@ -1,9 +1,9 @@
 //! Sets of privileges.
-ghost use Rattle.std.specs.Prelude.{◌≡◌, IsTrue, ◌↔◌, ◌≤◌, OnOk, OnErr, IfOk, IfErr, [], length, is_ok};
+ghost use Rattle.std.specs.Prelude.{◌≡◌, IsTrue, ◌↔◌, ◌≤◌, ◌+◌, OnOk, OnErr, IfOk, IfErr, [], length, is_ok, vec_len, vec_capacity};
 ghost use Rattle.std.specs.List.{insert as insert_at};
 ghost use Rattle.df_label.specs.Ascending.{IsAscending};
 ghost use Rattle.df_label.specs.Privilege.{privilege_cmp};
-ghost use Rattle.df_label.specs.Privileges.{contains, add};
+ghost use Rattle.df_label.specs.Privileges.{contains, add, add_all};
 
 use crate::{NoMemory, Privilege};
 use std::alloc::Global;
@@ -88,6 +88,27 @@ impl Privileges {
         Ok(())
     }
 
+    /// Adds all privileges or none, in place where nobody shares these.
+    pub fn add_all(&mut self, privileges: Vec<Privilege>) -> Result<(), NoMemory>
+        ensures ok { OnOk result (self.new ≡ add_all self.old privileges.items) }
+        ensures err { OnErr result (self.new ≡ self.old) }
+    {
+        if privileges.is_empty() {
+            return Ok(());
+        }
+        if let Some(list) = &mut self.list {
+            if let Some(own) = Arc::get_mut(list) {
+                own.reserve(privileges.len())?;
+                put_all(own, privileges);
+                return Ok(());
+            }
+        }
+        let mut all = with_room(self.alloc, self.as_slice(), privileges.len())?;
+        put_all(&mut all, privileges);
+        self.list = Some(Arc::new(self.alloc, all)?);
+        Ok(())
+    }
+
     /// An equal set, with no allocation: the privileges are shared.
     pub fn copy(&self) -> Result<Privileges, NoMemory>
         ensures value { IfOk result (λ ps. ps ≡ self.now) }
@@ -137,6 +158,35 @@ fn inserted(
     }
     copies.insert(k, p.copy()?)?;
     Ok(copies)
+}
+
+// Copies, with room for so many more.
+fn with_room(alloc: Global, list: &[Privilege], more: usize) -> Result<Vec<Privilege>, NoMemory>
+    ensures items { IfOk result (λ v. v.items ≡ list.now) }
+    ensures room { IfOk result (λ v. vec_len v + more ≤ vec_capacity v) }
+{
+    let mut copies = Vec::new(alloc);
+    for q in list {
+        copies.push(q.copy()?)?;
+    }
+    copies.reserve(more)?;
+    Ok(copies)
+}
+
+// Puts each privilege in its place. There is room for all.
+fn put_all(list: &mut Vec<Privilege>, privileges: Vec<Privilege>)
+    requires ascending { IsAscending privilege_cmp list.old.items }
+    requires room { vec_len list.old + vec_len privileges ≤ vec_capacity list.old }
+    ensures added { list.new.items ≡ add_all list.old.items privileges.items }
+    ensures ascending { IsAscending privilege_cmp list.new.items }
+{
+    for p in privileges {
+        if let Err(k) = place(list.as_slice(), &p) {
+            let Ok(()) = list.insert(k, p) else {
+                unreachable!();
+            };
+        }
+    }
 }
 
 fn same(list: &[Privilege], other: &[Privilege]) -> bool

@@ -192,6 +192,20 @@ fn privileges_are_in_order(rt: HostRuntime) -> Result<(), Fail> {
     Ok(())
 }
 
+#[test]
+fn privileges_are_added_all_at_once(rt: HostRuntime) -> Result<(), Fail> {
+    let alloc = rt.alloc();
+    let tags = four_tags(alloc)?;
+    let ascending = privileges_over(alloc, &tags)?;
+    let mut some = Privileges::new(alloc);
+    some.add_all(privileges_over(alloc, &tags)?)?;
+    let before = some.copy()?;
+    some.add_all(privileges_over(alloc, &tags)?)?;
+    some.add_all(Vec::new(alloc))?;
+    assert!(rt; before.same(&some) && some.as_slice() == ascending.as_slice());
+    Ok(())
+}
+
 fn privileges_over(alloc: Global, tags: &[Tag]) -> Result<Vec<Privilege>, NoMemory> {
     let mut all = Vec::new(alloc);
     for tag in tags {

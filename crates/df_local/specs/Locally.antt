@@ -1,6 +1,6 @@
 -- What the calls of a unit make of it.
 use Rattle.std.specs.Prelude.{Some, ℕ, Bool, ◌≡◌, ◌+◌, ⊤, not, ◌&&◌, if◌then◌else◌, nat_le, length, List, [], ◌∷◌}
-use Rattle.std.specs.List.{filter, flat_map, list_any}
+use Rattle.std.specs.List.{filter, list_any}
 use Rattle.df_part.specs.Contents.{is_at, is_deleted}
 use Rattle.df_part.specs.Part.{readable}
 use Rattle.df_label.specs.declared.label.Label.{Label}
@@ -137,7 +137,3 @@ visible_in input named parts = filter (is_visible input named) parts
 -- whether one of these parts is visible and has the name and the exact label of a spot
 abbrev pub has_seen : Label → List Spot → Spot → List Part → Bool
 has_seen input named d parts = list_any (λ part. is_visible input named part && is_at part d) parts
-
--- the privileges of the parts, in order
-abbrev pub privileges_of : List Part → List Privilege
-privileges_of parts = flat_map (λ part. part.privileges) parts

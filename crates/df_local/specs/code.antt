@@ -1,1 +1,2 @@
 pub mod LocalState
+pub mod Shown

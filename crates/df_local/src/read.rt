@@ -1,14 +1,13 @@
 //! Reading the parts of a handle.
 
-ghost use Rattle.std.specs.Prelude.{◌≡◌, [], IfOk, OnErr, OnOk};
+ghost use Rattle.std.specs.Prelude.{◌≡◌, ◌++◌, [], IfOk, OnErr, OnOk};
 ghost use Rattle.std.specs.List.{filter};
 ghost use Rattle.std.specs.Str.{bytes_eq};
 ghost use Rattle.df_unit.specs.Drafts.{visible, visible_named};
-ghost use Rattle.df_unit.specs.Held.{grant_all};
-ghost use Rattle.df_unit.specs.Rows.{changed, reply};
+ghost use Rattle.df_unit.specs.Rows.{reply};
 ghost use Rattle.df_unit.specs.declared.call.Call.{Call};
-ghost use Rattle.df_unit.specs.declared.entry.Effect.{Effect};
-ghost use Rattle.df_local.specs.Locally.{Answers, is_visible, privileges_of, visible_in, with_own};
+ghost use Rattle.df_local.specs.Locally.{Answers, is_visible, visible_in, with_own};
+ghost use Rattle.df_local.specs.code.Shown.{brought, holding, privileges_of};
 
 use crate::Local;
 use crate::handles::handle_at;
@@ -17,8 +16,7 @@ use crate::take::is_accepted;
 use df_frozen::Name;
 use df_label::{Label, NoMemory, Privilege};
 use df_part::{Part, PartRef, Spot, is_deleted, readable};
-use df_priv::Held;
-use df_unit::{Handle, PartsRead, Reply};
+use df_unit::{Handle, PartRead, PartsRead, Reply};
 use std::alloc::Global;
 
 impl Local {
@@ -34,7 +32,7 @@ impl Local {
         if !is_accepted(&reply) {
             return Ok(reply);
         }
-        match self.hold_read(h, name) {
+        match self.hold_shown(&reply) {
             Ok(()) => Ok(reply),
             Err(refused) => Err(refused),
         }
@@ -55,52 +53,39 @@ impl Local {
         Ok(Reply::Parts(PartsRead::new(shown)))
     }
 
-    pub(crate) fn hold_read(&mut self, h: u32, name: &Name) -> Result<(), NoMemory>
+    /// Holds the privileges that a reply shows from now on.
+    pub(crate) fn hold_shown(&mut self, reply: &Reply) -> Result<(), NoMemory>
         ensures ok { OnOk result (self.new ≡ with_own self.old
-            (changed self.old.unit self.old.own (Call.ReadPart h name.now) Effect.Nothing)) }
+            (holding (brought reply.now) self.old.own)) }
         ensures unchanged { OnErr result (self.new ≡ self.old) }
     {
-        let Some(handle) = handle_at(self.handles.as_slice(), h) else {
+        let Reply::Parts(shown) = reply else {
             return Ok(());
         };
-        let parts = match visible_named(self.alloc, &self.input, name, handle) {
-            Ok(parts) => parts,
+        let all = match privileges_of(self.alloc, shown.as_slice()) {
+            Ok(all) => all,
             Err(refused) => return Err(refused),
         };
-        match granted(&self.held, parts.as_slice()) {
-            Ok(held) => {
-                self.held = held;
-                Ok(())
-            }
-            Err(refused) => Err(refused),
-        }
+        self.held.grant_all(all)
     }
 }
 
-/// What is held once the privileges of the parts are.
-fn granted(held: &Held, parts: &[PartRef]) -> Result<Held, NoMemory>
-    ensures { IfOk result (λ h. h ≡ grant_all held.now (privileges_of parts.now)) }
+/// The privileges of what is shown, in order.
+fn privileges_of(alloc: Global, shown: &[PartRead]) -> Result<Vec<Privilege>, NoMemory>
+    ensures { IfOk result (λ v. v.items ≡ privileges_of shown.now) }
 {
-    let mut held = held.copy()?;
-    grant_parts(&mut held, parts)?;
-    Ok(held)
-}
-
-fn grant_parts(held: &mut Held, parts: &[PartRef]) -> Result<(), NoMemory>
-    ensures { OnOk result (held.new ≡ grant_all held.old (privileges_of parts.now)) }
-{
-    for part in parts {
-        grant_all(held, part.part().privileges.as_slice())?;
+    let mut all = Vec::new(alloc);
+    for part in shown {
+        copy_all(part.privileges.as_slice(), &mut all)?;
     }
-    Ok(())
+    Ok(all)
 }
 
-/// Holds each of the privileges from now on.
-fn grant_all(held: &mut Held, privileges: &[Privilege]) -> Result<(), NoMemory>
-    ensures { OnOk result (held.new ≡ grant_all held.old privileges.now) }
+fn copy_all(privileges: &[Privilege], to: &mut Vec<Privilege>) -> Result<(), NoMemory>
+    ensures { OnOk result (to.new.items ≡ to.old.items ++ privileges.now) }
 {
     for p in privileges {
-        held.grant(p)?;
+        to.push(p.copy()?)?;
     }
     Ok(())
 }

@@ -1,9 +1,8 @@
 //! Making tags.
 
 ghost use Rattle.std.specs.Prelude.{◌≡◌, [], IfOk, OnErr, OnOk};
-ghost use Rattle.df_unit.specs.Held.{all_over, grant_all};
+ghost use Rattle.df_unit.specs.Held.{all_over};
 ghost use Rattle.df_unit.specs.Rows.{changed, next_tag, path_of, reply};
-ghost use Rattle.df_priv.specs.Held.{grant};
 ghost use Rattle.df_unit.specs.declared.call.Call.{Call};
 ghost use Rattle.df_unit.specs.declared.entry.Effect.{Effect};
 ghost use Rattle.df_local.specs.Locally.{Answers, with_own};
@@ -12,7 +11,6 @@ use crate::Local;
 use crate::limits::MOST_NUMBERS;
 use crate::take::is_accepted;
 use df_label::{NoMemory, Privilege, Right, Tag};
-use df_priv::Held;
 use df_unit::{Path, Reply, UnitName};
 
 impl Local {
@@ -55,9 +53,12 @@ impl Local {
         if self.tags >= MOST_NUMBERS {
             return Err(NoMemory);
         }
-        match self.held_with_next() {
-            Ok(held) => {
-                self.held = held;
+        let all = match self.all_over_next() {
+            Ok(all) => all,
+            Err(refused) => return Err(refused),
+        };
+        match self.held.grant_all(all) {
+            Ok(()) => {
                 self.tags += 1;
                 Ok(())
             }
@@ -71,18 +72,16 @@ impl Local {
         Tag::new(self.alloc, path_of(&self.name).as_slice(), self.tags)
     }
 
-    /// What is held once the next tag is made.
-    fn held_with_next(&self) -> Result<Held, NoMemory>
-        ensures { IfOk result (λ h. h ≡ grant_all self.now.own.held
-            (all_over (next_tag self.now.unit self.now.own))) }
+    /// All four privileges over the next tag.
+    fn all_over_next(&self) -> Result<Vec<Privilege>, NoMemory>
+        ensures { IfOk result (λ v. v.items ≡ all_over (next_tag self.now.unit self.now.own)) }
     {
         let tag = self.next_tag()?;
-        let mut held = self.held.copy()?;
-        grant_over(&mut held, &tag, Right::Plus)?;
-        grant_over(&mut held, &tag, Right::Minus)?;
-        grant_over(&mut held, &tag, Right::PlusAuth)?;
-        grant_over(&mut held, &tag, Right::MinusAuth)?;
-        Ok(held)
+        let plus = over(&tag, Right::Plus)?;
+        let minus = over(&tag, Right::Minus)?;
+        let plus_auth = over(&tag, Right::PlusAuth)?;
+        let minus_auth = over(&tag, Right::MinusAuth)?;
+        Ok(vec![in self.alloc; plus, minus, plus_auth, minus_auth]?)
     }
 }
 
@@ -96,9 +95,9 @@ fn path_of(unit: &UnitName) -> &Path
     }
 }
 
-fn grant_over(held: &mut Held, tag: &Tag, right: Right) -> Result<(), NoMemory>
-    ensures { OnOk result (held.new ≡ grant held.old (record { tag = tag.now; right = right })) }
+fn over(tag: &Tag, right: Right) -> Result<Privilege, NoMemory>
+    ensures { IfOk result (λ p. p ≡ record { tag = tag.now; right = right }) }
 {
     let tag = tag.copy()?;
-    held.grant(&Privilege { tag, right })
+    Ok(Privilege { tag, right })
 }

@@ -31,7 +31,7 @@ impl Local {
                 value,
             } => self.put_part(*h, label, name, value),
             Call::DelPart { h, label, name } => self.put_deleted(*h, label, name),
-            Call::ReadPart { h, name } => self.hold_read(*h, name),
+            Call::ReadPart { .. } => self.hold_shown(reply),
             Call::CloneEvent { h, label } => self.put_clone(*h, label),
             Call::AttachPrivilege { h, label, name, p } => self.put_attached(*h, label, name, p),
             Call::ChangeOutLabel { half, act, tag } => self.put_out(*half, *act, tag),

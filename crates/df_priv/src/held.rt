@@ -2,7 +2,7 @@
 ghost use Rattle.std.specs.Prelude.{◌≡◌, IsTrue, ◌↔◌, IfOk, OnOk, OnErr, [], true};
 ghost use Rattle.df_label.specs.Ascending.{IsAscending};
 ghost use Rattle.df_label.specs.Privilege.{privilege_cmp};
-ghost use Rattle.df_priv.specs.Held.{holds, grant};
+ghost use Rattle.df_priv.specs.Held.{holds, grant, grant_all};
 
 use df_label::{NoMemory, Privilege, Privileges};
 use std::alloc::Global;
@@ -46,6 +46,15 @@ impl Held {
         ensures err { OnErr result (self.new ≡ self.old) }
     {
         self.privileges.add(p)
+    }
+
+    /// Holds all of these from now on, or none more, without a copy of what is held where nobody
+    /// shares it.
+    pub fn grant_all(&mut self, privileges: Vec<Privilege>) -> Result<(), NoMemory>
+        ensures ok { OnOk result (self.new ≡ grant_all self.old privileges.items) }
+        ensures err { OnErr result (self.new ≡ self.old) }
+    {
+        self.privileges.add_all(privileges)
     }
 
     /// The privileges in ascending order.

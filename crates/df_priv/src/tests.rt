@@ -46,6 +46,9 @@ fn grants_are_held_for_good(rt: HostRuntime) -> Result<(), Fail> {
     assert!(rt; held.holds(&auth) && held.holds(&plus));
     assert!(rt; !before.holds(&plus) && !before.same(&held));
     assert!(rt; held.as_slice().first() == Some(&plus));
+    let both = vec![in alloc; over_tag(alloc, Right::Minus)?, plus]?;
+    held.grant_all(both)?;
+    assert!(rt; held.as_slice().len() == 3);
     Ok(())
 }
 

@@ -17,8 +17,8 @@ use Rattle.df_rules.specs.Subscriptions.{subscriptions}
 use Rattle.df_label.proofs.LabelFacts.{flows_to-refl, flows_to-trans, flows_to-join_left}
 use Rattle.df_label.proofs.TagSetFacts.{is_subset-refl, is_subset-trans, is_subset-with}
 use Rattle.df_priv.proofs.HeldFacts.{holds-grant_kept}
-use Rattle.df_priv.specs.Held.{holds, grant}
-use Rattle.df_unit.specs.Held.{grant_all, all_over}
+use Rattle.df_priv.specs.Held.{holds, grant, grant_all}
+use Rattle.df_unit.specs.Held.{all_over}
 use Rattle.df_unit.specs.Name.{same}
 use Rattle.df_unit.specs.OwnState.{OwnState}
 use Rattle.df_unit.specs.Rows.{after, changed, half_changed, now_dropped, now_endorsed, is_accepted, found, next_tag}

@@ -2,12 +2,6 @@
 use Rattle.std.specs.Prelude.{ℕ, List, [], ◌∷◌}
 use Rattle.df_label.specs.declared.privilege.Privilege.{Privilege}
 use Rattle.df_label.specs.declared.privilege.Right.TheVariants.{Plus, Minus, PlusAuth, MinusAuth}
-use Rattle.df_priv.specs.Held.{grant}
-
--- what is held once all of these are granted
-abbrev pub grant_all : List Privilege → List Privilege → List Privilege
-grant_all held [] = held
-grant_all held (p ∷ ps) = grant_all (grant held p) ps
 
 -- all four privileges over a tag
 abbrev pub all_over : List ℕ → List Privilege

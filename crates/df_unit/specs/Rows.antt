@@ -23,9 +23,9 @@ use Rattle.df_unit.specs.declared.handle.Handle.{Handle}
 use Rattle.df_unit.specs.declared.reply.Reply.{Reply}
 use Rattle.df_unit.specs.declared.entry.Effect.{Effect}
 use Rattle.df_unit.specs.Limits.{most_parts, most_subs, most_units, most_path, most_numbers}
-use Rattle.df_priv.specs.Held.{holds}
+use Rattle.df_priv.specs.Held.{holds, grant_all}
 use Rattle.df_priv.specs.Needed.{needed, needed_to_attach}
-use Rattle.df_unit.specs.Held.{grant_all, all_over}
+use Rattle.df_unit.specs.Held.{all_over}
 use Rattle.df_unit.specs.Handles.{draft_of, view_of, is_full, least_free, handle_at, opened, closed, changed_at}
 use Rattle.df_unit.specs.Drafts.{spot, visible, visible_named, has_at, source, raised, new_part, relabelled, cloned, deleted_in, attached_in, shown}
 use Rattle.df_unit.specs.OwnState.{OwnState}
