@@ -1,20 +1,20 @@
 //! Cloning an event.
 
 ghost use Rattle.std.specs.Prelude.{◌≡◌, ◌++◌, [], length, IfOk, OnErr, OnOk};
-ghost use Rattle.df_unit.specs.Drafts.{clone, cloned, source};
+ghost use Rattle.df_unit.specs.Drafts.{clone, cloned, source, visible};
 ghost use Rattle.df_unit.specs.Rows.{changed, reply};
 ghost use Rattle.df_unit.specs.declared.call.Call.{Call};
 ghost use Rattle.df_unit.specs.declared.entry.Effect.{Effect};
-ghost use Rattle.df_local.specs.Locally.{Answers, with_own};
+ghost use Rattle.df_local.specs.Locally.{Answers, visible_in, with_own};
 
 use crate::Local;
 use crate::handles::{handle_at, is_full, least_free};
 use crate::limits::{MOST_NUMBERS, MOST_PARTS};
 use crate::parts::{new_part, raised};
-use crate::read::visible;
+use crate::read::is_visible;
 use crate::take::is_accepted;
 use df_label::{Label, NoMemory};
-use df_part::{Part, PartRef};
+use df_part::{Part, PartRef, Spot};
 use df_unit::{Drafts, Handle, Reply};
 use std::alloc::Global;
 
@@ -48,7 +48,7 @@ impl Local {
         if is_full(self.handles.as_slice()) {
             return Ok(Reply::TooManyHandles);
         }
-        let count = source_count(self.alloc, &self.input, handle)?;
+        let count = source_count(&self.input, handle)?;
         if count > MOST_PARTS {
             return Ok(Reply::TooManyParts {
                 wanted: count as u64,
@@ -76,12 +76,31 @@ impl Local {
 }
 
 /// How many parts a clone copies.
-fn source_count(alloc: Global, input: &Label, handle: &Handle) -> Result<usize, NoMemory>
+fn source_count(input: &Label, handle: &Handle) -> Result<usize, NoMemory>
     ensures { IfOk result (λ n. n ≡ length (source input.now handle.now)) }
 {
-    let seen = visible(alloc, input, handle)?.len();
+    let seen = visible_count(input, handle);
     let drafted = handle.drafted.as_slice().len();
     seen.checked_add(drafted).ok_or(NoMemory)
+}
+
+/// How many parts are visible.
+fn visible_count(input: &Label, handle: &Handle) -> usize
+    ensures { result ≡ length (visible input.now handle.now) }
+{
+    visible_count_in(input, handle.named.as_slice(), handle.seen.as_slice())
+}
+
+fn visible_count_in(input: &Label, named: &[Spot], seen: &[PartRef]) -> usize
+    ensures { result ≡ length (visible_in input.now named.now seen.now) }
+{
+    let mut count = 0;
+    for part in seen {
+        if is_visible(input, named, part.part()) {
+            count += 1;
+        }
+    }
+    count
 }
 
 /// A copy of each visible part, and then of each drafted one.
@@ -95,24 +114,48 @@ fn cloned(
     ensures { IfOk result (λ v. v.items ≡ cloned output.now label.now
         (source input.now handle.now)) }
 {
-    let seen = visible(alloc, input, handle)?;
     let mut parts = Vec::new(alloc);
-    clone_shared(output, label, seen.as_slice(), &mut parts)?;
+    clone_visible(output, label, input, handle, &mut parts)?;
     clone_drafted(output, label, handle.drafted.as_slice(), &mut parts)?;
     Ok(parts)
 }
 
-fn clone_shared(
+fn clone_visible(
     output: &Label,
     label: &Label,
-    parts: &[PartRef],
+    input: &Label,
+    handle: &Handle,
     to: &mut Vec<Part>,
 ) -> Result<(), NoMemory>
-    ensures { OnOk result (to.new.items ≡ to.old.items ++ cloned output.now label.now parts.now) }
+    ensures { OnOk result (to.new.items ≡ to.old.items
+        ++ cloned output.now label.now (visible input.now handle.now)) }
+{
+    clone_visible_in(
+        output,
+        label,
+        input,
+        handle.named.as_slice(),
+        handle.seen.as_slice(),
+        to,
+    )
+}
+
+fn clone_visible_in(
+    output: &Label,
+    label: &Label,
+    input: &Label,
+    named: &[Spot],
+    seen: &[PartRef],
+    to: &mut Vec<Part>,
+) -> Result<(), NoMemory>
+    ensures { OnOk result (to.new.items ≡ to.old.items
+        ++ cloned output.now label.now (visible_in input.now named.now seen.now)) }
 {
     let alloc = *to.allocator();
-    for part in parts {
-        to.push(clone(alloc, output, label, part.part())?)?;
+    for part in seen {
+        if is_visible(input, named, part.part()) {
+            to.push(clone(alloc, output, label, part.part())?)?;
+        }
     }
     Ok(())
 }

@@ -208,7 +208,12 @@ fn has_visible(input: &Label, handle: &Handle, name: &Name, label: &Label) -> bo
 fn has_seen(input: &Label, named: &[Spot], seen: &[PartRef], name: &Name, label: &Label) -> bool
     ensures { result ≡ has_seen input.now named.now (spot name.now label.now) seen.now }
 {
-    seen.iter().any(|part| is_visible(input, named, part.part()) && part.part().is_at(name, label))
+    for part in seen {
+        if part.part().is_at(name, label) {
+            return is_visible(input, named, part.part());
+        }
+    }
+    false
 }
 
 /// The drafted parts without those of a name and label.

@@ -1,7 +1,7 @@
 //! Labels and parts as a unit writes and copies them.
 
 ghost use Rattle.std.specs.Prelude.{◌≡◌, IfOk};
-ghost use Rattle.df_unit.specs.Drafts.{new_part, raised, relabel, relabelled, show, shown};
+ghost use Rattle.df_unit.specs.Drafts.{new_part, raised, relabel, relabelled, show};
 
 use df_frozen::{Frozen, Name};
 use df_label::{Label, NoMemory, Privileges};
@@ -69,7 +69,8 @@ pub fn copies_of(alloc: Global, spots: &[Spot]) -> Result<Vec<Spot>, NoMemory>
     Ok(copies)
 }
 
-fn show(part: &Part) -> Result<PartRead, NoMemory>
+/// What a read shows of a part.
+pub fn show(part: &Part) -> Result<PartRead, NoMemory>
     ensures { IfOk result (λ p. p ≡ show part.now) }
 {
     let copy = part.copy()?;
@@ -78,15 +79,4 @@ fn show(part: &Part) -> Result<PartRead, NoMemory>
         value: copy.value,
         privileges: copy.privileges,
     })
-}
-
-/// What a read shows of each part.
-pub fn shown(alloc: Global, parts: &[PartRef]) -> Result<Vec<PartRead>, NoMemory>
-    ensures { IfOk result (λ v. v.items ≡ shown parts.now) }
-{
-    let mut shown = Vec::with_capacity(alloc, parts.len())?;
-    for part in parts {
-        shown.push(show(part.part())?)?;
-    }
-    Ok(shown)
 }

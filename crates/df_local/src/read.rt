@@ -1,17 +1,15 @@
 //! Reading the parts of a handle.
 
 ghost use Rattle.std.specs.Prelude.{◌≡◌, ◌++◌, [], IfOk, OnErr, OnOk};
-ghost use Rattle.std.specs.List.{filter};
-ghost use Rattle.std.specs.Str.{bytes_eq};
-ghost use Rattle.df_unit.specs.Drafts.{visible, visible_named};
+ghost use Rattle.df_unit.specs.Drafts.{shown, visible_named};
 ghost use Rattle.df_unit.specs.Rows.{reply};
 ghost use Rattle.df_unit.specs.declared.call.Call.{Call};
-ghost use Rattle.df_local.specs.Locally.{Answers, is_visible, visible_in, with_own};
-ghost use Rattle.df_local.specs.code.Shown.{brought, holding, privileges_of};
+ghost use Rattle.df_local.specs.Locally.{Answers, is_visible, with_own};
+ghost use Rattle.df_local.specs.code.Shown.{brought, holding, is_shown, privileges_of, shown_in};
 
 use crate::Local;
 use crate::handles::handle_at;
-use crate::parts::shown;
+use crate::parts::show;
 use crate::take::is_accepted;
 use df_frozen::Name;
 use df_label::{Label, NoMemory, Privilege};
@@ -45,11 +43,10 @@ impl Local {
         let Some(handle) = handle_at(self.handles.as_slice(), h) else {
             return Ok(Reply::NoSuchHandle);
         };
-        let parts = visible_named(self.alloc, &self.input, name, handle)?;
-        if parts.is_empty() {
+        let shown = shown(self.alloc, &self.input, name, handle)?;
+        if shown.is_empty() {
             return Ok(Reply::NoSuchPart);
         }
-        let shown = shown(self.alloc, parts.as_slice())?;
         Ok(Reply::Parts(PartsRead::new(shown)))
     }
 
@@ -90,58 +87,47 @@ fn copy_all(privileges: &[Privilege], to: &mut Vec<Privilege>) -> Result<(), NoM
     Ok(())
 }
 
-/// The visible parts of a name, in order.
-fn visible_named(
+/// What a read shows of the visible parts of a name, in order.
+fn shown(
     alloc: Global,
     input: &Label,
     name: &Name,
     handle: &Handle,
-) -> Result<Vec<PartRef>, NoMemory>
-    ensures { IfOk result (λ v. v.items ≡ visible_named input.now name.now handle.now) }
+) -> Result<Vec<PartRead>, NoMemory>
+    ensures { IfOk result (λ v. v.items ≡ shown (visible_named input.now name.now handle.now)) }
 {
-    named_in(alloc, name, visible(alloc, input, handle)?.as_slice())
-}
-
-/// The parts of a name, in order.
-fn named_in(alloc: Global, name: &Name, parts: &[PartRef]) -> Result<Vec<PartRef>, NoMemory>
-    ensures { IfOk result (λ v. v.items ≡ filter (λ part. bytes_eq name.now part.name) parts.now) }
-{
-    let mut named = Vec::new(alloc);
-    for part in parts {
-        if *name == part.part().name {
-            named.push(part.share()?)?;
-        }
-    }
-    Ok(named)
-}
-
-/// The visible parts, in order.
-pub fn visible(alloc: Global, input: &Label, handle: &Handle) -> Result<Vec<PartRef>, NoMemory>
-    ensures { IfOk result (λ v. v.items ≡ visible input.now handle.now) }
-{
-    visible_in(
+    shown_in(
         alloc,
         input,
+        name,
         handle.named.as_slice(),
         handle.seen.as_slice(),
     )
 }
 
-fn visible_in(
+fn shown_in(
     alloc: Global,
     input: &Label,
+    name: &Name,
     named: &[Spot],
     seen: &[PartRef],
-) -> Result<Vec<PartRef>, NoMemory>
-    ensures { IfOk result (λ v. v.items ≡ visible_in input.now named.now seen.now) }
+) -> Result<Vec<PartRead>, NoMemory>
+    ensures { IfOk result (λ v. v.items ≡ shown_in input.now name.now named.now seen.now) }
 {
-    let mut parts = Vec::new(alloc);
+    let mut shown = Vec::new(alloc);
     for part in seen {
-        if is_visible(input, named, part.part()) {
-            parts.push(part.share()?)?;
+        if is_shown(input, name, named, part.part()) {
+            shown.push(show(part.part())?)?;
         }
     }
-    Ok(parts)
+    Ok(shown)
+}
+
+/// Whether a part of a view has the name and is visible.
+fn is_shown(input: &Label, name: &Name, named: &[Spot], part: &Part) -> bool
+    ensures { result ≡ is_shown input.now name.now named.now part.now }
+{
+    part.name == *name && is_visible(input, named, part)
 }
 
 /// Whether a part of a view is readable and isn't named for deletion.

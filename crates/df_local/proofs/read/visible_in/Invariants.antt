@@ -1,6 +1,0 @@
-use Rattle.std.proofs.Common.{◌≡◌, take}
-use Rattle.df_local.specs.Locally.{visible_in}
-use Rattle.df_local.proofs.read.visible_in.Given as goal
-
-abbrev pub invariant-loop-part : goal.invariant-loop-part
-invariant-loop-part l = l.parts.items ≡ visible_in l.input l.named (take l.part-index l.seen)
