@@ -42,3 +42,12 @@ impl Blob {
         Blob::new(*self.bytes.allocator(), self.as_slice())
     }
 }
+
+/// Those bytes and no copy.
+impl From<Vec<u8>> for Blob {
+    ghost from_gives = { λ bytes blob. blob ≡ bytes.items };
+
+    fn from(bytes: Vec<u8>) -> Blob {
+        Blob { bytes }
+    }
+}

@@ -37,8 +37,9 @@ impl Model for Frozen {
 }
 
 impl Frozen {
-    // Freezes a value that is within the limits.
-    pub(crate) fn new(alloc: Global, value: Value) -> Result<Frozen, Unfrozen>
+    /// Freezes a value that is known to be within the limits, without counting it. Where there is
+    /// no memory the value comes back.
+    pub fn new(alloc: Global, value: Value) -> Result<Frozen, Unfrozen>
         requires { IsWithinLimits (plain value) }
         ensures frozen { IfOk result (λ frozen. frozen ≡ plain value) }
         ensures back { IfErr result (λ e. e.value ≡ value) }

@@ -179,6 +179,17 @@ fn layered(alloc: Global, layers: u32) -> Result<Value, Fail> {
 }
 
 #[test]
+fn takes_what_is_known_as_it_is(rt: HostRuntime) -> Result<(), Fail> {
+    let alloc = rt.alloc();
+    let text = Words::from(String::from_str(alloc, "two")?);
+    let blob = Blob::from(vec![in alloc; 0, 255]?);
+    assert!(rt; text.as_str() == "two" && blob.as_slice() == [0, 255].as_slice());
+    let frozen = Frozen::new(alloc, Value::Int(7))?;
+    assert!(rt; frozen.plain_eq(&Value::Int(7).freeze(alloc)?));
+    Ok(())
+}
+
+#[test]
 fn copies(rt: HostRuntime) -> Result<(), Fail> {
     let alloc = rt.alloc();
     for value in [

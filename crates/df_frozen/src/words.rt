@@ -42,3 +42,14 @@ impl Words {
         Words::new(*self.text.allocator(), self.as_str())
     }
 }
+
+/// That text and no copy.
+impl From<String> for Words {
+    ghost use Rattle.std.specs.Prelude.{string_bytes};
+
+    ghost from_gives = { λ text words. words ≡ string_bytes text };
+
+    fn from(text: String) -> Words {
+        Words { text }
+    }
+}

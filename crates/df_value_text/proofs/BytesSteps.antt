@@ -1,7 +1,7 @@
 -- The reader of bytes, step by step.
-use Rattle.std.proofs.Common.{◌≡◌, ℕ, ◌+◌, ◌<◌, ◌≤◌, true, false, List, [], ◌∷◌, ◌++◌, length, length-append, length-drop, get_or, drop, Ok, Err, refl, sym, ap, ◌∙◌, arith}
+use Rattle.std.proofs.Common.{◌≡◌, ℕ, ◌+◌, ◌<◌, ◌≤◌, true, false, List, [], ◌∷◌, ◌++◌, length, length-append, length-drop, get_or, drop, Ok, refl, sym, ap, ◌∙◌, arith}
 use Rattle.std.proofs.lemmas.List.{drop_all, append-nil}
-use Rattle.df_format.specs.Reading.{Bad, Read, ◌>>=◌, text_at, with_front}
+use Rattle.df_format.specs.Reading.{Read, ◌>>=◌, text_at, with_front}
 use Rattle.df_format.proofs.ItemSteps.{regroup}
 use Rattle.df_format.proofs.Texts.{text_found}
 use Rattle.df_value_text.specs.ReadBytes.{is_hex, hex_byte, pairs_at}
@@ -24,12 +24,6 @@ pair_read bytes place out more total lt ha hb is so_far =
     ∙ sym (regroup out (hex_byte (get_or bytes place 0) (get_or bytes (place + 1) 0)) (pairs_at (drop (place + 2) bytes)))
     ∙ ap (with_front out) (sym (ap pairs_at (two_of bytes place lt) ∙ pair_first (get_or bytes place 0) (get_or bytes (place + 1) 0) (drop (place + 2) bytes) ha hb))
     ∙ so_far
-
-half_read : (a : ℕ) (cs : List ℕ) → is_hex a ≡ true → cs ≡ [] → pairs_at (a ∷ cs) ≡ Err (Bad cs)
-half_read a cs ha e = rw e (rw ha refl)
-
-other_first : (a b : ℕ) (cs : List ℕ) → is_hex a ≡ true → is_hex b ≡ false → pairs_at (a ∷ b ∷ cs) ≡ Err (Bad (b ∷ cs))
-other_first a b cs ha hb = rw (ha, hb) refl
 
 all_of : (out rest : List ℕ) → with_front out (Ok ([], rest)) ≡ Ok (out, rest)
 all_of out rest = ap (λ (u : List ℕ). Ok (u, rest)) (append-nil out)

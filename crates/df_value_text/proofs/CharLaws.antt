@@ -95,7 +95,7 @@ pub record FirstAscii (text : List ℕ) : Type 0 where
   pub small : first < 128
   pub begins : begins_char first ≡ true
 
-plain_begins : (c : ℕ) → is_plain c ≡ true → begins_char c ≡ true
+pub plain_begins : (c : ℕ) → is_plain c ≡ true → begins_char c ≡ true
 plain_begins c h = grind (arith, nat_tests)
 
 first_ascii : (c : ℕ) → (IsEscaped c ⊎ IsPlain c) → FirstAscii (chars_text (alone c))

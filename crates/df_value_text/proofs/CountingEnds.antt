@@ -115,18 +115,6 @@ over_inside p fits rest left over = by (ltb (length rest) (length left)) refl
         let counts : AreCountsOf p (counts_of over.front) = subst (λ (u : List ℕ). AreCountsOf p (counts_of u)) (sym on.1) (counted_behind p fits on.0) in
         absurd (value_over p fits rest left over ((within_counts p (counts_of over.front) counts).1 over.within))
 
--- the first byte by which a count is passed stays so, whatever stands behind
-pub over_longer : (text rest more : List ℕ) → FirstOver text rest → FirstOver (text ++ more) (rest ++ more)
-over_longer text rest more over = record {
-  front = over.front;
-  first = over.first;
-  more = over.more ++ more;
-  parts = ap (λ (u : List ℕ). u ++ more) over.parts ∙ append_assoc over.front (over.first ∷ over.more) more;
-  is = ap (λ (u : List ℕ). u ++ more) over.is;
-  within = over.within;
-  over = over.over;
-}
-
 -- what stands in front of a place, and behind it
 pub front_whole : (text : List ℕ) (stop n : ℕ) → stop ≤ length text → n ≤ stop → drop n (take stop text) ++ drop stop text ≡ drop n text
 front_whole text stop n within below =

@@ -59,7 +59,7 @@ counted_value p fits = walked_value p fits [] 0 0 0 ∙ same (ended p) [] (0 + n
 
 -- ---- how deep the brackets nest is counted
 
-closed_low : (brackets : List Bool) (c : ℕ) → length (closed brackets c) ≤ length brackets
+pub closed_low : (brackets : List Bool) (c : ℕ) → length (closed brackets c) ≤ length brackets
 closed_low brackets c = by (closes c)
   where
     shorter : (brackets : List Bool) → length (drop 1 brackets) ≤ length brackets

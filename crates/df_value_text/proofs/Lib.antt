@@ -8,6 +8,7 @@ pub mod CountingLaws
 pub mod CountingTexts
 pub mod CountingValues
 pub mod CountingFronts
+pub mod CountingSmall
 pub mod CountingEnds
 pub mod CountingExamples
 pub mod CountingSteps

@@ -7,7 +7,7 @@ use Rattle.std.proofs.lemmas.List.{append-nil, drop_all, length-drop, length-tak
 use Rattle.df_format.specs.Grammar.{CanGoOn, Stands}
 use Rattle.df_format.specs.Reading.{Bad, Low}
 use Rattle.df_format.proofs.Laws.{told}
-use Rattle.df_frozen.specs.Limits.{IsTooLarge, IsWithinLimits}
+use Rattle.df_frozen.specs.Limits.{IsWithinLimits}
 use Rattle.df_frozen.specs.Plain.{Plain}
 use Rattle.df_value_text.specs.code.Answer.{Fails, Gives, IsSyntaxAt, refusal}
 use Rattle.df_value_text.specs.Counting.{FirstOver, NeverOver, counts_of}
@@ -211,12 +211,6 @@ read_within text at end p never h =
     let n : ℕ = suc (length text) in
     let f = (value_format n).found (drop at text) p (drop end text) (h n (omega arith)).1 in
     counted_within p f.fits.0 (drop end text) (subst NeverOver f.parts never)
-
--- what is within the limits isn't too large
-pub not_too_large : (p : Plain) → IsWithinLimits p → IsTooLarge p → ⊥
-not_too_large p within (inl over) = omega (arith, within.nodes)
-not_too_large p within (inr (inl over)) = omega (arith, within.bytes)
-not_too_large p within (inr (inr over)) = omega (arith, within.flat)
 
 -- where no count is passed, a fault is told as it stands
 pub fault_within : (text : List ℕ) (at : ℕ) (e : Fault) → NeverOver (drop at text) → Enough text at (λ n. Fails text e (value_within n (drop at text))) → NamesValueFault text at (refusal e) × NamesTooLarge text at (refusal e)

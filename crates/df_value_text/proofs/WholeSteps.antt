@@ -1,8 +1,7 @@
 -- The reader of whole numbers, step by step.
-use Rattle.std.proofs.Common.{◌≡◌, ℕ, ◌+◌, ◌<◌, true, false, List, [], ◌∷◌, drop, Ok, Err, refl, ap, ◌∙◌, arith}
-use Rattle.std.specs.Prelude.{pos}
+use Rattle.std.proofs.Common.{◌≡◌, ℕ, ◌+◌, ◌<◌, true, List, drop, Ok, Err, refl, ap, ◌∙◌, arith}
 use Rattle.df_format.specs.Reading.{Stop, as_at}
-use Rattle.df_value_text.specs.Number.{number_at, begins_with}
+use Rattle.df_value_text.specs.Number.{begins_with}
 use Rattle.df_value_text.specs.ReadWhole.{positive_at, minus, whole_at}
 use Rattle.df_value_text.proofs.WholeLaws.{positive_format}
 use Rattle.df_value_text.proofs.TagSteps.{behind_it}
@@ -11,10 +10,6 @@ whole_minus : (bytes : List ℕ) (at : ℕ) → begins_with 45 (drop at bytes) �
 whole_minus bytes at h =
     let b = behind_it bytes at 45 h in
     ap whole_at b.1 ∙ rw (b.2) refl
-
-whole_plain : (bytes : List ℕ) → begins_with 45 bytes ≡ false → whole_at bytes ≡ as_at pos (number_at 9223372036854775807) bytes
-whole_plain [] h = refl
-whole_plain (c ∷ cs) h = rw h refl
 
 pub minus_stops : (bytes : List ℕ) (at : ℕ) (stop : Stop ℕ) → begins_with 45 (drop at bytes) ≡ true → positive_at 9223372036854775808 (drop (at + 1) bytes) ≡ Err stop → whole_at (drop at bytes) ≡ Err stop
 minus_stops bytes at stop h e = whole_minus bytes at h ∙ rw e refl

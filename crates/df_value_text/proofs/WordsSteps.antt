@@ -1,12 +1,17 @@
 -- The reader of words, step by step.
-use Rattle.std.proofs.Common.{◌≡◌, ℕ, zero, suc, ◌≤◌, Bool, true, false, cond, List, [], ◌∷◌, ◌++◌, length, length-append, Ok, Err, refl, sym, ap, ◌∙◌, append_assoc, arith}
+use Rattle.std.proofs.Common.{◌≡◌, ℕ, zero, suc, ◌+◌, ◌-◌, ◌<◌, ◌≤◌, Bool, true, false, not, ◌&&◌, ◌||◌, cond, eqb, List, [], ◌∷◌, ◌++◌, length, length-append, take, drop, get_or, Ok, Err, refl, sym, ap, ◌∙◌, append_assoc, add-one, arith}
+use Rattle.std.specs.Prelude.{nat_le, nat_lt}
 use Rattle.std.specs.List.{concat}
-use Rattle.std.proofs.lemmas.List.{append-nil}
+use Rattle.std.proofs.Math.Seq.{drop-cons}
+use Rattle.std.proofs.lemmas.Bool.{and_parts, lt-ltb, ltb-true}
+use Rattle.std.proofs.lemmas.List.{append-nil, drop_all, drop-drop}
 use Rattle.df_format.specs.Reading.{Stop, Read, ◌>>=◌, many_at, many_of, with_front}
 use Rattle.df_format.proofs.Laws.{ok_is, err_is, not_both, bind_same}
 use Rattle.df_format.proofs.ItemSteps.{onto}
+use Rattle.df_value_text.specs.ReadEscape.{is_plain, is_quoted}
 use Rattle.df_value_text.specs.ReadWords.{char_at, begins_char, starts, chars_at}
-use Rattle.df_value_text.proofs.CharLaws.{char_format, char_starts}
+use Rattle.df_value_text.specs.code.Short.{plain_run}
+use Rattle.df_value_text.proofs.CharLaws.{char_format, char_starts, plain_begins}
 
 abbrev begins : ℕ → ℕ → Bool
 begins k c = begins_char c
@@ -83,3 +88,53 @@ char_broken bytes front stop total h so_far e = sym so_far ∙ ap (with_front fr
 -- no character begins there
 pub chars_done : (bytes front : List ℕ) (total : Read ℕ (List ℕ)) → starts begins_char bytes ≡ false → with_front front (chars_at bytes) ≡ total → total ≡ Ok (front, bytes)
 chars_done bytes front total h so_far = sym so_far ∙ ap (with_front front) (chars_none bytes h) ∙ ap (λ (u : List ℕ). Ok (u, bytes)) (append-nil front)
+
+-- ---- bytes that stand for themselves
+
+unquoted : (a b : Bool) → not (a || b) ≡ true → b ≡ false
+unquoted true b h = absurd cc
+unquoted false true h = absurd cc
+unquoted false false h = refl
+
+plain_char : (c : ℕ) (cs : List ℕ) → is_plain c ≡ true → char_at (c ∷ cs) ≡ Ok (c ∷ [], cs)
+plain_char c cs h =
+    let low = and_parts (nat_le 32 c) (nat_lt c 127 && not (is_quoted c)) h in
+    let both = and_parts (nat_lt c 127) (not (is_quoted c)) low.1 in
+    let small : nat_lt c 128 ≡ true = lt-ltb c 128 (omega (arith, ltb-true c 127 both.0)) in
+    let other : eqb c 92 ≡ false = unquoted (eqb c 34) (eqb c 92) both.1 in
+    rw (h, small, other) refl
+
+none_front : (r : Read ℕ (List ℕ)) → with_front [] r ≡ r
+none_front (Ok x) = refl
+none_front (Err s) = refl
+
+-- the bytes in front that stand for themselves are read as they are
+chars_run : (bytes : List ℕ) → chars_at bytes ≡ with_front (take (plain_run bytes) bytes) (chars_at (drop (plain_run bytes) bytes))
+chars_run [] = refl
+chars_run (c ∷ cs) = by (is_plain c) refl (chars_run cs)
+  where
+    by : (t : Bool) → is_plain c ≡ t → chars_at cs ≡ with_front (take (plain_run cs) cs) (chars_at (drop (plain_run cs) cs))
+        → chars_at (c ∷ cs) ≡ with_front (take (cond t (suc (plain_run cs)) 0) (c ∷ cs)) (chars_at (drop (cond t (suc (plain_run cs)) 0) (c ∷ cs)))
+    by true e rest = chars_step (c ∷ cs) (c ∷ []) cs (plain_begins c e) (plain_char c cs e) ∙ ap (with_front (c ∷ [])) rest ∙ fronts (c ∷ []) (take (plain_run cs) cs) (chars_at (drop (plain_run cs) cs))
+    by false e rest = sym (none_front (chars_at (c ∷ cs)))
+
+-- once these are taken over, what is left is read as all was to be
+pub run_read : (bytes : List ℕ) (at end : ℕ) (front more : List ℕ) → end ≡ at + plain_run (drop at bytes) → more ≡ front ++ take (end - at) (drop at bytes) → with_front more (chars_at (drop end bytes)) ≡ with_front front (chars_at (drop at bytes))
+run_read bytes at end front more is e =
+    let k : ℕ = plain_run (drop at bytes) in
+    let count : end - at ≡ k = omega (arith, is) in
+    let behind : drop k (drop at bytes) ≡ drop end bytes = drop-drop k at bytes ∙ ap (λ (n : ℕ). drop n bytes) (sym is) in
+    let taken : more ≡ front ++ take k (drop at bytes) = e ∙ ap (λ (n : ℕ). front ++ take n (drop at bytes)) count in
+    ap (λ (u : List ℕ). with_front u (chars_at (drop end bytes))) taken
+    ∙ sym (fronts front (take k (drop at bytes)) (chars_at (drop end bytes)))
+    ∙ ap (λ (u : List ℕ). with_front front (with_front (take k (drop at bytes)) (chars_at u))) (sym behind)
+    ∙ ap (with_front front) (sym (chars_run (drop at bytes)))
+
+pub run_ended : (bytes : List ℕ) (place : ℕ) → length bytes ≤ place → plain_run (drop place bytes) ≡ 0
+run_ended bytes place le = ap plain_run (drop_all place bytes le)
+
+pub run_broken : (bytes : List ℕ) (place : ℕ) → place < length bytes → is_plain (get_or bytes place 0) ≡ false → plain_run (drop place bytes) ≡ 0
+run_broken bytes place lt h = ap plain_run (drop-cons bytes place 0 lt) ∙ rw h refl
+
+pub run_on : (bytes : List ℕ) (place : ℕ) → place < length bytes → is_plain (get_or bytes place 0) ≡ true → plain_run (drop place bytes) ≡ suc (plain_run (drop (place + 1) bytes))
+run_on bytes place lt h = rw (add-one) (ap plain_run (drop-cons bytes place 0 lt) ∙ rw h refl)

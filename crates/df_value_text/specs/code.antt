@@ -1,3 +1,4 @@
 pub mod Answer
 pub mod Brackets
 pub mod WordEnd
+pub mod Short

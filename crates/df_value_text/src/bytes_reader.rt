@@ -61,5 +61,5 @@ pub fn bytes_at(alloc: Global, bytes: &[u8], at: usize) -> Result<(Blob, usize),
     let (_, start) = text_at(bytes, at, b"x\"")?;
     let (content, quote) = pairs_at(alloc, bytes, start)?;
     let (_, end) = byte_at(bytes, quote, b'"')?;
-    Ok((Blob::new(alloc, content.as_slice())?, end))
+    Ok((Blob::from(content), end))
 }

@@ -18,7 +18,7 @@ fn is_quoted(byte: u8) -> bool
 }
 
 /// Whether the byte stands for itself.
-fn is_plain(byte: u8) -> bool
+pub fn is_plain(byte: u8) -> bool
     ensures { result ≡ is_plain byte }
 {
     32 <= byte && byte < 127 && !is_quoted(byte)

@@ -1,6 +1,7 @@
 //! Counting a value's nodes, bytes and depth from left to right.
 ghost use Rattle.std.specs.Prelude.{◌≡◌, ◌<◌, ◌≤◌, ◌+◌, length, MatchBool, true};
-ghost use Rattle.df_value_text.specs.Counting.{AreWithin, IsCounted, IsOver, TellsOver, closed, nested, start, walk};
+ghost use Rattle.df_value_text.specs.Counting.{AreWithin, IsCounted, IsOver, NeverOver, TellsOver, closed, nested, start, walk};
+ghost use Rattle.df_value_text.specs.code.Short.{open_count};
 ghost use Rattle.df_value_text.specs.declared.place.Place.TheVariants as place;
 
 use crate::brackets::Brackets;
@@ -84,12 +85,36 @@ fn nest(brackets: &mut Brackets, place: Place, byte: u8)
     }
 }
 
+/// How many brackets open in the text.
+fn open_count(text: &[u8]) -> usize
+    ensures value { result ≡ open_count text.now }
+    ensures few { result ≤ length text.now }
+{
+    let mut count = 0;
+    for byte in text {
+        if *byte == b'[' || *byte == b'(' {
+            count += 1;
+        }
+    }
+    count
+}
+
+/// Whether the text is so short, and opens so few brackets, that no count is passed in it.
+fn is_small(text: &[u8]) -> bool
+    ensures { result ≡ true → NeverOver text.now }
+{
+    text.len() as u64 <= MOST_NODES && (open_count(text) as u64) < MOST_DEPTH
+}
+
 /// The place of the first byte, from the place on, by which a count of freezing is passed; none
 /// where no count is passed up to the end of the value or of the bytes.
 pub(crate) fn over_at(bytes: &[u8], at: usize) -> Option<usize>
     requires { at ≤ length bytes.now }
     ensures { TellsOver bytes.now at result }
 {
+    if is_small(&bytes[at..]) {
+        return None;
+    }
     let mut walk = Walk::start();
     let mut place = at;
     while place < bytes.len() && !walk.is_done() {

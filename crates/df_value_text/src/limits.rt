@@ -13,7 +13,7 @@ ghost use Rattle.df_value_text.specs.ValueFault.{IsWithinBefore, NamesTooLarge, 
 
 use crate::value_reader::value_at;
 use crate::{Fault, TextRefused};
-use df_frozen::{FreezeCause, Frozen, LONGEST_NAME, NoMemory, Value};
+use df_frozen::{Frozen, LONGEST_NAME, NoMemory, Value};
 use std::alloc::Global;
 
 /// A value within the limits of freezing, frozen: only memory can be wanting.
@@ -21,12 +21,9 @@ fn frozen(alloc: Global, value: Value) -> Result<Frozen, NoMemory>
     requires { IsWithinLimits (plain value) }
     ensures { IfOk result (λ frozen. frozen ≡ plain value) }
 {
-    match value.freeze(alloc) {
+    match Frozen::new(alloc, value) {
         Ok(frozen) => Ok(frozen),
-        Err(unfrozen) => match unfrozen.cause {
-            FreezeCause::NoMemory => Err(NoMemory),
-            FreezeCause::TooLarge { .. } => unreachable!(),
-        },
+        Err(_) => Err(NoMemory),
     }
 }
 

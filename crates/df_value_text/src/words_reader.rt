@@ -1,13 +1,42 @@
 //! Reading words.
-ghost use Rattle.std.specs.Prelude.{◌≡◌, ◌≤◌, ◌<◌, length, drop, IfOk};
+ghost use Rattle.std.specs.Prelude.{◌≡◌, ◌≤◌, ◌<◌, ◌+◌, length, drop, IfOk};
+ghost use Rattle.df_format.specs.Reading.{with_front};
 ghost use Rattle.df_value_text.specs.code.Answer.{Gives};
 ghost use Rattle.df_value_text.specs.ReadWords.{chars_at, words_at};
+ghost use Rattle.df_value_text.specs.code.Short.{plain_run};
 
 use crate::Fault;
-use crate::char_reader::{append_char, char_stands};
+use crate::char_reader::{append_char, char_stands, is_plain};
 use crate::number_reader::byte_at;
 use df_frozen::Words;
+use df_label::NoMemory;
 use std::alloc::Global;
+
+/// The place behind the bytes from the place on that stand for themselves.
+fn plain_end(bytes: &[u8], at: usize) -> usize
+    requires { at ≤ length bytes.now }
+    ensures within { result ≤ length bytes.now }
+    ensures value { result ≡ at + plain_run (drop at bytes.now) }
+{
+    let mut end = at;
+    while end < bytes.len() && is_plain(bytes[end]) {
+        end += 1;
+    }
+    end
+}
+
+/// Appends the bytes from the place on that stand for themselves, and gives the place behind them.
+fn append_plain(bytes: &[u8], at: usize, text: &mut Vec<u8>) -> Result<usize, NoMemory>
+    requires { at ≤ length bytes.now }
+    ensures onward { IfOk result (λ end. at ≤ end) }
+    ensures within { IfOk result (λ end. end ≤ length bytes.now) }
+    ensures rest { IfOk result (λ end. with_front text.new.items (chars_at (drop end bytes.now))
+        ≡ with_front text.old.items (chars_at (drop at bytes.now))) }
+{
+    let end = plain_end(bytes, at);
+    text.extend_from_slice(&bytes[at..end])?;
+    Ok(end)
+}
 
 /// The bytes of as many characters as stand at the place, and the place behind them.
 fn chars_at(alloc: Global, bytes: &[u8], at: usize) -> Result<(Vec<u8>, usize), Fault>
@@ -16,10 +45,10 @@ fn chars_at(alloc: Global, bytes: &[u8], at: usize) -> Result<(Vec<u8>, usize), 
     ensures onward { IfOk result (λ r. at ≤ r.1) }
 {
     let mut text = Vec::new(alloc);
-    let mut place = at;
+    let mut place = append_plain(bytes, at, &mut text)?;
     while char_stands(bytes, place) {
-        let (_, end) = append_char(bytes, place, &mut text)?;
-        place = end;
+        let (_, behind) = append_char(bytes, place, &mut text)?;
+        place = append_plain(bytes, behind, &mut text)?;
     }
     Ok((text, place))
 }
@@ -33,6 +62,6 @@ pub fn words_at(alloc: Global, bytes: &[u8], at: usize) -> Result<(Words, usize)
     let (_, start) = byte_at(bytes, at, b'"')?;
     let (text, quote) = chars_at(alloc, bytes, start)?;
     let (_, end) = byte_at(bytes, quote, b'"')?;
-    let words = Words::new(alloc, unsafe { str::from_utf8_unchecked(text.as_slice()) })?;
-    Ok((words, end))
+    let text = unsafe { String::from_utf8_unchecked(text) };
+    Ok((Words::from(text), end))
 }
