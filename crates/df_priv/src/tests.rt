@@ -46,9 +46,19 @@ fn grants_are_held_for_good(rt: HostRuntime) -> Result<(), Fail> {
     assert!(rt; held.holds(&auth) && held.holds(&plus));
     assert!(rt; !before.holds(&plus) && !before.same(&held));
     assert!(rt; held.as_slice().first() == Some(&plus));
-    let both = vec![in alloc; over_tag(alloc, Right::Minus)?, plus]?;
+    Ok(())
+}
+
+#[test]
+fn several_are_granted_at_once(rt: HostRuntime) -> Result<(), Fail> {
+    let alloc = rt.alloc();
+    let both = vec![in alloc;
+        over_tag(alloc, Right::Minus)?,
+        over_tag(alloc, Right::Plus)?,
+    ]?;
+    let mut held = Held::new(alloc);
     held.grant_all(both)?;
-    assert!(rt; held.as_slice().len() == 3);
+    assert!(rt; held.as_slice().len() == 2);
     Ok(())
 }
 
