@@ -1,2 +1,5 @@
 pub mod OpenHandles
 pub mod ReadInTurn
+pub mod Begun
+pub mod NamedInTurn
+pub mod RunsOn

@@ -1,2 +1,5 @@
 pub mod Locally
+pub mod Births
+pub mod Named
+pub mod Runs
 pub mod code

@@ -1,2 +1,3 @@
 pub mod LocalState
+pub mod RunState
 pub mod Shown

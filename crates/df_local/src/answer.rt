@@ -2,7 +2,6 @@
 
 ghost use Rattle.std.specs.Prelude.{◌≡◌, [], false, IfOk, option_copied, option_to_list};
 ghost use Rattle.df_unit.specs.Rows.{effect, is_accepted, reply};
-ghost use Rattle.df_unit.specs.Served.{IsBuilt};
 ghost use Rattle.df_unit.specs.declared.call.Call.{Call};
 ghost use Rattle.df_unit.specs.declared.entry.Effect.{Effect};
 ghost use Rattle.df_unit.specs.declared.reply.Reply.{Reply};
@@ -34,7 +33,6 @@ fn quiet(told: Reply) -> Answer
 impl Local {
     /// What a call is answered where this delivery is the first that is left. Changes nothing.
     pub fn answer(&self, next: Option<&Given>, call: &Call) -> Result<Answer, NoMemory>
-        requires { IsBuilt call.now }
         ensures reply { IfOk result (λ a. a.reply ≡ reply self.now.unit self.now.own
             (option_to_list (option_copied next.entry)) call.now) }
         ensures effect { IfOk result (λ a. a.effect ≡ effect self.now.unit self.now.own
@@ -52,12 +50,12 @@ impl Local {
             Call::ChangeOutLabel { act, tag, .. } => Ok(quiet(self.out_reply(*act, tag)?)),
             Call::CreateTag => Ok(quiet(self.tag_reply()?)),
             Call::DropEvent { h } => Ok(quiet(self.drop_reply(*h))),
-            Call::Subscribe { .. } => Ok(quiet(self.sub_reply())),
+            Call::Subscribe { .. } | Call::SubscribeManaged { .. } => Ok(quiet(self.sub_reply())),
             Call::Get => self.get_answer(next),
             Call::Publish { h } => self.closing_answer(*h, Close::Publish),
             Call::Release { h } => self.closing_answer(*h, Close::Release),
             Call::ChangeInOut { act, tag, .. } => Ok(quiet(self.in_out_reply(*act, tag)?)),
-            _ => unreachable!(),
+            Call::Instantiate { s, privileges } => Ok(quiet(self.spawn_reply(s, privileges)?)),
         }
     }
 

@@ -8,7 +8,8 @@ use df_label::NoMemory;
 use df_part::Part;
 use df_unit::{Drafts, Handle};
 
-fn open_count(handles: &[Option<Handle>]) -> usize
+/// How many handles are open.
+pub fn open_count(handles: &[Option<Handle>]) -> usize
     ensures { result ≡ open_count handles.now }
 {
     let mut count = 0;

@@ -2,18 +2,25 @@
 #![tactic(auto)]
 
 mod answer;
+mod child;
 mod clone;
 mod close;
+mod copies;
 mod draft;
 mod edits;
+mod fixed;
 mod handles;
 mod labels;
 pub mod laws;
 mod limits;
 mod local;
+mod named_parts;
 mod parts;
 mod read;
 mod receive;
+mod run;
+mod same;
+mod spawn;
 mod tags;
 mod take;
 #[cfg(test)]
@@ -21,4 +28,7 @@ mod tests;
 
 pub use answer::Answer;
 pub use close::{Close, EditRefused};
+pub use fixed::Fixed;
 pub use local::Local;
+pub use named_parts::NamedParts;
+pub use run::{LocalRun, NotCalled, is_local};

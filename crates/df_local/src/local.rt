@@ -1,10 +1,12 @@
 //! A unit with its own state, and what others may read of it.
 
-ghost use Rattle.std.specs.Prelude.{◌≡◌, IfOk};
+ghost use Rattle.std.specs.Prelude.{◌≡◌, IfOk, min};
 ghost use Rattle.df_priv.specs.Held.{holds};
+ghost use Rattle.df_unit.specs.Handles.{open_count};
 ghost use Rattle.df_unit.specs.Rows.{is_instance};
 ghost use Rattle.df_local.specs.Locally.{root_at};
 
+use crate::handles::open_count;
 use df_label::{Label, NoMemory, Privilege, Privileges, TagSet};
 use df_priv::Held;
 use df_unit::{Handle, Path, UnitName};
@@ -131,6 +133,12 @@ impl Local {
         self.held.holds(p)
     }
 
+    pub fn held(&self) -> &Held
+        ensures { result.now ≡ self.now.own.held }
+    {
+        &self.held
+    }
+
     pub fn events_made(&self) -> u32
         ensures { result ≡ self.now.own.events }
     {
@@ -147,6 +155,20 @@ impl Local {
         ensures { result ≡ self.now.own.subs }
     {
         self.subs
+    }
+
+    pub fn units_made(&self) -> u32
+        ensures { result ≡ self.now.own.units }
+    {
+        self.units
+    }
+
+    /// How many handles are open. A count past the greatest `u32` is told as that.
+    pub fn handles_used(&self) -> u32
+        ensures { result ≡ min (open_count self.now.own.handles) 4294967295 }
+    {
+        let count = open_count(self.handles.as_slice());
+        u32::try_from(count).unwrap_or(u32::MAX)
     }
 
     /// Whether the unit is the instance of a managed subscription.

@@ -2,7 +2,6 @@
 
 ghost use Rattle.std.specs.Prelude.{◌≡◌, OnErr, OnOk};
 ghost use Rattle.df_unit.specs.Rows.{after, is_accepted, taken_in};
-ghost use Rattle.df_unit.specs.Served.{IsBuilt};
 ghost use Rattle.df_local.specs.Locally.{IsAnswer, with_own};
 
 use crate::Local;
@@ -13,7 +12,6 @@ impl Local {
     /// Takes a call in, with the reply and the effect that its row gives. A refused call changes
     /// nothing. Where the count of deliveries stands at its greatest, that is NoMemory.
     pub fn take(&mut self, call: &Call, reply: &Reply, effect: &Effect) -> Result<(), NoMemory>
-        requires built { IsBuilt call.now }
         requires right { IsAnswer self.old call.now reply.now effect.now }
         ensures ok { OnOk result (self.new ≡ with_own self.old
             (after self.old.unit self.old.own call.now reply.now effect.now)) }
@@ -36,7 +34,7 @@ impl Local {
             Call::AttachPrivilege { h, label, name, p } => self.put_attached(*h, label, name, p),
             Call::ChangeOutLabel { half, act, tag } => self.put_out(*half, *act, tag),
             Call::CreateTag => self.put_tag(),
-            Call::Subscribe { .. } => {
+            Call::Subscribe { .. } | Call::SubscribeManaged { .. } => {
                 let _reply = self.count_sub();
                 Ok(())
             }
@@ -46,7 +44,7 @@ impl Local {
                 Ok(())
             }
             Call::ChangeInOut { half, act, tag } => self.put_in_out(*half, *act, tag),
-            _ => unreachable!(),
+            Call::Instantiate { .. } => self.put_unit(),
         }
     }
 

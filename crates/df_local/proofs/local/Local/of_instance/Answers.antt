@@ -1,0 +1,16 @@
+use Rattle.std.proofs.Common.{ap, ◌∙◌}
+use Rattle.df_label.specs.Label.{join}
+use Rattle.df_label.specs.declared.label.Label.{Label}
+use Rattle.df_unit.specs.Beginnings.{begin}
+use Rattle.df_unit.proofs.KeptRows.{accounted_as}
+use Rattle.df_local.specs.Births.{record_of}
+use Rattle.df_local.proofs.Begun.{begun_instance}
+use Rattle.df_local.proofs.local.Local.of_instance.Goals as goal
+
+pub invariant_of-result : goal.invariant_of-result
+invariant_of-result c =
+    let f = record_of c.args.fixed.now in
+    let s = c.args.s.now in
+    accounted_as (begin f s) _ _ _ _ _ (begun_instance f s c.requires.base c.requires.accounted)
+    c.in_ok-input.ensures c.in_ok-output.ensures (c.in_ok-contamination.ensures ∙ ap (λ (l : Label). join f.contamination l) c.in_ok-input.ensures)
+    c.in_ok-dropped.ensures.value c.in_ok-endorsed.ensures.value

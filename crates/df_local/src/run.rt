@@ -1,0 +1,142 @@
+//! Runs of local calls of one unit, apart from all others.
+
+ghost use Rattle.std.specs.Prelude.{◌≡◌, ◌<◌, [], IfErr, IfOk, OnErr, OnOk, true, vec_capacity, vec_len};
+ghost use Rattle.df_unit.specs.Rows.{effect, reply};
+ghost use Rattle.df_unit.specs.declared.entry.Entry.{Entry};
+
+use crate::{Answer, Local};
+use df_label::NoMemory;
+use df_unit::{Call, Entry, UnitName};
+use std::marker::Model;
+
+/// A unit as it was, as it is after some local calls, and the entries between, the oldest first.
+#[derive(Drop)]
+pub struct LocalRun {
+    base: Local,
+    present: Local,
+    entries: Vec<Entry>,
+}
+
+impl Model for LocalRun {
+    ghost use Rattle.df_local.specs.Runs.{LeadTo};
+    ghost use Rattle.df_local.specs.code.RunState.{RunState, run_code};
+
+    ghost Value = { RunState };
+
+    ghost coded = { run_code };
+
+    ghost view = { λ r. record { base = r.base; present = r.present; entries = r.entries.items } };
+
+    ghost invariant = { λ r. LeadTo r.entries.items r.base r.present };
+}
+
+/// There is no memory for the call, which is given back.
+#[derive(Drop)]
+pub struct NotCalled {
+    pub call: Call,
+}
+
+impl LocalRun {
+    ghost use Rattle.df_local.specs.Runs.{LeadTo, called, is_local};
+
+    /// A run without calls.
+    pub fn begin(base: &Local) -> Result<LocalRun, NoMemory>
+        ensures { IfOk result (λ run. run
+            ≡ record { base = base.now; present = base.now; entries = [] }) }
+    {
+        let first = base.copy()?;
+        let present = base.copy()?;
+        let entries = Vec::new(present.alloc);
+        Ok(LocalRun {
+            base: first,
+            present,
+            entries,
+        })
+    }
+
+    /// Makes one local call more.
+    pub fn call(&mut self, call: Call) -> Result<(), NotCalled>
+        requires { is_local call ≡ true }
+        ensures ok { OnOk result (self.new ≡ called self.old call) }
+        ensures unchanged { OnErr result (self.new ≡ self.old) }
+        ensures back { IfErr result (λ refused. refused.call ≡ call) }
+    {
+        let Ok(ready) = prepare(&self.present, &call, &mut self.entries) else {
+            return Err(NotCalled { call });
+        };
+        let answer = ready.answer;
+        let Ok(()) = self.present.take(&call, &answer.reply, &answer.effect) else {
+            return Err(NotCalled { call });
+        };
+        self.entries.push_reserved(Entry::Done {
+            actor: ready.actor,
+            call,
+            reply: answer.reply,
+            effect: answer.effect,
+        });
+        Ok(())
+    }
+
+    pub fn base(&self) -> &Local
+        ensures { result.now ≡ self.now.base }
+    {
+        &self.base
+    }
+
+    pub fn present(&self) -> &Local
+        ensures { result.now ≡ self.now.present }
+    {
+        &self.present
+    }
+
+    /// The entries, the oldest first.
+    pub fn entries(&self) -> &[Entry]
+        ensures entries { result.now ≡ self.now.entries }
+        ensures in_turn { LeadTo self.now.entries self.now.base self.now.present }
+    {
+        self.entries.as_slice()
+    }
+}
+
+/// What an entry needs beside its call.
+#[derive(Drop)]
+struct Ready {
+    actor: UnitName,
+    answer: Answer,
+}
+
+/// The answer to a local call, and room for its entry.
+fn prepare(unit: &Local, call: &Call, entries: &mut Vec<Entry>) -> Result<Ready, NoMemory>
+    ensures actor { IfOk result (λ ready. ready.actor ≡ unit.now.unit) }
+    ensures reply { IfOk result (λ ready.
+        ready.answer.reply ≡ reply unit.now.unit unit.now.own [] call.now) }
+    ensures effect { IfOk result (λ ready.
+        ready.answer.effect ≡ effect unit.now.unit unit.now.own [] call.now) }
+    ensures entries { entries.new.items ≡ entries.old.items }
+    ensures room { OnOk result (vec_len entries.new < vec_capacity entries.new) }
+{
+    entries.reserve(1)?;
+    let answer = unit.answer(None, call)?;
+    let actor = unit.name().copy()?;
+    Ok(Ready { actor, answer })
+}
+
+ghost use Rattle.df_local.specs.Runs as runs;
+
+/// Whether the call concerns no other unit.
+pub fn is_local(call: &Call) -> bool
+    ensures { result ≡ runs.is_local call.now }
+{
+    matches!(
+        call,
+        Call::CreateEvent
+            | Call::AddPart { .. }
+            | Call::DelPart { .. }
+            | Call::ReadPart { .. }
+            | Call::CloneEvent { .. }
+            | Call::AttachPrivilege { .. }
+            | Call::ChangeOutLabel { .. }
+            | Call::CreateTag
+            | Call::DropEvent { .. }
+    )
+}
