@@ -1,0 +1,101 @@
+//! The values of messages: maps of a few fields.
+
+ghost use Rattle.std.specs.Prelude.{◌≡◌, ◌≤◌, true, IfOk, OnOk, map, length};
+ghost use Rattle.std.specs.List.{list_all};
+ghost use Rattle.df_frozen.specs.Limits.{IsWithinLimits};
+ghost use Rattle.df_frozen.specs.Plain.{words};
+ghost use Rattle.df_frozen.specs.Value.{plain};
+ghost use Rattle.df_messages.specs.code.Putting.{built, content_of, is_good, is_map, put_field};
+
+use crate::field::name;
+use df_frozen::{Entries, FreezeCause, Frozen, Name, PutCause, Value, Words};
+use df_label::NoMemory;
+use std::alloc::Global;
+
+/// A field of a message: its name, and what it has.
+#[derive(Clone, Copy)]
+pub(crate) enum Field<'a> {
+    Int(&'a str, i64),
+    Flag(&'a str, bool),
+    Symbol(&'a str, &'a Words),
+}
+
+fn words(text: &Words) -> Result<Value, NoMemory>
+    ensures { IfOk result (λ v. plain v ≡ words text.now) }
+{
+    match text.copy() {
+        Ok(text) => Ok(Value::Words(text)),
+        Err(_) => Err(NoMemory),
+    }
+}
+
+fn value_of(field: &Field<'_>) -> Result<Value, NoMemory>
+    ensures { IfOk result (λ v. plain v ≡ (content_of field.now).1) }
+{
+    match field {
+        Field::Int(_, number) => Ok(Value::Int(*number)),
+        Field::Flag(_, true) => Ok(Value::Int(1)),
+        Field::Flag(_, false) => Ok(Value::Int(0)),
+        Field::Symbol(_, text) => words(text),
+    }
+}
+
+fn name_of(field: &Field<'_>) -> Name
+    requires { is_good field.now ≡ true }
+    ensures { result ≡ (content_of field.now).0 }
+{
+    match field {
+        Field::Int(text, _) => name(text),
+        Field::Flag(text, _) => name(text),
+        Field::Symbol(text, _) => name(text),
+    }
+}
+
+fn put(value: &mut Value, field: &Field<'_>) -> Result<(), NoMemory>
+    requires map { is_map (plain value.old) ≡ true }
+    requires good { is_good field.now ≡ true }
+    ensures { OnOk result (plain value.new ≡ put_field (content_of field.now) (plain value.old)) }
+{
+    let content = value_of(field)?;
+    match value.put_at(&[], name_of(field), content) {
+        Ok(()) => Ok(()),
+        Err(refused) => match refused.cause {
+            PutCause::NoSuchPlace => unreachable!(),
+            PutCause::NoMemory => Err(NoMemory),
+        },
+    }
+}
+
+fn built(alloc: Global, fields: &[Field<'_>]) -> Result<Value, NoMemory>
+    requires { list_all is_good fields.now ≡ true }
+    ensures { IfOk result (λ v. plain v ≡ built (map content_of fields.now)) }
+{
+    let mut value = Value::Map(Entries::new(alloc));
+    for field in fields {
+        put(&mut value, field)?;
+    }
+    Ok(value)
+}
+
+fn frozen(alloc: Global, value: Value) -> Result<Frozen, NoMemory>
+    requires { IsWithinLimits (plain value) }
+    ensures { IfOk result (λ f. f ≡ plain value) }
+{
+    match value.freeze(alloc) {
+        Ok(frozen) => Ok(frozen),
+        Err(refused) => match refused.cause {
+            FreezeCause::TooLarge { .. } => unreachable!(),
+            FreezeCause::NoMemory => Err(NoMemory),
+        },
+    }
+}
+
+/// The map of these fields.
+pub(crate) fn map_of(alloc: Global, fields: &[Field<'_>]) -> Result<Frozen, NoMemory>
+    requires good { list_all is_good fields.now ≡ true }
+    requires few { length fields.now ≤ 6 }
+    ensures { IfOk result (λ f. f ≡ built (map content_of fields.now)) }
+{
+    let value = built(alloc, fields)?;
+    frozen(alloc, value)
+}
