@@ -12,7 +12,8 @@ mod value;
 pub use draft::Draft;
 pub use message::{Match, Offer, Parties};
 pub use part::{
-    fill_draft, match_draft, offer_draft, secret, endorsed, public, tick_draft, trade_draft, warning_draft, who_draft,
+    endorsed, fill_draft, match_draft, offer_draft, public, secret, tick_draft, trade_draft,
+    warning_draft, who_draft,
 };
 pub use read::{TickRead, read_match, read_number, read_offer, read_parties, read_tick};
 pub use symbol::Symbol;
