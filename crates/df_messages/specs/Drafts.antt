@@ -1,5 +1,5 @@
 -- The parts of the messages of a trading floor: label, name and value.
-use Rattle.std.specs.Prelude.{ℕ, ◌+◌, Bool, true, false, if◌then◌else◌, List, [], ◌∷◌, ℤ, pos, codes}
+use Rattle.std.specs.Prelude.{ℕ, ◌+◌, Bool, if◌then◌else◌, List, [], ◌∷◌, ℤ, pos, codes}
 use Rattle.df_book.specs.declared.trade.Trade.{Trade}
 use Rattle.df_frozen.specs.Plain.{Plain, int, words, entries, from_pairs}
 use Rattle.df_label.specs.declared.label.Label.{Label}
@@ -8,20 +8,23 @@ use Rattle.df_messages.specs.declared.draft.Draft.{Draft}
 use Rattle.df_messages.specs.declared.message.Match.{Match}
 use Rattle.df_messages.specs.declared.message.Offer.{Offer}
 
--- the tags of the floor: the exchange's integrity, the confidentiality of the broker, of the
--- regulator, and of each trader
+-- a tag of the floor by its number
 abbrev pub floor_tag : ℕ → List ℕ
 floor_tag number = number ∷ []
 
+-- the tag by which the exchange vouches
 abbrev pub exchange_tag : ℕ
 exchange_tag = 0
 
+-- the broker's tag
 abbrev pub broker_tag : ℕ
 broker_tag = 1
 
+-- the regulator's tag
 abbrev pub regulator_tag : ℕ
 regulator_tag = 2
 
+-- the tag of a trader by its number
 abbrev pub trader_tag : ℕ → ℕ
 trader_tag j = 3 + j
 
@@ -45,6 +48,7 @@ map_of fields = entries (from_pairs fields)
 abbrev pub flag_int : Bool → Plain
 flag_int b = if b then int (pos 1) else int (pos 0)
 
+-- the part that tells a tick
 abbrev pub tick_draft : Tick → Draft
 tick_draft t = record {
   label = endorsed;
@@ -52,6 +56,7 @@ tick_draft t = record {
   value = map_of ((codes "price", int t.price) ∷ (codes "symbol", words t.symbol) ∷ []);
 }
 
+-- the part that tells a match
 abbrev pub match_draft : Match → Draft
 match_draft m = record {
   label = endorsed;
@@ -61,6 +66,7 @@ match_draft m = record {
       ∷ (codes "side", int m.side) ∷ []);
 }
 
+-- the part that tells an order
 abbrev pub offer_draft : Offer → Draft
 offer_draft o = record {
   label = secret broker_tag;
@@ -97,11 +103,7 @@ fill_draft number t sell = record {
       ∷ (codes "symbol", words t.symbol) ∷ []);
 }
 
--- the parts of a trade
-abbrev pub trade_drafts : ℤ → Trade → List Draft
-trade_drafts number t =
-    trade_draft number t ∷ who_draft t ∷ fill_draft number t false ∷ fill_draft number t true ∷ []
-
+-- the part that warns of a trade
 abbrev pub warning_draft : ℤ → Draft
 warning_draft number = record {
   label = public;

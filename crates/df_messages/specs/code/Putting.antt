@@ -20,6 +20,7 @@ is_good (Int name n) = is_name name.now
 is_good (Flag name b) = is_name name.now
 is_good (Symbol name w) = is_name name.now && is_symbol w.now
 
+-- whether the value is a map
 abbrev pub is_map : Plain → Bool
 is_map (entries es) = true
 is_map (int n) = false
