@@ -74,6 +74,7 @@ opened_next m place good =
     if good then Goes (opened m.kind (told (parts_of m.kind m.heard)) (place + 1))
     else Goes stage.Stopped
 
+-- after a call of the opening
 abbrev pub after_opening : Mind → ℕ → Reply → Follow
 after_opening m place Reply.Ok =
     opened_next m place (is_release (slice_get (opening m.kind) place))
@@ -81,27 +82,33 @@ after_opening m place (Reply.Sub n) =
     opened_next m place (is_subscription (slice_get (opening m.kind) place))
 after_opening m place _ = Goes stage.Stopped
 
+-- after a get
 abbrev pub after_rest : Reply → Follow
 after_rest (Reply.Event h sub) = Takes h sub
 after_rest _ = Goes stage.Stopped
 
+-- after a read; where no part is there, none was read
 abbrev pub after_read : ℕ → ℕ → ℕ → Reply → Follow
 after_read h sub place (Reply.Parts ps) = Hears h sub place ps
 after_read h sub place Reply.NoSuchPart = Hears h sub place []
 after_read h sub place _ = Goes stage.Stopped
 
+-- after a drop
 abbrev pub after_drop : Reply → Follow
 after_drop Reply.Ok = Acts
 after_drop _ = Goes stage.Stopped
 
+-- after a create
 abbrev pub after_create : Mind → Reply → Follow
 after_create m (Reply.Handle h) = Goes (adding (parts_of m.kind m.heard) h 0)
 after_create m _ = Goes stage.Stopped
 
+-- after an add
 abbrev pub after_add : Mind → ℕ → ℕ → Reply → Follow
 after_add m h place Reply.Ok = Goes (adding (parts_of m.kind m.heard) h (place + 1))
 after_add m h place _ = Goes stage.Stopped
 
+-- after a publish
 abbrev pub after_publish : Reply → Follow
 after_publish Reply.Ok = Passes
 after_publish _ = Goes stage.Stopped
@@ -128,6 +135,7 @@ follow_of m (stage.StoppedDrops h) r = Goes stage.Stopped
 abbrev pub tells : Kind → Heard → Mind
 tells k h = record { kind = k; heard = h; stage = told (parts_of k h) }
 
+-- the unit after what follows
 abbrev pub did : Mind → Follow → Mind
 did m (Goes s) = record m { stage = s }
 did m (Takes h sub) =
@@ -151,10 +159,12 @@ abbrev pub calls : Option Call → follows.Want
 calls None = follows.Wait
 calls (Some c) = follows.Calls c
 
+-- the read of a name, if there is one
 abbrev pub reads : ℕ → Option (List ℕ) → follows.Want
 reads h None = follows.Wait
 reads h (Some name) = follows.Calls (ReadPart h name)
 
+-- the add of a part, if there is one
 abbrev pub adds : ℕ → Option Draft → follows.Want
 adds h None = follows.Wait
 adds h (Some d) = follows.Calls (AddPart h d.label d.name d.value)
@@ -172,6 +182,7 @@ wanted_at m (stage.Publishes h) = follows.Calls (Publish h)
 wanted_at m stage.Stopped = follows.Wait
 wanted_at m (stage.StoppedDrops h) = follows.Calls (DropEvent h)
 
+-- what a unit wants now
 abbrev pub want_of : Mind → follows.Want
 want_of m = wanted_at m m.stage
 

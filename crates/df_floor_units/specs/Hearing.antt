@@ -43,14 +43,17 @@ quote_with a b (Some t) =
 abbrev pub quote_in : List ℕ → List ℕ → Plain → Option (Bool × ℤ)
 quote_in a b p = quote_with a b (tick_in p)
 
+-- a price, if there is one
 abbrev pub heard_quote : Option (Bool × ℤ) → Heard
 heard_quote None = heard.Nothing
 heard_quote (Some q) = heard.Quote q.0 q.1
 
+-- a match, if there is one
 abbrev pub heard_match : Option Match → Heard
 heard_match None = heard.Nothing
 heard_match (Some m) = heard.Match m
 
+-- parties, if there are any
 abbrev pub heard_parties : Option Parties → Heard
 heard_parties None = heard.Nothing
 heard_parties (Some p) = heard.Parties p

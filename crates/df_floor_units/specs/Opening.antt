@@ -24,16 +24,20 @@ tick_of symbol =
 abbrev pub release_of : ℕ → Call
 release_of number = ChangeOutLabel half.S Del (floor_tag number)
 
+-- a regulator asks for trades whose parties are told, by instances
 abbrev pub regulator_opening : List Call
 regulator_opening = SubscribeManaged (present (codes "trade") ∷ present (codes "who") ∷ []) ∷ []
 
+-- a trader lets its orders out, and asks for matches (0) and fills (1)
 abbrev pub trader_opening : ℕ → List Call
 trader_opening number = release_of (trader_tag number)
     ∷ Subscribe (present (codes "match") ∷ []) ∷ Subscribe (present (codes "fill") ∷ []) ∷ []
 
+-- a monitor asks for the ticks of both symbols
 abbrev pub monitor_opening : List ℕ → List ℕ → List Call
 monitor_opening a b = Subscribe (tick_of a ∷ []) ∷ Subscribe (tick_of b ∷ []) ∷ []
 
+-- the regulator's instance lets its warnings out
 abbrev pub watcher_opening : List Call
 watcher_opening = release_of regulator_tag ∷ []
 

@@ -44,5 +44,6 @@ wants_none m (stage.Publishes h) = refl
 wants_none m stage.Stopped = refl
 wants_none m (stage.StoppedDrops h) = refl
 
+-- whatever a unit is told
 pub makes_no_unit : (m : Mind) (last : Last) → is_child_wanted (next m last).0 ≡ false
 makes_no_unit m last = wants_none (moved m last) (moved m last).stage

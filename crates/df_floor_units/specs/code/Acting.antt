@@ -6,6 +6,7 @@ use Rattle.df_floor_units.specs.declared.stage.Stage.{Stage}
 use Rattle.df_floor_units.specs.declared.stage.Stage.TheVariants as stage
 use Rattle.df_floor_units.specs.declared.action.Action.TheVariants as action
 
+-- what an action is
 abbrev pub follow : Action → Follow
 follow (action.Goes s) = Goes s
 follow (action.Takes h sub) = Takes h sub
