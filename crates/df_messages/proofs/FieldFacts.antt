@@ -24,7 +24,8 @@ entry_count_is [] = refl
 entry_count_is (e ∷ es) = ap suc (entry_count_is es)
 
 -- a map has as many fields as its entries are
-pub count_shown : (shown : List (List ℕ × Value)) (p : Plain) {v : Value} {es : List (List ℕ × Plain)} → map named shown ≡ es → v ≡ Map es → plain v ≡ p → length shown ≡ field_count p
+pub count_shown : (shown : List (List ℕ × Value)) (p : Plain) {v : Value} {es : List (List ℕ × Plain)} → map named shown ≡ es → v ≡ Map es →
+    plain v ≡ p → length shown ≡ field_count p
 count_shown shown p {v = v} {es = es} e is same =
     let n : length shown ≡ length es = sym (length-map shown named) ∙ ap length e in
     let f : entry_count (from_pairs es) ≡ field_count p = ap (λ w. field_count (plain w)) (sym is) ∙ ap field_count same in
@@ -50,7 +51,9 @@ nodes_put : (n : List ℕ) (p : Plain) (es : Pairs) → entries_node_count (put_
 nodes_put n p no_entries = omega arith
 nodes_put n p (entry m q es) = go (name_cmp n m) (nodes_put n p es)
   where
-    go : (o : Ordering) → entries_node_count (put_entry n p es) ≤ node_count p + entries_node_count es → entries_node_count (match_ordering o (entry n p (entry m q es)) (entry m p es) (entry m q (put_entry n p es))) ≤ node_count p + (node_count q + entries_node_count es)
+    go : (o : Ordering) → entries_node_count (put_entry n p es) ≤ node_count p + entries_node_count es →
+        entries_node_count (match_ordering o (entry n p (entry m q es)) (entry m p es) (entry m q (put_entry n p es)))
+            ≤ node_count p + (node_count q + entries_node_count es)
     go Less h = omega arith
     go Equal h = omega arith
     go Greater h = omega (arith, h)
@@ -59,7 +62,9 @@ bytes_put : (n : List ℕ) (p : Plain) (es : Pairs) → entries_byte_count (put_
 bytes_put n p no_entries = omega arith
 bytes_put n p (entry m q es) = go (name_cmp n m) (bytes_put n p es)
   where
-    go : (o : Ordering) → entries_byte_count (put_entry n p es) ≤ length n + byte_count p + entries_byte_count es → entries_byte_count (match_ordering o (entry n p (entry m q es)) (entry m p es) (entry m q (put_entry n p es))) ≤ length n + byte_count p + (length m + byte_count q + entries_byte_count es)
+    go : (o : Ordering) → entries_byte_count (put_entry n p es) ≤ length n + byte_count p + entries_byte_count es →
+        entries_byte_count (match_ordering o (entry n p (entry m q es)) (entry m p es) (entry m q (put_entry n p es)))
+            ≤ length n + byte_count p + (length m + byte_count q + entries_byte_count es)
     go Less h = omega arith
     go Equal h = omega arith
     go Greater h = omega (arith, h)
@@ -68,7 +73,8 @@ flat_put : (n : List ℕ) (p : Plain) (es : Pairs) → depth p ≤ 1 → entries
 flat_put n p no_entries dp des = omega arith
 flat_put n p (entry m q es) dp des = go (name_cmp n m) (flat_put n p es dp (omega (arith, des)))
   where
-    go : (o : Ordering) → entries_depth (put_entry n p es) ≤ 1 → entries_depth (match_ordering o (entry n p (entry m q es)) (entry m p es) (entry m q (put_entry n p es))) ≤ 1
+    go : (o : Ordering) → entries_depth (put_entry n p es) ≤ 1 →
+        entries_depth (match_ordering o (entry n p (entry m q es)) (entry m p es) (entry m q (put_entry n p es))) ≤ 1
     go Less h = omega (arith, dp, des)
     go Equal h = omega (arith, dp, des)
     go Greater h = omega (arith, h, des)
