@@ -1,5 +1,5 @@
 -- The units of the floor as step functions: what each wants by the replies to it.
-use Rattle.std.specs.Prelude.{ℕ, ◌+◌, Bool, true, false, if◌then◌else◌, nat_lt, List, [], ◌∷◌, length, Option, Some, None, slice_get}
+use Rattle.std.specs.Prelude.{ℕ, ◌+◌, Bool, true, false, if◌then◌else◌, nat_lt, List, [], length, Option, Some, None, slice_get}
 use Rattle.df_messages.specs.declared.draft.Draft.{Draft}
 use Rattle.df_rules.specs.Follows as follows
 use Rattle.df_unit.specs.declared.call.Call.{Call}

@@ -1,5 +1,5 @@
 -- What units of the floor tell: the parts of the event that a unit is to publish next.
-use Rattle.std.specs.Prelude.{ℕ, suc, Bool, true, false, if◌then◌else◌, nat_lt, List, [], ◌∷◌, length, Option, Some, None, slice_get, ◌+◌}
+use Rattle.std.specs.Prelude.{ℕ, true, false, if◌then◌else◌, nat_lt, List, [], ◌∷◌, length, Option, Some, None, slice_get, ◌+◌}
 use Rattle.std.specs.Ordering.{int_eq}
 use Rattle.df_messages.specs.Drafts.{match_draft, offer_draft, tick_draft, warning_draft}
 use Rattle.df_messages.specs.declared.draft.Draft.{Draft}

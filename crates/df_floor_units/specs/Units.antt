@@ -1,5 +1,5 @@
 -- No unit of the floor wants to make a unit.
-use Rattle.std.specs.Prelude.{◌≡◌, ℕ, zero, suc, false, refl, List, [], ◌∷◌, Option, Some, None, slice_get}
+use Rattle.std.specs.Prelude.{◌≡◌, ℕ, zero, suc, false, refl, List, Option, Some, None, slice_get}
 use Rattle.df_brain.specs.Brain.{is_child_wanted}
 use Rattle.df_messages.specs.declared.draft.Draft.{Draft}
 use Rattle.df_rules.specs.Follows.{Last}
