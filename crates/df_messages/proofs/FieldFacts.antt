@@ -53,7 +53,7 @@ nodes_put n p (entry m q es) = go (name_cmp n m) (nodes_put n p es)
   where
     go : (o : Ordering) → entries_node_count (put_entry n p es) ≤ node_count p + entries_node_count es →
         entries_node_count (match_ordering o (entry n p (entry m q es)) (entry m p es) (entry m q (put_entry n p es)))
-            ≤ node_count p + (node_count q + entries_node_count es)
+        ≤ node_count p + (node_count q + entries_node_count es)
     go Less h = omega arith
     go Equal h = omega arith
     go Greater h = omega (arith, h)
@@ -64,7 +64,7 @@ bytes_put n p (entry m q es) = go (name_cmp n m) (bytes_put n p es)
   where
     go : (o : Ordering) → entries_byte_count (put_entry n p es) ≤ length n + byte_count p + entries_byte_count es →
         entries_byte_count (match_ordering o (entry n p (entry m q es)) (entry m p es) (entry m q (put_entry n p es)))
-            ≤ length n + byte_count p + (length m + byte_count q + entries_byte_count es)
+        ≤ length n + byte_count p + (length m + byte_count q + entries_byte_count es)
     go Less h = omega arith
     go Equal h = omega arith
     go Greater h = omega (arith, h)
