@@ -9,6 +9,7 @@ ghost use Rattle.df_tables.specs.Line.{mark_of, settled, was_marked};
 use df_label::NoMemory;
 use df_unit::{EventName, Given};
 use std::alloc::Global;
+use std::collections::VecDeque;
 use std::marker::Model;
 
 /// An event that was handed to a subscription.
@@ -21,14 +22,15 @@ pub(crate) struct Mark {
 /// The deliveries that are left, the marks of all that there were, and the deliveries about to be.
 #[derive(Drop)]
 pub struct Line {
-    left: Vec<Given>,
+    left: VecDeque<Given>,
     marks: Vec<Mark>,
-    staged: Vec<Given>,
+    staged: VecDeque<Given>,
     staged_marks: Vec<Mark>,
 }
 
 impl Model for Line {
     ghost use Rattle.std.specs.Prelude.{◌≡◌, ◌+◌, ◌≤◌, vec_len, vec_capacity, map};
+    ghost use Rattle.std.specs.VecDeque.{deque_len, deque_capacity};
     ghost use Rattle.df_tables.specs.Line.{LineState, line_code, mark_of};
 
     ghost Value = { LineState };
@@ -42,7 +44,7 @@ impl Model for Line {
     } };
 
     ghost invariant = { λ a. record {
-      left_room : vec_len a.left + vec_len a.staged ≤ vec_capacity a.left;
+      left_room : deque_len a.left + deque_len a.staged ≤ deque_capacity a.left;
       marks_room : vec_len a.marks + vec_len a.staged_marks ≤ vec_capacity a.marks;
       marked : a.staged_marks.items ≡ map mark_of a.staged.items;
     } };
@@ -73,9 +75,9 @@ impl Line {
         ensures { result ≡ record { left = []; marks = []; staged = [] } }
     {
         Line {
-            left: Vec::new(alloc),
+            left: VecDeque::new(alloc),
             marks: Vec::new(alloc),
-            staged: Vec::new(alloc),
+            staged: VecDeque::new(alloc),
             staged_marks: Vec::new(alloc),
         }
     }
@@ -84,7 +86,7 @@ impl Line {
     pub fn first(&self) -> Option<&Given>
         ensures { option_copied result ≡ slice_get self.now.left 0 }
     {
-        self.left.first()
+        self.left.front()
     }
 
     /// Whether no delivery is left.
@@ -98,9 +100,7 @@ impl Line {
     pub fn pop(&mut self)
         ensures { self.new ≡ record self.old { left = drop 1 self.old.left } }
     {
-        if !self.left.is_empty() {
-            let _first = self.left.remove(0);
-        }
+        let _first = self.left.pop_front();
     }
 
     /// Whether the event was handed to the subscription.
@@ -115,11 +115,11 @@ impl Line {
         ensures ok { OnOk result (self.new ≡ record self.old { staged = news.items }) }
         ensures unchanged { OnErr result (self.new ≡ self.old) }
     {
-        let alloc = *self.left.allocator();
+        let alloc = *self.marks.allocator();
         let marks = marks_of(alloc, news.as_slice())?;
         self.left.reserve(news.len())?;
         self.marks.reserve(marks.len())?;
-        self.staged = news;
+        self.staged = VecDeque::from(news);
         self.staged_marks = marks;
         Ok(())
     }

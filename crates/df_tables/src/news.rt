@@ -82,8 +82,7 @@ fn offers(
     let mut offers = Vec::new(alloc);
     for subscription in unit.subscriptions.as_slice() {
         let is_match = matches(&subscription.1, seen.as_slice());
-        let was_handed = unit.line.was_handed(event, subscription.0);
-        if is_match && !was_handed {
+        if is_match && !unit.line.was_handed(event, subscription.0) {
             offers.push(Given {
                 event: event.copy()?,
                 sub: subscription.0,
@@ -105,6 +104,9 @@ pub fn news(
         unit.now.line.marks commit.now after.now) }
 {
     let input = unit.local.input();
+    if unit.subscriptions.as_slice().is_empty() {
+        return Ok(Vec::new(alloc));
+    }
     if none_readable(input, commit.edit.added()) {
         return Ok(Vec::new(alloc));
     }
