@@ -1,19 +1,18 @@
 ghost use Rattle.std.specs.Prelude.{◌≡◌, ◌^◌, ◌<◌, ◌∷◌, [], length, IfErr, IfOk, List, None, OnErr, OnOk, map, option_copied, reverse, slice_get, vec_len, vec_capacity};
-ghost use Rattle.df_part.specs.Contents.{apply};
 ghost use Rattle.df_rules.specs.Commits.{commit_in};
+ghost use Rattle.df_tables.specs.Moves.{IsReady};
 ghost use Rattle.df_tables.specs.Table.{parts_of, rows_from};
 ghost use Rattle.df_unit.specs.Served.{IsBuilt};
 ghost use Rattle.df_unit.specs.declared.entry.Effect.{Effect};
 ghost use Rattle.df_unit.specs.declared.entry.Entry.TheVariants.{Done};
+ghost use Rattle.df_unit.specs.declared.name.EventName.{EventName};
 ghost use Rattle.df_unit.specs.declared.name.UnitName.{UnitName};
 ghost use Rattle.df_machine.specs.Journal.{IsLegal, IsRoll, answer_in, appended, begun, has_delivery_in, local_of};
 
 use crate::start::{RootStart, Start};
 use df_label::NoMemory;
 use df_local::{Answer, Local};
-use df_tables::{
-    EventRow, Ready, Unit, find, first_unit, hand_over, move_unit, prepare, put_contents,
-};
+use df_tables::{Events, Ready, Unit, find, first_unit, hand_over, move_unit, prepare};
 use df_unit::{Call, Commit, Effect, Entry, Reply, UnitName};
 use std::alloc::Global;
 use std::marker::Model;
@@ -24,7 +23,7 @@ pub struct Core {
     start: Start,
     journal: Vec<Entry>,
     units: Vec<Unit>,
-    events: Vec<EventRow>,
+    events: Events,
     alloc: Global,
 }
 
@@ -44,7 +43,7 @@ impl Model for Core {
     ghost view = { λ c. (c.start, reverse c.journal.items) };
 
     ghost invariant = { λ c. Agrees rows (firsts c.start)
-        (reverse c.journal.items) c.units.items c.events.items };
+        (reverse c.journal.items) c.units.items c.events };
 }
 
 /// A call that was not made, for want of memory. Nothing has changed.
@@ -90,29 +89,22 @@ fn prepare_plain(
     Ok(Copies { actor, kept })
 }
 
-/// Makes room in both tables, and ready what an entry with a commit needs.
+/// Makes room in the journal, and ready what an entry with a commit needs.
 fn prepare_commit(
-    alloc: Global,
     journal: &mut Vec<Entry>,
-    events: &mut Vec<EventRow>,
+    events: &mut Events,
     actor: &UnitName,
     reply: &Reply,
     commit: &Commit,
 ) -> Result<Ready, NoMemory>
-    ensures ready { IfOk result (λ r. r ≡ record {
-      actor = actor.now;
-      kept = reply.now;
-      event = commit.now.event;
-      after = apply commit.now.edit (parts_of commit.now.event events.old.items);
-    }) }
+    ensures ready { IfOk result (λ r.
+        IsReady actor.now reply.now commit.now events.old events.new r) }
     ensures room { OnOk result (vec_len journal.new < vec_capacity journal.new) }
-    ensures events_room { OnOk result (vec_len events.new < vec_capacity events.new) }
     ensures journal { journal.new.items ≡ journal.old.items }
-    ensures events { events.new.items ≡ events.old.items }
+    ensures parts { (e : EventName) → parts_of e events.new ≡ parts_of e events.old }
 {
     journal.reserve(1)?;
-    events.reserve(1)?;
-    prepare(alloc, events.as_slice(), actor, reply, commit)
+    prepare(events, actor, reply, commit)
 }
 
 impl Core {
@@ -125,7 +117,7 @@ impl Core {
             start,
             journal: Vec::new(alloc),
             units,
-            events: Vec::new(alloc),
+            events: Events::new(alloc),
             alloc,
         })
     }
@@ -254,14 +246,8 @@ impl Core {
         ensures unchanged { OnErr result (self.new ≡ self.old) }
         ensures back { IfErr result (λ e. e.call ≡ call) }
     {
-        let Ok(ready) = prepare_commit(
-            self.alloc,
-            &mut self.journal,
-            &mut self.events,
-            actor,
-            &reply,
-            &commit,
-        ) else {
+        let Ok(ready) = prepare_commit(&mut self.journal, &mut self.events, actor, &reply, &commit)
+        else {
             return Err(NotStepped { call });
         };
         let Ok(effect) = hand_over(
@@ -275,7 +261,7 @@ impl Core {
         ) else {
             return Err(NotStepped { call });
         };
-        put_contents(&mut self.events, ready.event, ready.after);
+        self.events.set(ready.place, ready.after);
         self.journal.push_reserved(Entry::Done {
             actor: ready.actor,
             call,

@@ -1,4 +1,5 @@
 pub mod Places
+pub mod Opened
 pub mod Finds
 pub mod Order
 pub mod Search

@@ -7,13 +7,10 @@ use Rattle.df_unit.specs.declared.commit.Commit.{Commit}
 use Rattle.df_unit.specs.declared.name.EventName.{EventName}
 use Rattle.df_unit.specs.declared.name.UnitName.{UnitName}
 use Rattle.df_unit.proofs.SameFacts.{same_event_decides}
+use Rattle.df_tables.specs.Events.{place_by}
 use Rattle.df_tables.specs.Table.{find, moved_at, parts_of, quieted, with_news}
 use Rattle.df_tables.specs.declared.events.EventRow.{EventRow}
 use Rattle.df_tables.specs.declared.units.Unit.{Unit}
-
-abbrev pub place_by : {A : Type 0} → (A → Bool) → List A → Option ℕ
-place_by p [] = None
-place_by p (x ∷ xs) = if p x then Some 0 else option_map suc (place_by p xs)
 
 place_by-from : {A : Type 0} (p : A → Bool) (i : ℕ) (xs : List A) → position_from p i xs ≡ option_map (λ m. i + m) (place_by p xs)
 place_by-from p i [] = refl

@@ -14,9 +14,10 @@ use Rattle.df_unit.specs.UnitOrder.{unit_cmp}
 use Rattle.df_unit.specs.UnitOrderLaws.{unit_cmp_ties}
 use Rattle.df_unit.specs.declared.name.UnitName.{UnitName}
 use Rattle.df_unit.proofs.OrderFacts.{unit_cmp_exact}
+use Rattle.df_tables.specs.Events.{place_by}
 use Rattle.df_tables.specs.Table.{IsInOrder, names_of}
 use Rattle.df_tables.specs.declared.units.Unit.{Unit}
-use Rattle.df_tables.proofs.Places.{place_by, place_by-is}
+use Rattle.df_tables.proofs.Places.{place_by-is}
 
 abbrev name : Unit → UnitName
 name u = u.local.unit

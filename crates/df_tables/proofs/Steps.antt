@@ -210,3 +210,14 @@ agrees_like R s past us us' evs e agree = record {
   unmanaged = agree.unmanaged;
   no_instances = agree.no_instances;
 }
+
+-- rows of events that tell the same parts serve as well
+pub agrees_parts : (R : Rules) (s : List OwnState) (past : List Entry) (us : List Unit) (evs evs' : List EventRow) → ((e : EventName) → parts_of e evs' ≡ parts_of e evs) → Agrees R s past us evs → Agrees R s past us evs'
+agrees_parts R s past us evs evs' same agree = record {
+  legal = agree.legal;
+  seats = agree.seats;
+  order = agree.order;
+  parts = λ e. same e ∙ agree.parts e;
+  unmanaged = agree.unmanaged;
+  no_instances = agree.no_instances;
+}

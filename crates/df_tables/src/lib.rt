@@ -10,7 +10,7 @@ mod news;
 mod tests;
 mod units;
 
-pub use events::{EventRow, put_contents};
+pub use events::{EventRow, Events};
 pub use line::Line;
 pub use moves::{Ready, hand_over, move_unit, prepare};
 pub use units::{Subscriptions, Unit, find, first_unit};

@@ -6,16 +6,17 @@ ghost use Rattle.df_rules.specs.Start.{rows};
 ghost use Rattle.df_unit.specs.Rows.{subscribes};
 ghost use Rattle.df_unit.specs.Served.{IsBuilt};
 ghost use Rattle.df_unit.specs.declared.entry.Effect.{Effect};
-ghost use Rattle.df_tables.specs.Moves.{IsAnswered, IsRight, made_by};
+ghost use Rattle.df_unit.specs.declared.name.EventName.{EventName};
+ghost use Rattle.df_tables.specs.Moves.{IsAnswered, IsReady, IsRight, made_by};
 ghost use Rattle.df_tables.specs.Table.{IsInOrder, entered, moved_at, moved_row, parts_of, quieted, settled_row, taken, with_news};
 
-use crate::events::{EventRow, contents_after};
+use crate::events::Events;
 use crate::line::Line;
 use crate::units::{Unit, place, settle_all, stage_all};
 use df_filter::Filter;
 use df_label::NoMemory;
-use df_part::Contents;
-use df_unit::{Call, Commit, Effect, EventName, Reply, UnitName};
+use df_part::{Contents, Edit};
+use df_unit::{Call, Commit, Effect, Reply, UnitName};
 use std::alloc::Global;
 
 /// The ordinary subscription that a call with this reply makes.
@@ -193,38 +194,45 @@ pub fn hand_over(
     Ok(effect)
 }
 
-/// What an entry with a commit needs beside the tables.
+/// What an entry with a commit needs beside the tables of units.
 #[derive(Drop)]
 pub struct Ready {
     pub actor: UnitName,
     pub kept: Reply,
-    pub event: EventName,
+    pub place: usize,
     pub after: Contents,
 }
 
-/// Makes ready what an entry with a commit needs.
+/// The parts after an edit.
+fn applied(contents: &Contents, edit: &Edit) -> Result<Contents, NoMemory>
+    ensures { IfOk result (λ c. c ≡ apply edit.now contents.now) }
+{
+    let mut after = contents.copy()?;
+    after.apply(edit)?;
+    Ok(after)
+}
+
+/// Makes ready what an entry with a commit needs. The event then has a row.
+#[tactic(auto, using(crate::proofs::Opened::place_within))]
 pub fn prepare(
-    alloc: Global,
-    rows: &[EventRow],
+    events: &mut Events,
     actor: &UnitName,
     reply: &Reply,
     commit: &Commit,
 ) -> Result<Ready, NoMemory>
-    ensures { IfOk result (λ r. r ≡ record {
-      actor = actor.now;
-      kept = reply.now;
-      event = commit.now.event;
-      after = apply commit.now.edit (parts_of commit.now.event rows.now);
-    }) }
+    ensures ready { IfOk result (λ r.
+        IsReady actor.now reply.now commit.now events.old events.new r) }
+    ensures parts { (e : EventName) → parts_of e events.new ≡ parts_of e events.old }
 {
     let actor = actor.copy()?;
     let kept = reply.copy()?;
-    let event = commit.event.copy()?;
-    let after = contents_after(alloc, rows, commit)?;
+    let place = events.open(&commit.event)?;
+    let contents = events.contents(place);
+    let after = applied(contents, &commit.edit)?;
     Ok(Ready {
         actor,
         kept,
-        event,
+        place,
         after,
     })
 }

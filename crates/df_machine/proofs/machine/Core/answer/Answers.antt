@@ -24,7 +24,7 @@ returns-in_ok-answer-in-Some c =
     ∙ ap (λ (f : Effect). let p : Reply × Effect = (reply u.local.unit u.local.own (option_to_list (option_copied c.first.result)) call, f) in p) c.in_ok-answer-in-Some.ensures.effect
     ∙ ap (λ (o : Option Given). row_answer u.local (option_to_list o) call) c.first.ensures
     ∙ first_answers u.local u.line.left call
-    ∙ answer_at rows s past c.self.inside.units.items c.self.inside.events.items c.self.invariant c.args.actor.now call u found in
+    ∙ answer_at rows s past c.self.inside.units.items c.self.inside.events c.self.invariant c.args.actor.now call u found in
     subst (λ (v : State). (let p : Reply × Effect = (a.reply, a.effect) in p) ≡ answer_in v c.args.actor.now call) c.self.view_is e
 
 pub returns-in-None : goal.returns-in-None
@@ -33,4 +33,4 @@ returns-in-None c =
     let past = reverse c.self.inside.journal.items in
     let absent = sym (rw c.as_slice.ensures.value at c.in-None.ensures) in
     subst (λ (v : State). let p : Reply × Effect = (Reply.NoSuchUnit, Effect.Nothing) in p ≡ answer_in v c.args.actor.now c.args.call.now) c.self.view_is
-    (sym (answer_none rows s past c.self.inside.units.items c.self.inside.events.items c.self.invariant c.args.actor.now c.args.call.now absent))
+    (sym (answer_none rows s past c.self.inside.units.items c.self.inside.events c.self.invariant c.args.actor.now c.args.call.now absent))

@@ -15,6 +15,6 @@ invariant_of-result c =
     let s = firsts c.args.start in
     let begin = map begun c.args.start in
     let units : c.in_ok-units.units.items ≡ rows_from 0 begin = c.in_ok-units.ensures ∙ ap (λ (rs : List RootStart). rows_from 0 (map begun rs)) c.as_slice.ensures.roots in
-    subst (λ (j : List Entry). Agrees rows s (reverse j) c.in_ok-units.units.items c.new-2.result.items) (sym c.new.ensures.items)
-    (subst (λ (us : List Unit). Agrees rows s [] us c.new-2.result.items) (sym units)
-    (subst (λ (es : List EventRow). Agrees rows s [] (rows_from 0 begin) es) (sym c.new-2.ensures.items) (agrees_first begin)))
+    subst (λ (j : List Entry). Agrees rows s (reverse j) c.in_ok-units.units.items c.new-2.result) (sym c.new.ensures.items)
+    (subst (λ (us : List Unit). Agrees rows s [] us c.new-2.result) (sym units)
+    (subst (λ (es : List EventRow). Agrees rows s [] (rows_from 0 begin) es) (sym c.new-2.ensures) (agrees_first begin)))
