@@ -9,6 +9,6 @@ mod refused;
 mod tests;
 mod write;
 
-pub use read::read_filter;
+pub use read::{filter_at, read_filter};
 pub use refused::FilterTextRefused;
 pub use write::{append_filter, write_filter};

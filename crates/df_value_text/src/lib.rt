@@ -37,7 +37,7 @@ pub use privilege::append_privilege;
 pub use readers::{read_label, read_privilege, read_tag, read_value};
 pub use refused::{Fault, TextRefused};
 pub use tag::{append_path, append_tag, append_tags};
-pub use tag_reader::{tag_at, tags_at};
+pub use tag_reader::{numbers_at, tag_at, tags_at};
 pub use value::{append_value, append_words};
 pub use words_reader::words_at;
 pub use writers::{write_label, write_privilege, write_tag, write_value};

@@ -33,7 +33,7 @@ fn leads_number(bytes: &[u8], place: usize) -> bool
 }
 
 /// Numbers with dots between them, as long as they go.
-fn numbers_at(alloc: Global, bytes: &[u8], at: usize) -> Result<(Vec<u32>, usize), Fault>
+pub fn numbers_at(alloc: Global, bytes: &[u8], at: usize) -> Result<(Vec<u32>, usize), Fault>
     requires { at ≤ length bytes.now }
     ensures exact { Gives (λ v. v.items) bytes.now result (numbers_at (drop at bytes.now)) }
     ensures some { IfOk result (λ r. 0 < length r.0.items) }
