@@ -73,5 +73,5 @@ call_back (ChangeInOut half act tag) rest f end last =
     rw (e1, e2, e3) refl
 call_back (Instantiate s privileges) rest f end last =
     let e1 = word_back braced_word s (map privilege_text privileges) rest f.0 end in
-    let e2 = privileges_back privileges rest (recursion_from_All IsPrivilege privileges f.1.0) end last in
+    let e2 = privileges_back privileges rest (recursion_from_All IsPrivilege privileges f.1.0) f.1.1 end last in
     rw (e1, e2) refl

@@ -86,7 +86,7 @@ parts_are = record {
       let e1 = word_back label_word part.label (part.name ∷ value_text part.value ∷ map privilege_text part.privileges) (10 ∷ rest) f.1 (inr refl) in
       let e2 = word_back name_word part.name (value_text part.value ∷ map privilege_text part.privileges) (10 ∷ rest) f.0 (inr refl) in
       let e3 = word_back value_word part.value (map privilege_text part.privileges) (10 ∷ rest) f.2 (inr refl) in
-      let e4 = privileges_back part.privileges (10 ∷ rest) (recursion_from_All IsPrivilege part.privileges f.3.0) (inr refl) refl in
+      let e4 = privileges_back part.privileges (10 ∷ rest) (recursion_from_All IsPrivilege part.privileges f.3.0) f.3.1 (inr refl) refl in
       rw (e1, e2, e3, e4) refl;
   some = λ part. omega arith;
 }
@@ -99,7 +99,7 @@ parts_read_are = record {
   back = λ part rest f.
       let e1 = word_back label_word part.label (value_text part.value ∷ map privilege_text part.privileges) (10 ∷ rest) f.0 (inr refl) in
       let e2 = word_back value_word part.value (map privilege_text part.privileges) (10 ∷ rest) f.1 (inr refl) in
-      let e3 = privileges_back part.privileges (10 ∷ rest) (recursion_from_All IsPrivilege part.privileges f.2.0) (inr refl) refl in
+      let e3 = privileges_back part.privileges (10 ∷ rest) (recursion_from_All IsPrivilege part.privileges f.2.0) f.2.1 (inr refl) refl in
       rw (e1, e2, e3) refl;
   some = λ part. omega arith;
 }

@@ -32,7 +32,7 @@ root_split number root rest =
 root_back : (number : ℕ) (root : RootStart) (rest : List ℕ) → IsRoot root → root_at number (root_line number root ++ rest) ≡ Ok (root, rest)
 root_back number root rest fits =
     let e1 = word_back label_word root.label (map privilege_text root.privileges) (10 ∷ rest) fits.0 (inr refl) in
-    let e2 = privileges_back root.privileges (10 ∷ rest) (recursion_from_All IsPrivilege root.privileges fits.1.0) (inr refl) refl in
+    let e2 = privileges_back root.privileges (10 ∷ rest) (recursion_from_All IsPrivilege root.privileges fits.1.0) fits.1.1 (inr refl) refl in
     ap (root_at number) (root_split number root rest)
     ∙ behind_back (codes "unit " ++ decimal number) _ (root_words root ++ 10 ∷ rest)
     ∙ rw (e1, e2) refl

@@ -5,6 +5,8 @@ use Rattle.df_format.specs.Reading.{Read, closed_at}
 use Rattle.df_format.proofs.Backs.{Back, all_back}
 use Rattle.df_frozen.specs.Name.{is_name}
 use Rattle.df_frozen.specs.Plain.{Plain}
+use Rattle.df_label.specs.Ascending.{IsAscending}
+use Rattle.df_label.specs.Privilege.{privilege_cmp}
 use Rattle.df_label.specs.declared.label.Label.{Label}
 use Rattle.df_label.specs.declared.privilege.Privilege.{Privilege}
 use Rattle.df_filter.specs.declared.clause.Clause.{Clause}
@@ -24,7 +26,8 @@ use Rattle.df_filter_text.proofs.Backs.{filter_back}
 use Rattle.df_journal_text.specs.Line.{word, spaced, line}
 use Rattle.df_journal_text.specs.ReadCall.{braced_at}
 use Rattle.df_journal_text.specs.ReadReply.{long_at}
-use Rattle.df_journal_text.specs.ReadWords.{word_at, line_at, begins_pair, privileges_at}
+use Rattle.df_journal_text.specs.ReadWords.{word_at, line_at, begins_pair, each_privilege_at, privileges_at}
+use Rattle.df_journal_text.proofs.Words.{ascend_of}
 
 -- what is spelled is read back, where a word ends
 pub record Word {X : Type 0} (spell : X → List ℕ) (Fits : X → Type 0) (read : List ℕ → Read ℕ X) : Type 0 where
@@ -73,7 +76,7 @@ word_back {X} {spell} {Fits} {read} w x words rest fits end = ap read (append_as
 
 -- ---- privileges
 
-abbrev privilege_words : Privilege → List ℕ
+abbrev pub privilege_words : Privilege → List ℕ
 privilege_words p = word (privilege_text p)
 
 privileges_are : Back (begins_pair 32 35) privilege_words IsPrivilege EndsWord (word_at privilege_at)
@@ -84,12 +87,14 @@ privileges_are = record {
   next = λ p rest fits. inl refl;
 }
 
-spaced-privileges : (ps : List Privilege) → spaced (map privilege_text ps) ≡ flat_map privilege_words ps
+pub spaced-privileges : (ps : List Privilege) → spaced (map privilege_text ps) ≡ flat_map privilege_words ps
 spaced-privileges [] = refl
 spaced-privileges (p ∷ ps) = ap (λ (u : List ℕ). privilege_words p ++ u) (spaced-privileges ps)
 
-pub privileges_back : (ps : List Privilege) (rest : List ℕ) → AllByRecursion IsPrivilege ps → EndsWord rest → begins_pair 32 35 rest ≡ false → privileges_at (spaced (map privilege_text ps) ++ rest) ≡ Ok (ps, rest)
-privileges_back ps rest fits end last = ap (λ (u : List ℕ). privileges_at (u ++ rest)) (spaced-privileges ps) ∙ all_back privileges_are ps rest fits end last
+pub privileges_back : (ps : List Privilege) (rest : List ℕ) → AllByRecursion IsPrivilege ps → IsAscending privilege_cmp ps → EndsWord rest → begins_pair 32 35 rest ≡ false → privileges_at (spaced (map privilege_text ps) ++ rest) ≡ Ok (ps, rest)
+privileges_back ps rest fits above end last =
+    let each : each_privilege_at (spaced (map privilege_text ps) ++ rest) ≡ Ok (ps, rest) = ap (λ (u : List ℕ). each_privilege_at (u ++ rest)) (spaced-privileges ps) ∙ all_back privileges_are ps rest fits end last in
+    rw (each, ascend_of ps above) refl
 
 -- ---- lines
 

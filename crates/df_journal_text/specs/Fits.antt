@@ -1,5 +1,5 @@
 -- Which calls, replies, entries and journals have a spelling.
-use Rattle.std.specs.Prelude.{◌≡◌, ℕ, ◌<◌, ◌^◌, true, ⊤, List, length, Option, Some, None}
+use Rattle.std.specs.Prelude.{◌≡◌, ℕ, ◌<◌, ◌^◌, true, ⊤, List, [], length, Option, Some, None}
 use Rattle.std.specs.List.{All}
 use Rattle.df_frozen.specs.Name.{is_name}
 use Rattle.df_label.specs.Ascending.{IsAscending}
@@ -92,6 +92,19 @@ IsReply (reply.TooManyParts wanted) = wanted < 2 ^ 64
 IsReply (reply.Lacks p) = IsPrivilege p
 IsReply (reply.CannotWrite out part) = IsLabel out × IsLabel part
 IsReply _ = ⊤
+
+-- without what a read shows, which stands in lines of its own
+abbrev pub IsBare : Reply → Type 0
+IsBare (reply.Parts parts) = parts ≡ []
+IsBare _ = ⊤
+
+-- a reply as its words tell it
+abbrev pub IsAnswer : Reply → Type 0
+IsAnswer r = IsReply r × IsBare r
+
+-- a unit, its call and the answer
+abbrev pub IsCalled : UnitName × Call × Reply → Type 0
+IsCalled x = IsUnit x.0 × IsCall x.1 × IsAnswer x.2
 
 -- ---- entries
 

@@ -1,6 +1,7 @@
 pub mod Call
 pub mod Entry
 pub mod Fits
+pub mod Large
 pub mod Line
 pub mod Name
 pub mod ReadCall
@@ -11,3 +12,4 @@ pub mod ReadStart
 pub mod ReadWords
 pub mod Reply
 pub mod Start
+pub mod code

@@ -22,10 +22,9 @@ use Rattle.df_unit.specs.declared.entry.Noted.{Noted}
 use Rattle.df_machine.specs.declared.start.RootStart.{RootStart}
 use Rattle.df_value_text.specs.Number.{begins_with}
 use Rattle.df_value_text.specs.ReadLabel.{label_at}
-use Rattle.df_value_text.specs.ReadName.{name_at}
 use Rattle.df_value_text.specs.ReadTag.{begins_digit}
 use Rattle.df_value_text.specs.ReadValue.{value_at}
-use Rattle.df_journal_text.specs.ReadWords.{word_at, line_at, begins_pair, privileges_at}
+use Rattle.df_journal_text.specs.ReadWords.{word_at, line_at, begins_pair, named_at, privileges_at}
 use Rattle.df_journal_text.specs.ReadName.{unit_at, event_at}
 use Rattle.df_journal_text.specs.ReadStart.{start_at}
 use Rattle.df_journal_text.specs.ReadCall.{call_at}
@@ -41,14 +40,13 @@ all_marked_at mark read bytes = all_at (begins_pair mark 32) (marked_at mark rea
 
 -- ---- parts, spots and edits
 
-abbrev pub part_of : Label × (List ℕ × (Plain × List Privilege)) → Part
-part_of x = record { name = x.1.0; label = x.0; value = x.1.1.0; privileges = x.1.1.1 }
+abbrev pub part_of : (Label × List ℕ) × (Plain × List Privilege) → Part
+part_of x = record { name = x.0.1; label = x.0.0; value = x.1.0; privileges = x.1.1 }
 
 -- the words of a part
 abbrev pub part_at : List ℕ → Read ℕ Part
 part_at bytes =
-    as_at part_of (then_at (word_at label_at)
-    (then_at (word_at name_at) (then_at (word_at value_at) privileges_at))) bytes
+    as_at part_of (then_at named_at (then_at (word_at value_at) privileges_at)) bytes
 
 abbrev pub part_read_of : Label × (Plain × List Privilege) → PartRead
 part_read_of x = record { label = x.0; value = x.1.0; privileges = x.1.1 }
@@ -63,7 +61,7 @@ spot_of x = record { name = x.1; label = x.0 }
 
 -- the words of a deleted spot
 abbrev pub deleted_at : List ℕ → Read ℕ Spot
-deleted_at bytes = as_at spot_of (then_at (word_at label_at) (word_at name_at)) bytes
+deleted_at bytes = as_at spot_of named_at bytes
 
 -- the lines of what a commit deletes and then of what it adds
 abbrev pub edit_at : List ℕ → Read ℕ (List Spot × List Part)

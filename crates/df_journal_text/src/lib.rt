@@ -2,16 +2,28 @@
 #![tactic(auto)]
 
 mod call;
+mod call_reader;
 mod effect;
 mod entry;
 mod laws;
 mod line;
+mod line_fault;
+mod line_reader;
 mod name;
+mod name_reader;
 mod reply;
+mod reply_reader;
 mod start;
+mod value_word;
+mod word_reader;
 mod writers;
 
+pub use call_reader::read_call_at;
 pub use laws::{a_journal_is_read_back, a_text_is_one_journal};
+pub use line_fault::LineFault;
+pub use line_reader::{read_call_line, read_part_line, read_shown_line};
+pub use name_reader::{event_at, unit_at};
+pub use reply_reader::reply_at;
 pub use writers::{
     write_entry, write_event, write_head, write_noted, write_noting, write_start, write_unit,
 };

@@ -1,0 +1,146 @@
+-- What the readers of lines with a value answer.
+use Rattle.std.proofs.Common.{◌≡◌, ℕ, true, List, [], ◌∷◌, ◌++◌, map, Ok, Err, codes, refl, sym, ap, subst, ◌∙◌, append_assoc, append-nil, inl}
+use Rattle.std.proofs.lemmas.List.Concat.{flat_map-append}
+use Rattle.std.proofs.lemmas.List.Elements.{recursion_from_All}
+use Rattle.df_format.specs.Reading.{Read, behind_at}
+use Rattle.df_frozen.specs.Name.{is_name}
+use Rattle.df_frozen.specs.Plain.{Plain}
+use Rattle.df_label.specs.declared.label.Label.{Label}
+use Rattle.df_label.specs.declared.privilege.Privilege.{Privilege}
+use Rattle.df_part.specs.declared.part.Part.{Part}
+use Rattle.df_unit.specs.declared.call.Call.{Call}
+use Rattle.df_unit.specs.declared.name.UnitName.{UnitName}
+use Rattle.df_unit.specs.declared.parts.PartRead.{PartRead}
+use Rattle.df_unit.specs.declared.reply.Reply.{Reply}
+use Rattle.df_unit.specs.declared.reply.Reply.TheVariants as reply
+use Rattle.df_value_text.specs.Fits.{IsLabel, IsPrivilege, IsValue}
+use Rattle.df_value_text.specs.Label.{label_text, privilege_text}
+use Rattle.df_value_text.specs.ReadLabel.{label_at}
+use Rattle.df_value_text.specs.ReadName.{name_at}
+use Rattle.df_value_text.specs.ReadValue.{value_at}
+use Rattle.df_value_text.specs.Value.{value_text}
+use Rattle.df_value_text.specs.code.WordEnd.{EndsWord}
+use Rattle.df_value_text.proofs.Backs.{value_back}
+use Rattle.df_journal_text.specs.Call.{call_words}
+use Rattle.df_journal_text.specs.Entry.{call_line, part_line, read_line}
+use Rattle.df_journal_text.specs.Fits.{ArePrivileges, IsAnswer, IsBare, IsCall, IsCalled, IsPart, IsPartRead, IsUnit}
+use Rattle.df_journal_text.specs.Large.{IsLargeCall, IsLargeWord}
+use Rattle.df_journal_text.specs.Line.{spaced, word}
+use Rattle.df_journal_text.specs.Name.{unit_text}
+use Rattle.df_journal_text.specs.ReadCall.{call_at}
+use Rattle.df_journal_text.specs.ReadName.{unit_at}
+use Rattle.df_journal_text.specs.ReadReply.{reply_at}
+use Rattle.df_journal_text.specs.ReadWords.{named_at, privileges_at, word_at}
+use Rattle.df_journal_text.specs.Reply.{reply_words}
+use Rattle.df_journal_text.specs.code.Judging.{EndsCall, answer_at, call_text, ended, reply_text}
+use Rattle.df_journal_text.proofs.Appends.{part_apart, shown_apart}
+use Rattle.df_journal_text.proofs.CallBacks.{call_back}
+use Rattle.df_journal_text.proofs.CallFounds.{named_finds}
+use Rattle.df_journal_text.proofs.CallTells.{call_apart}
+use Rattle.df_journal_text.proofs.Founds.{finds_behind, finds_word, label_finds, privileges_finds, unit_finds}
+use Rattle.df_journal_text.proofs.Frames.{Frame, Parted}
+use Rattle.df_journal_text.proofs.NameBacks.{unit_word}
+use Rattle.df_journal_text.proofs.ReplyBacks.{bare_of, reply_back}
+use Rattle.df_journal_text.proofs.ReplyFounds.{reply_finds}
+use Rattle.df_journal_text.proofs.StartBacks.{behind_back}
+use Rattle.df_journal_text.proofs.ValueTells.{value_apart, value_word_text}
+use Rattle.df_journal_text.proofs.WordBacks.{ends_spaced, label_word, name_word, privileges_back}
+
+-- ---- calls
+
+bare_is : (r : Reply) → IsBare r → bare_of r ≡ r
+bare_is (reply.Parts parts) h = ap (λ (ps : List PartRead). reply.Parts ps) (sym h)
+bare_is _ h = refl
+
+-- what stands behind a call
+abbrev pub answer_text : Reply → List ℕ
+answer_text r = codes " ->" ++ reply_text r
+
+pub called : Frame unit_text IsUnit EndsWord unit_at call_text IsCall EndsCall IsLargeCall call_at answer_text IsAnswer answer_at
+called = record {
+  front_found = unit_finds.found;
+  front_back = unit_word.back;
+  front_next = λ y z fy fz. ends_spaced (call_words y) (answer_text z) (inl refl);
+  front_large = λ rest l. subst EndsWord (sym l.parts) (inl refl);
+  middle_back = λ y rest fits next. call_back y rest fits next.0 next.1;
+  middle_next = λ z fz. (inl refl, refl);
+  apart = call_apart;
+  tail_found = (finds_behind (codes " ->") reply_finds).found;
+  tail_back = λ z fz.
+      behind_back (codes " ->") reply_at (reply_text z) ∙ ap reply_at (sym (append-nil (reply_text z))) ∙ reply_back z [] fz.0 tt ∙ ap (λ (r : Reply). Ok (r, [])) (bare_is z fz.1);
+}
+
+pub called_line : (actor : UnitName) (call : Call) (r : Reply) → call_line actor call r ≡ ended (unit_text actor ++ (call_text call ++ answer_text r))
+called_line actor call r =
+    ap (λ (u : List ℕ). (unit_text actor ++ u) ++ 10 ∷ []) (flat_map-append word (call_words call) (codes "->" ∷ reply_words r))
+
+-- ---- parts
+
+value_read : (p : Plain) (rest : List ℕ) → IsValue p → EndsWord rest → word_at value_at (value_word_text p ++ rest) ≡ Ok (p, rest)
+value_read p rest fits end = value_back p rest fits.0 end
+
+abbrev pub privileges_text : List Privilege → List ℕ
+privileges_text ps = spaced (map privilege_text ps)
+
+privileges_end : (ps : List Privilege) → EndsWord (privileges_text ps)
+privileges_end [] = tt
+privileges_end (p ∷ ps) = inl refl
+
+privileges_read : (ps : List Privilege) → ArePrivileges ps → privileges_at (privileges_text ps) ≡ Ok (ps, [])
+privileges_read ps f = ap privileges_at (sym (append-nil (privileges_text ps))) ∙ privileges_back ps [] (recursion_from_All IsPrivilege ps f.0) f.1 tt refl
+
+abbrev pub named_text : Label × List ℕ → List ℕ
+named_text n = word (label_text n.0) ++ word n.1
+
+abbrev pub IsNamed : Label × List ℕ → Type 0
+IsNamed n = IsLabel n.0 × (is_name n.1 ≡ true)
+
+named_back : (n : Label × List ℕ) (rest : List ℕ) → IsNamed n → EndsWord rest → named_at (named_text n ++ rest) ≡ Ok (n, rest)
+named_back n rest fits end =
+    let e1 : label_at (label_text n.0 ++ (word n.1 ++ rest)) ≡ Ok (n.0, word n.1 ++ rest) = label_word.back n.0 (word n.1 ++ rest) fits.0 (inl refl) in
+    let e2 : name_at (n.1 ++ rest) ≡ Ok (n.1, rest) = name_word.back n.1 rest fits.1 end in
+    ap named_at (append_assoc (word (label_text n.0)) (word n.1) rest) ∙ rw (e1, e2) refl
+
+pub part_frame : (mark : List ℕ) → Frame (λ (n : Label × List ℕ). mark ++ named_text n) IsNamed EndsWord (behind_at mark named_at) value_word_text IsValue EndsWord IsLargeWord (word_at value_at) privileges_text ArePrivileges privileges_at
+part_frame mark = record {
+  front_found = (finds_behind mark named_finds).found;
+  front_back = λ n rest fits end. ap (behind_at mark named_at) (append_assoc mark (named_text n) rest) ∙ behind_back mark named_at (named_text n ++ rest) ∙ named_back n rest fits end;
+  front_next = λ y z fy fz. inl refl;
+  front_large = λ rest l. subst EndsWord (sym l.parts) (inl refl);
+  middle_back = value_read;
+  middle_next = λ z fz. privileges_end z;
+  apart = value_apart;
+  tail_found = privileges_finds.found;
+  tail_back = privileges_read;
+}
+
+pub shown_frame : Frame (λ (label : Label). codes ":" ++ word (label_text label)) IsLabel EndsWord (behind_at (codes ":") (word_at label_at)) value_word_text IsValue EndsWord IsLargeWord (word_at value_at) privileges_text ArePrivileges privileges_at
+shown_frame = record {
+  front_found = (finds_behind (codes ":") (finds_word label_finds)).found;
+  front_back = λ label rest fits end. label_word.back label rest fits end;
+  front_next = λ y z fy fz. inl refl;
+  front_large = λ rest l. subst EndsWord (sym l.parts) (inl refl);
+  middle_back = value_read;
+  middle_next = λ z fz. privileges_end z;
+  apart = value_apart;
+  tail_found = privileges_finds.found;
+  tail_back = privileges_read;
+}
+
+pub part_text : (mark : List ℕ) (part : Part) → part_line mark part ≡ ended ((mark ++ named_text (part.label, part.name)) ++ (value_word_text part.value ++ privileges_text part.privileges))
+part_text mark part = part_apart mark (word (label_text part.label)) (word part.name) (value_word_text part.value) (privileges_text part.privileges) (10 ∷ [])
+
+pub shown_text : (part : PartRead) → read_line part ≡ ended ((codes ":" ++ word (label_text part.label)) ++ (value_word_text part.value ++ privileges_text part.privileges))
+shown_text part = shown_apart (codes ":") (word (label_text part.label)) (value_word_text part.value) (privileges_text part.privileges) (10 ∷ [])
+
+
+-- ---- each line of three
+
+pub called_parts : (w : UnitName × Call × Reply) → IsCalled w → Parted unit_text IsUnit call_text IsCall answer_text IsAnswer (λ (w : UnitName × Call × Reply). call_line w.0 w.1 w.2) IsCalled w
+called_parts w f = record { front = w.0; middle = w.1; tail = w.2; front_fits = f.0; middle_fits = f.1; tail_fits = f.2; parts = called_line w.0 w.1 w.2 }
+
+pub part_parts : (mark : List ℕ) (w : Part) → IsPart w → Parted (λ (n : Label × List ℕ). mark ++ named_text n) IsNamed value_word_text IsValue privileges_text ArePrivileges (part_line mark) IsPart w
+part_parts mark w f = record { front = (w.label, w.name); middle = w.value; tail = w.privileges; front_fits = (f.1, f.0); middle_fits = f.2; tail_fits = f.3; parts = part_text mark w }
+
+pub shown_parts : (w : PartRead) → IsPartRead w → Parted (λ (label : Label). codes ":" ++ word (label_text label)) IsLabel value_word_text IsValue privileges_text ArePrivileges read_line IsPartRead w
+shown_parts w f = record { front = w.label; middle = w.value; tail = w.privileges; front_fits = f.0; middle_fits = f.1; tail_fits = f.2; parts = shown_text w }
