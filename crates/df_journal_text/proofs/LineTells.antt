@@ -133,7 +133,6 @@ part_text mark part = part_apart mark (word (label_text part.label)) (word part.
 pub shown_text : (part : PartRead) → read_line part ≡ ended ((codes ":" ++ word (label_text part.label)) ++ (value_word_text part.value ++ privileges_text part.privileges))
 shown_text part = shown_apart (codes ":") (word (label_text part.label)) (value_word_text part.value) (privileges_text part.privileges) (10 ∷ [])
 
-
 -- ---- each line of three
 
 pub called_parts : (w : UnitName × Call × Reply) → IsCalled w → Parted unit_text IsUnit call_text IsCall answer_text IsAnswer (λ (w : UnitName × Call × Reply). call_line w.0 w.1 w.2) IsCalled w

@@ -22,11 +22,7 @@ use df_value_text::{Fault, byte_at};
 use std::alloc::Global;
 
 /// The handle, the label and the name that are the next words, and the place behind them.
-fn spot_at(
-    alloc: Global,
-    bytes: &[u8],
-    at: usize,
-) -> Result<((u32, (Label, Name)), usize), Fault>
+fn spot_at(alloc: Global, bytes: &[u8], at: usize) -> Result<((u32, (Label, Name)), usize), Fault>
     requires { at ≤ length bytes.now }
     ensures { Gives (λ s. (s.0, (s.1.0, s.1.1))) bytes.now result (spot_at (drop at bytes.now)) }
 {
@@ -64,11 +60,7 @@ fn act_at(bytes: &[u8], at: usize) -> Result<(Act, usize), Fault>
 }
 
 /// A half of a label, what is done there, and a tag, and the place behind them.
-fn change_at(
-    alloc: Global,
-    bytes: &[u8],
-    at: usize,
-) -> Result<((Half, (Act, Tag)), usize), Fault>
+fn change_at(alloc: Global, bytes: &[u8], at: usize) -> Result<((Half, (Act, Tag)), usize), Fault>
     requires { at ≤ length bytes.now }
     ensures { Gives (λ c. (c.0, (c.1.0, c.1.1))) bytes.now result (change_at (drop at bytes.now)) }
 {

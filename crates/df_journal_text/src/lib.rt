@@ -29,4 +29,6 @@ pub use writers::{
 };
 
 #[cfg(test)]
+mod reader_tests;
+#[cfg(test)]
 mod tests;

@@ -59,11 +59,7 @@ pub fn read_call_line(alloc: Global, line: &[u8]) -> Result<(UnitName, Call, Rep
 }
 
 /// A label and a name behind a mark, and the place behind them.
-fn marked_at(
-    alloc: Global,
-    line: &[u8],
-    mark: &[u8],
-) -> Result<((Label, Name), usize), Fault>
+fn marked_at(alloc: Global, line: &[u8], mark: &[u8]) -> Result<((Label, Name), usize), Fault>
     ensures { Gives (λ n. (n.0, n.1)) line.now result (behind_at mark.now named_at line.now) }
 {
     let (_, start) = text_at(line, 0, mark)?;

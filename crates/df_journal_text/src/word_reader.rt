@@ -15,7 +15,9 @@ use df_filter::Filter;
 use df_filter_text::filter_at;
 use df_frozen::Name;
 use df_label::{Label, Privilege, Privileges, Tag};
-use df_value_text::{Fault, byte_at, byte_stands, label_at, name_at, privilege_at, short_at, tag_at};
+use df_value_text::{
+    Fault, byte_at, byte_stands, label_at, name_at, privilege_at, short_at, tag_at,
+};
 use std::alloc::Global;
 
 /// The place behind these bytes, if they stand at the place.
@@ -76,11 +78,7 @@ pub fn name_word(bytes: &[u8], at: usize) -> Result<(Name, usize), Fault>
 }
 
 /// The label and the name that are the next two words, and the place behind them.
-pub fn named_at(
-    alloc: Global,
-    bytes: &[u8],
-    at: usize,
-) -> Result<((Label, Name), usize), Fault>
+pub fn named_at(alloc: Global, bytes: &[u8], at: usize) -> Result<((Label, Name), usize), Fault>
     requires { at ≤ length bytes.now }
     ensures { Gives (λ n. (n.0, n.1)) bytes.now result (named_at (drop at bytes.now)) }
 {
