@@ -41,8 +41,8 @@ abbrev pub IsUnspelled : {X : Type 0} → (X → List ℕ) → (X → Type 0) �
 IsUnspelled {X} spell Fits MayFollow bytes = (x : X) (rest : List ℕ) → Fits x → MayFollow rest →
     bytes ≡ spell x ++ rest → ⊥
 
--- What is answered is spelled at the place, and read there. A fault comes only where nothing is, and tells whether
--- what stands there is too large.
+-- What is answered is spelled at the place, and read there. A fault comes only where nothing is,
+-- and tells whether what stands there is too large.
 abbrev pub Tells : {X : Type 0} → (X → List ℕ) → (X → Type 0) → (List ℕ → Type 0) →
     (List ℕ → Type 0) → (List ℕ → Read ℕ X) → List ℕ → ℕ → Result (X × ℕ) LineFault → Type 0
 Tells spell Fits MayFollow IsLarge read bytes at (Ok x) = (x.1 ≤ length bytes) × Fits x.0
