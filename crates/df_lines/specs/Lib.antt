@@ -1,0 +1,4 @@
+pub mod FirstBad
+pub mod Lines
+pub mod Refused
+pub mod code
