@@ -5,7 +5,7 @@ use Rattle.std.specs.List.{join_with_byte}
 use Rattle.std.proofs.lemmas.List.Elements.{All-head, All-tail}
 use Rattle.std.proofs.lemmas.Bool.Decides.{nat_tests}
 use Rattle.df_journal_text.specs.Line.{spaced}
-use Rattle.df_script_text.specs.Cut.{HasNoSpace, IsCutAtSpace, IsNextPiece, cut_pieces, in_front}
+use Rattle.df_script_text.specs.code.Cut.{HasNoSpace, IsCutAtSpace, IsNextPiece, cut_pieces, in_front}
 use Rattle.df_script_text.proofs.Splits.{Avoids-word, join_with_byte-spaced}
 use Rattle.df_script_text.proofs.Words.{AreWords, is_word}
 

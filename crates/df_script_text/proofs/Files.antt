@@ -1,76 +1,158 @@
 -- Scripts and their lines.
-use Rattle.std.proofs.Common.{◌≡◌, ℕ, ◌+◌, ◌<◌, ◌^◌, Option, Some, None, List, [], ◌∷◌, ◌++◌, length, map, codes, decimal, refl, sym, ap, ◌∙◌, arith, lit≤, append-nil, append_assoc}
-use lib.Dec.{eqb}
-use Rattle.std.specs.List.{AllByRecursion, slice_split, join_with_byte, flat_map}
+use Rattle.std.proofs.Common.{◌≡◌, ℕ, ◌+◌, ◌<◌, ◌≤◌, ◌^◌, List, [], ◌∷◌, ◌++◌, length, take, drop, map, codes, decimal, get_or, refl, sym, ap, ◌∙◌, arith, lit≤, append_assoc, length-append, length-drop, inl, inr}
+use Rattle.std.specs.List.{All, AllByRecursion, flat_map}
+use Rattle.std.proofs.lemmas.List.{take_at}
 use Rattle.std.proofs.lemmas.List.Elements.{All-cons, All-append, All-from_recursion, recursion_from_All}
 use Rattle.std.proofs.lemmas.List.Concat.{flat_map-append}
-use Rattle.std.proofs.lemmas.List.Splits.{slice_split_at, join_with_byte-slice_split}
+use Rattle.df_lines.specs.Lines.{IsLine, ended, lines_text}
+use Rattle.df_lines.proofs.FirstBad.{IsGrammar}
 use Rattle.df_machine.specs.declared.start.RootStart.{RootStart}
 use Rattle.df_value_text.specs.Label.{label_text, privilege_text}
-use Rattle.df_journal_text.specs.Start.{roots_text, start_text}
-use Rattle.df_script_text.specs.declared.line.ScriptLine.{ScriptLine}
-use Rattle.df_journal_text.specs.Start.{root_text}
-use Rattle.df_script_text.specs.Lines.{call_line, numbered, body_lines, script_lines}
-use Rattle.df_script_text.specs.Reads.{Reads}
 use Rattle.df_journal_text.specs.Fits.{IsRoot}
-use Rattle.df_script_text.specs.Script.{IsReadLine, IsScript, script_line, script_text}
+use Rattle.df_journal_text.specs.Start.{root_text, roots_text, start_text}
+use Rattle.df_script_text.specs.Script.{IsScript, IsScriptLine, IsScriptText, script_line, script_text}
+use Rattle.df_script_text.specs.code.Lines.{call_line, head_lines, numbered, script_lines}
+use Rattle.df_script_text.specs.code.Stops.{AreCalls, ArePassed, AreRootsAt, IsCallLine, IsFirstAt, IsHeadLine}
+use Rattle.df_script_text.specs.declared.line.ScriptLine.{ScriptLine}
 use Rattle.df_script_text.proofs.Calls.{Avoids-call}
-use Rattle.df_script_text.proofs.Splits.{Avoids, Avoids-word, Avoids-words, Avoids-line, AreWords-root}
 use Rattle.df_script_text.proofs.Numbered.{numbered-each}
+use Rattle.df_script_text.proofs.Splits.{Avoids-word, Avoids-words, Avoids-line, AreWords-root}
 
--- a line with its line feed
-abbrev pub ended : List ℕ → List ℕ
-ended l = l ++ 10 ∷ []
+-- the line `run`, and the first
+abbrev pub run : List ℕ
+run = codes "run"
 
--- lines are split again
-slice_split-ended : (ls : List (List ℕ)) → AllByRecursion (Avoids 10) ls → slice_split (λ b. eqb b 10) (flat_map ended ls) ≡ ls ++ [] ∷ []
-slice_split-ended [] h = refl
-slice_split-ended (l ∷ ls) h =
-    ap (slice_split (λ b. eqb b 10)) (append_assoc l (10 ∷ []) (flat_map ended ls)) ∙ slice_split_at (λ b. eqb b 10) l 10 (flat_map ended ls) h.0 refl ∙ ap (λ (m : List (List ℕ)). l ∷ m) (slice_split-ended ls h.1)
+abbrev pub first : List ℕ
+first = codes "defcon-script 1"
 
--- lines with a line feed between each two and behind the last
-join_with_byte-ended : (ls : List (List ℕ)) → join_with_byte 10 (ls ++ [] ∷ []) ≡ flat_map ended ls
-join_with_byte-ended [] = refl
-join_with_byte-ended (l ∷ []) = sym (append-nil (l ++ 10 ∷ []))
-join_with_byte-ended (l ∷ m ∷ ls) = ap (λ (k : List ℕ). l ++ (10 ∷ k)) (join_with_byte-ended (m ∷ ls)) ∙ sym (append_assoc l (10 ∷ []) (flat_map ended (m ∷ ls)))
+-- ---- a script is its lines
 
 -- the lines of roots
-roots_text-numbered : (n : ℕ) (roots : List RootStart) → roots_text n roots ≡ flat_map ended (numbered root_text n roots)
+roots_text-numbered : (n : ℕ) (roots : List RootStart) → roots_text n roots ≡ lines_text (numbered root_text n roots)
 roots_text-numbered n [] = refl
 roots_text-numbered n (root ∷ roots) = ap (λ (l : List ℕ). ended (root_text n root) ++ l) (roots_text-numbered (n + 1) roots)
 
 -- the lines of calls
-flat_map-script_line : (n : ℕ) (ls : List ScriptLine) → flat_map script_line ls ≡ flat_map ended (numbered (λ _ l. call_line l) n ls)
-flat_map-script_line n [] = refl
-flat_map-script_line n (l ∷ ls) = ap (λ (m : List ℕ). ended (call_line l) ++ m) (flat_map-script_line (n + 1) ls)
+flat_map-script_line : (ls : List ScriptLine) → flat_map script_line ls ≡ lines_text (map call_line ls)
+flat_map-script_line [] = refl
+flat_map-script_line (l ∷ ls) = ap (λ (m : List ℕ). ended (call_line l) ++ m) (flat_map-script_line ls)
 
--- a script is its lines
-script_text-lines : (roots : List RootStart) (ls : List ScriptLine) → script_text roots ls ≡ flat_map ended (codes "defcon-script 1" ∷ body_lines roots ls)
+pub script_text-lines : (roots : List RootStart) (ls : List ScriptLine) → script_text roots ls ≡ lines_text (script_lines (roots, ls))
 script_text-lines roots ls =
-    let header : List ℕ = ended (codes "defcon-script 1") in
-    let run : List ℕ = ended (codes "run") in
     let us : List (List ℕ) = numbered root_text 0 roots in
-    let vs : List (List ℕ) = numbered (λ _ l. call_line l) 0 ls in
-    append_assoc (header ++ start_text roots) run (flat_map script_line ls) ∙ append_assoc header (start_text roots) (run ++ flat_map script_line ls) ∙ ap (λ (l : List ℕ). header ++ l) (ap (λ (l : List ℕ). l ++ (run ++ flat_map script_line ls)) (roots_text-numbered 0 roots) ∙ ap (λ (l : List ℕ). flat_map ended us ++ (run ++ l)) (flat_map-script_line 0 ls) ∙ sym (flat_map-append ended us (codes "run" ∷ vs)))
+    append_assoc (ended first ++ start_text roots) (ended run) (flat_map script_line ls)
+    ∙ append_assoc (ended first) (start_text roots) (ended run ++ flat_map script_line ls)
+    ∙ ap (λ (l : List ℕ). ended first ++ l) (ap (λ (l : List ℕ). l ++ (ended run ++ flat_map script_line ls)) (roots_text-numbered 0 roots)
+    ∙ ap (λ (l : List ℕ). lines_text us ++ (ended run ++ l)) (flat_map-script_line ls)
+    ∙ sym (flat_map-append ended us (run ∷ map call_line ls)))
 
 -- a root's line has no line feed
-Avoids-root : (k : ℕ) (root : RootStart) → k < 2 ^ 32 → IsRoot root → Avoids 10 (root_text k root)
-Avoids-root k root small f =
+IsLine-root : (k : ℕ) (root : RootStart) → k < 2 ^ 32 → IsRoot root → IsLine (root_text k root)
+IsLine-root k root small f =
     let w = AreWords-root k small root f in
     Avoids-line (codes "unit") (decimal k ∷ label_text root.label ∷ map privilege_text root.privileges) (Avoids-word 10 (codes "unit") (lit≤ tt) w.0) (Avoids-words (decimal k ∷ label_text root.label ∷ map privilege_text root.privileges) w.1)
 
--- no line of a script has a line feed
-Avoids-script : (roots : List RootStart) (ls : List ScriptLine) → IsScript roots ls → AllByRecursion (Avoids 10) (codes "defcon-script 1" ∷ body_lines roots ls)
-Avoids-script roots ls h =
-    let root_lines : AllByRecursion (Avoids 10) (numbered root_text 0 roots) = numbered-each root_text (Avoids 10) IsRoot (2 ^ 32) Avoids-root 0 roots (omega (arith, h.0.0)) (recursion_from_All IsRoot roots h.0.1) in
-    let call_lines : AllByRecursion (Avoids 10) (numbered (λ _ l. call_line l) 0 ls) = numbered-each (λ _ l. call_line l) (Avoids 10) IsReadLine (length ls) (λ k l small f. Avoids-call l f) 0 ls (omega arith) (recursion_from_All IsReadLine ls h.1) in
-    let header : Avoids 10 (codes "defcon-script 1") = Avoids-line (codes "defcon-script") (codes "1" ∷ []) (Avoids-word 10 (codes "defcon-script") (lit≤ tt) refl) (Avoids-words (codes "1" ∷ []) (refl, tt)) in
-    let body : AllByRecursion (Avoids 10) (body_lines roots ls) = recursion_from_All (Avoids 10) _ (All-append (Avoids 10) (numbered root_text 0 roots) (codes "run" ∷ numbered (λ _ l. call_line l) 0 ls) (All-from_recursion (Avoids 10) _ root_lines) (All-cons (Avoids 10) (codes "run") _ (Avoids-word 10 (codes "run") (lit≤ tt) refl) (All-from_recursion (Avoids 10) _ call_lines))) in
-    (header, body)
+-- lines of roots
+pub AreLines-roots : (roots : List RootStart) → length roots < 2 ^ 32 → All IsRoot roots → All IsLine (numbered root_text 0 roots)
+AreLines-roots roots few fit =
+    All-from_recursion IsLine (numbered root_text 0 roots) (numbered-each root_text IsLine IsRoot (2 ^ 32) IsLine-root 0 roots (omega (arith, few)) (recursion_from_All IsRoot roots fit))
 
--- what reads the lines of a script reads the script
-pub Reads-script : (text : List ℕ) (ls : List (List ℕ)) → ls ≡ slice_split (λ b. eqb b 10) text → (o : Option (List RootStart × List ScriptLine)) → Reads script_lines (λ s. IsScript s.0 s.1) ls o → Reads (λ s. script_text s.0 s.1) (λ s. IsScript s.0 s.1) text o
-Reads-script text ls is (Some s) r =
-    (r.0, sym (join_with_byte-slice_split 10 text) ∙ ap (join_with_byte 10) (sym is ∙ r.1) ∙ join_with_byte-ended (codes "defcon-script 1" ∷ body_lines s.0 s.1) ∙ sym (script_text-lines s.0 s.1))
-Reads-script text ls is None r =
-    λ s f e. r s f (is ∙ ap (slice_split (λ b. eqb b 10)) (e ∙ script_text-lines s.0 s.1) ∙ slice_split-ended (codes "defcon-script 1" ∷ body_lines s.0 s.1) (Avoids-script s.0 s.1 f))
+-- lines of calls
+each_call : (ls : List ScriptLine) → AllByRecursion IsScriptLine ls → AllByRecursion IsLine (map call_line ls)
+each_call [] h = tt
+each_call (l ∷ ls) h = (Avoids-call l h.0, each_call ls h.1)
+
+pub AreLines-calls : (ls : List ScriptLine) → All IsScriptLine ls → All IsLine (map call_line ls)
+AreLines-calls ls fit = All-from_recursion IsLine (map call_line ls) (each_call ls (recursion_from_All IsScriptLine ls fit))
+
+IsLine-first : IsLine first
+IsLine-first = Avoids-line (codes "defcon-script") (codes "1" ∷ []) (Avoids-word 10 (codes "defcon-script") (lit≤ tt) refl) (Avoids-words (codes "1" ∷ []) (refl, tt))
+
+pub AreLines-head : (roots : List RootStart) → length roots < 2 ^ 32 → All IsRoot roots → All IsLine (head_lines roots)
+AreLines-head roots few fit = All-cons IsLine first (numbered root_text 0 roots) IsLine-first (AreLines-roots roots few fit)
+
+pub AreLines-script : (roots : List RootStart) (ls : List ScriptLine) → length roots < 2 ^ 32 → All IsRoot roots → All IsScriptLine ls → All IsLine (script_lines (roots, ls))
+AreLines-script roots ls few fit calls =
+    All-append IsLine (head_lines roots) (run ∷ map call_line ls) (AreLines-head roots few fit) (All-cons IsLine run (map call_line ls) (Avoids-word 10 run (lit≤ tt) refl) (AreLines-calls ls calls))
+
+-- ---- which line stands behind lines of a script
+
+run_is_no_root : {A : Type 0} (n : ℕ) (root : RootStart) → run ≡ root_text n root → A
+run_is_no_root n root e = let head : 114 ≡ 117 = ap (λ (l : List ℕ). get_or l 0 0) e in absurd (omega (arith, head))
+
+-- behind lines of roots stands `run` or the line of the next root
+pub next_head : (n k : ℕ) (rs ss : List RootStart) (calls : List (List ℕ)) (bad : List ℕ) (rest : List (List ℕ)) → k ≡ n + length rs → AllByRecursion IsRoot ss → n + length ss < 2 ^ 32
+    → numbered root_text n ss ++ run ∷ calls ≡ numbered root_text n rs ++ bad ∷ rest → IsHeadLine k bad
+next_head n k [] [] calls bad rest at f small e = let same : bad ≡ run = cc in inl same
+next_head n k [] (s ∷ ss) calls bad rest at f small e =
+    let here : k ≡ n = omega (arith, at) in
+    let same : bad ≡ root_text n s = cc in
+    inr (omega (arith, small, here), (s, f.0, same ∙ ap (λ (i : ℕ). root_text i s) (sym here)))
+next_head n k (r ∷ rs) [] calls bad rest at f small e = let same : run ≡ root_text n r = cc in run_is_no_root n r same
+next_head n k (r ∷ rs) (s ∷ ss) calls bad rest at f small e =
+    let tail : numbered root_text (n + 1) ss ++ run ∷ calls ≡ numbered root_text (n + 1) rs ++ bad ∷ rest = cc in
+    next_head (n + 1) k rs ss calls bad rest (omega (arith, at)) f.1 (omega (arith, small)) tail
+
+-- behind lines of roots stands another line
+pub more_head : (n : ℕ) (rs ss : List RootStart) (calls : List (List ℕ)) → numbered root_text n ss ++ run ∷ calls ≡ numbered root_text n rs → ⊥
+more_head n [] [] calls e = cc
+more_head n [] (s ∷ ss) calls e = cc
+more_head n (r ∷ rs) [] calls e = let same : run ≡ root_text n r = cc in run_is_no_root n r same
+more_head n (r ∷ rs) (s ∷ ss) calls e =
+    let tail : numbered root_text (n + 1) ss ++ run ∷ calls ≡ numbered root_text (n + 1) rs = cc in
+    more_head (n + 1) rs ss calls tail
+
+-- none of them is `run`
+pub no_run : (n : ℕ) (rs : List RootStart) (head calls : List (List ℕ)) → numbered root_text n rs ≡ head ++ run ∷ calls → ⊥
+no_run n [] [] calls e = cc
+no_run n [] (h ∷ head) calls e = cc
+no_run n (r ∷ rs) [] calls e = let same : run ≡ root_text n r = cc in run_is_no_root n r same
+no_run n (r ∷ rs) (h ∷ head) calls e = let tail : numbered root_text (n + 1) rs ≡ head ++ run ∷ calls = cc in no_run (n + 1) rs head calls tail
+
+-- behind lines of calls stands the line of a call
+next_of : (ls ms : List ScriptLine) (bad : List ℕ) (rest : List (List ℕ)) → AllByRecursion IsScriptLine ms → map call_line ms ≡ map call_line ls ++ bad ∷ rest → IsCallLine bad
+next_of [] [] bad rest f e = cc
+next_of [] (m ∷ ms) bad rest f e = let same : bad ≡ call_line m = cc in (m, f.0, same)
+next_of (l ∷ ls) [] bad rest f e = cc
+next_of (l ∷ ls) (m ∷ ms) bad rest f e = let tail : map call_line ms ≡ map call_line ls ++ bad ∷ rest = cc in next_of ls ms bad rest f.1 tail
+
+pub next_call : (n : ℕ) (rs ss : List RootStart) (ls ms : List ScriptLine) (bad : List ℕ) (rest : List (List ℕ)) → AllByRecursion IsScriptLine ms
+    → numbered root_text n ss ++ run ∷ map call_line ms ≡ numbered root_text n rs ++ run ∷ (map call_line ls ++ bad ∷ rest) → IsCallLine bad
+next_call n [] [] ls ms bad rest f e = let tail : map call_line ms ≡ map call_line ls ++ bad ∷ rest = cc in next_of ls ms bad rest f tail
+next_call n [] (s ∷ ss) ls ms bad rest f e = let same : run ≡ root_text n s = cc in run_is_no_root n s same
+next_call n (r ∷ rs) [] ls ms bad rest f e = let same : run ≡ root_text n r = cc in run_is_no_root n r same
+next_call n (r ∷ rs) (s ∷ ss) ls ms bad rest f e =
+    let tail : numbered root_text (n + 1) ss ++ run ∷ map call_line ms ≡ numbered root_text (n + 1) rs ++ run ∷ (map call_line ls ++ bad ∷ rest) = cc in
+    next_call (n + 1) rs ss ls ms bad rest f tail
+
+-- ---- places
+
+-- what stands in front of a place
+pub front_is : (bytes front : List ℕ) (place : ℕ) → place ≤ length bytes → bytes ≡ front ++ drop place bytes → take place bytes ≡ front
+front_is bytes front place inside e =
+    let n : place ≡ length front = omega (arith, inside, ap length e, length-append front (drop place bytes), length-drop place bytes) in
+    ap (take place) e ∙ take_at front (drop place bytes) place (sym n)
+
+pub roots_before : (bytes : List ℕ) (at : ℕ) (rs : List RootStart) (place : ℕ) → IsFirstAt bytes at → ArePassed bytes at rs place → bytes ≡ lines_text (head_lines rs) ++ drop place bytes
+roots_before bytes at rs place i a =
+    i.1 ∙ ap (λ (u : List ℕ). ended first ++ u) a.text ∙ sym (append_assoc (ended first) (lines_text (numbered root_text 0 rs)) (drop place bytes))
+
+pub calls_before : (bytes : List ℕ) (at : ℕ) (rs : List RootStart) (mid : ℕ) (ls : List ScriptLine) (place : ℕ) → IsFirstAt bytes at → AreRootsAt bytes at rs mid → AreCalls bytes mid ls place
+    → bytes ≡ lines_text (script_lines (rs, ls)) ++ drop place bytes
+calls_before bytes at rs mid ls place i r c =
+    let heads : List (List ℕ) = head_lines rs in
+    let calls : List (List ℕ) = map call_line ls in
+    let behind : List ℕ = drop place bytes in
+    roots_before bytes at rs r.place i r.passed
+    ∙ ap (λ (u : List ℕ). lines_text heads ++ u) (r.run ∙ ap (λ (u : List ℕ). ended run ++ u) c.text ∙ sym (append_assoc (ended run) (lines_text calls) behind))
+    ∙ sym (append_assoc (lines_text heads) (ended run ++ lines_text calls) behind)
+    ∙ ap (λ (u : List ℕ). u ++ behind) (sym (flat_map-append ended heads (run ∷ calls)))
+
+-- ---- the grammar
+
+pub script_grammar : IsGrammar script_lines (λ s. IsScript s.0 s.1) IsScriptText
+script_grammar = record {
+  lines = λ s f. AreLines-script s.0 s.1 f.0.0 f.0.1 f.1;
+  to = λ s f. (s.0, s.1, f, sym (script_text-lines s.0 s.1));
+  from = λ text t. ((t.0, t.1), t.2, t.3 ∙ script_text-lines t.0 t.1);
+}

@@ -1,4 +1,3 @@
-pub mod Bodies
 pub mod Calls
 pub mod Cuts
 pub mod Files
@@ -7,6 +6,8 @@ pub mod Literals
 pub mod Numbered
 pub mod Privileges
 pub mod Splits
+pub mod Stops
+pub mod Units
 pub mod Values
 pub mod Words
 pub mod ScriptBacks

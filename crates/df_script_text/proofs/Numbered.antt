@@ -3,8 +3,8 @@ use Rattle.std.proofs.Common.{◌≡◌, ℕ, ◌+◌, ◌<◌, ◌≤◌, List,
 use Rattle.std.specs.List.{All, AllByRecursion}
 use Rattle.std.proofs.lemmas.List.{take_more, take_all, length_push, length-map, get_or-map}
 use Rattle.std.proofs.lemmas.List.Elements.{All-nil, All-push, recursion_from_All}
-use Rattle.df_script_text.specs.Lines.{numbered}
-use Rattle.df_script_text.specs.Reads.{Reads}
+use Rattle.df_script_text.specs.code.Lines.{numbered}
+use Rattle.df_script_text.specs.code.Reads.{Reads}
 
 -- one more line behind others
 pub numbered-push : {X : Type 0} (spell : ℕ → X → List ℕ) (n : ℕ) (xs : List X) (x : X) → numbered spell n (xs ++ x ∷ []) ≡ numbered spell n xs ++ spell (n + length xs) x ∷ []

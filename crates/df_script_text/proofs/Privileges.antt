@@ -16,7 +16,7 @@ use Rattle.df_value_text.specs.Fits.{IsPrivilege}
 use Rattle.df_value_text.specs.Label.{privilege_text}
 use Rattle.df_value_text.specs.ReadLabel.{privilege_at}
 use Rattle.df_value_text.proofs.LabelLaws.{privilege_format}
-use Rattle.df_script_text.specs.Lines.{numbered}
+use Rattle.df_script_text.specs.code.Lines.{numbered}
 
 -- what is read is one thing
 read_once : (a b : Privilege × List ℕ) (read : Read ℕ Privilege) → read ≡ Ok a → read ≡ Ok b → a.0 ≡ b.0

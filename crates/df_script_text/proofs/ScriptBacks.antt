@@ -2,17 +2,13 @@
 use Rattle.std.proofs.Common.{◌≡◌, ℕ, ◌<◌, true, false, List, [], ◌∷◌, ◌++◌, length, Ok, codes, refl, sym, ap, subst, ◌∙◌, append_assoc, inr}
 use Rattle.std.specs.List.{flat_map}
 use Rattle.std.proofs.lemmas.List.{append-nil}
-use Rattle.std.proofs.lemmas.List.Elements.{All-weaker, recursion_from_All}
+use Rattle.std.proofs.lemmas.List.Elements.{recursion_from_All}
 use Rattle.df_format.proofs.Backs.{Back, all_back}
 use Rattle.df_format.proofs.Laws.{ok_is}
 use Rattle.df_machine.specs.declared.start.RootStart.{RootStart}
-use Rattle.df_unit.specs.declared.name.UnitName.{UnitName}
-use Rattle.df_unit.specs.declared.name.UnitName.TheVariants.{Root, Managed}
-use Rattle.df_unit.specs.declared.call.Call.{Call}
-use Rattle.df_unit.specs.declared.call.Call.TheVariants.{CreateEvent, AddPart, DelPart, ReadPart, CloneEvent, AttachPrivilege, ChangeOutLabel, CreateTag, DropEvent, Subscribe, SubscribeManaged, Get, Publish, Release, ChangeInOut, Instantiate}
 use Rattle.df_value_text.specs.ReadTag.{begins_digit}
 use Rattle.df_journal_text.specs.Call.{call_words}
-use Rattle.df_journal_text.specs.Fits.{IsCall, IsRoot, IsUnit}
+use Rattle.df_journal_text.specs.Fits.{IsRoot}
 use Rattle.df_journal_text.specs.Line.{spaced}
 use Rattle.df_journal_text.specs.Name.{unit_text}
 use Rattle.df_journal_text.specs.Start.{start_text}
@@ -22,7 +18,7 @@ use Rattle.df_journal_text.proofs.NameBacks.{unit_word}
 use Rattle.df_journal_text.proofs.StartBacks.{start_back}
 use Rattle.df_journal_text.proofs.WordBacks.{ends_spaced, line-rest}
 use Rattle.df_script_text.specs.ReadScript.{script_at, script_line_at}
-use Rattle.df_script_text.specs.Script.{IsReadActor, IsReadCall, IsReadLine, IsScript, IsScriptLine, IsSpelledScript, script_line, script_text}
+use Rattle.df_script_text.specs.Script.{IsScript, IsScriptLine, script_line, script_text}
 use Rattle.df_script_text.specs.declared.line.ScriptLine.{ScriptLine}
 
 -- ---- lines
@@ -46,7 +42,7 @@ lines_are = record {
 
 -- ---- scripts
 
-pub script_back : (roots : List RootStart) (lines : List ScriptLine) (rest : List ℕ) → IsSpelledScript roots lines → begins_digit rest ≡ false → script_at (script_text roots lines ++ rest) ≡ Ok ((roots, lines), rest)
+pub script_back : (roots : List RootStart) (lines : List ScriptLine) (rest : List ℕ) → IsScript roots lines → begins_digit rest ≡ false → script_at (script_text roots lines ++ rest) ≡ Ok ((roots, lines), rest)
 script_back roots lines rest fits end =
     let calls : List ℕ = flat_map script_line lines ++ rest in
     let whole : script_text roots lines ++ rest ≡ codes "defcon-script 1\n" ++ (start_text roots ++ (codes "run\n" ++ calls)) =
@@ -56,45 +52,16 @@ script_back roots lines rest fits end =
     let e2 = all_back lines_are lines rest (recursion_from_All IsScriptLine lines fits.1) tt end in
     ap script_at whole ∙ rw (e1, e2) refl
 
-pub script_is_one : (roots others : List RootStart) (lines more : List ScriptLine) → IsSpelledScript roots lines → IsSpelledScript others more → script_text roots lines ≡ script_text others more → (roots ≡ others) × (lines ≡ more)
+pub script_is_one : (roots others : List RootStart) (lines more : List ScriptLine) → IsScript roots lines → IsScript others more → script_text roots lines ≡ script_text others more → (roots ≡ others) × (lines ≡ more)
 script_is_one roots others lines more fits fits' same =
     let one : (List RootStart × List ScriptLine) × List ℕ = ((roots, lines), []) in
     let two : (List RootStart × List ScriptLine) × List ℕ = ((others, more), []) in
     let both : one ≡ two = ok_is one two (sym (script_back roots lines [] fits refl) ∙ ap (λ (u : List ℕ). script_at (u ++ [])) same ∙ script_back others more [] fits' refl) in
     (ap (λ (q : (List RootStart × List ScriptLine) × List ℕ). q.0.0) both, ap (λ (q : (List RootStart × List ScriptLine) × List ℕ). q.0.1) both)
 
--- ---- the scripts that are read so far are among those that have a spelling
-
-is_unit : (actor : UnitName) → IsReadActor actor → IsUnit actor
-is_unit (Root []) f = absurd f
-is_unit (Root (number ∷ [])) f = (f, tt)
-is_unit (Root (number ∷ next ∷ numbers)) f = absurd f
-is_unit (Managed owner sub s) f = absurd f
-
-is_call : (call : Call) → IsReadCall call → IsCall call
-is_call CreateEvent f = f
-is_call (AddPart h label name value) f = f
-is_call (DelPart h label name) f = f
-is_call (ReadPart h name) f = f
-is_call (CloneEvent h label) f = f
-is_call (AttachPrivilege h label name p) f = f
-is_call (ChangeOutLabel half act tag) f = f
-is_call CreateTag f = f
-is_call (DropEvent h) f = f
-is_call (Subscribe filter) f = f
-is_call (SubscribeManaged filter) f = absurd f
-is_call Get f = f
-is_call (Publish h) f = f
-is_call (Release h) f = f
-is_call (ChangeInOut half act tag) f = f
-is_call (Instantiate s privileges) f = absurd f
-
-pub is_spelled : (roots : List RootStart) (lines : List ScriptLine) → IsScript roots lines → IsSpelledScript roots lines
-is_spelled roots lines fits = (fits.0, All-weaker IsReadLine IsScriptLine (λ l f. (is_unit l.actor f.0, is_call l.call f.1)) lines fits.1)
-
 -- ---- what is answered
 
 pub only_script : (bytes : List ℕ) (read : List RootStart × List ScriptLine) → IsScript read.0 read.1 × (bytes ≡ script_text read.0 read.1) → (roots : List RootStart) (lines : List ScriptLine) → IsScript roots lines → bytes ≡ script_text roots lines → read ≡ (roots, lines)
 only_script bytes read found roots lines fits is =
-    let same = script_is_one read.0 roots read.1 lines (is_spelled read.0 read.1 found.0) (is_spelled roots lines fits) (sym found.1 ∙ is) in
+    let same = script_is_one read.0 roots read.1 lines found.0 fits (sym found.1 ∙ is) in
     ap (λ (rs : List RootStart). (rs, read.1)) same.0 ∙ ap (λ (ls : List ScriptLine). (roots, ls)) same.1

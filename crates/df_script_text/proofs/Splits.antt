@@ -10,8 +10,8 @@ use Rattle.df_value_text.specs.Fits.{IsPrivilege}
 use Rattle.df_value_text.specs.Label.{label_text, privilege_text}
 use Rattle.df_journal_text.specs.Line.{spaced}
 use Rattle.df_journal_text.specs.Start.{root_text}
-use Rattle.df_script_text.specs.Lines.{root_words}
-use Rattle.df_script_text.specs.Reads.{Reads}
+use Rattle.df_script_text.specs.code.Lines.{root_words}
+use Rattle.df_script_text.specs.code.Reads.{Reads}
 use Rattle.df_journal_text.specs.Fits.{IsRoot}
 use Rattle.df_script_text.proofs.Words.{is_word, AreWords, both, is_word-decimal, is_word-label, AreWords-privileges}
 

@@ -20,11 +20,12 @@ use Rattle.df_frozen.specs.Name.{is_name, is_name_byte, is_letter}
 use Rattle.df_unit.specs.declared.name.UnitName.{UnitName}
 use Rattle.df_unit.specs.declared.name.UnitName.TheVariants.{Root, Managed}
 use Rattle.df_value_text.specs.Fits.{AreNumbers, AreTags, IsLabel, IsPrivilege, IsTag, IsTagSet}
-use Rattle.df_value_text.specs.Label.{label_text, privilege_text, right_text, tag_text, tags_text}
+use Rattle.df_value_text.specs.Label.{label_text, path_text, privilege_text, right_text, tag_text, tags_text}
 use Rattle.df_value_text.specs.ReadWhole.{IsWhole}
 use Rattle.df_journal_text.specs.Call.{act_text, half_text}
 use Rattle.df_journal_text.specs.Name.{unit_text}
-use Rattle.df_script_text.specs.Script.{IsReadActor}
+use Rattle.df_journal_text.specs.Fits.{IsUnit}
+use Rattle.df_script_text.specs.code.Lines.{braced}
 
 -- whether each byte is above a space
 abbrev pub is_word : List ℕ → Bool
@@ -158,9 +159,19 @@ pub is_word-act : (act : Act) → is_word (act_text act) ≡ true
 is_word-act Add = refl
 is_word-act Del = refl
 
+-- a path is a word
+is_word-path : (path : List ℕ) → IsTag path → is_word (path_text path) ≡ true
+is_word-path [] h = absurd h
+is_word-path (n ∷ ns) h = is_word-joined 46 (map decimal (n ∷ ns)) (lit< tt) (number_word n h.0, AreWords-numbers ns h.1)
+
+-- tags in braces are a word
+pub is_word-braced : (tags : List (List ℕ)) → IsTagSet tags → is_word (braced tags) ≡ true
+is_word-braced tags h = is_word-append (123 ∷ tags_text tags) (codes "}") (above 123 (tags_text tags) (lit< tt) (is_word-tags tags h)) refl
+
 -- who makes a call is a word
-pub is_word-actor : (u : UnitName) → IsReadActor u → is_word (unit_text u) ≡ true
-is_word-actor (Root []) h = absurd h
-is_word-actor (Root (k ∷ [])) h = is_word-decimal k (omega (arith, h))
-is_word-actor (Root (k ∷ j ∷ ks)) h = absurd h
-is_word-actor (Managed p n s) h = absurd h
+pub is_word-actor : (u : UnitName) → IsUnit u → is_word (unit_text u) ≡ true
+is_word-actor (Root path) h = is_word-path path h
+is_word-actor (Managed owner sub s) h =
+    let number = is_word-append (path_text owner ++ codes "/") (decimal sub) (is_word-append (path_text owner) (codes "/") (is_word-path owner h.0) refl) (number_word sub h.1) in
+    let tags = is_word-append (path_text owner ++ codes "/" ++ decimal sub ++ codes "{") (tags_text s) (is_word-append (path_text owner ++ codes "/" ++ decimal sub) (codes "{") number refl) (is_word-tags s h.2) in
+    is_word-append (path_text owner ++ codes "/" ++ decimal sub ++ codes "{" ++ tags_text s) (codes "}") tags refl

@@ -1,6 +1,4 @@
-pub mod Cut
-pub mod Lines
 pub mod ReadScript
-pub mod Reads
 pub mod Script
-pub mod Whole
+pub mod TooLarge
+pub mod code

@@ -6,14 +6,13 @@ mod file;
 mod laws;
 mod line;
 mod pieces;
-mod refused;
 mod root;
+mod unit;
 mod word;
 
 pub use file::read_script;
 pub use laws::{a_script_is_read_back, a_text_is_one_script};
 pub use line::ScriptLine;
-pub use refused::FileRefused;
 
 #[cfg(test)]
 mod tests;

@@ -1,7 +1,7 @@
 //! Texts in pieces.
 ghost use Rattle.std.specs.Prelude.{◌≡◌, ◌==◌, map, IfOk, option_map};
 ghost use Rattle.std.specs.List.{slice_split};
-ghost use Rattle.df_script_text.specs.Cut.{IsCutAtSpace, IsNextPiece, call_pieces, cut_pieces};
+ghost use Rattle.df_script_text.specs.code.Cut.{IsCutAtSpace, IsNextPiece, call_pieces, cut_pieces};
 
 use df_label::NoMemory;
 use std::alloc::Global;
@@ -52,8 +52,10 @@ fn cut_pieces(alloc: Global, text: &[u8], spaces: usize) -> Result<Vec<&[u8]>, N
 pub fn call_pieces(alloc: Global, text: &[u8]) -> Result<Vec<&[u8]>, NoMemory>
     ensures { IfOk result (λ v. map (λ p. p.now) v.items ≡ call_pieces text.now) }
 {
-    if text.starts_with(b"sub ") {
+    if text.starts_with(b"sub ") || text.starts_with(b"msub ") {
         cut_pieces(alloc, text, 1)
+    } else if text.starts_with(b"spawn ") {
+        pieces(alloc, text, b' ')
     } else {
         cut_pieces(alloc, text, 4)
     }

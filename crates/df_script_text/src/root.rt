@@ -1,19 +1,21 @@
 //! The lines of roots.
 
-ghost use Rattle.std.specs.Prelude.{◌≡◌, ◌↔◌, IsTrue, codes, decimal, map, option_map, IfOk};
+ghost use Rattle.std.specs.Prelude.{◌≡◌, ◌≤◌, ◌↔◌, IsTrue, codes, decimal, length, map, option_map, IfErr, IfOk};
 ghost use Rattle.std.specs.List.{All};
 ghost use Rattle.df_label.specs.Ascending.{IsAscending};
 ghost use Rattle.df_label.specs.Privilege.{privilege_cmp};
 ghost use Rattle.df_value_text.specs.Fits.{IsPrivilege};
 ghost use Rattle.df_value_text.specs.Label.{privilege_text};
 ghost use Rattle.df_journal_text.specs.Start.{root_text};
-ghost use Rattle.df_script_text.specs.Lines.{numbered, root_words};
-ghost use Rattle.df_script_text.specs.Reads.{Reads};
-ghost use Rattle.df_journal_text.specs.Fits.{ArePrivileges, AreRoots, IsRoot};
+ghost use Rattle.df_script_text.specs.code.Lines.{root_words};
+ghost use Rattle.df_script_text.specs.code.Reads.{Reads};
+ghost use Rattle.df_script_text.specs.code.Stops.{AreRootsAt, RootsStop, StopsRoot, TellsRoot};
+ghost use Rattle.df_journal_text.specs.Fits.{ArePrivileges, IsRoot};
 
 use crate::pieces::pieces;
 use crate::word::{read_label, read_number, read_privilege};
 use df_label::{NoMemory, Privilege, Privileges};
+use df_lines::{FileFault, line_at};
 use df_machine::{RootStart, Start};
 use std::alloc::Global;
 
@@ -45,7 +47,7 @@ fn read_each(alloc: Global, words: &[&[u8]]) -> Result<Option<Vec<Privilege>>, N
 }
 
 /// Privileges in ascending order.
-fn read_privileges(alloc: Global, words: &[&[u8]]) -> Result<Option<Privileges>, NoMemory>
+pub fn read_privileges(alloc: Global, words: &[&[u8]]) -> Result<Option<Privileges>, NoMemory>
     ensures { IfOk result (Reads (map privilege_text) ArePrivileges (map (λ w. w.now) words.now)) }
 {
     let Some(read) = read_each(alloc, words)? else {
@@ -59,20 +61,25 @@ fn read_privileges(alloc: Global, words: &[&[u8]]) -> Result<Option<Privileges>,
 
 /// Whether this number is spelled so.
 #[tactic(auto, using(crate::proofs::Literals::same_number))]
-fn is_number(word: &[u8], number: u32) -> bool
-    ensures { IsTrue result ↔ word.now ≡ decimal number }
+fn is_number(word: &[u8], number: u32) -> Result<bool, NoMemory>
+    ensures { IfOk result (λ is. IsTrue is ↔ word.now ≡ decimal number) }
 {
-    match read_number(word) {
-        Some(read) => read == number,
-        None => false,
+    match read_number(word)? {
+        Some(read) => Ok(read == number),
+        None => Ok(false),
     }
 }
 
 /// Whether these are the first words of the line of the root that has this number.
-fn begins_root(number: u32, keyword: &[u8], place: &[u8]) -> bool
-    ensures { IsTrue result ↔ (keyword.now ≡ codes "unit") × (place.now ≡ decimal number) }
+fn begins_root(number: u32, keyword: &[u8], place: &[u8]) -> Result<bool, NoMemory>
+    ensures { IfOk result (λ begins. IsTrue begins
+        ↔ (keyword.now ≡ codes "unit") × (place.now ≡ decimal number)) }
 {
-    keyword == b"unit".as_slice() && is_number(place, number)
+    if keyword == b"unit".as_slice() {
+        is_number(place, number)
+    } else {
+        Ok(false)
+    }
 }
 
 /// The words of the line of the root that has this number.
@@ -82,7 +89,7 @@ fn read_words(alloc: Global, number: u32, words: &[&[u8]]) -> Result<Option<Root
     let [keyword, place, label, privileges @ ..] = words else {
         return Ok(None);
     };
-    if !begins_root(number, keyword, place) {
+    if !begins_root(number, keyword, place)? {
         return Ok(None);
     }
     let Some(label) = read_label(alloc, label)? else {
@@ -102,19 +109,44 @@ fn read_root(alloc: Global, number: u32, line: &[u8]) -> Result<Option<RootStart
     read_words(alloc, number, words.as_slice())
 }
 
-/// The lines of all roots, without their line feeds.
-pub fn read_roots(alloc: Global, lines: &[&[u8]]) -> Result<Option<Start>, NoMemory>
-    ensures { IfOk result (Reads (numbered root_text 0) AreRoots (map (λ l. l.now) lines.now)) }
+/// The root in the line at the place, of which this is the number, and the place behind the line;
+/// none where the line is `run`.
+fn root_at(
+    alloc: Global,
+    bytes: &[u8],
+    at: usize,
+    number: usize,
+) -> Result<Option<(RootStart, usize)>, FileFault>
+    requires { at ≤ length bytes.now }
+    ensures read { IfOk result (TellsRoot number bytes.now at) }
+    ensures stops { IfErr result (StopsRoot number bytes.now at) }
 {
-    if lines.len() > u32::MAX as usize {
+    let Some((line, next)) = line_at(bytes, at) else {
+        return Err(FileFault::Bad(at));
+    };
+    if line == b"run".as_slice() {
         return Ok(None);
     }
-    let mut roots = Vec::new(alloc);
-    for (i, line) in lines.iter().enumerate() {
-        let Some(root) = read_root(alloc, i as u32, line)? else {
-            return Ok(None);
-        };
-        roots.push(root)?;
+    if number >= u32::MAX as usize {
+        return Err(FileFault::Bad(at));
     }
-    Ok(Some(Start::new(roots)))
+    match read_root(alloc, number as u32, line)? {
+        Some(root) => Ok(Some((root, next))),
+        None => Err(FileFault::Bad(at)),
+    }
+}
+
+/// The roots at the place, and the place behind the line `run` that stands behind them.
+pub fn roots_at(alloc: Global, bytes: &[u8], at: usize) -> Result<(Start, usize), FileFault>
+    requires { at ≤ length bytes.now }
+    ensures read { IfOk result (λ r. AreRootsAt bytes.now at r.0 r.1) }
+    ensures stops { IfErr result (RootsStop bytes.now at) }
+{
+    let mut roots = Vec::new(alloc);
+    let mut place = at;
+    'roots: while let Some((root, next)) = root_at(alloc, bytes, place, roots.len())? {
+        roots.push(root)?;
+        place = next;
+    }
+    Ok((Start::new(roots), place + 4))
 }

@@ -2,44 +2,83 @@
 
 ghost use Rattle.std.specs.Prelude.{◌≡◌, ◌<◌, ◌^◌, decimal, IfOk, length, true, ⊤};
 ghost use Rattle.df_frozen.specs.Name.{is_name};
-ghost use Rattle.df_value_text.specs.Fits.{IsLabel, IsPrivilege, IsTag, IsValue};
+ghost use Rattle.df_value_text.specs.Fits.{IsLabel, IsPrivilege, IsTag, IsTagSet, IsValue};
 ghost use Rattle.df_value_text.specs.Label.{label_text, privilege_text, tag_text};
 ghost use Rattle.df_value_text.specs.Value.{value_text};
 ghost use Rattle.df_filter_text.specs.Filter.{filter_text};
 ghost use Rattle.df_filter_text.specs.Fits.{IsFilter};
 ghost use Rattle.df_journal_text.specs.Call.{act_text, half_text};
+ghost use Rattle.df_journal_text.specs.Fits.{IsUnit};
 ghost use Rattle.df_journal_text.specs.Name.{unit_text};
-ghost use Rattle.df_script_text.specs.Reads.{Reads};
-ghost use Rattle.df_script_text.specs.Script.{IsReadActor};
-ghost use Rattle.df_script_text.specs.Whole.{IsWhole};
+ghost use Rattle.df_script_text.specs.TooLarge.{IsTooLarge};
+ghost use Rattle.df_script_text.specs.code.Lines.{braced};
+ghost use Rattle.df_script_text.specs.code.Reads.{Reads, Tells};
+ghost use Rattle.df_script_text.specs.code.Whole.{IsEnded, IsWhole};
+ghost use Rattle.df_script_text.specs.declared.word.Unread.TheVariants as unread;
 
+use crate::unit::{braced_at, unit_at};
 use df_filter::Filter;
 use df_filter_text::FilterTextRefused;
 use df_frozen::{Frozen, Name};
-use df_label::{Label, NoMemory, Privilege, Tag};
+use df_label::{Label, NoMemory, Privilege, Tag, TagSet};
 use df_priv::{Act, Half};
-use df_unit::{Path, UnitName};
-use df_value_text::TextRefused;
-use itoa::Buffer;
+use df_unit::UnitName;
+use df_value_text::{Fault, TextRefused, short_at};
 use std::alloc::Global;
 use std::str;
 
-/// A number in decimal digits, without a leading zero.
-pub fn read_number(word: &[u8]) -> Option<u32>
-    ensures { Reads decimal (λ n. n < 2 ^ 32) word.now result }
-{
-    let Ok(text) = str::from_utf8(word) else {
-        return None;
-    };
-    let Ok(number) = text.parse::<u32>() else {
-        return None;
-    };
-    let mut digits = Buffer::new();
-    if digits.format(number).as_bytes() == word {
-        Some(number)
-    } else {
-        None
+/// Why a text in which a value may stand isn't read.
+#[derive(Clone, Copy)]
+pub enum Unread {
+    NoMemory,
+    /// The value is over the limits of freezing.
+    TooLarge,
+}
+
+impl From<NoMemory> for Unread {
+    ghost from_gives = { λ _ e. e ≡ unread.NoMemory };
+
+    fn from(_error: NoMemory) -> Unread {
+        Unread::NoMemory
     }
+}
+
+/// What was read, if it ends where the word does.
+fn ended<X: Drop>(word: &[u8], read: Result<(X, usize), Fault>) -> Result<Option<X>, NoMemory>
+    ensures { IfOk result (IsEnded (length word.now) read) }
+{
+    match read {
+        Ok((literal, end)) => {
+            if end == word.len() {
+                Ok(Some(literal))
+            } else {
+                Ok(None)
+            }
+        }
+        Err(Fault::NoMemory) => Err(NoMemory),
+        Err(_) => Ok(None),
+    }
+}
+
+/// A number in decimal digits, without a leading zero.
+pub fn read_number(word: &[u8]) -> Result<Option<u32>, NoMemory>
+    ensures { IfOk result (Reads decimal (λ n. n < 2 ^ 32) word.now) }
+{
+    ended(word, short_at(word, 0))
+}
+
+/// The unit that makes a call.
+pub fn read_actor(alloc: Global, word: &[u8]) -> Result<Option<UnitName>, NoMemory>
+    ensures { IfOk result (Reads unit_text IsUnit word.now) }
+{
+    ended(word, unit_at(alloc, word, 0))
+}
+
+/// Tags in braces.
+pub fn read_braced(alloc: Global, word: &[u8]) -> Result<Option<TagSet>, NoMemory>
+    ensures { IfOk result (Reads braced IsTagSet word.now) }
+{
+    ended(word, braced_at(alloc, word, 0))
 }
 
 pub fn read_name(word: &[u8]) -> Option<Name>
@@ -49,14 +88,6 @@ pub fn read_name(word: &[u8]) -> Option<Name>
         return None;
     };
     Name::new(text).ok()
-}
-
-/// The unit that makes a call.
-pub fn read_actor(word: &[u8]) -> Option<UnitName>
-    ensures { Reads unit_text IsReadActor word.now result }
-{
-    let number = read_number(word)?;
-    Some(UnitName::Root(Path::root(number)))
 }
 
 /// `S` or `I`.
@@ -121,10 +152,21 @@ pub fn read_privilege(alloc: Global, word: &[u8]) -> Result<Option<Privilege>, N
 }
 
 /// A value, frozen.
-pub fn read_value(alloc: Global, word: &[u8]) -> Result<Option<Frozen>, NoMemory>
-    ensures { IfOk result (Reads value_text IsValue word.now) }
+pub fn read_value(alloc: Global, word: &[u8]) -> Result<Option<Frozen>, Unread>
+    ensures { Tells value_text IsValue IsTooLarge word.now result }
 {
-    whole(word, df_value_text::read_value(alloc, word, 0))
+    match df_value_text::read_value(alloc, word, 0) {
+        Ok((value, end)) => {
+            if end == word.len() {
+                Ok(Some(value))
+            } else {
+                Ok(None)
+            }
+        }
+        Err(TextRefused::NoMemory) => Err(Unread::NoMemory),
+        Err(TextRefused::TooLarge { .. }) => Err(Unread::TooLarge),
+        Err(TextRefused::Syntax { .. }) => Ok(None),
+    }
 }
 
 pub fn read_filter(alloc: Global, word: &[u8]) -> Result<Option<Filter>, NoMemory>

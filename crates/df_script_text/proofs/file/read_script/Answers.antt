@@ -1,19 +1,27 @@
-use Rattle.std.proofs.Common.{Some, None, ◌∙◌, ap, map, refl}
-use Rattle.df_script_text.proofs.Files.{Reads-script}
+use Rattle.std.proofs.Common.{Err, subst, sym, ◌∙◌}
+use Rattle.df_lines.specs.Refused.{NamesBadLine}
+use Rattle.df_lines.specs.declared.refused.FileRefused.{FileRefused}
+use Rattle.df_lines.proofs.FirstBad.{names_line, refused_syntax, refused_too_large}
+use Rattle.df_script_text.specs.Script.{IsScriptText}
+use Rattle.df_script_text.specs.TooLarge.{IsTooLargeIn}
 use Rattle.df_script_text.proofs.ScriptBacks.{only_script}
+use Rattle.df_script_text.proofs.Stops.{only_fault}
 use Rattle.df_script_text.proofs.file.read_script.Goals as goal
 
-pub returns-in-Some-clause-read : goal.returns-in-Some-clause-read
-returns-in-Some-clause-read c =
-    Reads-script c.args.bytes.now _ (ap (map (λ l. l.now)) c.as_slice.ensures.value ∙ c.in_ok-lines.ensures) (Some (c.in-Some.script.0, c.in-Some.script.1.items)) (rw c.in-Some.is at c.in_ok-script.ensures)
+pub returns-in-Ok-clause-only : goal.returns-in-Ok-clause-only
+returns-in-Ok-clause-only c = λ roots lines f e. only_script c.args.bytes.now (c.in-Ok.script.0, c.in-Ok.script.1.items) c.in-Ok.ensures.read roots lines f e
 
-pub returns-clause-syntax : goal.returns-clause-syntax
-returns-clause-syntax c = λ same roots lines f e.
-    Reads-script c.args.bytes.now _ (ap (map (λ l. l.now)) c.as_slice.ensures.value ∙ c.in_ok-lines.ensures) None (rw c.in-None.is at c.in_ok-script.ensures) (roots, lines) f e
+pub returns-in-Err-clause-only : goal.returns-in-Err-clause-only
+returns-in-Err-clause-only c = λ roots lines f e. c.file_refused.ensures ∙ only_fault c.args.bytes.now c.in-Err.fault c.in-Err.ensures.names (roots, lines, f, e)
 
-pub returns-in-Some-clause-only : goal.returns-in-Some-clause-only
-returns-in-Some-clause-only c = λ roots lines f e.
-    only_script c.args.bytes.now (c.in-Some.script.0, c.in-Some.script.1.items) (returns-in-Some-clause-read c) roots lines f e
+pub returns-in-Err-clause-refused : goal.returns-in-Err-clause-refused
+returns-in-Err-clause-refused c =
+    subst (λ (r : FileRefused). NamesBadLine IsScriptText IsTooLargeIn c.args.bytes.now r) (sym c.file_refused.ensures) (names_line IsScriptText IsTooLargeIn c.args.bytes.now c.in-Err.fault c.in-Err.ensures.names)
 
-pub returns-clause-only : goal.returns-clause-only
-returns-clause-only c = λ roots lines f e. absurd (returns-clause-syntax c refl roots lines f e)
+pub returns-in-Err-clause-syntax : goal.returns-in-Err-clause-syntax
+returns-in-Err-clause-syntax c = λ before bad f small.
+    refused_syntax {X = Unit {0}} IsScriptText IsTooLargeIn c.args.bytes.now (Err c.file_refused.result) tt (returns-in-Err-clause-refused c) before bad f small
+
+pub returns-in-Err-clause-too_large : goal.returns-in-Err-clause-too_large
+returns-in-Err-clause-too_large c = λ before bad f large.
+    refused_too_large {X = Unit {0}} IsScriptText IsTooLargeIn c.args.bytes.now (Err c.file_refused.result) tt (returns-in-Err-clause-refused c) before bad f large

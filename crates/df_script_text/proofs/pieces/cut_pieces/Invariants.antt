@@ -1,5 +1,5 @@
 use Rattle.std.proofs.Common.{◌≡◌, ◌++◌, map}
-use Rattle.df_script_text.specs.Cut.{cut_pieces}
+use Rattle.df_script_text.specs.code.Cut.{cut_pieces}
 use Rattle.df_script_text.proofs.pieces.cut_pieces.Given as goal
 
 -- the pieces so far, and those of the rest

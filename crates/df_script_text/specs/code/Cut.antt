@@ -1,6 +1,6 @@
 -- A text cut at its first spaces.
-use Rattle.std.specs.Prelude.{ℕ, zero, suc, ◌-◌, ◌<◌, List, [], ◌∷◌, ◌++◌, ◌≡◌, Option, Some, None, false, codes, ◌==◌, if◌then◌else◌}
-use Rattle.std.specs.List.{All, starts_with}
+use Rattle.std.specs.Prelude.{ℕ, zero, suc, ◌-◌, ◌<◌, List, [], ◌∷◌, ◌++◌, ◌≡◌, Option, Some, None, false, codes, ◌==◌, ◌||◌, if◌then◌else◌}
+use Rattle.std.specs.List.{All, slice_split, starts_with}
 use lib.Dec.{eqb}
 
 -- no byte is a space
@@ -34,5 +34,8 @@ IsNextPiece spaces text (Some parts) = (0 < spaces)
 -- the pieces of a call: a filter is the second of two, a value the last of five, and both may have
 -- spaces
 abbrev pub call_pieces : List ℕ → List (List ℕ)
-call_pieces text = if starts_with eqb text (codes "sub ") then cut_pieces 1 text
+call_pieces text =
+    if starts_with eqb text (codes "sub ") || starts_with eqb text (codes "msub ")
+    then cut_pieces 1 text
+    else if starts_with eqb text (codes "spawn ") then slice_split (λ b. b == 32) text
     else cut_pieces 4 text

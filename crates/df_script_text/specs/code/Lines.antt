@@ -1,7 +1,7 @@
 -- The lines of a script without their line feeds, and their words.
 use Rattle.std.specs.Prelude.{ℕ, ◌+◌, List, [], ◌∷◌, ◌++◌, map, codes, decimal}
 use Rattle.std.specs.List.{join_with_byte}
-use Rattle.df_value_text.specs.Label.{label_text, privilege_text}
+use Rattle.df_value_text.specs.Label.{label_text, privilege_text, tags_text}
 use Rattle.df_unit.specs.declared.call.Call.{Call}
 use Rattle.df_machine.specs.declared.start.RootStart.{RootStart}
 use Rattle.df_journal_text.specs.Line.{spaced}
@@ -9,6 +9,10 @@ use Rattle.df_journal_text.specs.Name.{unit_text}
 use Rattle.df_journal_text.specs.Call.{call_words}
 use Rattle.df_journal_text.specs.Start.{root_text}
 use Rattle.df_script_text.specs.declared.line.ScriptLine.{ScriptLine}
+
+-- tags in braces
+abbrev pub braced : List (List ℕ) → List ℕ
+braced tags = codes "{" ++ tags_text tags ++ codes "}"
 
 -- the words of a call with a space between each two
 abbrev pub call_text : Call → List ℕ
@@ -28,11 +32,10 @@ abbrev pub numbered : {X : Type 0} → (ℕ → X → List ℕ) → ℕ → List
 numbered spell number [] = []
 numbered spell number (x ∷ xs) = spell number x ∷ numbered spell (number + 1) xs
 
--- the lines behind the first
-abbrev pub body_lines : List RootStart → List ScriptLine → List (List ℕ)
-body_lines roots lines = numbered root_text 0 roots ++ codes "run"
-    ∷ numbered (λ _ l. call_line l) 0 lines
+-- the lines up to those of calls
+abbrev pub head_lines : List RootStart → List (List ℕ)
+head_lines roots = codes "defcon-script 1" ∷ numbered root_text 0 roots
 
--- the lines of a script, and the empty one behind its last line feed
+-- the lines of a script
 abbrev pub script_lines : List RootStart × List ScriptLine → List (List ℕ)
-script_lines script = codes "defcon-script 1" ∷ (body_lines script.0 script.1 ++ [] ∷ [])
+script_lines script = head_lines script.0 ++ codes "run" ∷ map call_line script.1

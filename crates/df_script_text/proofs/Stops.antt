@@ -1,0 +1,188 @@
+-- Where reading a script stops, there is its first bad line.
+use Rattle.std.proofs.Common.{◌≡◌, ℕ, ◌+◌, ◌<◌, ◌≤◌, List, [], ◌∷◌, ◌++◌, length, length-drop, take, drop, map, false, eqb, Option, Some, None, Result, Ok, Err, refl, sym, ap, subst, ◌∙◌, arith, append-nil, append_assoc, length-append, zero-add}
+use Rattle.std.proofs.lemmas.List.{drop_all, map-append}
+use Rattle.std.proofs.lemmas.List.Concat.{flat_map-append}
+use Rattle.std.proofs.lemmas.List.Elements.{All-nil, All-push, recursion_from_All}
+use Rattle.df_lines.specs.Lines.{IsLine, ended, lines_text}
+use Rattle.df_lines.specs.code.Faults.{IsBadPlace, NamesBadPlace, TellsLine, refusal}
+use Rattle.df_lines.specs.declared.refused.FileRefused.TheVariants as refused
+use Rattle.df_lines.specs.declared.fault.FileFault.{FileFault}
+use Rattle.df_lines.specs.declared.fault.FileFault.TheVariants as fault
+use Rattle.df_lines.proofs.FirstBad.{first_bad}
+use Rattle.df_machine.specs.declared.start.RootStart.{RootStart}
+use Rattle.df_journal_text.specs.Fits.{IsRoot}
+use Rattle.df_journal_text.specs.Start.{root_text}
+use Rattle.df_script_text.specs.Script.{IsScript, IsScriptLine, IsScriptText, script_text}
+use Rattle.df_script_text.specs.TooLarge.{IsTooLargeIn, IsTooLargeLine}
+use Rattle.df_script_text.specs.code.Lines.{call_line, head_lines, numbered, script_lines}
+use Rattle.df_script_text.specs.code.Stops.{AreCalls, ArePassed, AreRootsAt, CallsStop, IsCallLine, IsFirstAt, RootsStop, StopsAt, StopsCall, StopsFirst, TellsCall, TellsRoot, fault_of}
+use Rattle.df_script_text.specs.code.Reads.{Tells}
+use Rattle.df_script_text.specs.declared.line.ScriptLine.{ScriptLine}
+use Rattle.df_script_text.specs.declared.word.Unread.{Unread}
+use Rattle.df_script_text.specs.declared.word.Unread.TheVariants as unread
+use Rattle.df_script_text.proofs.Files.{run, first, script_text-lines, AreLines-head, AreLines-script, next_head, more_head, no_run, next_call, front_is, roots_before, calls_before, script_grammar}
+use Rattle.df_script_text.proofs.Numbered.{numbered-push}
+
+-- ---- loops
+
+-- one more line
+lines_push : (ls : List (List ℕ)) (l rest : List ℕ) → lines_text ls ++ (ended l ++ rest) ≡ lines_text (ls ++ l ∷ []) ++ rest
+lines_push ls l rest =
+    sym (append_assoc (lines_text ls) (ended l) rest)
+    ∙ ap (λ (u : List ℕ). u ++ rest) (ap (λ (u : List ℕ). lines_text ls ++ u) (sym (append-nil (ended l))) ∙ sym (flat_map-append ended ls (l ∷ [])))
+
+pub calls_more : (bytes : List ℕ) (at place : ℕ) (ls ms : List ScriptLine) (l : ScriptLine) (next : ℕ) → AreCalls bytes at ls place → TellsCall bytes place (Some (l, next)) → ms ≡ ls ++ l ∷ [] → AreCalls bytes at ms next
+calls_more bytes at place ls ms l next a t pushed =
+    subst (λ (ms : List ScriptLine). AreCalls bytes at ms next) (sym pushed) (record {
+      inside = t.1;
+      fit = All-push IsScriptLine ls l a.fit t.2;
+      text =
+          a.text ∙ ap (λ (u : List ℕ). lines_text (map call_line ls) ++ u) t.3 ∙ lines_push (map call_line ls) (call_line l) (drop next bytes)
+          ∙ ap (λ (m : List (List ℕ)). lines_text m ++ drop next bytes) (sym (map-append call_line ls (l ∷ [])));
+    })
+
+pub roots_more : (bytes : List ℕ) (at place : ℕ) (rs ss : List RootStart) (r : RootStart) (next n : ℕ) → n ≡ length rs → ArePassed bytes at rs place → TellsRoot n bytes place (Some (r, next)) → ss ≡ rs ++ r ∷ [] → ArePassed bytes at ss next
+roots_more bytes at place rs ss r next n is a t pushed =
+    subst (λ (ss : List RootStart). ArePassed bytes at ss next) (sym pushed) (record {
+      inside = t.2;
+      few = omega (arith, t.0, is, length-append rs (r ∷ []));
+      fit = All-push IsRoot rs r a.fit t.3;
+      text =
+          a.text ∙ ap (λ (u : List ℕ). lines_text (numbered root_text 0 rs) ++ u) t.4 ∙ lines_push (numbered root_text 0 rs) (root_text n r) (drop next bytes)
+          ∙ ap (λ (k : ℕ). lines_text (numbered root_text 0 rs ++ root_text k r ∷ []) ++ drop next bytes) (is ∙ sym (zero-add (length rs)))
+          ∙ ap (λ (m : List (List ℕ)). lines_text m ++ drop next bytes) (sym (numbered-push root_text 0 rs r));
+    })
+
+-- ---- the first bad line
+
+-- behind the lines of the head no value stands
+not_large_first : (bad : List ℕ) → ¬ IsTooLargeIn [] bad
+not_large_first bad l = let n = length-append l.0.0 (run ∷ l.0.1) in omega (arith, ap length l.0.2, n)
+
+not_large_head : (rs : List RootStart) (bad : List ℕ) → ¬ IsTooLargeIn (head_lines rs) bad
+not_large_head rs bad l = behind l.0.0 l.0.1 l.0.2
+  where
+    behind : (head calls : List (List ℕ)) → head_lines rs ≡ head ++ run ∷ calls → ⊥
+    behind [] calls e = let same : first ≡ run = cc in omega (arith, ap length same)
+    behind (h ∷ head) calls e = let tail : numbered root_text 0 rs ≡ head ++ run ∷ calls = cc in no_run 0 rs head calls tail
+
+pub first_stop : (bytes : List ℕ) (f : FileFault) → StopsFirst bytes f → NamesBadPlace IsScriptText IsTooLargeIn bytes f
+first_stop bytes fault.NoMemory s = tt
+first_stop bytes (fault.Bad place) s =
+    let bad = s.1.0 in
+    let stop = s.1.1 in (
+      [],
+      bad,
+      record {
+        first = first_bad script_lines (λ s. IsScript s.0 s.1) IsScriptText script_grammar bytes [] bad stop.behind stop.parts (All-nil IsLine) stop.line stop.end ([], []) ((omega arith, All-nil IsRoot), All-nil IsScriptLine) (script_lines ([], [])) refl
+            (λ more feed x fits rest e. let same : bad ≡ first = cc in stop.refused more feed same)
+            (λ none nothing x fits e. cc);
+        part = [];
+        parts = ap (λ (k : ℕ). take k bytes) s.0;
+        line = All-nil (λ b. eqb b 10 ≡ false);
+      },
+      not_large_first bad,
+    )
+first_stop bytes (fault.TooLarge place) s = absurd s
+
+-- the text from a place on, put behind lines
+parts_at : (bytes : List ℕ) (before : List (List ℕ)) (place : ℕ) (bad behind : List ℕ) → bytes ≡ lines_text before ++ drop place bytes → drop place bytes ≡ bad ++ behind → bytes ≡ lines_text before ++ (bad ++ behind)
+parts_at bytes before place bad behind e f = e ∙ ap (λ (u : List ℕ). lines_text before ++ u) f
+
+-- the lines in front of a place
+place_at : (bytes : List ℕ) (before : List (List ℕ)) (place here : ℕ) → place ≤ length bytes → bytes ≡ lines_text before ++ drop place bytes → here ≡ place → take here bytes ≡ lines_text before ++ []
+place_at bytes before place here inside e is =
+    ap (λ (k : ℕ). take k bytes) is ∙ front_is bytes (lines_text before) place inside e ∙ sym (append-nil (lines_text before))
+
+pub roots_stop : (bytes : List ℕ) (at : ℕ) (f : FileFault) → IsFirstAt bytes at → RootsStop bytes at f → NamesBadPlace IsScriptText IsTooLargeIn bytes f
+roots_stop bytes at fault.NoMemory i s = tt
+roots_stop bytes at (fault.Bad here) i s =
+    let rs = s.0 in
+    let place = s.1 in
+    let passed = s.2 in
+    let bad = s.3.1.0 in
+    let stop = s.3.1.1 in
+    let whole = roots_before bytes at rs place i passed in (
+      head_lines rs,
+      bad,
+      record {
+        first = first_bad script_lines (λ s. IsScript s.0 s.1) IsScriptText script_grammar bytes (head_lines rs) bad stop.behind (parts_at bytes (head_lines rs) place bad stop.behind whole stop.parts) (AreLines-head rs passed.few passed.fit) stop.line stop.end (rs, []) ((passed.few, passed.fit), All-nil IsScriptLine) (run ∷ []) refl
+            (λ more feed x fits rest e.
+            let tail : numbered root_text 0 x.0 ++ run ∷ map call_line x.1 ≡ numbered root_text 0 rs ++ bad ∷ rest = cc in
+            stop.refused more feed (next_head 0 (length rs) rs x.0 (map call_line x.1) bad rest (sym (zero-add (length rs))) (recursion_from_All IsRoot x.0 fits.0.1) (omega (arith, fits.0.0)) tail))
+            (λ none nothing x fits e.
+            let tail : numbered root_text 0 x.0 ++ run ∷ map call_line x.1 ≡ numbered root_text 0 rs = cc in
+            more_head 0 rs x.0 (map call_line x.1) tail);
+        part = [];
+        parts = place_at bytes (head_lines rs) place here passed.inside whole s.3.0;
+        line = All-nil (λ b. eqb b 10 ≡ false);
+      },
+      not_large_head rs bad,
+    )
+roots_stop bytes at (fault.TooLarge here) i s = absurd s.3
+
+-- a line among those of calls
+call_stop : (bytes : List ℕ) (at : ℕ) (rs : List RootStart) (mid : ℕ) (ls : List ScriptLine) (place here : ℕ) (bad : List ℕ) → IsFirstAt bytes at → AreRootsAt bytes at rs mid → AreCalls bytes mid ls place → here ≡ place → place < length bytes
+    → StopsAt IsCallLine (drop place bytes) bad → IsBadPlace IsScriptText bytes here (script_lines (rs, ls)) bad
+call_stop bytes at rs mid ls place here bad i r c is some stop =
+    let whole = calls_before bytes at rs mid ls place i r c in
+    record {
+      first = first_bad script_lines (λ s. IsScript s.0 s.1) IsScriptText script_grammar bytes (script_lines (rs, ls)) bad stop.behind (parts_at bytes (script_lines (rs, ls)) place bad stop.behind whole stop.parts) (AreLines-script rs ls r.passed.few r.passed.fit c.fit) stop.line stop.end (rs, ls) ((r.passed.few, r.passed.fit), c.fit) [] (sym (append-nil (script_lines (rs, ls))))
+          (λ more feed x fits rest e.
+          let grouped : script_lines (rs, ls) ++ bad ∷ rest ≡ head_lines rs ++ run ∷ (map call_line ls ++ bad ∷ rest) = append_assoc (head_lines rs) (run ∷ map call_line ls) (bad ∷ rest) in
+          let both : script_lines x ≡ head_lines rs ++ run ∷ (map call_line ls ++ bad ∷ rest) = e ∙ grouped in
+          let tail : numbered root_text 0 x.0 ++ run ∷ map call_line x.1 ≡ numbered root_text 0 rs ++ run ∷ (map call_line ls ++ bad ∷ rest) = cc in
+          stop.refused more feed (next_call 0 rs x.0 ls x.1 bad rest (recursion_from_All IsScriptLine x.1 fits.1) tail))
+          (λ none nothing x fits e.
+          let left : drop place bytes ≡ [] = stop.parts ∙ ap (λ (u : List ℕ). u ++ stop.behind) none ∙ nothing in
+          omega (arith, some, ap length left, length-drop place bytes));
+      part = [];
+      parts = place_at bytes (script_lines (rs, ls)) place here c.inside whole is;
+      line = All-nil (λ b. eqb b 10 ≡ false);
+    }
+
+pub calls_stop : (bytes : List ℕ) (at : ℕ) (rs : List RootStart) (mid : ℕ) (f : FileFault) → IsFirstAt bytes at → AreRootsAt bytes at rs mid → CallsStop bytes mid f → NamesBadPlace IsScriptText IsTooLargeIn bytes f
+calls_stop bytes at rs mid fault.NoMemory i r s = tt
+calls_stop bytes at rs mid (fault.Bad here) i r s =
+    (script_lines (rs, s.0), s.3.2.0, call_stop bytes at rs mid s.0 s.1 here s.3.2.0 i r s.2 s.3.0 s.3.1 s.3.2.1, λ l. s.3.2.2 l.1)
+calls_stop bytes at rs mid (fault.TooLarge here) i r s =
+    (script_lines (rs, s.0), s.3.2.0, call_stop bytes at rs mid s.0 s.1 here s.3.2.0 i r s.2 s.3.0 s.3.1 s.3.2.1, ((head_lines rs, map call_line s.0, refl), s.3.2.2))
+
+-- ---- one line
+
+-- a line without line feed is bad
+pub open_stop : (Is : List ℕ → Type 0) (bytes : List ℕ) → IsLine bytes → StopsAt Is bytes bytes
+open_stop Is bytes line = record { behind = []; parts = sym (append-nil bytes); line = line; end = tt; refused = λ more e. cc }
+
+pub open_call : (bytes : List ℕ) (at : ℕ) → at < length bytes → IsLine (drop at bytes) → (r : Result (Option ScriptLine) Unread) → Tells call_line IsScriptLine IsTooLargeLine (drop at bytes) r → StopsCall bytes at (fault_of at r)
+open_call bytes at some line (Ok o) t = (refl, some, (drop at bytes, open_stop IsCallLine (drop at bytes) line, t.1))
+open_call bytes at some line (Err unread.NoMemory) t = tt
+open_call bytes at some line (Err unread.TooLarge) t = (refl, some, (drop at bytes, open_stop IsCallLine (drop at bytes) line, t.1))
+
+-- a line that can't be read is bad
+pub line_call : (bytes : List ℕ) (at : ℕ) (line : List ℕ) (next : ℕ) → TellsLine bytes at (Some (line, next)) → (e : Unread) → Tells call_line IsScriptLine IsTooLargeLine line (Err e) → StopsCall bytes at (fault_of at (Err e))
+line_call bytes at line next l unread.NoMemory t = tt
+line_call bytes at line next l unread.TooLarge t =
+    (refl, omega (arith, l.1, l.2), (line, record { behind = 10 ∷ drop next bytes; parts = l.3; line = l.0; end = refl; refused = λ more e k. t.0 k.0 k.1 k.2 }, t.1))
+
+-- the line `run`
+pub run_at : (bytes : List ℕ) (at : ℕ) (line : List ℕ) (next : ℕ) → line ≡ run → TellsLine bytes at (Some (line, next)) → TellsRoot 0 bytes at None
+run_at bytes at line next is l =
+    let e : drop at bytes ≡ run ++ 10 ∷ drop next bytes = l.3 ∙ ap (λ (u : List ℕ). u ++ 10 ∷ drop next bytes) is in
+    let n : next ≡ at + 4 = omega (arith, l.1, l.2, ap length e, length-drop at bytes, length-drop next bytes) in
+    (omega (arith, n, l.2), e ∙ ap (λ (k : ℕ). run ++ 10 ∷ drop k bytes) n)
+
+-- ---- a whole script
+
+pub script_whole : (bytes : List ℕ) (at : ℕ) (rs : List RootStart) (mid : ℕ) (ls : List ScriptLine) → IsFirstAt bytes at → AreRootsAt bytes at rs mid → AreCalls bytes mid ls (length bytes) → IsScript rs ls × (bytes ≡ script_text rs ls)
+script_whole bytes at rs mid ls i r c =
+    let none : drop (length bytes) bytes ≡ [] = drop_all (length bytes) bytes (omega arith) in (
+      ((r.passed.few, r.passed.fit), c.fit),
+      calls_before bytes at rs mid ls (length bytes) i r c ∙ ap (λ (u : List ℕ). lines_text (script_lines (rs, ls)) ++ u) none ∙ append-nil (lines_text (script_lines (rs, ls))) ∙ sym (script_text-lines rs ls),
+    )
+
+-- what is a script is refused only for want of memory
+pub only_fault : (bytes : List ℕ) (f : FileFault) → NamesBadPlace IsScriptText IsTooLargeIn bytes f → IsScriptText bytes → refusal bytes f ≡ refused.NoMemory
+only_fault bytes fault.NoMemory names t = refl
+only_fault bytes (fault.Bad place) names t = absurd (names.2.first.none t)
+only_fault bytes (fault.TooLarge place) names t = absurd (names.2.first.none t)

@@ -1,0 +1,5 @@
+pub mod Cut
+pub mod Lines
+pub mod Reads
+pub mod Stops
+pub mod Whole
