@@ -1,10 +1,10 @@
 -- A journal of one more line.
-use Rattle.std.proofs.Common.{◌≡◌, List, ℕ, [], ◌∷◌, ◌++◌, ap, sym, ◌∙◌, append_assoc, Result, Ok, Err, OnOk, is_ok, true, map, reverse, All}
+use Rattle.std.proofs.Common.{◌≡◌, List, ℕ, [], ◌∷◌, ◌++◌, ◌+◌, ◌<◌, length, take, drop, get_or, arith, ap, sym, subst, ◌∙◌, append_assoc, Some, inl, inr, Result, Ok, Err, OnOk, is_ok, true, map, reverse, All}
 use Rattle.std.proofs.lemmas.Bool.{true≢false}
 use Rattle.std.specs.List.{flat_map}
 use Rattle.std.proofs.lemmas.Grind.{flat_map-append}
-use Rattle.std.proofs.lemmas.List.{append-nil, map-append, reverse-append}
-use Rattle.std.proofs.lemmas.List.Elements.{All-head, All-tail}
+use Rattle.std.proofs.lemmas.List.{append-nil, drop_more, length-take-le, map-append, reverse-append, take_more, take-append-drop}
+use Rattle.std.proofs.lemmas.List.Elements.{All-head, All-push, All-tail}
 use Rattle.df_machine.specs.Journal.{State, appended, firsts}
 use Rattle.df_machine.specs.declared.start.RootStart.{RootStart}
 use Rattle.df_rules.specs.Legal.{answered, run}
@@ -14,11 +14,18 @@ use Rattle.df_unit.specs.declared.entry.Entry.{Entry}
 use Rattle.df_unit.specs.declared.name.UnitName.{UnitName}
 use Rattle.df_journal_text.specs.Entry.{noted_text}
 use Rattle.df_journal_text.specs.Start.{head_text}
-use Rattle.df_script_text.specs.Script.{IsScript, NamesNoLine, script_text}
-use Rattle.df_script_text.specs.declared.refused.FileRefused.{FileRefused}
-use Rattle.df_script_text.specs.declared.refused.FileRefused.TheVariants.{Syntax, NoMemory}
+use Rattle.df_unit.specs.Served.{IsBuilt}
+use Rattle.df_lines.specs.Refused.{NamesBadLine}
+use Rattle.df_lines.specs.declared.refused.FileRefused.{FileRefused}
+use Rattle.df_lines.specs.declared.refused.FileRefused.TheVariants.{Syntax, TooLarge, NoMemory}
+use Rattle.df_script_text.specs.Script.{IsScript, IsScriptText, script_text}
+use Rattle.df_script_text.specs.TooLarge.{IsTooLargeIn}
+use Rattle.df_script_text.proofs.ScriptBacks.{script_is_one}
+use Rattle.df_run.specs.Tasks.{BlamesBytes}
+use Rattle.df_run.specs.declared.status.BadKind.TheVariants as kind
+use Rattle.df_run.specs.declared.words.Task.TheVariants.{Steps}
 use Rattle.df_script_text.specs.declared.line.ScriptLine.{ScriptLine}
-use Rattle.df_run.specs.Steps.{AppendsStep, RefusesLine, called, journal_of, noted, noted_in}
+use Rattle.df_run.specs.Steps.{AppendsStep, AreBuilt, IsServedText, IsUnserved, RefusesLine, TellsUnserved, called, journal_of, noted, noted_in}
 
 -- what follows from what holds where a call is done
 pub on_ok-map : {A E : Type 0} {P Q : Type 0} (r : Result A E) → OnOk r P → (P → Q) → OnOk r Q
@@ -68,7 +75,48 @@ written_more roots ls l old new before now w a =
           ∙ ap (λ (j : List Entry). head_text roots ++ flat_map noted_text (noted roots j)) (sym (journal_more roots ls l));
     }
 
--- a script that isn't read is the text of none
-pub refuses_line : (bytes : List ℕ) (refused : FileRefused) → (refused ≡ Syntax 0 → (roots : List RootStart) (lines : List ScriptLine) → IsScript roots lines → bytes ≡ script_text roots lines → ⊥) → NamesNoLine refused → RefusesLine bytes refused
-refuses_line bytes (Syntax line) syntax names = (names, λ t. syntax (ap Syntax names) t.0 t.1 t.2 t.3)
-refuses_line bytes NoMemory syntax names = tt
+-- ---- scripts that are refused
+
+-- a script is refused at its first bad line
+pub refuses_line : (bytes : List ℕ) (refused : FileRefused) → NamesBadLine IsScriptText IsTooLargeIn bytes refused → RefusesLine bytes refused
+refuses_line bytes (Syntax line) names = inl names
+refuses_line bytes (TooLarge line) names = names
+refuses_line bytes NoMemory names = tt
+
+-- or at its first call that the machine doesn't make
+pub refuses_call : (bytes : List ℕ) (roots : List RootStart) (lines : List ScriptLine) (at line : ℕ) → IsScript roots lines → bytes ≡ script_text roots lines → TellsUnserved lines (Some at) → line ≡ length roots + at + 3 → RefusesLine bytes (Syntax line)
+refuses_call bytes roots lines at line script text t number =
+    inr (record {
+      roots = roots;
+      older = t.0;
+      unserved = t.1;
+      newer = t.2;
+      script = subst (IsScript roots) t.3 script;
+      text = text ∙ ap (script_text roots) t.3;
+      built = t.5;
+      unbuilt = t.6;
+      number = number ∙ ap (λ (n : ℕ). length roots + n + 3) t.4;
+    })
+
+-- the place of the first such call is found
+pub unserved_at : (lines : List ScriptLine) (i : ℕ) (d : ScriptLine) → i < length lines → AreBuilt (take i lines) → ¬ IsBuilt (get_or lines i d).call → TellsUnserved lines (Some i)
+unserved_at lines i d inside built unbuilt =
+    (take i lines, get_or lines i d, drop (i + 1) lines, sym (take-append-drop i lines) ∙ ap (λ (l : List ScriptLine). take i lines ++ l) (drop_more lines i d inside), sym (length-take-le i lines (omega (arith, inside))), built, unbuilt)
+
+-- one more call that the machine makes
+pub built_more : (lines : List ScriptLine) (i : ℕ) (d : ScriptLine) → i < length lines → AreBuilt (take i lines) → IsBuilt (get_or lines i d).call → AreBuilt (take (i + 1) lines)
+built_more lines i d inside built here =
+    subst AreBuilt (sym (take_more lines i d inside)) (All-push (λ (line : ScriptLine). IsBuilt line.call) (take i lines) (get_or lines i d) built here)
+
+-- what is refused isn't a script whose calls the machine makes
+pub not_served : (bytes : List ℕ) (line : ℕ) → IsUnserved bytes line → ¬ IsServedText bytes
+not_served bytes line u served =
+    let same = script_is_one served.0 u.roots served.1 (u.older ++ u.unserved ∷ u.newer) served.2 u.script (sym served.4 ∙ u.text) in
+    u.unbuilt (all_at (λ (line : ScriptLine). IsBuilt line.call) u.older u.unserved u.newer (subst AreBuilt same.1 served.3))
+
+pub blames_syntax : (bytes : List ℕ) (line : ℕ) → RefusesLine bytes (Syntax line) → BlamesBytes Steps bytes line kind.Syntax
+blames_syntax bytes line (inl names) = record { bad = λ served. names.2.first.none (served.0, served.1, served.2, served.4); place = inl names }
+blames_syntax bytes line (inr unserved) = record { bad = not_served bytes line unserved; place = inr unserved }
+
+pub blames_too_large : (bytes : List ℕ) (line : ℕ) → RefusesLine bytes (TooLarge line) → BlamesBytes Steps bytes line kind.TooLarge
+blames_too_large bytes line names = record { bad = λ served. names.2.first.none (served.0, served.1, served.2, served.4); place = names }

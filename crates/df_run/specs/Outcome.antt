@@ -8,7 +8,7 @@ use Rattle.df_io.specs.Pieces.{HasAll, HasFront}
 use Rattle.df_run.specs.declared.status.Status.{Status}
 use Rattle.df_run.specs.declared.status.Status.TheVariants as status
 use Rattle.df_run.specs.declared.words.Task.{Task}
-use Rattle.df_run.specs.Tasks.{BlamesBytes, IsInput, IsOutput, kind_of}
+use Rattle.df_run.specs.Tasks.{BlamesBytes, IsInput, IsOutput}
 use Rattle.df_run.specs.Words.{command_of}
 
 -- Usage comes exactly where the words ask for nothing
@@ -36,15 +36,16 @@ BadInputIsDue task told (status.BadInput input line kind) =
 BadInputIsDue task told _ = ⊤
 
 -- the status blames the file
-abbrev pub BlamesFile : Task → Status → Type 0
-BlamesFile task result = (line : ℕ) × (result ≡ status.BadInput 1 line (kind_of task))
+abbrev pub BlamesFile : Status → Type 0
+BlamesFile (status.BadInput input line kind) = input ≡ 1
+BlamesFile _ = ⊥
 
 -- BadInput comes exactly where the file, read whole, isn't what the task reads
 abbrev pub BadInputIsExact : Task → Option (List ℕ) → Status → Type 0
 BadInputIsExact task told result =
     BadInputIsDue task told result
     × IfTold told (λ bytes. length bytes ≤ longest_file → ¬ IsInput task bytes →
-    BlamesFile task result ⊎ IsCutOff result)
+    BlamesFile result ⊎ IsCutOff result)
 
 -- a status that calls an input too long says so of the file
 abbrev pub TooLongIsDue : Option (List ℕ) → Status → Type 0

@@ -1,7 +1,7 @@
 -- What is told of a run when it has ended: the code with which the program ends, and a line.
 use Rattle.std.specs.Prelude.{ℕ, List, ◌++◌, codes, decimal}
 use Rattle.df_run.specs.declared.status.BadKind.{BadKind}
-use Rattle.df_run.specs.declared.status.BadKind.TheVariants.{Syntax, BadOrder}
+use Rattle.df_run.specs.declared.status.BadKind.TheVariants.{Syntax, TooLarge, BadOrder}
 use Rattle.df_run.specs.declared.status.Status.{Status}
 use Rattle.df_run.specs.declared.status.Status.TheVariants.{Done, Usage, BadInput, ReadFault, WriteFault, NoMemory, TooLong}
 
@@ -18,6 +18,7 @@ code_of (TooLong input) = 8
 -- the word for what is wrong with an input
 abbrev pub kind_text : BadKind → List ℕ
 kind_text Syntax = codes "syntax"
+kind_text TooLarge = codes "too large"
 kind_text BadOrder = codes "order"
 
 -- the line of a status, without its line feed; that of Done is not printed

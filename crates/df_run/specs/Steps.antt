@@ -1,5 +1,6 @@
 -- What a script makes of a journal.
-use Rattle.std.specs.Prelude.{◌≡◌, ⊤, ℕ, List, [], ◌∷◌, ◌++◌, Option, Some, None, map, reverse}
+use Rattle.std.specs.Prelude.{◌≡◌, ◌⊎◌, ⊤, ℕ, ◌+◌, List, [], ◌∷◌, ◌++◌, length, Option, Some, None, map, reverse}
+use Rattle.std.specs.List.{All}
 use Rattle.std.specs.Option.{option_map}
 use Rattle.df_label.specs.declared.label.Label.{Label}
 use Rattle.df_machine.specs.declared.start.RootStart.{RootStart}
@@ -20,9 +21,12 @@ use Rattle.df_unit.specs.declared.entry.Noted.{Noted}
 use Rattle.df_unit.specs.declared.reply.Reply.{Reply}
 use Rattle.df_journal_text.specs.Entry.{noted_text}
 use Rattle.df_journal_text.specs.Start.{journal_text}
-use Rattle.df_script_text.specs.declared.refused.FileRefused.{FileRefused}
-use Rattle.df_script_text.specs.declared.refused.FileRefused.TheVariants as refused
-use Rattle.df_script_text.specs.Script.{IsScript, script_text}
+use Rattle.df_unit.specs.Served.{IsBuilt}
+use Rattle.df_lines.specs.Refused.{NamesBadLine}
+use Rattle.df_lines.specs.declared.refused.FileRefused.{FileRefused}
+use Rattle.df_lines.specs.declared.refused.FileRefused.TheVariants as refused
+use Rattle.df_script_text.specs.Script.{IsScript, IsScriptText, script_text}
+use Rattle.df_script_text.specs.TooLarge.{IsTooLargeIn}
 use Rattle.df_script_text.specs.declared.line.ScriptLine.{ScriptLine}
 
 abbrev pub called : ScriptLine → UnitName × Call
@@ -70,16 +74,33 @@ pub record IsSound (s : List OwnState) (past : List Entry) : Type 0 where
       received u older ≡ deliveries rows s older u
   pub separates : (l : Label) → Separates rows s past l
 
--- the bytes are the text of a script
-abbrev pub IsScriptText : List ℕ → Type 0
-IsScriptText bytes = (roots : List RootStart) × (lines : List ScriptLine) × IsScript roots lines
-    × (bytes ≡ script_text roots lines)
+-- the machine makes each of these calls by now
+abbrev pub AreBuilt : List ScriptLine → Type 0
+AreBuilt lines = All (λ line. IsBuilt line.call) lines
+
+-- the bytes are the text of a script whose calls the machine makes
+abbrev pub IsServedText : List ℕ → Type 0
+IsServedText bytes = (roots : List RootStart) × (lines : List ScriptLine) × IsScript roots lines
+    × AreBuilt lines × (bytes ≡ script_text roots lines)
+
+-- the bytes are the text of a script, and in this line stands its first call that the machine
+-- doesn't make yet
+pub record IsUnserved (bytes : List ℕ) (line : ℕ) : Type 0 where
+  pub roots : List RootStart
+  pub older : List ScriptLine
+  pub unserved : ScriptLine
+  pub newer : List ScriptLine
+  pub script : IsScript roots (older ++ unserved ∷ newer)
+  pub text : bytes ≡ script_text roots (older ++ unserved ∷ newer)
+  pub built : AreBuilt older
+  pub unbuilt : ¬ IsBuilt unserved.call
+  pub number : line ≡ length roots + length older + 3
 
 -- the bytes are the text of a script, and the text is that of the journal of its calls, which is
 -- sound
 abbrev pub RecordsScript : List ℕ → List ℕ → Type 0
 RecordsScript bytes text =
-    (roots : List RootStart) × (lines : List ScriptLine) × IsScript roots lines
+    (roots : List RootStart) × (lines : List ScriptLine) × IsScript roots lines × AreBuilt lines
     × (bytes ≡ script_text roots lines) × Records roots lines text
     × IsSound (firsts roots) (journal_of roots lines)
 
@@ -90,7 +111,18 @@ pub record AppendsStep (line : ScriptLine) (old new : State) (before now : List 
       ≡ before ++ noted_text (noted_in old (answered rows (firsts old.0) old.1 line.actor
       line.call))
 
--- a refused script is blamed on line 0, and the bytes are the text of none
+-- the place of the first call that the machine doesn't make yet
+abbrev pub TellsUnserved : List ScriptLine → Option ℕ → Type 0
+TellsUnserved lines None = AreBuilt lines
+TellsUnserved lines (Some at) = (older : List ScriptLine) × (unserved : ScriptLine)
+    × (newer : List ScriptLine) × (lines ≡ older ++ unserved ∷ newer) × (at ≡ length older)
+    × AreBuilt older × ¬ IsBuilt unserved.call
+
+-- A script is refused at its first bad line; or, where the bytes are a script, at the first call
+-- that the machine doesn't make yet.
 abbrev pub RefusesLine : List ℕ → FileRefused → Type 0
-RefusesLine bytes (refused.Syntax line) = (line ≡ 0) × ¬ IsScriptText bytes
+RefusesLine bytes (refused.Syntax line) =
+    NamesBadLine IsScriptText IsTooLargeIn bytes (refused.Syntax line) ⊎ IsUnserved bytes line
+RefusesLine bytes (refused.TooLarge line) =
+    NamesBadLine IsScriptText IsTooLargeIn bytes (refused.TooLarge line)
 RefusesLine bytes refused.NoMemory = ⊤

@@ -3,9 +3,10 @@ use Rattle.std.specs.Prelude.{◌≡◌, ⊤, ℕ, List}
 use Rattle.df_auction.specs.AuctionText.{IsTextOfFile}
 use Rattle.df_auction.specs.OrderFile.{IsBadAt, IsOrderFile}
 use Rattle.df_book.specs.declared.order.Order.{Order}
-use Rattle.df_run.specs.Steps.{IsScriptText, RecordsScript}
+use Rattle.df_run.specs.Steps.{IsServedText, RecordsScript, RefusesLine}
+use Rattle.df_lines.specs.declared.refused.FileRefused.TheVariants as file
 use Rattle.df_run.specs.declared.status.BadKind.{BadKind}
-use Rattle.df_run.specs.declared.status.BadKind.TheVariants.{Syntax, BadOrder}
+use Rattle.df_run.specs.declared.status.BadKind.TheVariants.{Syntax, TooLarge, BadOrder}
 use Rattle.df_run.specs.declared.tasks.Refused.{Refused}
 use Rattle.df_run.specs.declared.tasks.Refused.TheVariants as refused
 use Rattle.df_run.specs.declared.words.Task.{Task}
@@ -17,7 +18,7 @@ IsOrders bytes = (orders : List Order) × IsOrderFile bytes orders
 
 -- the bytes are what the task reads
 abbrev pub IsInput : Task → List ℕ → Type 0
-IsInput Steps bytes = IsScriptText bytes
+IsInput Steps bytes = IsServedText bytes
 IsInput Auction bytes = IsOrders bytes
 
 -- the text is what the task writes of the bytes
@@ -25,22 +26,21 @@ abbrev pub IsOutput : Task → List ℕ → List ℕ → Type 0
 IsOutput Steps bytes text = RecordsScript bytes text
 IsOutput Auction bytes text = IsTextOfFile bytes text
 
--- what is wrong with a file of the task
-abbrev pub kind_of : Task → BadKind
-kind_of Steps = Syntax
-kind_of Auction = BadOrder
+-- where and how a script is wrong
+abbrev pub IsBadScript : List ℕ → ℕ → BadKind → Type 0
+IsBadScript bytes line Syntax = RefusesLine bytes (file.Syntax line)
+IsBadScript bytes line TooLarge = RefusesLine bytes (file.TooLarge line)
+IsBadScript bytes line BadOrder = ⊥
 
--- where it is wrong: a script is blamed as a whole so far, an order file at its first record that
--- isn't in form
-abbrev pub IsBadLine : Task → List ℕ → ℕ → Type 0
-IsBadLine Steps bytes line = line ≡ 0
-IsBadLine Auction bytes line = IsBadAt bytes line
+-- where and how bytes are wrong: an order file at its first record that isn't in form
+abbrev pub IsBadLine : Task → List ℕ → ℕ → BadKind → Type 0
+IsBadLine Steps bytes line kind = IsBadScript bytes line kind
+IsBadLine Auction bytes line kind = (kind ≡ BadOrder) × IsBadAt bytes line
 
 -- the bytes aren't what the task reads, and are blamed for that, where they are wrong
 pub record BlamesBytes (task : Task) (bytes : List ℕ) (line : ℕ) (kind : BadKind) : Type 0 where
-  pub of_task : kind ≡ kind_of task
   pub bad : ¬ IsInput task bytes
-  pub place : IsBadLine task bytes line
+  pub place : IsBadLine task bytes line kind
 
 -- bytes that are refused are blamed; want of memory says nothing of them
 abbrev pub RefusesInput : Task → List ℕ → Refused → Type 0

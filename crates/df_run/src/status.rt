@@ -7,6 +7,7 @@ use std::fmt;
 #[derive(Clone, Copy, Debug, PartialEq, Eq)]
 pub enum BadKind {
     Syntax,
+    TooLarge,
     BadOrder,
 }
 
@@ -54,6 +55,7 @@ impl fmt::Display for BadKind {
     fn fmt<W: fmt::Write>(&self, f: &mut fmt::Formatter<W>) -> fmt::Result {
         match self {
             BadKind::Syntax => f.write_str("syntax"),
+            BadKind::TooLarge => f.write_str("too large"),
             BadKind::BadOrder => f.write_str("order"),
         }
     }

@@ -1,16 +1,15 @@
-ghost use Rattle.std.specs.Prelude.{◌≡◌, ◌++◌, IfOk, IfErr, OnOk, Some, slice_get};
-ghost use Rattle.std.specs.List.{All};
+ghost use Rattle.std.specs.Prelude.{◌≡◌, ◌++◌, IfOk, IfErr, MatchBool, OnOk, Some, slice_get};
 ghost use Rattle.df_unit.specs.declared.entry.Entry.{Entry};
 ghost use Rattle.df_unit.specs.Served.{IsBuilt};
 ghost use Rattle.df_journal_text.specs.Entry.{entry_text};
-ghost use Rattle.df_script_text.specs.declared.refused.FileRefused.{FileRefused};
 ghost use Rattle.df_machine.specs.Journal.{appended};
-ghost use Rattle.df_run.specs.Steps.{AppendsStep, Records, RecordsScript, RefusesLine, contamination_in};
+ghost use Rattle.df_run.specs.Steps.{AppendsStep, AreBuilt, Records, RecordsScript, RefusesLine, TellsUnserved, contamination_in};
 
 use df_journal_text::{write_head, write_noting};
 use df_label::{Label, NoMemory};
+use df_lines::FileRefused;
 use df_machine::{Core, Start};
-use df_script_text::{FileRefused, ScriptLine, read_script};
+use df_script_text::{ScriptLine, read_script};
 use df_unit::{Call, UnitName};
 use std::alloc::Global;
 
@@ -24,15 +23,41 @@ pub fn steps(alloc: Global, bytes: &[u8]) -> Result<Vec<u8>, FileRefused>
         Ok(script) => script,
         Err(refused) => return Err(refused),
     };
+    if let Some(at) = first_unserved(lines.as_slice()) {
+        let line = start.as_slice().len() as u64 + at as u64 + 3;
+        return Err(FileRefused::Syntax { line });
+    }
     match journal_of(alloc, start, lines) {
         Ok(text) => Ok(text),
         Err(NoMemory) => Err(FileRefused::NoMemory),
     }
 }
 
+/// Whether the machine makes the call by now.
+fn is_built(call: &Call) -> bool
+    ensures { MatchBool result (IsBuilt call.now) (¬ IsBuilt call.now) }
+{
+    !matches!(
+        call,
+        Call::SubscribeManaged { .. } | Call::Instantiate { .. }
+    )
+}
+
+/// The place of the first call that the machine doesn't make yet.
+fn first_unserved(lines: &[ScriptLine]) -> Option<usize>
+    ensures { TellsUnserved lines.now result }
+{
+    for (i, line) in lines.iter().enumerate() {
+        if !is_built(&line.call) {
+            return Some(i);
+        }
+    }
+    None
+}
+
 /// Makes the calls in their order, and gives the text of their journal.
 fn journal_of(alloc: Global, start: Start, mut lines: Vec<ScriptLine>) -> Result<Vec<u8>, NoMemory>
-    requires { All (λ line. IsBuilt line.call) lines.items }
+    requires { AreBuilt lines.items }
     ensures { IfOk result (λ text. Records start lines.items text.items) }
 {
     let mut text = Vec::new(alloc);

@@ -7,7 +7,7 @@ use crate::status::BadKind;
 use crate::steps::steps;
 use crate::words::Task;
 use df_auction::{OrdersRefused, auction_text};
-use df_script_text::FileRefused;
+use df_lines::FileRefused;
 use std::alloc::Global;
 
 /// Why a task makes no text of a file.
@@ -39,6 +39,10 @@ fn journal_of_script(alloc: Global, bytes: &[u8]) -> Result<Vec<u8>, Refused>
         Err(FileRefused::Syntax { line }) => Err(Refused::BadInput {
             line,
             kind: BadKind::Syntax,
+        }),
+        Err(FileRefused::TooLarge { line }) => Err(Refused::BadInput {
+            line,
+            kind: BadKind::TooLarge,
         }),
         Err(FileRefused::NoMemory) => Err(Refused::NoMemory),
     }

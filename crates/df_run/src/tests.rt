@@ -7,11 +7,14 @@ use df_io::{LONGEST_FILE, MemoryShelf, MemorySink};
 use std::alloc::{AllocError, Global};
 use std::test::Fail;
 
-const BAD: Status = Status::BadInput {
-    input: 1,
-    line: 0,
-    kind: BadKind::Syntax,
-};
+/// What a script is told that isn't in form in this line.
+fn bad(line: u64, kind: BadKind) -> Status {
+    Status::BadInput {
+        input: 1,
+        line,
+        kind,
+    }
+}
 
 fn words_of(alloc: Global, words: &[&str]) -> Result<Vec<String>, AllocError> {
     let mut own = Vec::new(alloc);
@@ -39,16 +42,35 @@ fn done_to(rt: &HostRuntime, task: &str, bytes: &[u8]) -> Result<(Status, Memory
 
 #[test]
 fn scripts_are_run_or_refused_whole(rt: HostRuntime) -> Result<(), Fail> {
-    let files: [(&[u8], Status, &[u8]); 5] = [
+    let files: [(&[u8], Status, &[u8]); 8] = [
         (
             b"defcon-script 1\nrun\n",
             Status::Done,
             b"defcon-journal 2\nrun\n",
         ),
-        (b"", BAD, b""),
-        (&FIRST[..FIRST.len() - 1], BAD, b""),
-        (&FIRST[..30], BAD, b""),
-        (b"defcon-script 1\nrun\n0 geT\n", BAD, b""),
+        (b"", bad(1, BadKind::Syntax), b""),
+        (&FIRST[..FIRST.len() - 1], bad(10, BadKind::Syntax), b""),
+        (&FIRST[..30], bad(3, BadKind::Syntax), b""),
+        (
+            b"defcon-script 1\nrun\n0 geT\n",
+            bad(3, BadKind::Syntax),
+            b"",
+        ),
+        (
+            b"defcon-script 1\nunit 0 {|}\nrun\n0 get\n0 msub a?\n0 spawn {}\n",
+            bad(5, BadKind::Syntax),
+            b"",
+        ),
+        (
+            b"defcon-script 1\nrun\n0 add 0 {|} a [[[[[[[[[[[[[[[[[[[[[[[[[[[[[[[[[\n",
+            bad(3, BadKind::TooLarge),
+            b"",
+        ),
+        (
+            b"defcon-script 1\nrun\n1/0{#0,#3} get\n",
+            Status::Done,
+            b"defcon-journal 2\nrun\n1/0{#0,#3} get -> no unit\n",
+        ),
     ];
     for (bytes, status, written) in files {
         let (ended, sink) = run_of(&rt, bytes)?;
@@ -267,15 +289,20 @@ fn order_files_are_auctioned_or_refused(rt: HostRuntime) -> Result<(), Fail> {
 
 #[test]
 fn each_status_has_its_line(rt: HostRuntime) -> Result<(), Fail> {
-    let bad = |kind| Status::BadInput {
-        input: 1,
-        line: 17,
-        kind,
-    };
     for (status, line) in [
         (Status::Usage, "defcon: usage"),
-        (bad(BadKind::Syntax), "defcon: bad input 1 line 17: syntax"),
-        (bad(BadKind::BadOrder), "defcon: bad input 1 line 17: order"),
+        (
+            bad(17, BadKind::Syntax),
+            "defcon: bad input 1 line 17: syntax",
+        ),
+        (
+            bad(17, BadKind::TooLarge),
+            "defcon: bad input 1 line 17: too large",
+        ),
+        (
+            bad(17, BadKind::BadOrder),
+            "defcon: bad input 1 line 17: order",
+        ),
         (Status::ReadFault, "defcon: read fault"),
         (Status::WriteFault, "defcon: write fault"),
         (Status::NoMemory, "defcon: no memory"),

@@ -9,7 +9,6 @@ pub returns-in-BadOrder : goal.returns-in-BadOrder
 returns-in-BadOrder c = λ bytes bad.
     let placed : IsBadAt bytes c.in-BadOrder.line = subst (λ (r : OrdersRefused). IsRightRefusal bytes r) c.in-BadOrder.is bad in
     record {
-      of_task = refl;
       bad = λ read. an_order_file_is_good bytes read.0 c.in-BadOrder.line read.1 placed;
-      place = placed;
+      place = (refl, placed);
     }
