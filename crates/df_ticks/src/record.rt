@@ -82,7 +82,8 @@ fn words(alloc: Global, symbol: &[u8]) -> Result<Words, NoMemory>
 ghost use Rattle.std.specs.Prelude.{true};
 ghost use Rattle.df_ticks.specs.TickFile.{are_letters};
 
-fn is_symbol(bytes: &[u8]) -> bool
+/// Whether the bytes are a symbol: 1 to 8 letters `A` to `Z`.
+pub fn is_symbol(bytes: &[u8]) -> bool
     ensures { result ≡ is_symbol bytes.now }
 {
     !bytes.is_empty() && bytes.len() <= 8 && are_letters(bytes)
