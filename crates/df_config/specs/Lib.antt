@@ -1,0 +1,3 @@
+pub mod ConfigForm
+pub mod ConfigTable
+pub mod ConfigFile
