@@ -14,13 +14,12 @@ use Rattle.df_family.specs.Family.{names, root_names}
 use Rattle.df_family.specs.May.{Relation, can_write, can_reach}
 use Rattle.df_label.proofs.TagSetFacts.{tag_eq-itself}
 use Rattle.df_part.specs.declared.part.Part.{Part}
-use Rattle.df_priv.specs.Held.{holds, grant}
+use Rattle.df_priv.specs.Held.{holds, grant, grant_all}
 use Rattle.df_priv.specs.Needed.{needed, needed_to_attach}
 use Rattle.df_priv.specs.declared.need.Act.TheVariants.{Del}
 use Rattle.df_priv.proofs.HeldFacts.{holds-grant}
 use Rattle.df_rules.specs.Always.{Roots}
 use Rattle.df_unit.specs.Handles.{handle_at, opened, replaced}
-use Rattle.df_unit.specs.Held.{grant_all}
 use Rattle.df_unit.specs.OwnState.{OwnState, Fixed}
 use Rattle.df_unit.specs.declared.handle.Handle.{Handle}
 
