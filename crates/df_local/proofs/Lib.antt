@@ -2,4 +2,3 @@ pub mod OpenHandles
 pub mod ReadInTurn
 pub mod Begun
 pub mod NamedInTurn
-pub mod RunsOn

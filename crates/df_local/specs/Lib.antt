@@ -1,5 +1,4 @@
 pub mod Locally
 pub mod Births
 pub mod Named
-pub mod Runs
 pub mod code

@@ -1,3 +1,2 @@
 pub mod LocalState
-pub mod RunState
 pub mod Shown

@@ -1,14 +1,8 @@
-//! Calls of one unit in turn, each with its reply, and units that begin by another.
+//! Calls of one unit in turn, each with its reply.
 
-ghost use Rattle.std.specs.Prelude.{◌≡◌, IfOk, false};
-ghost use Rattle.df_unit.specs.Rows.{is_instance};
-
-use crate::{Local, LocalRun};
-use df_filter::{Clause, Filter, Test};
-use df_frozen::Name;
+use crate::Local;
 use df_label::{Label, NoMemory, Privileges, TagSet};
-use df_spawn::child_labels;
-use df_unit::{Call, Reply};
+use df_unit::Reply;
 use std::alloc::Global;
 use std::test::Fail;
 
@@ -51,9 +45,7 @@ fn tells(reply: &Reply, told: Told) -> bool {
     }
 }
 
-fn root(alloc: Global) -> Result<Local, NoMemory>
-    ensures { IfOk result (λ l. is_instance l.unit ≡ false) }
-{
+fn root(alloc: Global) -> Result<Local, NoMemory> {
     let label = Label {
         s: TagSet::new(alloc),
         i: TagSet::new(alloc),
@@ -79,41 +71,5 @@ fn calls_are_answered_in_turn(rt: HostRuntime) -> Result<(), Fail> {
         assert!(rt; tells(&reply, told));
     }
     assert!(rt; unit.events_made() == 3 && unit.tags_made() == 2 && unit.subs_made() == 2);
-    Ok(())
-}
-
-#[test]
-fn a_run_is_made_apart(rt: HostRuntime) -> Result<(), Fail> {
-    let unit = root(rt.alloc())?;
-    let mut run = LocalRun::begin(&unit)?;
-    assert!(rt; run.call(Call::CreateEvent).is_ok());
-    assert!(rt; run.entries().len() == 1 && run.present().handles_used() == 1);
-    assert!(rt; unit.same(run.base()) && !unit.same(run.present()));
-    Ok(())
-}
-
-fn filter(alloc: Global) -> Result<Filter, Fail> {
-    let mut clauses = Vec::new(alloc);
-    clauses.push(Clause {
-        name: Name::new("a")?,
-        test: Test::Present,
-    })?;
-    Ok(Filter::new(clauses)?)
-}
-
-#[test]
-fn instances_and_children_begin(rt: HostRuntime) -> Result<(), Fail> {
-    let alloc = rt.alloc();
-    let owner = root(alloc)?;
-    let fixed = owner.fixed(&filter(alloc)?)?;
-    let s = TagSet::new(alloc);
-    if fixed.base.is_subset(&s) {
-        let instance = Local::of_instance(alloc, &[4], 0, &fixed, &s)?;
-        assert!(rt; instance.is_instance() && instance.subs_made() == 0);
-    }
-    let asked = Privileges::new(alloc);
-    let given = child_labels(owner.input(), owner.output(), owner.held(), &s, &asked)?;
-    let child = owner.of_child(0, given.input, given.output, given.held)?;
-    assert!(rt; !child.is_instance() && child.units_made() == 0);
     Ok(())
 }

@@ -8,7 +8,7 @@ use Rattle.df_unit.specs.declared.entry.Entry.TheVariants.{Done}
 use Rattle.df_unit.specs.declared.name.UnitName.{UnitName}
 use Rattle.df_unit.specs.declared.reply.Reply.{Reply}
 use Rattle.df_local.specs.Locally.{row_answer, with_own}
-use Rattle.df_local.specs.Runs.{IsLocalEntry, LeadTo, is_local, moved_by}
+use Rattle.df_local_run.specs.Runs.{IsLocalEntry, LeadTo, is_local, moved_by}
 use Rattle.df_local.specs.code.LocalState.{LocalState}
 
 lead_on : (es : List Entry) (base present : LocalState) (e : Entry) → LeadTo es base present → IsLocalEntry present e

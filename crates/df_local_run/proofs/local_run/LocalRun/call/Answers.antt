@@ -1,5 +1,5 @@
-use Rattle.df_local.proofs.RunsOn.{runs_on}
-use Rattle.df_local.proofs.local_run.LocalRun.call.Goals as goal
+use Rattle.df_local_run.proofs.RunsOn.{runs_on}
+use Rattle.df_local_run.proofs.local_run.LocalRun.call.Goals as goal
 
 pub invariant_of-self-2 : goal.invariant_of-self-2
 invariant_of-self-2 c =

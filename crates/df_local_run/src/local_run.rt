@@ -4,9 +4,10 @@ ghost use Rattle.std.specs.Prelude.{◌≡◌, ◌<◌, [], IfErr, IfOk, OnErr, 
 ghost use Rattle.df_unit.specs.Rows.{effect, reply};
 ghost use Rattle.df_unit.specs.declared.entry.Entry.{Entry};
 
-use crate::{Answer, Local};
 use df_label::NoMemory;
+use df_local::{Answer, Local};
 use df_unit::{Call, Entry, UnitName};
+use std::alloc::Global;
 use std::marker::Model;
 
 /// A unit as it was, as it is after some local calls, and the entries between, the oldest first.
@@ -18,8 +19,8 @@ pub struct LocalRun {
 }
 
 impl Model for LocalRun {
-    ghost use Rattle.df_local.specs.Runs.{LeadTo};
-    ghost use Rattle.df_local.specs.code.RunState.{RunState, run_code};
+    ghost use Rattle.df_local_run.specs.Runs.{LeadTo};
+    ghost use Rattle.df_local_run.specs.code.RunState.{RunState, run_code};
 
     ghost Value = { RunState };
 
@@ -37,20 +38,19 @@ pub struct NotCalled {
 }
 
 impl LocalRun {
-    ghost use Rattle.df_local.specs.Runs.{LeadTo, called, is_local};
+    ghost use Rattle.df_local_run.specs.Runs.{LeadTo, called, is_local};
 
     /// A run without calls.
-    pub fn begin(base: &Local) -> Result<LocalRun, NoMemory>
+    pub fn begin(alloc: Global, base: &Local) -> Result<LocalRun, NoMemory>
         ensures { IfOk result (λ run. run
             ≡ record { base = base.now; present = base.now; entries = [] }) }
     {
         let first = base.copy()?;
         let present = base.copy()?;
-        let entries = Vec::new(present.alloc);
         Ok(LocalRun {
             base: first,
             present,
-            entries,
+            entries: Vec::new(alloc),
         })
     }
 
@@ -121,7 +121,7 @@ fn prepare(unit: &Local, call: &Call, entries: &mut Vec<Entry>) -> Result<Ready,
     Ok(Ready { actor, answer })
 }
 
-ghost use Rattle.df_local.specs.Runs as runs;
+ghost use Rattle.df_local_run.specs.Runs as runs;
 
 /// Whether the call concerns no other unit.
 pub fn is_local(call: &Call) -> bool

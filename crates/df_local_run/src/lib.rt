@@ -1,0 +1,8 @@
+//! Runs of local calls of one unit, apart from all others.
+#![tactic(auto)]
+
+mod local_run;
+#[cfg(test)]
+mod tests;
+
+pub use local_run::{LocalRun, NotCalled, is_local};
