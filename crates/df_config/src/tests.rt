@@ -40,8 +40,11 @@ fn the_small_floor_is_read(rt: HostRuntime) -> Result<(), Fail> {
     Ok(())
 }
 
-/// What the first of these words of the small floor become, and whether the file is still read.
-const CHANGED: [(&str, &str, bool); 87] = [
+/// What words of the small floor become, where they stand first, and whether the file is still read.
+type Change = (&'static str, &'static str, bool);
+
+/// Changes of what stands above all tables.
+const SETTINGS: [Change; 34] = [
     ("max_steps = 10000\n", "", false),
     ("max_steps = 10000", "max_steps = 0", false),
     ("max_steps = 10000", "max_steps = 1", true),
@@ -80,6 +83,10 @@ const CHANGED: [(&str, &str, bool); 87] = [
     ("window = 2", "window = 4294967298", false),
     ("window = 2", "window = true", false),
     ("window = 2", "window = 2 2", false),
+];
+
+/// Changes of the pair.
+const PAIRS: [Change; 27] = [
     ("[[pair]]", "[pair]", false),
     ("[[pair]]", "[[pairs]]", false),
     ("[[pair]]", "[[pair", false),
@@ -107,6 +114,10 @@ const CHANGED: [(&str, &str, bool); 87] = [
     ("threshold = 50", "threshold = 1000000001", false),
     ("threshold = 50", "threshold = 50.0", false),
     ("threshold = 50", "threshold = 50\nother = 1", false),
+];
+
+/// Changes of the first trader.
+const TRADERS: [Change; 26] = [
     ("[[trader]]", "[trader]", false),
     ("[[trader]]", "[[traders]]", false),
     ("pairs = [0]\n", "", false),
@@ -151,13 +162,32 @@ fn is_read(alloc: Global, bytes: &[u8]) -> Option<bool> {
     }
 }
 
-#[test]
-fn a_changed_file_is_read_where_it_is_in_form(rt: HostRuntime) -> Result<(), Fail> {
-    for (old, new, reads) in CHANGED {
-        let text = changed(rt.alloc(), old, new)?;
-        let told = is_read(rt.alloc(), text.as_bytes());
-        assert_eq!(rt; told, Some(reads), "with {new:?}");
+/// The first change with which the file isn't read as its row says.
+fn first_wrong(alloc: Global, rows: &[Change]) -> Result<Option<&'static str>, AllocError> {
+    for (old, new, reads) in rows {
+        let text = changed(alloc, old, new)?;
+        if is_read(alloc, text.as_bytes()) != Some(*reads) {
+            return Ok(Some(new));
+        }
     }
+    Ok(None)
+}
+
+#[test]
+fn changed_settings_are_read_where_they_are_in_form(rt: HostRuntime) -> Result<(), Fail> {
+    assert_eq!(rt; first_wrong(rt.alloc(), &SETTINGS)?, None);
+    Ok(())
+}
+
+#[test]
+fn changed_pairs_are_read_where_they_are_in_form(rt: HostRuntime) -> Result<(), Fail> {
+    assert_eq!(rt; first_wrong(rt.alloc(), &PAIRS)?, None);
+    Ok(())
+}
+
+#[test]
+fn changed_traders_are_read_where_they_are_in_form(rt: HostRuntime) -> Result<(), Fail> {
+    assert_eq!(rt; first_wrong(rt.alloc(), &TRADERS)?, None);
     Ok(())
 }
 
