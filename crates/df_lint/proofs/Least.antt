@@ -132,7 +132,7 @@ module _ (roots : List RootStart) (tags : List (List ℕ)) (first rows : List (L
 
 -- a look-up in the rows
 
-same_default : (rows : List (List Privilege)) (k : ℕ) (x y : List Privilege) → k < length rows → get_or rows k x ≡ get_or rows k y
+pub same_default : (rows : List (List Privilege)) (k : ℕ) (x y : List Privilege) → k < length rows → get_or rows k x ≡ get_or rows k y
 same_default [] k x y lt = absurd (let z : ⊥ = omega arith in z)
 same_default (r ∷ rows) zero x y lt = refl
 same_default (r ∷ rows) (suc k) x y lt = same_default rows k x y (let z : k < length rows = omega arith in z)

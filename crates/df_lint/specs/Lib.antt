@@ -1,2 +1,3 @@
+pub mod LintText
 pub mod Tags
 pub mod code

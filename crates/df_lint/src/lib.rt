@@ -6,6 +6,10 @@ mod first;
 mod spread;
 mod table;
 mod tags;
+#[cfg(test)]
+mod tests;
+mod text;
 
 pub use find::lint;
 pub use table::Lint;
+pub use text::lint_text;

@@ -1,11 +1,14 @@
-ghost use Rattle.std.specs.Prelude.{◌≡◌, ◌↔◌, ◌<◌, IsTrue, false, length, true};
+ghost use Rattle.std.specs.Prelude.{◌≡◌, ◌↔◌, ◌<◌, IfOk, IsTrue, false, length, true};
 ghost use Rattle.df_family.specs.Family.{names};
 ghost use Rattle.df_family.specs.May.{MayHold};
 ghost use Rattle.df_family.specs.Never.{NeverHolds};
+ghost use Rattle.df_lint.specs.LintText.{IsLintText};
 ghost use Rattle.df_lint.specs.Tags.{AreTagsOf};
 
-use df_label::{Privilege, Privileges, TagSet};
+use crate::text::append_rows;
+use df_label::{NoMemory, Privilege, Privileges, TagSet};
 use df_machine::RootStart;
+use std::alloc::Global;
 use std::marker::Model;
 
 /// Which privileges the family of each root may hold. A contract sees it as the start: the label
@@ -57,5 +60,14 @@ impl Lint {
         ensures never { result ≡ false → NeverHolds self.now root p.now }
     {
         self.rows[root as usize].contains(p)
+    }
+
+    /// The lines of each root in order and each privilege over the tags, ascending.
+    pub(crate) fn text(&self, alloc: Global) -> Result<Vec<u8>, NoMemory>
+        ensures { IfOk result (λ text. IsLintText self.now text.items) }
+    {
+        let mut text = Vec::new(alloc);
+        append_rows(self.tags.as_slice(), self.rows.as_slice(), &mut text)?;
+        Ok(text)
     }
 }

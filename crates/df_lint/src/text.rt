@@ -1,0 +1,90 @@
+//! The lines that tell which privileges each root's family may hold.
+
+ghost use Rattle.std.specs.Prelude.{◌≡◌, ◌++◌, IfOk, OnOk, codes, length, map};
+ghost use Rattle.std.specs.List.{flat_map};
+ghost use Rattle.df_label.specs.Privileges.{contains as contains_privilege};
+ghost use Rattle.df_lint.specs.LintText.{IsLintText, lint_line, lint_lines, may_text, tag_lines};
+ghost use Rattle.df_lint.specs.code.Rows.{found};
+ghost use Rattle.df_machine.specs.Journal.{begun};
+
+use crate::find::lint;
+use df_label::{NoMemory, Privilege, Privileges, Right, Tag};
+use df_machine::Start;
+use df_value_text::{append_number, append_privilege};
+use std::alloc::Global;
+
+/// The lines of a start: for each root and each privilege over its tags, `may` or `never`.
+pub fn lint_text(alloc: Global, start: &Start) -> Result<Vec<u8>, NoMemory>
+    ensures { IfOk result (λ text. IsLintText (map begun start.now) text.items) }
+{
+    let lint = lint(alloc, start)?;
+    lint.text(alloc)
+}
+
+/// Appends the lines of the roots with these rows.
+pub fn append_rows(tags: &[Tag], rows: &[Privileges], to: &mut Vec<u8>) -> Result<(), NoMemory>
+    ensures { OnOk result (to.new.items
+        ≡ to.old.items ++ lint_lines (found rows.now) tags.now (length rows.now)) }
+{
+    for root in 0..rows.len() {
+        append_row(root as u64, &rows[root], tags, to)?;
+    }
+    Ok(())
+}
+
+/// Appends the lines of a root.
+fn append_row(root: u64, row: &Privileges, tags: &[Tag], to: &mut Vec<u8>) -> Result<(), NoMemory>
+    ensures { OnOk result (to.new.items ≡ to.old.items
+        ++ flat_map (tag_lines root (contains_privilege row.now)) tags.now) }
+{
+    for tag in tags {
+        append_tag(root, row, tag, to)?;
+    }
+    Ok(())
+}
+
+/// Appends the lines of a root and a tag.
+fn append_tag(root: u64, row: &Privileges, tag: &Tag, to: &mut Vec<u8>) -> Result<(), NoMemory>
+    ensures { OnOk result (to.new.items ≡ to.old.items
+        ++ tag_lines root (contains_privilege row.now) tag.now) }
+{
+    append_line(root, row, tag, Right::Plus, to)?;
+    append_line(root, row, tag, Right::Minus, to)?;
+    append_line(root, row, tag, Right::PlusAuth, to)?;
+    append_line(root, row, tag, Right::MinusAuth, to)
+}
+
+/// Appends the line of a root and a privilege.
+fn append_line(
+    root: u64,
+    row: &Privileges,
+    tag: &Tag,
+    right: Right,
+    to: &mut Vec<u8>,
+) -> Result<(), NoMemory>
+    ensures { OnOk result (to.new.items ≡ to.old.items
+        ++ lint_line root (record { tag = tag.now; right = right })
+        (contains_privilege row.now (record { tag = tag.now; right = right }))) }
+{
+    let p = Privilege {
+        tag: tag.copy()?,
+        right,
+    };
+    append_number(root, to)?;
+    to.push(b' ')?;
+    append_privilege(&p, to)?;
+    append_word(row.contains(&p), to)
+}
+
+/// Appends the last word of a line.
+fn append_word(may: bool, to: &mut Vec<u8>) -> Result<(), NoMemory>
+    ensures { OnOk result
+        (to.new.items ≡ to.old.items ++ (codes " " ++ may_text may ++ codes "\n")) }
+{
+    if may {
+        to.extend_from_slice(b" may\n")?;
+    } else {
+        to.extend_from_slice(b" never\n")?;
+    }
+    Ok(())
+}
