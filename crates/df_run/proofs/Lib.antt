@@ -1,3 +1,4 @@
 pub mod Blame
 pub mod Journals
+pub mod Lints
 pub mod Sound

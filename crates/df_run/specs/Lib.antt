@@ -1,3 +1,4 @@
+pub mod Lint
 pub mod Outcome
 pub mod Status
 pub mod Steps

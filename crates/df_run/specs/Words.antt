@@ -4,13 +4,14 @@ use Rattle.std.specs.Option.{option_map}
 use Rattle.std.specs.Str.{bytes_eq}
 use Rattle.std.specs.declared.alloc.Global.{Global}
 use Rattle.df_run.specs.declared.words.Task.{Task}
-use Rattle.df_run.specs.declared.words.Task.TheVariants.{Steps, Auction}
+use Rattle.df_run.specs.declared.words.Task.TheVariants.{Steps, Auction, Lint}
 
 -- the task of a word
 abbrev pub task_of : List ℕ → Option Task
 task_of word =
     if bytes_eq word (codes "steps") then Some Steps
     else if bytes_eq word (codes "auction") then Some Auction
+    else if bytes_eq word (codes "lint") then Some Lint
     else None
 
 -- a task, and the file of this name, where it has at least one byte

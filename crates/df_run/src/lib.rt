@@ -4,6 +4,7 @@
 
 #[cfg(test)]
 mod examples;
+mod lint;
 mod program;
 mod run;
 mod status;

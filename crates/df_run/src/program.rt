@@ -13,10 +13,13 @@ use std::{env, io};
 /// What `--help` prints.
 const HELP: &str = "usage: defcon steps SCRIPT
        defcon auction ORDERS
+       defcon lint SCRIPT
 
 steps runs the unit calls of the file SCRIPT, and writes the journal of all calls, replies,
 commits and events handed out. auction reads the order file ORDERS, and writes for each symbol
-the price at which the greatest quantity trades, and the trades.
+the price at which the greatest quantity trades, and the trades. lint makes none of the calls of
+SCRIPT: of its start it writes, for each root and each privilege, whether the units of the root's
+family may ever hold it.
 
   --help     this text
   --version  the version

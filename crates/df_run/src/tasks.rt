@@ -3,6 +3,7 @@ ghost use Rattle.df_auction.specs.Refusing.{IsRightRefusal};
 ghost use Rattle.df_io.specs.Limits.{longest_file};
 ghost use Rattle.df_run.specs.Tasks.{IsOutput, RefusesInput};
 
+use crate::lint::lint_script;
 use crate::status::BadKind;
 use crate::steps::steps;
 use crate::words::Task;
@@ -27,6 +28,7 @@ pub fn output_of(alloc: Global, task: Task, bytes: &[u8]) -> Result<Vec<u8>, Ref
     match task {
         Task::Steps => journal_of_script(alloc, bytes),
         Task::Auction => auctions_of_orders(alloc, bytes),
+        Task::Lint => lint_of_script(alloc, bytes),
     }
 }
 
@@ -56,6 +58,24 @@ fn auctions_of_orders(alloc: Global, bytes: &[u8]) -> Result<Vec<u8>, Refused>
     match auction_text(alloc, bytes) {
         Ok(text) => Ok(text),
         Err(refused) => Err(blamed(refused)),
+    }
+}
+
+fn lint_of_script(alloc: Global, bytes: &[u8]) -> Result<Vec<u8>, Refused>
+    ensures gives { IfOk result (λ text. IsOutput Task.Lint bytes.now text.items) }
+    ensures refuses { IfErr result (RefusesInput Task.Lint bytes.now) }
+{
+    match lint_script(alloc, bytes) {
+        Ok(text) => Ok(text),
+        Err(FileRefused::Syntax { line }) => Err(Refused::BadInput {
+            line,
+            kind: BadKind::Syntax,
+        }),
+        Err(FileRefused::TooLarge { line }) => Err(Refused::BadInput {
+            line,
+            kind: BadKind::TooLarge,
+        }),
+        Err(FileRefused::NoMemory) => Err(Refused::NoMemory),
     }
 }
 

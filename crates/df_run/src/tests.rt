@@ -287,6 +287,71 @@ fn order_files_are_auctioned_or_refused(rt: HostRuntime) -> Result<(), Fail> {
     Ok(())
 }
 
+const START: &[u8] = b"defcon-script 1
+unit 0 {|#0}
+unit 1 {#1|} #1- #2+auth
+unit 2 {|}
+run
+";
+
+const HOLDINGS: &[u8] = b"0 #0+ never
+0 #0- never
+0 #0+auth never
+0 #0-auth never
+0 #1+ never
+0 #1- never
+0 #1+auth never
+0 #1-auth never
+0 #2+ never
+0 #2- never
+0 #2+auth never
+0 #2-auth never
+1 #0+ never
+1 #0- never
+1 #0+auth never
+1 #0-auth never
+1 #1+ never
+1 #1- may
+1 #1+auth never
+1 #1-auth never
+1 #2+ may
+1 #2- never
+1 #2+auth may
+1 #2-auth never
+2 #0+ never
+2 #0- never
+2 #0+auth never
+2 #0-auth never
+2 #1+ never
+2 #1- never
+2 #1+auth never
+2 #1-auth never
+2 #2+ may
+2 #2- never
+2 #2+auth may
+2 #2-auth never
+";
+
+#[test]
+fn starts_are_linted_or_refused(rt: HostRuntime) -> Result<(), Fail> {
+    let cut = Status::BadInput {
+        input: 1,
+        line: 5,
+        kind: BadKind::Syntax,
+    };
+    let files: [(&[u8], Status, &[u8]); 3] = [
+        (START, Status::Done, HOLDINGS),
+        (b"defcon-script 1\nrun\n", Status::Done, b""),
+        (&START[..START.len() - 1], cut, b""),
+    ];
+    for (bytes, status, written) in files {
+        let (ended, sink) = done_to(&rt, "lint", bytes)?;
+        assert_eq!(rt; ended, status);
+        assert_eq!(rt; sink.bytes(), written);
+    }
+    Ok(())
+}
+
 #[test]
 fn each_status_has_its_line(rt: HostRuntime) -> Result<(), Fail> {
     for (status, line) in [

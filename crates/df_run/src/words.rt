@@ -8,6 +8,8 @@ pub enum Task {
     Steps,
     /// Write the opening auction of each symbol of the order file.
     Auction,
+    /// Write which privileges each root's family may hold, from the start of the script.
+    Lint,
 }
 
 /// The task of a word.
@@ -18,6 +20,8 @@ fn task_of(word: &str) -> Option<Task>
         Some(Task::Steps)
     } else if word == "auction" {
         Some(Task::Auction)
+    } else if word == "lint" {
+        Some(Task::Lint)
     } else {
         None
     }
