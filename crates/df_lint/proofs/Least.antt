@@ -1,5 +1,5 @@
 -- What the rows have in the end is the least relation that keeps the rules.
-use Rattle.std.proofs.Common.{inl, inr, ◌≡◌, ◌⊎◌, ℕ, zero, suc, ◌<◌, List, [], ◌∷◌, Bool, true, false, not, ◌&&◌, ◌||◌, refl, sym, ◌∙◌, ap, subst, cond, length, map, get_or, Some, arith}
+use Rattle.std.proofs.Common.{inl, inr, ◌≡◌, ◌⊎◌, ℕ, zero, suc, ◌<◌, List, [], ◌∷◌, Bool, true, false, not, ◌&&◌, ◌||◌, refl, sym, ◌∙◌, ap, subst, cond, length, map, Some, arith}
 use Rattle.std.specs.Prelude.{slice_get, slice_index_or}
 use Rattle.std.specs.List.{filter, list_all, list_any}
 use Rattle.std.proofs.lemmas.Bool.{and_from, and_parts, or_cases, or_left, or_right}
@@ -7,30 +7,32 @@ use Rattle.df_family.proofs.Bound.{reached, root_named}
 use Rattle.df_family.specs.Family.{begins_with, names}
 use Rattle.df_family.specs.May.{IsClosed, IsLeast, MayHold, Relation, can_write}
 use Rattle.df_label.specs.Privileges.{contains as contains_privilege}
-use Rattle.df_label.specs.Tag.{maker_of, tag_eq}
+use Rattle.df_label.specs.Tag.{maker_of, tag_cmp, tag_eq}
 use Rattle.df_label.specs.TagSet.{contains}
 use Rattle.df_label.specs.declared.label.Label.{Label}
 use Rattle.df_label.specs.declared.privilege.Privilege.{Privilege}
-use Rattle.df_label.proofs.TagSetFacts.{tag_eq-exact, tag_eq-itself}
+use Rattle.df_label.proofs.TagSetFacts.{tag_eq-itself}
 use Rattle.df_label.specs.Privilege.{privilege_eq}
 use Rattle.df_label.proofs.PrivilegeFacts.{privilege_eq-Decides}
 use Rattle.df_rules.specs.Always.{Roots}
 use Rattle.df_lint.specs.Tags.{AreTagsOf}
-use Rattle.df_lint.specs.code.Rows.{IsFirstRow, found, row_at, row_can_write, row_passes, row_reaches}
+use Rattle.df_lint.specs.code.Passing.{row_can_write, row_passes, row_reaches}
+use Rattle.df_lint.specs.code.Cells.{IsRow, cell_at, cells_at, has, row_of}
+use Rattle.df_lint.specs.code.First.{first_cell, first_cells, first_has}
+use Rattle.df_lint.specs.code.Rows.{IsFirstRow, IsTable, found, row_at, rows_of}
+use Rattle.df_lint.specs.declared.cell.Cell.{Cell}
+use Rattle.df_lint.proofs.CellRows.{row_at_of}
+use Rattle.df_lint.proofs.Cells.{all_contained, contains_at, contains_away, or_false, place_of_tag}
+use Rattle.df_lint.proofs.Steps.{or_comm}
+use Rattle.df_label.specs.Ascending.{IsAscending}
+use Rattle.df_label.specs.declared.privilege.Right.{Right}
+use Rattle.df_label.specs.declared.privilege.Right.TheVariants.{Plus, Minus, PlusAuth, MinusAuth}
+use Rattle.std.proofs.lemmas.List.{length-map}
 use Rattle.df_lint.specs.code.Spread.{HasRows, IsSpread, PassesOn}
 use Rattle.df_machine.specs.Journal.{begun}
 use Rattle.df_machine.specs.declared.start.RootStart.{RootStart}
 use Rattle.df_priv.specs.Needed.{needed, needed_to_attach}
 use Rattle.df_priv.specs.declared.need.Act.TheVariants.{Add, Del}
-
-all_contained : (f : List ℕ → Bool) (ts : List (List ℕ)) (t : List ℕ) → list_all f ts ≡ true → contains ts t ≡ true → f t ≡ true
-all_contained f [] t all m = absurd (let z : ⊥ = cc in z)
-all_contained f (u ∷ ts) t all m =
-    let both = and_parts (f u) (list_all f ts) all in
-    elim (or_cases (tag_eq u t) (contains ts t) m) [
-      | inl e ↦ subst (λ (x : List ℕ). f x ≡ true) (tag_eq-exact u t e) both.0
-      | inr k ↦ all_contained f ts t both.1 k
-    ]
 
 all_or : {X : Type 0} (q p : X → Bool) (xs : List X) → list_all p (filter (λ x. not (q x)) xs) ≡ true → list_all (λ x. q x || p x) xs ≡ true
 all_or q p [] h = refl
@@ -130,15 +132,81 @@ module _ (roots : List RootStart) (tags : List (List ℕ)) (first rows : List (L
   pub rows_are_least : IsLeast (map begun roots) (found rows)
   rows_are_least = record { closed = closed; least = λ g keeps k p m. below g keeps k p m }
 
+-- the first rows
+
+mapped_at : (f : List ℕ → Cell) (ts : List (List ℕ)) (i : ℕ) (d : List ℕ) → i < length ts → cell_at (map f ts) i ≡ f (slice_index_or ts i d)
+mapped_at f [] i d lt = absurd (let z : ⊥ = omega arith in z)
+mapped_at f (t ∷ ts) zero d lt = refl
+mapped_at f (t ∷ ts) (suc i) d lt = mapped_at f ts i d (let z : i < length ts = omega arith in z)
+
+has_first : (k : ℕ) (root : RootStart) (t : List ℕ) (r : Right) → has (first_cell k root t) r ≡ first_has k root t r
+has_first k root t Plus = refl
+has_first k root t Minus = refl
+has_first k root t PlusAuth = refl
+has_first k root t MinusAuth = refl
+
+first_is : (tags : List (List ℕ)) (k : ℕ) (root : RootStart) → IsAscending tag_cmp tags → ((p : Privilege) → contains_privilege root.privileges p ≡ true → contains tags p.tag ≡ true) → IsFirstRow tags k root.privileges (row_of tags (first_cells tags k root))
+first_is tags k root s named p = go (contains tags p.tag) refl
+  where
+    given_none : (b : Bool) → contains_privilege root.privileges p ≡ b → contains tags p.tag ≡ false → b ≡ false
+    given_none false e away = refl
+    given_none true e away = let z : true ≡ false = sym (named p e) ∙ away in z
+
+    here : contains tags p.tag ≡ true → contains_privilege (row_of tags (first_cells tags k root)) p ≡ (begins_with k (maker_of p.tag) || contains_privilege root.privileges p)
+    here e =
+        let place = place_of_tag tags p.tag e in
+        let at : contains_privilege (row_of tags (first_cells tags k root)) (record { tag = slice_index_or tags place.0 []; right = p.right }) ≡ first_has k root (slice_index_or tags place.0 []) p.right =
+        contains_at tags s (first_cells tags k root) place.0 p.right [] (length-map tags (first_cell k root)) place.1
+        ∙ ap (λ (c : Cell). has c p.right) (mapped_at (first_cell k root) tags place.0 [] place.1) ∙ has_first k root (slice_index_or tags place.0 []) p.right in
+        subst (λ (t : List ℕ). contains_privilege (row_of tags (first_cells tags k root)) (record { tag = t; right = p.right }) ≡ first_has k root t p.right) place.2 at
+
+    go : (b : Bool) → contains tags p.tag ≡ b → contains_privilege (row_of tags (first_cells tags k root)) p ≡ (contains_privilege root.privileges p || (contains tags p.tag && begins_with k (maker_of p.tag)))
+    go false e =
+        contains_away tags (first_cells tags k root) p e ∙ sym (given_none (contains_privilege root.privileges p) refl e) ∙ sym (or_false (contains_privilege root.privileges p))
+        ∙ ap (λ (x : Bool). contains_privilege root.privileges p || (x && begins_with k (maker_of p.tag))) (sym e)
+    go true e =
+        here e ∙ or_comm (begins_with k (maker_of p.tag)) (contains_privilege root.privileges p)
+        ∙ ap (λ (x : Bool). contains_privilege root.privileges p || (x && begins_with k (maker_of p.tag))) (sym e)
+
+module _ (roots : List RootStart) (tags : List (List ℕ)) (rows : List (List Cell)) (are : AreTagsOf (map begun roots) tags) (s : IsAscending tag_cmp tags) (many : length rows ≡ length roots)
+    (firsts : (k : ℕ) (d : RootStart) → k < length roots → cells_at rows k ≡ first_cells tags k (slice_index_or roots k d)) where
+  privilege_named : (k : ℕ) (d : RootStart) → k < length roots → (p : Privilege) → contains_privilege (slice_index_or roots k d).privileges p ≡ true → contains tags p.tag ≡ true
+  privilege_named k d lt p m = are p.tag ∙ given_named (map begun roots) k (begun (slice_index_or roots k d)) p (there_root roots k d lt) m
+
+  integrity_named : (k : ℕ) (d : RootStart) → k < length roots → (t : List ℕ) → contains (slice_index_or roots k d).label.i t ≡ true → contains tags t ≡ true
+  integrity_named k d lt t m =
+      let root = begun (slice_index_or roots k d) in
+      are t ∙ root_named (map begun roots) k root t (there_root roots k d lt) (or_right (contains root.0.s t) (contains root.0.i t || list_any (λ q. tag_eq q.tag t) root.1) (or_left (contains root.0.i t) (list_any (λ q. tag_eq q.tag t) root.1) m))
+
+  pub first_table : IsTable roots tags rows
+  first_table = record {
+    ascending = s;
+    count = many;
+    rows_are = λ k d lt. subst (λ (cells : List Cell). IsRow tags (slice_index_or roots k d).label.i cells) (sym (firsts k d lt)) (record {
+      count = length-map tags (first_cell k (slice_index_or roots k d));
+      marked = λ i e i_lt. ap (λ (c : Cell). c.asked) (mapped_at (first_cell k (slice_index_or roots k d)) tags i e i_lt);
+      named = integrity_named k d lt;
+    });
+  }
+
+  pub first_privileges : (k : ℕ) (d : RootStart) → k < length roots → IsFirstRow tags k (slice_index_or roots k d).privileges (row_at (rows_of tags rows) k)
+  first_privileges k d lt = subst (λ (row : List Privilege). IsFirstRow tags k (slice_index_or roots k d).privileges row) (sym (row_at_of tags rows k ∙ ap (row_of tags) (firsts k d lt)))
+      (first_is tags k (slice_index_or roots k d) s (privilege_named k d lt))
+
 -- a look-up in the rows
 
-pub same_default : (rows : List (List Privilege)) (k : ℕ) (x y : List Privilege) → k < length rows → get_or rows k x ≡ get_or rows k y
-same_default [] k x y lt = absurd (let z : ⊥ = omega arith in z)
-same_default (r ∷ rows) zero x y lt = refl
-same_default (r ∷ rows) (suc k) x y lt = same_default rows k x y (let z : k < length rows = omega arith in z)
+pub looked_up : (roots : List RootStart) (tags : List (List ℕ)) (rows : List (List Cell)) (k place : ℕ) (p : Privilege) (b : Bool) → IsTable roots tags rows → k < length roots → place < length tags → slice_index_or tags place [] ≡ p.tag → b ≡ has (cell_at (cells_at rows k) place) p.right → b ≡ found (rows_of tags rows) k p
+looked_up roots tags rows k place p b table lt place_lt at e =
+    let row = table.rows_are k (some_root roots k lt) lt in
+    e ∙ sym (contains_at tags table.ascending (cells_at rows k) place p.right [] row.count place_lt)
+    ∙ ap (λ (t : List ℕ). contains_privilege (row_of tags (cells_at rows k)) (record { tag = t; right = p.right })) at
+    ∙ ap (λ (r : List Privilege). contains_privilege r p) (sym (row_at_of tags rows k))
 
-pub looked_up : (rows : List (List Privilege)) (k : ℕ) (row : List Privilege) (p : Privilege) (b : Bool) → k < length rows → row ≡ get_or rows k row → b ≡ contains_privilege row p → b ≡ found rows k p
-looked_up rows k row p b lt at e = e ∙ ap (λ (r : List Privilege). contains_privilege r p) (at ∙ same_default rows k row [] lt)
+pub row_many : (roots : List RootStart) (tags : List (List ℕ)) (rows : List (List Cell)) (k : ℕ) → IsTable roots tags rows → k < length rows → length (cells_at rows k) ≡ length tags
+row_many roots tags rows k table lt =
+    let count = table.count in
+    let short : k < length roots = omega arith in
+    (table.rows_are k (some_root roots k short) short).count
 
 pub may_holds : (start : Roots) (rows : List (List Privilege)) (k : ℕ) (p : Privilege) (b : Bool) → IsLeast start (found rows) → b ≡ found rows k p → b ≡ true → MayHold start k p
 may_holds start rows k p b least e m h closed = least.least h closed k p (sym e ∙ m)

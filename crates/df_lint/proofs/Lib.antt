@@ -1,3 +1,5 @@
+pub mod Cells
+pub mod CellRows
 pub mod Steps
 pub mod Growing
 pub mod Least

@@ -1,3 +1,6 @@
+pub mod Cells
+pub mod First
+pub mod Linted
+pub mod Passing
 pub mod Rows
 pub mod Spread
-pub mod Linted

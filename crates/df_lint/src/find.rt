@@ -22,7 +22,7 @@ pub fn lint(alloc: Global, start: &Start) -> Result<Lint, NoMemory>
     let roots = copies(alloc, start.as_slice())?;
     let tags = tags_of(alloc, roots.as_slice())?;
     let mut rows = first_rows(alloc, &tags, roots.as_slice())?;
-    spread(alloc, roots.as_slice(), &mut rows)?;
+    spread(alloc, roots.as_slice(), tags.as_slice(), &mut rows)?;
     Ok(Lint::new(roots, tags, rows))
 }
 

@@ -1,8 +1,10 @@
 //! Which privileges the units of each root's family can ever hold, whatever they do.
 #![tactic(auto)]
 
+mod cell;
 mod find;
 mod first;
+mod row;
 mod spread;
 mod table;
 mod tags;

@@ -5,8 +5,10 @@ ghost use Rattle.df_family.specs.Never.{NeverHolds};
 ghost use Rattle.df_lint.specs.LintText.{IsLintText};
 ghost use Rattle.df_lint.specs.Tags.{AreTagsOf};
 
+use crate::row::{Row, cell_of};
+use crate::tags::place_of;
 use crate::text::append_rows;
-use df_label::{NoMemory, Privilege, Privileges, TagSet};
+use df_label::{NoMemory, Privilege, TagSet};
 use df_machine::RootStart;
 use std::alloc::Global;
 use std::marker::Model;
@@ -17,7 +19,7 @@ use std::marker::Model;
 pub struct Lint {
     roots: Vec<RootStart>,
     tags: TagSet,
-    rows: Vec<Privileges>,
+    rows: Vec<Row>,
 }
 
 impl Model for Lint {
@@ -38,7 +40,7 @@ impl Lint {
     ghost use Rattle.df_lint.specs.code.Linted.{IsLinted};
     ghost use Rattle.df_machine.specs.Journal.{begun};
 
-    pub(crate) fn new(roots: Vec<RootStart>, tags: TagSet, rows: Vec<Privileges>) -> Lint
+    pub(crate) fn new(roots: Vec<RootStart>, tags: TagSet, rows: Vec<Row>) -> Lint
         requires { IsLinted roots.items tags rows.items }
         ensures { result ≡ map begun roots.items }
     {
@@ -59,7 +61,8 @@ impl Lint {
         ensures exact { IsTrue result ↔ MayHold self.now root p.now }
         ensures never { result ≡ false → NeverHolds self.now root p.now }
     {
-        self.rows[root as usize].contains(p)
+        let place = place_of(self.tags.as_slice(), &p.tag);
+        cell_of(&self.rows, root as usize, place).has(p.right)
     }
 
     /// The lines of each root in order and each privilege over the tags, ascending.

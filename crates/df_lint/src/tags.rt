@@ -1,10 +1,12 @@
-ghost use Rattle.std.specs.Prelude.{◌≡◌, ◌||◌, ℕ, List, IfOk, map};
+ghost use Rattle.std.specs.Prelude.{◌≡◌, ◌||◌, ◌<◌, ℕ, List, [], IfOk, length, map, slice_index_or, true};
 ghost use Rattle.df_family.specs.Family.{root_names};
+ghost use Rattle.df_label.specs.Ascending.{IsAscending};
+ghost use Rattle.df_label.specs.Tag.{tag_cmp};
 ghost use Rattle.df_label.specs.TagSet.{contains};
 ghost use Rattle.df_lint.specs.Tags.{AreTagsOf};
 ghost use Rattle.df_machine.specs.Journal.{begun};
 
-use df_label::{NoMemory, TagSet};
+use df_label::{NoMemory, Tag, TagSet};
 use df_machine::RootStart;
 use std::alloc::Global;
 
@@ -29,4 +31,17 @@ fn with_root(tags: &TagSet, root: &RootStart) -> Result<TagSet, NoMemory>
         all = all.with(&p.tag)?;
     }
     Ok(all)
+}
+
+/// The place of a tag among these.
+pub fn place_of(tags: &[Tag], tag: &Tag) -> usize
+    requires ascending { IsAscending tag_cmp tags.now }
+    requires there { contains tags.now tag.now ≡ true }
+    ensures bound { result < length tags.now }
+    ensures tag { slice_index_or tags.now result [] ≡ tag.now }
+{
+    match tags.binary_search(tag) {
+        Ok(place) => place,
+        Err(_) => 0,
+    }
 }

@@ -1,6 +1,6 @@
 -- A row for each root: the privileges that its family may hold, as far as they are found.
-use Rattle.std.specs.Prelude.{◌≡◌, ◌⊎◌, ℕ, ◌+◌, ◌<◌, Bool, true, false, ◌||◌, ◌&&◌, List, [], length, slice_index_or, slice_set}
-use Rattle.std.specs.List.{Contains, list_all}
+use Rattle.std.specs.Prelude.{◌≡◌, ◌⊎◌, ℕ, ◌+◌, ◌<◌, ◌||◌, ◌&&◌, List, [], length, map, slice_index_or, slice_set}
+use Rattle.std.specs.List.{Contains}
 use Rattle.df_family.specs.Family.{begins_with}
 use Rattle.df_family.specs.May.{Relation}
 use Rattle.df_label.specs.Privileges.{contains as contains_privilege}
@@ -9,8 +9,12 @@ use Rattle.df_label.specs.TagSet.{contains}
 use Rattle.df_label.specs.declared.label.Label.{Label}
 use Rattle.df_label.specs.declared.privilege.Privilege.{Privilege}
 use Rattle.df_machine.specs.declared.start.RootStart.{RootStart}
-use Rattle.df_priv.specs.Needed.{needed, needed_to_attach}
-use Rattle.df_priv.specs.declared.need.Act.TheVariants.{Add, Del}
+use Rattle.df_lint.specs.code.Cells.{IsRow, cells_at, row_of}
+use Rattle.df_lint.specs.code.Passing.{Gains, row_reaches}
+use Rattle.df_label.specs.Ascending.{IsAscending}
+use Rattle.df_label.specs.Tag.{tag_cmp}
+use Rattle.df_lint.specs.declared.cell.Cell.{Cell}
+use Rattle.df_priv.specs.Needed.{needed_to_attach}
 
 -- the row of a root
 abbrev pub row_at : List (List Privilege) → ℕ → List Privilege
@@ -20,33 +24,22 @@ row_at rows k = slice_index_or rows k []
 abbrev pub found : List (List Privilege) → Relation
 found rows k p = contains_privilege (row_at rows k) p
 
+-- the rows that the cells of each root are
+abbrev pub rows_of : List (List ℕ) → List (List Cell) → List (List Privilege)
+rows_of tags rows = map (row_of tags) rows
+
+-- each root has a cell for each tag, marked where its label asks for the integrity
+pub record IsTable (roots : List RootStart) (tags : List (List ℕ)) (rows : List (List Cell))
+    : Type 0 where
+  pub ascending : IsAscending tag_cmp tags
+  pub count : length rows ≡ length roots
+  pub rows_are : (k : ℕ) (d : RootStart) → k < length roots →
+      IsRow tags (slice_index_or roots k d).label.i (cells_at rows k)
+
 -- the row of a root before anything was passed on
 abbrev pub IsFirstRow : List (List ℕ) → ℕ → List Privilege → List Privilege → Type 0
 IsFirstRow tags k given row = (p : Privilege) → contains_privilege row p
     ≡ (contains_privilege given p || (contains tags p.tag && begins_with k (maker_of p.tag)))
-
--- whether a family with this label and row may write with the integrity tag
-abbrev pub row_can_write : Label → List Privilege → List ℕ → Bool
-row_can_write from giver t = contains from.i t || contains_privilege giver (needed Add t)
-
--- whether the tag is no bar between two families with these labels and rows
-abbrev pub row_passes : Label → List Privilege → List Privilege → List ℕ → Bool
-row_passes from giver taker t =
-    contains_privilege taker (needed Del t) || row_can_write from giver t
-
--- whether no integrity tag of the second is a bar
-abbrev pub row_reaches : Label → List Privilege → Label → List Privilege → Bool
-row_reaches from giver to taker = list_all (row_passes from giver taker) to.i
-
--- the row has all that it had, and what the giver's may attach
-abbrev pub IsPassedOn : List Privilege → List Privilege → List Privilege → Type 0
-IsPassedOn giver old new = (p : Privilege) → contains_privilege new p
-    ≡ (contains_privilege old p || contains_privilege giver (needed_to_attach p))
-
--- the row has a privilege that it hadn't
-abbrev pub Gains : List Privilege → List Privilege → Type 0
-Gains old new = (p : Privilege) × (contains_privilege old p ≡ false)
-    × (contains_privilege new p ≡ true)
 
 -- the taker has all that it had, and what the giver's may attach, where that reaches it
 abbrev pub IsGiven : Label → List Privilege → Label → List Privilege → List Privilege → Type 0

@@ -1,13 +1,34 @@
-use Rattle.std.proofs.Common.{◌≡◌, ℕ, ◌<◌, List, length, map, ap, subst, ◌∙◌}
+use Rattle.std.proofs.Common.{◌≡◌, ℕ, ◌<◌, List, length, map, ap, subst, sym, ◌∙◌}
 use Rattle.std.specs.Prelude.{slice_index_or}
 use Rattle.df_family.proofs.BoundJournal.{never}
-use Rattle.df_lint.proofs.Least.{rows_are_least}
+use Rattle.df_label.specs.Ascending.{IsAscending}
+use Rattle.df_label.specs.Tag.{tag_cmp}
+use Rattle.df_lint.proofs.CellRows.{length-rows_of}
+use Rattle.df_lint.proofs.Least.{first_privileges, first_table, rows_are_least}
 use Rattle.df_lint.specs.Tags.{AreTagsOf}
-use Rattle.df_lint.specs.code.Rows.{IsFirstRow, row_at}
+use Rattle.df_lint.specs.code.Cells.{cells_at}
+use Rattle.df_lint.specs.code.First.{first_cells}
+use Rattle.df_lint.specs.code.Rows.{IsTable, rows_of}
 use Rattle.df_lint.specs.code.Spread.{IsSpread}
 use Rattle.df_machine.specs.Journal.{begun}
 use Rattle.df_machine.specs.declared.start.RootStart.{RootStart}
 use Rattle.df_lint.proofs.find.lint.Goals as goal
+
+tags_kept : (roots seen : List RootStart) (tags : List (List ℕ)) → seen ≡ roots → AreTagsOf (map begun seen) tags → AreTagsOf (map begun roots) tags
+tags_kept roots seen tags e are = subst (λ (rs : List RootStart). AreTagsOf (map begun rs) tags) e are
+
+pub spread-requires : goal.spread-requires
+spread-requires c =
+    let roots = c.in_ok-roots.roots.items in
+    let tags = c.in_ok-tags.tags in
+    let first = c.in_ok-rows.rows.items in
+    let are = tags_kept roots c.as_slice-2.result.now tags c.as_slice-2.ensures.value c.in_ok-tags.ensures in
+    let many : length first ≡ length roots = c.in_ok-rows.ensures.count ∙ ap length c.as_slice-3.ensures.value in
+    let firsts : (k : ℕ) (d : RootStart) → k < length roots → cells_at first k ≡ first_cells tags k (slice_index_or roots k d) =
+    subst (λ (rs : List RootStart). (k : ℕ) (d : RootStart) → k < length rs → cells_at first k ≡ first_cells tags k (slice_index_or rs k d)) c.as_slice-3.ensures.value c.in_ok-rows.ensures.rows in
+    let up : IsAscending tag_cmp tags = c.as_slice-5.ensures.ascending in
+    subst (λ (ts : List (List ℕ)). IsTable c.as_slice-4.result.now ts first) (sym c.as_slice-5.ensures.value)
+    (subst (λ (rs : List RootStart). IsTable rs tags first) (sym c.as_slice-4.ensures.value) (first_table roots tags first are up many firsts))
 
 pub new-requires : goal.new-requires
 new-requires c =
@@ -15,15 +36,19 @@ new-requires c =
     let tags = c.in_ok-tags.tags in
     let first = c.in_ok-rows.rows.items in
     let rows = c.spread.new.rows.items in
-    let are : AreTagsOf (map begun roots) tags = subst (λ (rs : List RootStart). AreTagsOf (map begun rs) tags) c.as_slice-2.ensures.value c.in_ok-tags.ensures in
+    let are = tags_kept roots c.as_slice-2.result.now tags c.as_slice-2.ensures.value c.in_ok-tags.ensures in
     let many : length first ≡ length roots = c.in_ok-rows.ensures.count ∙ ap length c.as_slice-3.ensures.value in
-    let firsts : (k : ℕ) (d : RootStart) → k < length roots → IsFirstRow tags k (slice_index_or roots k d).privileges (row_at first k) =
-    subst (λ (rs : List RootStart). (k : ℕ) (d : RootStart) → k < length rs → IsFirstRow tags k (slice_index_or rs k d).privileges (row_at first k)) c.as_slice-3.ensures.value c.in_ok-rows.ensures.rows in
-    let spread : IsSpread roots first rows = subst (λ (rs : List RootStart). IsSpread rs first rows) c.as_slice-4.ensures.value c.in_ok-spread.ensures in
+    let firsts : (k : ℕ) (d : RootStart) → k < length roots → cells_at first k ≡ first_cells tags k (slice_index_or roots k d) =
+    subst (λ (rs : List RootStart). (k : ℕ) (d : RootStart) → k < length rs → cells_at first k ≡ first_cells tags k (slice_index_or rs k d)) c.as_slice-3.ensures.value c.in_ok-rows.ensures.rows in
+    let up : IsAscending tag_cmp tags = c.as_slice-5.ensures.ascending in
+    let spread : IsSpread roots (rows_of tags first) (rows_of tags rows) = subst (λ (ts : List (List ℕ)). IsSpread roots (rows_of ts first) (rows_of ts rows)) c.as_slice-5.ensures.value
+    (subst (λ (rs : List RootStart). IsSpread rs (rows_of c.as_slice-5.result.now first) (rows_of c.as_slice-5.result.now rows)) c.as_slice-4.ensures.value c.in_ok-spread.ensures.spread) in
+    let table : IsTable roots tags rows = subst (λ (ts : List (List ℕ)). IsTable roots ts rows) c.as_slice-5.ensures.value
+    (subst (λ (rs : List RootStart). IsTable rs c.as_slice-5.result.now rows) c.as_slice-4.ensures.value c.in_ok-spread.ensures.table) in
     record {
+      table = table;
       tags_are = are;
-      count = spread.count ∙ many;
-      least = rows_are_least roots tags first rows are many firsts spread;
+      least = rows_are_least roots tags (rows_of tags first) (rows_of tags rows) are (length-rows_of tags first ∙ many) (first_privileges roots tags first are up many firsts) spread;
     }
 
 pub returns-clause-never : goal.returns-clause-never

@@ -1,11 +1,12 @@
 use Rattle.std.proofs.Common.{◌≡◌, ℕ, ◌<◌, length}
 use Rattle.std.specs.Prelude.{slice_index_or}
-use Rattle.df_lint.specs.code.Rows.{IsFirstRow, row_at}
+use Rattle.df_lint.specs.code.Cells.{cells_at}
+use Rattle.df_lint.specs.code.First.{first_cells}
 use Rattle.df_machine.specs.declared.start.RootStart.{RootStart}
 use Rattle.df_lint.proofs.first.first_rows.Given as goal
 
 abbrev pub invariant-loop-number : goal.invariant-loop-number
 invariant-loop-number l = record {
   count : length l.rows.items ≡ l.number;
-  rows : (k : ℕ) (d : RootStart) → k < l.number → IsFirstRow l.tags k (slice_index_or l.roots k d).privileges (row_at l.rows.items k);
+  rows : (k : ℕ) (d : RootStart) → k < l.number → cells_at l.rows.items k ≡ first_cells l.tags k (slice_index_or l.roots k d);
 }

@@ -1,17 +1,19 @@
 use Rattle.std.proofs.Common.{inl, ◌≡◌, ℕ, List, [], ◌∷◌, ◌++◌, Option, option_to_list, ap, sym, subst, ◌∙◌, length, arith}
 use Rattle.std.specs.List.{Contains}
 use Rattle.std.proofs.lemmas.List.Elements.{Contains-append_left, Contains-push}
+use Rattle.df_lint.specs.code.Rows.{rows_of}
 use Rattle.df_lint.specs.code.Spread.{IsSeen}
 use Rattle.df_lint.proofs.Growing.{all_over_rows, rows_within, seen_popped, settled_at_end, nothing_left}
 use Rattle.df_lint.proofs.spread.spread.Goals as goal
 
 pub loop-root-init : goal.loop-root-init
 loop-root-init c = record {
-  count = (λ i. length c.args.rows.now.items);
+  table = c.requires;
+  count = (λ i. length (rows_of c.args.tags.now c.args.rows.now.items));
   had = λ k p m. m;
   least = λ g passes has. has;
   in_range = c.in_ok-waiting.ensures.only;
-  within = rows_within c.args.rows.now.items;
+  within = rows_within (rows_of c.args.tags.now c.args.rows.now.items);
   seen = λ j k j_lt k_lt. inl (c.in_ok-waiting.ensures.all j j_lt);
 }
 
@@ -28,22 +30,23 @@ loop-root-preserved c =
     let popped : c.loop-root.waiting.items ≡ left ++ root ∷ [] = c.pop.ensures.items ∙ ap (λ (o : Option ℕ). left ++ option_to_list o) c.in-Some.is in
     let step = c.in_ok-settle_all.ensures.extends in
     record {
+      table = c.in_ok-settle_all.ensures.table;
       count = step.count ∙ before.count;
       had = λ k p m. step.had k p (before.had k p m);
       least = λ g passes has. step.least g passes (before.least g passes has);
       in_range = step.in_range (λ k m. before.in_range k (subst (λ (xs : List ℕ). Contains xs k) (sym popped) (Contains-append_left left (root ∷ []) k m)));
-      within = step.within (all_over_rows c.args.rows.now.items) before.within;
-      seen = λ j k j_lt k_lt. seen_popped c.args.roots.now root c.loop-root.rows.items left c.settle_all.new.rows.items c.settle_all.new.waiting.items step c.in_ok-settle_all.ensures.seen j k j_lt k_lt
-          (subst (λ (xs : List ℕ). IsSeen c.args.roots.now c.loop-root.rows.items xs j k) popped (before.seen j k j_lt k_lt));
+      within = step.within (all_over_rows (rows_of c.args.tags.now c.args.rows.now.items)) before.within;
+      seen = λ j k j_lt k_lt. seen_popped c.args.roots.now root (rows_of c.args.tags.now c.loop-root.rows.items) left (rows_of c.args.tags.now c.settle_all.new.rows.items) c.settle_all.new.waiting.items step c.in_ok-settle_all.ensures.seen j k j_lt k_lt
+          (subst (λ (xs : List ℕ). IsSeen c.args.roots.now (rows_of c.args.tags.now c.loop-root.rows.items) xs j k) popped (before.seen j k j_lt k_lt));
     }
 
-pub returns : goal.returns
-returns c =
+pub returns-clause-spread : goal.returns-clause-spread
+returns-clause-spread c =
     let before = c.loop-root.invariant in
     let none : c.loop-root.waiting.items ≡ [] = nothing_left c.loop-root.waiting.items (let e = c.in_default.ensures.cases.0 in omega arith) in
     record {
       count = before.count;
       had = before.had;
       least = before.least;
-      settled = λ j k j_lt k_lt. settled_at_end c.args.roots.now c.loop-root.rows.items j k (subst (λ (xs : List ℕ). IsSeen c.args.roots.now c.loop-root.rows.items xs j k) none (before.seen j k j_lt k_lt));
+      settled = λ j k j_lt k_lt. settled_at_end c.args.roots.now (rows_of c.args.tags.now c.loop-root.rows.items) j k (subst (λ (xs : List ℕ). IsSeen c.args.roots.now (rows_of c.args.tags.now c.loop-root.rows.items) xs j k) none (before.seen j k j_lt k_lt));
     }

@@ -1,7 +1,7 @@
 use Rattle.std.proofs.Common.{◌≡◌, ◌++◌}
 use Rattle.df_lint.specs.LintText.{lint_lines}
-use Rattle.df_lint.specs.code.Rows.{found}
+use Rattle.df_lint.specs.code.Rows.{found, rows_of}
 use Rattle.df_lint.proofs.text.append_rows.Given as goal
 
 abbrev pub invariant-loop-root : goal.invariant-loop-root
-invariant-loop-root l = l.to.items ≡ l.fn.to.items ++ lint_lines (found l.rows) l.tags l.root
+invariant-loop-root l = l.to.items ≡ l.fn.to.items ++ lint_lines (found (rows_of l.tags l.rows)) l.tags l.root
