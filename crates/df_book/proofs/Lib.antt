@@ -4,5 +4,6 @@ pub mod Planned
 pub mod Quantities
 pub mod Queued
 pub mod Settling
+pub mod Sooner
 pub mod Spans
 pub mod Standing

@@ -1,8 +1,9 @@
 //! The book: resting orders, and what an order does to them.
 
-ghost use Rattle.std.specs.Prelude.{◌≡◌, ◌≤ℤ◌, [], pos, IfOk, OnOk, OnErr};
+ghost use Rattle.std.specs.Prelude.{◌≡◌, ◌↔◌, ◌≤ℤ◌, [], pos, IsTrue, IfOk, OnOk, OnErr};
 ghost use Rattle.df_book.specs.Submitting.{submitted};
 
+use crate::compare::same_in_order;
 use crate::order::Order;
 use crate::place::{Place, Rest, Span};
 use crate::resting::{plan, rest, settle};
@@ -66,5 +67,25 @@ impl Book {
         )?;
         settle(&mut self.orders, &order, span.last, plan.fills.as_slice());
         Ok(plan.trades)
+    }
+
+    /// Whether the same orders rest, in the same order of arrival. Takes no memory.
+    pub fn same(&self, other: &Book) -> bool
+        ensures { IsTrue result ↔ (self.now ≡ other.now) }
+    {
+        // What is read is known to fit its type.
+        let _arrivals = self.arrivals;
+        let _other_arrivals = other.arrivals;
+        same_in_order(&self.orders, &other.orders)
+    }
+
+    pub fn copy(&self) -> Result<Book, NoMemory>
+        ensures { IfOk result (λ b. b ≡ self.now) }
+    {
+        Ok(Book {
+            orders: self.orders.clone()?,
+            arrivals: self.arrivals,
+            alloc: self.alloc,
+        })
     }
 }

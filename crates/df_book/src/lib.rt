@@ -2,6 +2,7 @@
 #![tactic(auto)]
 
 mod book;
+mod compare;
 pub mod laws;
 mod order;
 mod place;

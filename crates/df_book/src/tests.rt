@@ -73,3 +73,28 @@ fn orders_trade_as_on_the_small_floor(rt: HostRuntime) -> Result<(), Fail> {
     }
     Ok(())
 }
+
+fn submit(alloc: Global, book: &mut Book, row: Row) -> Result<(), Fail> {
+    let order = order(alloc, row)?;
+    if order.limit > 0 && order.qty > 0 {
+        book.submit(order)?;
+    }
+    Ok(())
+}
+
+#[test]
+fn books_are_compared_by_what_rests(rt: HostRuntime) -> Result<(), Fail> {
+    let alloc = rt.alloc();
+    let mut book = Book::new(alloc);
+    submit(alloc, &mut book, (0, "AAA", true, 1095, 4))?;
+    submit(alloc, &mut book, (1, "AAA", false, 1105, 4))?;
+    submit(alloc, &mut book, (1, "BBB", false, 905, 4))?;
+    let mut other = Book::new(alloc);
+    assert!(rt; !book.same(&other));
+    submit(alloc, &mut other, (1, "BBB", false, 905, 4))?;
+    assert!(rt; book.same(&other));
+    assert!(rt; book.copy()?.same(&other));
+    submit(alloc, &mut other, (0, "AAA", false, 905, 4))?;
+    assert!(rt; !book.same(&other));
+    Ok(())
+}
