@@ -1,3 +1,4 @@
+pub mod Broking
 pub mod Trading
 pub mod Telling
 pub mod Hearing

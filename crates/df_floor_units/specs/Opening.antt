@@ -3,7 +3,7 @@ use Rattle.std.specs.Prelude.{ℕ, List, [], ◌∷◌, codes}
 use Rattle.df_filter.specs.declared.clause.Clause.{Clause}
 use Rattle.df_filter.specs.declared.clause.Test.TheVariants.{Present, Key}
 use Rattle.df_filter.specs.declared.field_test.FieldTest.TheVariants as field
-use Rattle.df_messages.specs.Drafts.{floor_tag, regulator_tag, trader_tag}
+use Rattle.df_messages.specs.Drafts.{broker_tag, floor_tag, regulator_tag, trader_tag}
 use Rattle.df_priv.specs.declared.need.Act.TheVariants.{Del}
 use Rattle.df_priv.specs.declared.need.Half.TheVariants as half
 use Rattle.df_unit.specs.declared.call.Call.{Call}
@@ -23,6 +23,10 @@ tick_of symbol =
 -- the call that lets out what the tag holds back
 abbrev pub release_of : ℕ → Call
 release_of number = ChangeOutLabel half.S Del (floor_tag number)
+
+-- a broker lets what it tells out, and asks for orders
+abbrev pub broker_opening : List Call
+broker_opening = release_of broker_tag ∷ Subscribe (present (codes "order") ∷ []) ∷ []
 
 -- a regulator asks for trades whose parties are told, by instances
 abbrev pub regulator_opening : List Call
@@ -44,6 +48,7 @@ watcher_opening = release_of regulator_tag ∷ []
 -- the calls with which a unit opens
 abbrev pub opening : Kind → List Call
 opening (kind.Exchange ticks from) = []
+opening (kind.Broker b) = broker_opening
 opening kind.Regulator = regulator_opening
 opening (kind.Trader t) = trader_opening t.number
 opening (kind.Monitor a b pair) = monitor_opening a b

@@ -6,7 +6,9 @@ use Rattle.df_messages.specs.declared.draft.Draft.{Draft}
 use Rattle.df_messages.specs.declared.message.Match.{Match}
 use Rattle.df_pairs.specs.declared.signal.Signal.{Signal}
 use Rattle.df_ticks.specs.declared.tick.Tick.{Tick}
+use Rattle.df_floor_units.specs.Broking.{trade_parts}
 use Rattle.df_floor_units.specs.Trading.{counted, offer_of}
+use Rattle.df_floor_units.specs.declared.broker.Broker.{Broker}
 use Rattle.df_floor_units.specs.declared.heard.Heard.{Heard}
 use Rattle.df_floor_units.specs.declared.heard.Heard.TheVariants as heard
 use Rattle.df_floor_units.specs.declared.kind.Kind.{Kind}
@@ -40,27 +42,35 @@ watcher_parts (heard.Trade p number) =
     if int_eq p.buyer p.seller then warning_draft number ∷ [] else []
 watcher_parts _ = []
 
+-- what a broker tells: the trades of an order, one after another
+abbrev pub broker_parts : Broker → Heard → List Draft
+broker_parts b (heard.Trades ts from) = trade_parts b.next_trade (slice_get ts from)
+broker_parts b _ = []
+
 -- the parts of the event that is told next; none where nothing is
 abbrev pub parts_of : Kind → Heard → List Draft
 parts_of (kind.Exchange ticks from) h = tick_parts (slice_get ticks from)
+parts_of (kind.Broker b) h = broker_parts b h
 parts_of kind.Regulator h = []
 parts_of (kind.Trader t) h = trader_parts t h
 parts_of (kind.Monitor a b pair) h = monitor_parts a b h
 parts_of kind.Watcher h = watcher_parts h
 
--- the place of the next tick
-abbrev pub passed_tick : List Tick → ℕ → ℕ
-passed_tick ticks from = if nat_lt from (length ticks) then from + 1 else from
+-- the place behind one, up to the end of a list
+abbrev pub passed_place : {A : Type 0} → List A → ℕ → ℕ
+passed_place xs from = if nat_lt from (length xs) then from + 1 else from
 
 -- what is remembered once it was told
 abbrev pub passed_kind : Kind → Kind
-passed_kind (kind.Exchange ticks from) = kind.Exchange ticks (passed_tick ticks from)
+passed_kind (kind.Exchange ticks from) = kind.Exchange ticks (passed_place ticks from)
+passed_kind (kind.Broker b) = kind.Broker (record b { next_trade = counted b.next_trade })
 passed_kind kind.Regulator = kind.Regulator
 passed_kind (kind.Trader t) = kind.Trader (record t { next_order = counted t.next_order })
 passed_kind (kind.Monitor a b pair) = kind.Monitor a b pair
 passed_kind kind.Watcher = kind.Watcher
 
--- what is still to be told: of a match the second order
+-- what is still to be told: of a match the second order, and the trades behind the first
 abbrev pub passed_heard : Heard → Heard
 passed_heard (heard.Match m) = heard.Second m
+passed_heard (heard.Trades ts from) = heard.Trades ts (passed_place ts from)
 passed_heard _ = heard.Nothing

@@ -12,6 +12,9 @@ use Rattle.df_floor_units.specs.declared.stage.Stage.TheVariants as stage
 
 opens_none : (k : Kind) (place : ℕ) → is_child_wanted (calls (slice_get (opening k) place)) ≡ false
 opens_none (kind.Exchange ticks from) place = refl
+opens_none (kind.Broker b) zero = refl
+opens_none (kind.Broker b) (suc zero) = refl
+opens_none (kind.Broker b) (suc (suc place)) = refl
 opens_none kind.Regulator zero = refl
 opens_none kind.Regulator (suc place) = refl
 opens_none (kind.Trader t) zero = refl

@@ -1,1 +1,3 @@
 pub mod Acting
+pub mod Parts
+pub mod Trades

@@ -1,8 +1,10 @@
-ghost use Rattle.std.specs.Prelude.{◌≡◌, ◌≤◌, ◌≤ℤ◌, ◌+◌, IfOk, OnErr, nat_lt, pos};
+ghost use Rattle.std.specs.Prelude.{◌≡◌, ◌≤◌, ◌≤ℤ◌, ◌+◌, [], IfOk, OnErr, nat_lt, pos};
 ghost use Rattle.df_brain.specs.Brain.{want_of as as_want};
 ghost use Rattle.df_pairs.specs.Divergence.{fresh};
 
 use crate::action::Action;
+use crate::book::FloorBook;
+use crate::broker::Broker;
 use crate::heard::Heard;
 use crate::kind::Kind;
 use crate::stage::Stage;
@@ -63,6 +65,24 @@ impl FloorBrain {
     {
         let ticks = ticks.share()?;
         Ok(FloorBrain::begin(alloc, Kind::Exchange { ticks, from: 0 }))
+    }
+
+    /// A broker of so many traders, whose numbers begin at 0.
+    pub fn broker(alloc: Global, traders: u16) -> FloorBrain
+        ensures { result ≡ begins (kind.Broker (record {
+          book = [];
+          traders = traders;
+          next_trade = pos 0;
+        })) }
+    {
+        FloorBrain::begin(
+            alloc,
+            Kind::Broker(Broker {
+                book: FloorBook::new(alloc),
+                traders,
+                next_trade: 0,
+            }),
+        )
     }
 
     pub fn regulator(alloc: Global) -> FloorBrain
@@ -387,13 +407,22 @@ impl FloorBrain {
         Ok(self.plain_want(self.stage))
     }
 
-    fn act(&mut self) -> Want
-        ensures { (as_want result, self.new) ≡ stepped (did self.old Acts) }
+    fn act(&mut self) -> Result<Want, NoMemory>
+        ensures wants { IfOk result (λ w. (as_want w, self.new) ≡ stepped (did self.old Acts)) }
+        ensures unchanged { OnErr result (self.new ≡ self.old) }
     {
         let heard = mem::replace(&mut self.heard, Heard::Nothing);
-        self.heard = self.kind.act(heard);
-        self.stage = self.told();
-        self.plain_want(self.stage)
+        match self.kind.act(heard) {
+            Ok(heard) => {
+                self.heard = heard;
+                self.stage = self.told();
+                Ok(self.plain_want(self.stage))
+            }
+            Err(heard) => {
+                self.heard = heard;
+                Err(NoMemory)
+            }
+        }
     }
 
     fn pass(&mut self) -> Want
@@ -433,7 +462,7 @@ impl Brain for FloorBrain {
                     place,
                     parts,
                 } => self.hear(h, sub, place, parts),
-                Action::Acts => Ok(self.act()),
+                Action::Acts => self.act(),
                 Action::Passes => Ok(self.pass()),
             },
         }

@@ -1,8 +1,10 @@
 ghost use Rattle.std.specs.Prelude.{◌≡◌, ◌↔◌, IsTrue, IfOk};
 ghost use Rattle.df_floor_units.specs.Telling.{passed_heard};
 
+use crate::offer::{copied_offer, same_offers};
+use crate::trades::FloorTrades;
 use df_label::NoMemory;
-use df_messages::{Match, Parties};
+use df_messages::{Match, Offer, Parties};
 use df_pairs::Signal;
 
 /// What a unit knows of the event that it was handed last, and hasn't done yet.
@@ -17,6 +19,10 @@ pub(crate) enum Heard {
     Match(Match),
     /// A trader has its second order to tell.
     Second(Match),
+    /// The broker has an order to take.
+    Offer(Offer),
+    /// The broker has the trades of an order to tell, from this place on.
+    Trades { trades: FloorTrades, from: usize },
     /// The parties of a trade whose number isn't known yet.
     Parties(Parties),
     /// The parties and the number of a trade.
@@ -39,6 +45,14 @@ impl Heard {
             (Heard::Signal(a), Heard::Signal(b)) => a.same(b),
             (Heard::Match(a), Heard::Match(b)) => a.same(b),
             (Heard::Second(a), Heard::Second(b)) => a.same(b),
+            (Heard::Offer(a), Heard::Offer(b)) => same_offers(a, b),
+            (
+                Heard::Trades { trades, from },
+                Heard::Trades {
+                    trades: other_trades,
+                    from: other_from,
+                },
+            ) => from == other_from && trades.same(other_trades),
             (Heard::Parties(a), Heard::Parties(b)) => { a.buyer == b.buyer && a.seller == b.seller }
             (
                 Heard::Trade { parties, number },
@@ -67,6 +81,11 @@ impl Heard {
             Heard::Signal(signal) => Ok(Heard::Signal(signal.copy())),
             Heard::Match(found) => Ok(Heard::Match(found.copy()?)),
             Heard::Second(found) => Ok(Heard::Second(found.copy()?)),
+            Heard::Offer(offer) => Ok(Heard::Offer(copied_offer(offer)?)),
+            Heard::Trades { trades, from } => Ok(Heard::Trades {
+                trades: trades.copy()?,
+                from: *from,
+            }),
             Heard::Parties(parties) => Ok(Heard::Parties(*parties)),
             Heard::Trade { parties, number } => Ok(Heard::Trade {
                 parties: *parties,
@@ -81,6 +100,10 @@ impl Heard {
     {
         match self {
             Heard::Match(found) => Heard::Second(found),
+            Heard::Trades { trades, from } => {
+                let from = trades.behind(from);
+                Heard::Trades { trades, from }
+            }
             _ => Heard::Nothing,
         }
     }

@@ -1,8 +1,8 @@
 //! What units hear.
 
-ghost use Rattle.std.specs.Prelude.{◌≡◌, IfOk, length, slice_get};
-ghost use Rattle.df_messages.specs.Messages.{match_in, number_in, parties_in};
-ghost use Rattle.df_floor_units.specs.Hearing.{acted_heard, acted_kind, first_of, heard_by_trader, heard_by_watcher, heard_of, heard_quote, heard_signal, quote_in, reads_of, signal_at};
+ghost use Rattle.std.specs.Prelude.{◌≡◌, IfErr, IfOk, OnErr, OnOk, length, slice_get};
+ghost use Rattle.df_messages.specs.Messages.{match_in, number_in, offer_in, parties_in};
+ghost use Rattle.df_floor_units.specs.Hearing.{acted_heard, acted_kind, first_of, heard_by_trader, heard_by_watcher, heard_of, heard_offer, heard_quote, heard_signal, quote_in, reads_of, signal_at};
 ghost use Rattle.df_pairs.specs.Divergence.{after};
 
 use crate::heard::Heard;
@@ -10,7 +10,9 @@ use crate::kind::Kind;
 use crate::opening::name;
 use df_frozen::{Frozen, Name};
 use df_label::NoMemory;
-use df_messages::{Match, Parties, Symbol, read_match, read_number, read_parties, read_tick};
+use df_messages::{
+    Match, Offer, Parties, Symbol, read_match, read_number, read_offer, read_parties, read_tick,
+};
 use df_pairs::Pair;
 use df_unit::PartRead;
 
@@ -21,6 +23,18 @@ fn first_match(parts: &[PartRead]) -> Result<Option<Match>, NoMemory>
         let found = read_match(&part.value)?;
         if found.is_some() {
             return Ok(found);
+        }
+    }
+    Ok(None)
+}
+
+fn first_offer(parts: &[PartRead]) -> Result<Option<Offer>, NoMemory>
+    ensures { IfOk result (λ o. o ≡ first_of offer_in parts.now) }
+{
+    for part in parts {
+        let offer = read_offer(&part.value)?;
+        if offer.is_some() {
+            return Ok(offer);
         }
     }
     Ok(None)
@@ -94,6 +108,15 @@ fn heard_by_trader(sub: u32, parts: &[PartRead]) -> Result<Heard, NoMemory>
     }
 }
 
+fn heard_by_broker(parts: &[PartRead]) -> Result<Heard, NoMemory>
+    ensures { IfOk result (λ h. h ≡ heard_offer (first_of offer_in parts.now)) }
+{
+    match first_offer(parts)? {
+        Some(offer) => Ok(Heard::Offer(offer)),
+        None => Ok(Heard::Nothing),
+    }
+}
+
 fn heard_by_watcher(place: u32, heard: &Heard, parts: &[PartRead]) -> Heard
     ensures { result ≡ heard_by_watcher place heard.now parts.now }
 {
@@ -133,6 +156,7 @@ impl Kind {
     {
         match self {
             Kind::Exchange { .. } => 0,
+            Kind::Broker(_) => 1,
             Kind::Regulator => 0,
             Kind::Trader(_) => 1,
             Kind::Monitor { .. } => 1,
@@ -154,6 +178,7 @@ impl Kind {
             } else {
                 name("fill")
             }),
+            Kind::Broker(_) => Some(name("order")),
             Kind::Monitor { .. } => Some(name("tick")),
             Kind::Watcher => Some(if place == 0 {
                 name("who")
@@ -176,6 +201,7 @@ impl Kind {
     {
         match self {
             Kind::Exchange { .. } => Ok(Heard::Nothing),
+            Kind::Broker(_) => heard_by_broker(parts),
             Kind::Regulator => Ok(Heard::Nothing),
             Kind::Trader(_) => heard_by_trader(sub, parts),
             Kind::Monitor { first, second, .. } => {
@@ -185,17 +211,24 @@ impl Kind {
         }
     }
 
-    /// Does what follows the drop of an event, and gives what is then to be told.
-    pub(crate) fn act(&mut self, heard: Heard) -> Heard
-        ensures kind { self.new ≡ acted_kind self.old heard }
-        ensures heard { result ≡ acted_heard self.old heard }
+    /// Does what follows the drop of an event, and gives what is then to be told. Without memory
+    /// it gives back what was heard.
+    pub(crate) fn act(&mut self, heard: Heard) -> Result<Heard, Heard>
+        ensures kind { OnOk result (self.new ≡ acted_kind self.old heard) }
+        ensures heard { IfOk result (λ h. h ≡ acted_heard self.old heard) }
+        ensures unchanged { OnErr result (self.new ≡ self.old) }
+        ensures given_back { IfErr result (λ h. h ≡ heard) }
     {
         match self {
             Kind::Monitor { pair, .. } => match heard {
-                Heard::Quote { first, price } => watch(pair, first, price),
-                heard => heard,
+                Heard::Quote { first, price } => Ok(watch(pair, first, price)),
+                heard => Ok(heard),
             },
-            _ => heard,
+            Kind::Broker(broker) => match heard {
+                Heard::Offer(offer) => broker.act(offer),
+                heard => Ok(heard),
+            },
+            _ => Ok(heard),
         }
     }
 }

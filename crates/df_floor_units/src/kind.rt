@@ -1,5 +1,6 @@
 ghost use Rattle.std.specs.Prelude.{◌≡◌, ◌↔◌, IsTrue, IfOk};
 
+use crate::broker::Broker;
 use crate::ticks::Ticks;
 use crate::trader::Trader;
 use df_label::NoMemory;
@@ -14,6 +15,7 @@ pub(crate) enum Kind {
         ticks: Ticks,
         from: usize,
     },
+    Broker(Broker),
     Regulator,
     Trader(Trader),
     /// Watches the prices of two symbols.
@@ -38,6 +40,7 @@ impl Kind {
                     from: other_from,
                 },
             ) => from == other_from && ticks.same(other_ticks),
+            (Kind::Broker(a), Kind::Broker(b)) => a.same(b),
             (Kind::Regulator, Kind::Regulator) => true,
             (Kind::Trader(a), Kind::Trader(b)) => a.same(b),
             (
@@ -69,6 +72,7 @@ impl Kind {
                 ticks: ticks.share()?,
                 from: *from,
             }),
+            Kind::Broker(broker) => Ok(Kind::Broker(broker.copy()?)),
             Kind::Regulator => Ok(Kind::Regulator),
             Kind::Trader(trader) => Ok(Kind::Trader(*trader)),
             Kind::Monitor {

@@ -3,7 +3,7 @@
 ghost use Rattle.std.specs.Prelude.{◌≡◌, true, IfOk, codes, length, slice_get, [], ◌∷◌};
 ghost use Rattle.df_frozen.specs.Name.{is_name};
 ghost use Rattle.df_floor_units.specs.Floor.{is_release, is_subscription};
-ghost use Rattle.df_floor_units.specs.Opening.{monitor_opening, opening, present, regulator_opening, release_of, tick_of, trader_opening, watcher_opening};
+ghost use Rattle.df_floor_units.specs.Opening.{broker_opening, monitor_opening, opening, present, regulator_opening, release_of, tick_of, trader_opening, watcher_opening};
 
 use crate::kind::Kind;
 use df_filter::{Clause, FieldTest, Filter, Test};
@@ -122,6 +122,17 @@ fn watcher_call(alloc: Global, place: u32) -> Result<Option<Call>, NoMemory>
 }
 
 #[tactic(auto, using(std::proofs::lemmas::Option::slice_get_past))]
+fn broker_call(alloc: Global, place: u32) -> Result<Option<Call>, NoMemory>
+    ensures { IfOk result (λ c. c ≡ slice_get broker_opening place) }
+{
+    match place {
+        0 => Ok(Some(release(alloc, 1)?)),
+        1 => Ok(Some(subscription(alloc, present("order"))?)),
+        _ => Ok(None),
+    }
+}
+
+#[tactic(auto, using(std::proofs::lemmas::Option::slice_get_past))]
 fn trader_call(alloc: Global, number: u16, place: u32) -> Result<Option<Call>, NoMemory>
     ensures { IfOk result (λ c. c ≡ slice_get (trader_opening number) place) }
 {
@@ -156,6 +167,7 @@ impl Kind {
     {
         match self {
             Kind::Exchange { .. } => 0,
+            Kind::Broker(_) => 2,
             Kind::Regulator => 1,
             Kind::Trader(_) => 3,
             Kind::Monitor { .. } => 2,
@@ -169,6 +181,7 @@ impl Kind {
     {
         match self {
             Kind::Exchange { .. } => Ok(None),
+            Kind::Broker(_) => broker_call(alloc, place),
             Kind::Regulator => regulator_call(alloc, place),
             Kind::Trader(trader) => trader_call(alloc, trader.number, place),
             Kind::Monitor { first, second, .. } => monitor_call(alloc, first, second, place),
@@ -182,6 +195,7 @@ impl Kind {
         ensures { result ≡ is_release (slice_get (opening self.now) place) }
     {
         match self {
+            Kind::Broker(_) => place == 0,
             Kind::Trader(_) => place == 0,
             Kind::Watcher => place == 0,
             _ => false,

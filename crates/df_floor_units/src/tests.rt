@@ -5,7 +5,9 @@ use df_book::Trade;
 use df_brain::{Brain, Last, Want};
 use df_frozen::{Frozen, Words};
 use df_label::{Label, Privileges, TagSet};
-use df_messages::{Match, Symbol, match_draft, tick_draft, trade_draft, who_draft};
+use df_messages::{
+    Match, Offer, Symbol, match_draft, offer_draft, tick_draft, trade_draft, who_draft,
+};
 use df_ticks::{Tick, read_ticks};
 use df_unit::{Call, PartRead, PartsRead, Reply};
 use std::alloc::Global;
@@ -25,6 +27,33 @@ const EXCHANGE: [Row; 9] = [
     ("ok", 0, "wait", 0),
     ("event", 3, "drop", 3),
     ("ok", 0, "wait", 0),
+];
+
+/// A broker of two traders: an order that rests, one that trades with it, one of a trader who isn't
+/// there, and a reply that isn't foreseen.
+const BROKER: [Row; 22] = [
+    ("start", 0, "out", 0),
+    ("ok", 0, "sub", 0),
+    ("sub", 0, "wait", 0),
+    ("event", 0, "read", 0),
+    ("sells", 0, "drop", 0),
+    ("ok", 0, "wait", 0),
+    ("event", 0, "read", 0),
+    ("buys", 1, "drop", 0),
+    ("ok", 0, "create", 0),
+    ("handle", 3, "add", 3),
+    ("ok", 0, "add", 3),
+    ("ok", 0, "add", 3),
+    ("ok", 0, "add", 3),
+    ("ok", 0, "publish", 3),
+    ("ok", 0, "wait", 0),
+    ("event", 0, "read", 0),
+    ("buys", 2, "drop", 0),
+    ("ok", 0, "wait", 0),
+    ("event", 0, "read", 0),
+    ("no part", 0, "drop", 0),
+    ("handle", 0, "wait", 0),
+    ("event", 5, "drop", 5),
 ];
 
 const REGULATOR: [Row; 4] = [
@@ -138,11 +167,52 @@ fn found(alloc: Global) -> Result<Match, Fail> {
     })
 }
 
+/// An order of a trader.
+fn offer(alloc: Global, sell: bool, trader: u32) -> Result<Offer, Fail> {
+    Ok(Offer {
+        id: 0,
+        limit: if sell { 1095 } else { 1105 },
+        qty: if sell { 10 } else { 4 },
+        sell,
+        symbol: Symbol::new(&Words::new(alloc, "AAA")?)?,
+        trader: i64::from(trader),
+    })
+}
+
+/// A tick of a symbol.
+fn quoted(alloc: Global, symbol: &str, price: u32) -> Result<Frozen, Fail> {
+    match symbol {
+        "BBB" => {
+            let tick = Tick {
+                symbol: Words::new(alloc, "BBB")?,
+                price: i64::from(price),
+            };
+            Ok(tick_draft(alloc, &tick)?.value)
+        }
+        "CCC" => {
+            let tick = Tick {
+                symbol: Words::new(alloc, "CCC")?,
+                price: i64::from(price),
+            };
+            Ok(tick_draft(alloc, &tick)?.value)
+        }
+        _ => {
+            let tick = Tick {
+                symbol: Words::new(alloc, "AAA")?,
+                price: i64::from(price),
+            };
+            Ok(tick_draft(alloc, &tick)?.value)
+        }
+    }
+}
+
 /// The value that a read shows, by the word of its row.
 fn value(alloc: Global, word: &str, number: u32) -> Result<Frozen, Fail> {
     match word {
         "same" => Ok(who_draft(alloc, &trade(alloc, 1)?)?.value),
         "two" => Ok(who_draft(alloc, &trade(alloc, 0)?)?.value),
+        "sells" => Ok(offer_draft(alloc, &offer(alloc, true, number)?)?.value),
+        "buys" => Ok(offer_draft(alloc, &offer(alloc, false, number)?)?.value),
         "match" => Ok(match_draft(alloc, &found(alloc)?)?.value),
         "trade" => {
             let trade = Trade {
@@ -154,27 +224,7 @@ fn value(alloc: Global, word: &str, number: u32) -> Result<Frozen, Fail> {
             };
             Ok(trade_draft(alloc, 3, &trade)?.value)
         }
-        "BBB" => {
-            let tick = Tick {
-                symbol: Words::new(alloc, "BBB")?,
-                price: i64::from(number),
-            };
-            Ok(tick_draft(alloc, &tick)?.value)
-        }
-        "CCC" => {
-            let tick = Tick {
-                symbol: Words::new(alloc, "CCC")?,
-                price: i64::from(number),
-            };
-            Ok(tick_draft(alloc, &tick)?.value)
-        }
-        _ => {
-            let tick = Tick {
-                symbol: Words::new(alloc, "AAA")?,
-                price: i64::from(number),
-            };
-            Ok(tick_draft(alloc, &tick)?.value)
-        }
+        _ => quoted(alloc, word, number),
     }
 }
 
@@ -242,6 +292,8 @@ fn each_unit_follows_its_list(rt: HostRuntime) -> Result<(), Fail> {
     let ticks = Ticks::new(alloc, ticks)?;
     let exchange = FloorBrain::exchange(alloc, &ticks)?;
     assert_eq!(rt; misses(alloc, exchange, EXCHANGE.as_slice())?, 0);
+    let broker = FloorBrain::broker(alloc, 2);
+    assert_eq!(rt; misses(alloc, broker, BROKER.as_slice())?, 0);
     let regulator = FloorBrain::regulator(alloc);
     let watcher = regulator.instance(0)?;
     assert_eq!(rt; misses(alloc, regulator, REGULATOR.as_slice())?, 0);
