@@ -1,0 +1,11 @@
+//! A trading floor of a configuration: what its roots begin with, and their brains.
+#![tactic(auto)]
+
+mod brains;
+mod start;
+
+pub use brains::floor_brains;
+pub use start::floor_start;
+
+#[cfg(test)]
+mod tests;

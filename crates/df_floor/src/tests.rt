@@ -1,0 +1,83 @@
+//! The small floor: what its roots begin with, and how many brains it has.
+
+use crate::{floor_brains, floor_start};
+use df_config::read_config;
+use df_floor_units::Ticks;
+use df_label::{Privilege, Privileges, Right, Tag, TagSet};
+use df_machine::RootStart;
+use df_ticks::read_ticks;
+use std::alloc::Global;
+use std::test::Fail;
+
+const CONFIG: &str = "max_steps = 10000
+window = 2
+[[pair]]
+first = \"AAA\"
+second = \"BBB\"
+threshold = 50
+[[trader]]
+pairs = [0]
+quantity = 10
+slack = 5
+contrary = false
+[[trader]]
+pairs = [0]
+quantity = 4
+slack = 5
+contrary = true
+";
+
+/// The number of the one tag of each half of a root's label, and of the tag that it may take out;
+/// 99 where there is none.
+const ROOTS: [(u32, u32, u32); 7] = [
+    (99, 0, 99),
+    (1, 99, 1),
+    (99, 99, 2),
+    (3, 99, 3),
+    (4, 99, 4),
+    (3, 0, 99),
+    (4, 0, 99),
+];
+
+/// The set of this tag, or the empty one.
+fn set_of(alloc: Global, number: u32) -> Result<TagSet, Fail> {
+    if number == 99 {
+        return Ok(TagSet::new(alloc));
+    }
+    Ok(TagSet::new(alloc).with(&Tag::new(alloc, &[], number)?)?)
+}
+
+fn is_root(alloc: Global, root: &RootStart, row: (u32, u32, u32)) -> Result<bool, Fail> {
+    let (secret, integrity, may_take_out) = row;
+    let mut privileges = Privileges::new(alloc);
+    if may_take_out != 99 {
+        privileges.add(&Privilege {
+            tag: Tag::new(alloc, &[], may_take_out)?,
+            right: Right::Minus,
+        })?;
+    }
+    Ok(
+        root.label.s.same(&set_of(alloc, secret)?)
+            && root.label.i.same(&set_of(alloc, integrity)?)
+            && root.privileges.same(&privileges),
+    )
+}
+
+#[test]
+fn the_small_floor_has_its_roots_and_their_brains(rt: HostRuntime) -> Result<(), Fail> {
+    let alloc = rt.alloc();
+    let config = read_config(alloc, CONFIG.as_bytes())?;
+    let start = floor_start(alloc, &config)?;
+    assert_eq!(rt; start.as_slice().len(), ROOTS.len());
+    for i in 0..ROOTS.len() {
+        assert!(rt;
+            is_root(alloc, &start.as_slice()[i], ROOTS[i])?,
+            "root {}",
+            i
+        );
+    }
+    let ticks = Ticks::new(alloc, read_ticks(alloc, b"symbol,price\nAAA,1000\n")?)?;
+    let brains = floor_brains(alloc, &config, &ticks)?;
+    assert_eq!(rt; brains.len(), 7);
+    Ok(())
+}
