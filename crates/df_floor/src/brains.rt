@@ -1,7 +1,7 @@
 //! The brains of a floor's roots.
 
 ghost use Rattle.std.specs.Prelude.{◌≡◌, ◌≤◌, ◌<◌, ◌++◌, ◌∷◌, [], ◌≤ℤ◌, pos, All, IfOk, OnOk, length, slice_get};
-ghost use Rattle.df_config.specs.ConfigForm.{ArePairs, IsConfig, IsPair, IsTrader};
+ghost use Rattle.df_config.specs.ConfigForm.{IsConfig, IsPair, IsTrader};
 ghost use Rattle.df_floor_units.specs.Broking.{number_of};
 ghost use Rattle.df_floor_units.specs.Floor.{begins};
 ghost use Rattle.df_floor_units.specs.declared.kind.Kind.TheVariants as kind;

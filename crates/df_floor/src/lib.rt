@@ -2,6 +2,7 @@
 #![tactic(auto)]
 
 mod brains;
+pub mod laws;
 mod start;
 
 pub use brains::floor_brains;

@@ -1,6 +1,6 @@
 //! What the roots of a floor begin with.
 
-ghost use Rattle.std.specs.Prelude.{◌≡◌, ◌≤◌, ◌<◌, ◌++◌, ◌∷◌, [], All, IfOk, OnOk, length};
+ghost use Rattle.std.specs.Prelude.{◌≡◌, ◌≤◌, ◌++◌, ◌∷◌, [], IfOk, OnOk, length};
 ghost use Rattle.df_config.specs.ConfigForm.{IsConfig};
 ghost use Rattle.df_floor.specs.Starting.{floor_start, may_take_out, monitor_root, monitor_roots, monitors_of, plain_root, releasing_root, trader_root, trader_roots, watching};
 

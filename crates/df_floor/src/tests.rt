@@ -1,10 +1,13 @@
-//! The small floor: what its roots begin with, and how many brains it has.
+//! The small floor: what its roots begin with, and their brains.
 
 use crate::{floor_brains, floor_start};
+use df_brain::Brain;
 use df_config::read_config;
-use df_floor_units::Ticks;
+use df_floor_units::{FloorBrain, Ticks};
+use df_frozen::Words;
 use df_label::{Privilege, Privileges, Right, Tag, TagSet};
 use df_machine::RootStart;
+use df_messages::Symbol;
 use df_ticks::read_ticks;
 use std::alloc::Global;
 use std::test::Fail;
@@ -63,8 +66,28 @@ fn is_root(alloc: Global, root: &RootStart, row: (u32, u32, u32)) -> Result<bool
     )
 }
 
+/// The monitor of the one pair.
+fn monitor(alloc: Global) -> Result<FloorBrain, Fail> {
+    let first = Symbol::new(&Words::new(alloc, "AAA")?)?;
+    let second = Symbol::new(&Words::new(alloc, "BBB")?)?;
+    Ok(FloorBrain::monitor(alloc, first, second, 2, 50)?)
+}
+
+/// The brains, in the order of the roots.
+fn expected_brains(alloc: Global, ticks: &Ticks) -> Result<Vec<FloorBrain>, Fail> {
+    let mut brains = Vec::new(alloc);
+    brains.push(FloorBrain::exchange(alloc, ticks)?)?;
+    brains.push(FloorBrain::broker(alloc, 2))?;
+    brains.push(FloorBrain::regulator(alloc))?;
+    brains.push(FloorBrain::trader(alloc, 0, 10, 5, false))?;
+    brains.push(FloorBrain::trader(alloc, 1, 4, 5, true))?;
+    brains.push(monitor(alloc)?)?;
+    brains.push(monitor(alloc)?)?;
+    Ok(brains)
+}
+
 #[test]
-fn the_small_floor_has_its_roots_and_their_brains(rt: HostRuntime) -> Result<(), Fail> {
+fn the_small_floor_has_its_roots(rt: HostRuntime) -> Result<(), Fail> {
     let alloc = rt.alloc();
     let config = read_config(alloc, CONFIG.as_bytes())?;
     let start = floor_start(alloc, &config)?;
@@ -76,8 +99,20 @@ fn the_small_floor_has_its_roots_and_their_brains(rt: HostRuntime) -> Result<(),
             i
         );
     }
+    Ok(())
+}
+
+#[test]
+fn each_root_of_the_small_floor_has_its_brain(rt: HostRuntime) -> Result<(), Fail> {
+    let alloc = rt.alloc();
+    let config = read_config(alloc, CONFIG.as_bytes())?;
     let ticks = Ticks::new(alloc, read_ticks(alloc, b"symbol,price\nAAA,1000\n")?)?;
     let brains = floor_brains(alloc, &config, &ticks)?;
-    assert_eq!(rt; brains.len(), 7);
+    let expected = expected_brains(alloc, &ticks)?;
+    assert_eq!(rt; brains.len(), ROOTS.len());
+    assert_eq!(rt; expected.len(), ROOTS.len());
+    for i in 0..ROOTS.len() {
+        assert!(rt; brains[i].same(&expected[i]), "brain {}", i);
+    }
     Ok(())
 }
