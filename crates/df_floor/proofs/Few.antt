@@ -1,5 +1,5 @@
 -- A floor has few roots.
-use Rattle.std.proofs.Common.{ℕ, ◌+◌, ◌*◌, ◌^◌, ◌≤◌, ◌<◌, List, [], ◌∷◌, ◌++◌, suc, length, length-append, arith}
+use Rattle.std.proofs.Common.{ℕ, ◌+◌, ◌*◌, ◌^◌, ◌≤◌, ◌<◌, List, [], ◌∷◌, suc, length, length-append, arith}
 use Rattle.std.specs.Prelude.{All}
 use Rattle.df_config.specs.ConfigForm.{IsConfig, IsTrader}
 use Rattle.df_config.specs.declared.config.Config.{Config}

@@ -1,5 +1,5 @@
 -- What a loop pushes next.
-use Rattle.std.proofs.Common.{ℕ, ◌+◌, ◌≡◌, ◌<◌, suc, List, [], ◌∷◌, ◌++◌, ap, ◌∙◌, drop, length, slice_index_or, pos, false, arith}
+use Rattle.std.proofs.Common.{ℕ, ◌+◌, ◌≡◌, ◌<◌, suc, List, [], ◌∷◌, ◌++◌, ap, ◌∙◌, drop, length, pos, false, arith}
 use Rattle.std.proofs.Math.Seq.{drop-cons}
 use Rattle.std.proofs.lemmas.List.{append_assoc}
 use Rattle.df_config.specs.declared.trader.TraderRow.{TraderRow}

@@ -1,5 +1,5 @@
 -- There are as many brains as roots.
-use Rattle.std.proofs.Common.{ℕ, ◌+◌, ◌≡◌, ◌<◌, suc, refl, List, [], ◌∷◌, ◌++◌, ap, length, length-append, pos, arith}
+use Rattle.std.proofs.Common.{ℕ, ◌+◌, ◌≡◌, ◌<◌, suc, refl, List, [], ◌∷◌, ap, length, length-append, pos, arith}
 use Rattle.std.specs.Prelude.{All, slice_get}
 use Rattle.std.proofs.lemmas.Option.{slice_get-get_or}
 use Rattle.df_config.specs.ConfigForm.{IsConfig, IsTrader}
