@@ -3,7 +3,7 @@ use Rattle.std.proofs.Common.{ℕ, ◌+◌, ◌≡◌, ◌<◌, suc, List, [], �
 use Rattle.std.proofs.Math.Seq.{drop-cons}
 use Rattle.std.proofs.lemmas.List.{append_assoc}
 use Rattle.df_config.specs.declared.trader.TraderRow.{TraderRow}
-use Rattle.df_machine.specs.declared.start.RootStart.{RootStart}
+use Rattle.df_start.specs.declared.start.RootStart.{RootStart}
 use Rattle.df_floor.specs.Starting.{monitor_root, monitors_of, trader_root, trader_roots}
 
 none : TraderRow

@@ -5,8 +5,8 @@ use Rattle.df_config.specs.declared.trader.TraderRow.{TraderRow}
 use Rattle.df_label.specs.declared.label.Label.{Label}
 use Rattle.df_label.specs.declared.privilege.Privilege.{Privilege}
 use Rattle.df_label.specs.declared.privilege.Right.TheVariants.{Minus}
-use Rattle.df_machine.specs.declared.start.RootStart.{RootStart}
 use Rattle.df_messages.specs.Drafts.{broker_tag, endorsed, exchange_tag, floor_tag, public, regulator_tag, secret, trader_tag}
+use Rattle.df_start.specs.declared.start.RootStart.{RootStart}
 
 -- the privilege to take a tag of the floor out of a label
 abbrev pub may_take_out : ℕ → Privilege

@@ -6,7 +6,7 @@ use df_config::read_config;
 use df_floor_units::{FloorBrain, Ticks};
 use df_frozen::Words;
 use df_label::{Privilege, Privileges, Right, Tag, TagSet};
-use df_machine::RootStart;
+use df_start::RootStart;
 use df_messages::Symbol;
 use df_ticks::read_ticks;
 use std::alloc::Global;

@@ -9,7 +9,7 @@ use Rattle.df_format.specs.Spelling.{more_spell}
 use Rattle.df_format.proofs.Backs.{Back, all_back}
 use Rattle.df_format.proofs.Laws.{ok_is, told}
 use Rattle.df_label.specs.declared.label.Label.{Label}
-use Rattle.df_machine.specs.declared.start.RootStart.{RootStart}
+use Rattle.df_start.specs.declared.start.RootStart.{RootStart}
 use Rattle.df_unit.specs.declared.name.UnitName.{UnitName}
 use Rattle.df_unit.specs.declared.name.UnitName.TheVariants.{Root, Managed}
 use Rattle.df_unit.specs.declared.commit.Commit.{Commit}

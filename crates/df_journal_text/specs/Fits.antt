@@ -6,6 +6,7 @@ use Rattle.df_label.specs.Ascending.{IsAscending}
 use Rattle.df_label.specs.Privilege.{privilege_cmp}
 use Rattle.df_label.specs.declared.label.Label.{Label}
 use Rattle.df_label.specs.declared.privilege.Privilege.{Privilege}
+use Rattle.df_start.specs.declared.start.RootStart.{RootStart}
 use Rattle.df_value_text.specs.Fits.{IsLabel, IsPrivilege, IsTag, IsTagSet, IsValue}
 use Rattle.df_filter_text.specs.Fits.{IsFilter}
 use Rattle.df_part.specs.declared.part.Part.{Part}
@@ -25,7 +26,6 @@ use Rattle.df_unit.specs.declared.entry.Effect.TheVariants as effect
 use Rattle.df_unit.specs.declared.entry.Entry.{Entry}
 use Rattle.df_unit.specs.declared.entry.Entry.TheVariants.{Done, Emitted}
 use Rattle.df_unit.specs.declared.entry.Noted.{Noted}
-use Rattle.df_machine.specs.declared.start.RootStart.{RootStart}
 
 -- ---- names
 

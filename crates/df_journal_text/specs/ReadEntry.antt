@@ -7,6 +7,7 @@ use Rattle.df_label.specs.declared.privilege.Privilege.{Privilege}
 use Rattle.df_frozen.specs.Plain.{Plain}
 use Rattle.df_part.specs.declared.part.Part.{Part}
 use Rattle.df_part.specs.declared.edit.Spot.{Spot}
+use Rattle.df_start.specs.declared.start.RootStart.{RootStart}
 use Rattle.df_unit.specs.declared.name.UnitName.{UnitName}
 use Rattle.df_unit.specs.declared.name.EventName.{EventName}
 use Rattle.df_unit.specs.declared.commit.Commit.{Commit}
@@ -19,7 +20,6 @@ use Rattle.df_unit.specs.declared.entry.Effect.{Effect}
 use Rattle.df_unit.specs.declared.entry.Effect.TheVariants as effect
 use Rattle.df_unit.specs.declared.entry.Entry.TheVariants.{Done, Emitted}
 use Rattle.df_unit.specs.declared.entry.Noted.{Noted}
-use Rattle.df_machine.specs.declared.start.RootStart.{RootStart}
 use Rattle.df_value_text.specs.Number.{begins_with}
 use Rattle.df_value_text.specs.ReadLabel.{label_at}
 use Rattle.df_value_text.specs.ReadTag.{begins_digit}

@@ -3,7 +3,7 @@ use Rattle.std.specs.Prelude.{ℕ, ◌+◌, zero, suc, List, [], ◌∷◌, ◌+
 use Rattle.df_format.specs.Reading.{Read, ◌>>=◌, as_at, then_at, behind_at}
 use Rattle.df_label.specs.declared.label.Label.{Label}
 use Rattle.df_label.specs.declared.privilege.Privilege.{Privilege}
-use Rattle.df_machine.specs.declared.start.RootStart.{RootStart}
+use Rattle.df_start.specs.declared.start.RootStart.{RootStart}
 use Rattle.df_value_text.specs.Number.{begins_with}
 use Rattle.df_value_text.specs.ReadLabel.{label_at}
 use Rattle.df_journal_text.specs.ReadWords.{word_at, line_at, privileges_at}

@@ -1,8 +1,8 @@
 -- How starts and whole journals are spelled.
 use Rattle.std.specs.Prelude.{ℕ, ◌+◌, List, [], ◌∷◌, ◌++◌, map, codes, decimal}
 use Rattle.std.specs.List.{flat_map}
+use Rattle.df_start.specs.declared.start.RootStart.{RootStart}
 use Rattle.df_value_text.specs.Label.{label_text, privilege_text}
-use Rattle.df_machine.specs.declared.start.RootStart.{RootStart}
 use Rattle.df_unit.specs.declared.entry.Noted.{Noted}
 use Rattle.df_journal_text.specs.Line.{line, spaced}
 use Rattle.df_journal_text.specs.Entry.{noted_text}

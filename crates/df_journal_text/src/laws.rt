@@ -1,6 +1,6 @@
 //! What the text of a journal tells, as laws.
 ghost use Rattle.std.specs.Prelude.{◌≡◌, ◌++◌, ℕ, List, Ok};
-ghost use Rattle.df_machine.specs.declared.start.RootStart.{RootStart};
+ghost use Rattle.df_start.specs.declared.start.RootStart.{RootStart};
 ghost use Rattle.df_unit.specs.declared.entry.Noted.{Noted};
 ghost use Rattle.df_journal_text.specs.Fits.{IsJournal};
 ghost use Rattle.df_journal_text.specs.ReadEntry.{EndsJournal, journal_at};

@@ -9,7 +9,7 @@ use crate::entry::append_entry;
 use crate::name::{append_event, append_unit};
 use crate::start::{append_head, append_start};
 use df_label::{Label, NoMemory};
-use df_machine::Start;
+use df_start::Start;
 use df_unit::{Entry, EventName, Noted, UnitName};
 
 /// Appends a unit's name.

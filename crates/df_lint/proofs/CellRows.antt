@@ -5,12 +5,12 @@ use Rattle.std.proofs.lemmas.Bool.{eqb-true, eqb-false}
 use Rattle.std.proofs.lemmas.List.{get_or-set_other, length-set}
 use Rattle.df_label.specs.Privileges.{contains as contains_privilege}
 use Rattle.df_label.specs.declared.privilege.Privilege.{Privilege}
+use Rattle.df_start.specs.declared.start.RootStart.{RootStart}
 use Rattle.df_lint.proofs.Cells.{contains_pass, grows_gains, length-pass, or_false, reaches_exactly, row-pass}
 use Rattle.df_lint.specs.code.Cells.{Grows, IsRow, cells_at, no_bar, pass_row, row_of}
 use Rattle.df_lint.specs.code.Passing.{Gains, row_reaches}
 use Rattle.df_lint.specs.code.Rows.{IsGivenBy, IsTable, row_at, rows_of}
 use Rattle.df_lint.specs.declared.cell.Cell.{Cell}
-use Rattle.df_machine.specs.declared.start.RootStart.{RootStart}
 use Rattle.df_priv.specs.Needed.{needed_to_attach}
 
 -- lists of rows

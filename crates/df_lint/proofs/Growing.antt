@@ -18,11 +18,11 @@ use Rattle.df_label.specs.declared.privilege.Right.{Right}
 use Rattle.df_label.specs.declared.privilege.Right.TheVariants.{Plus, Minus, PlusAuth, MinusAuth}
 use Rattle.df_label.proofs.PrivilegeFacts.{privilege_eq-Decides}
 use Rattle.df_label.proofs.TagSetFacts.{tag_eq-itself}
+use Rattle.df_start.specs.declared.start.RootStart.{RootStart}
 use Rattle.df_lint.proofs.Steps.{or_assoc}
 use Rattle.df_lint.specs.code.Passing.{Gains, row_reaches}
 use Rattle.df_lint.specs.code.Rows.{IsGivenBy, Settles, row_at}
 use Rattle.df_lint.specs.code.Spread.{AreWithin, Extends, HasRows, IsSeen, IsSeenBy, IsSettled, PassesOn, lacks, missing, work}
-use Rattle.df_machine.specs.declared.start.RootStart.{RootStart}
 use Rattle.df_priv.specs.Needed.{needed_to_attach}
 use Rattle.df_unit.specs.Held.{all_over}
 

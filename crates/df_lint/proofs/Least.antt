@@ -15,6 +15,8 @@ use Rattle.df_label.proofs.TagSetFacts.{tag_eq-itself}
 use Rattle.df_label.specs.Privilege.{privilege_eq}
 use Rattle.df_label.proofs.PrivilegeFacts.{privilege_eq-Decides}
 use Rattle.df_rules.specs.Always.{Roots}
+use Rattle.df_start.specs.Begun.{begun}
+use Rattle.df_start.specs.declared.start.RootStart.{RootStart}
 use Rattle.df_lint.specs.Tags.{AreTagsOf}
 use Rattle.df_lint.specs.code.Passing.{row_can_write, row_passes, row_reaches}
 use Rattle.df_lint.specs.code.Cells.{IsRow, cell_at, cells_at, has, row_of}
@@ -29,8 +31,6 @@ use Rattle.df_label.specs.declared.privilege.Right.{Right}
 use Rattle.df_label.specs.declared.privilege.Right.TheVariants.{Plus, Minus, PlusAuth, MinusAuth}
 use Rattle.std.proofs.lemmas.List.{length-map}
 use Rattle.df_lint.specs.code.Spread.{HasRows, IsSpread, PassesOn}
-use Rattle.df_machine.specs.Journal.{begun}
-use Rattle.df_machine.specs.declared.start.RootStart.{RootStart}
 use Rattle.df_priv.specs.Needed.{needed, needed_to_attach}
 use Rattle.df_priv.specs.declared.need.Act.TheVariants.{Add, Del}
 

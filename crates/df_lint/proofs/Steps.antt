@@ -7,8 +7,8 @@ use Rattle.df_label.specs.TagSet.{contains, union, with}
 use Rattle.df_label.specs.declared.privilege.Privilege.{Privilege}
 use Rattle.df_family.specs.Family.{names, root_names}
 use Rattle.df_label.proofs.TagSetFacts.{contains-union, contains-with}
-use Rattle.df_machine.specs.Journal.{begun}
-use Rattle.df_machine.specs.declared.start.RootStart.{RootStart}
+use Rattle.df_start.specs.Begun.{begun}
+use Rattle.df_start.specs.declared.start.RootStart.{RootStart}
 
 pub or_assoc : (a b c : Bool) → ((a || b) || c) ≡ (a || (b || c))
 or_assoc true b c = refl

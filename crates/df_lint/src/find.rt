@@ -3,14 +3,14 @@ ghost use Rattle.df_family.specs.Family.{names};
 ghost use Rattle.df_family.specs.May.{MayHold};
 ghost use Rattle.df_family.specs.Never.{NeverHolds};
 ghost use Rattle.df_label.specs.declared.privilege.Privilege.{Privilege};
-ghost use Rattle.df_machine.specs.Journal.{begun};
+ghost use Rattle.df_start.specs.Begun.{begun};
 
 use crate::first::first_rows;
 use crate::spread::spread;
 use crate::table::Lint;
 use crate::tags::tags_of;
 use df_label::NoMemory;
-use df_machine::{RootStart, Start};
+use df_start::{RootStart, Start};
 use std::alloc::Global;
 
 /// Finds which privileges the units of each root's family may ever hold.

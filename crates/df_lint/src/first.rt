@@ -2,14 +2,14 @@ ghost use Rattle.std.specs.Prelude.{◌≡◌, ◌<◌, ◌^◌, ℕ, IfOk, leng
 ghost use Rattle.df_family.specs.Family.{begins_with};
 ghost use Rattle.df_label.specs.Privileges.{contains as contains_privilege};
 ghost use Rattle.df_label.specs.Tag.{maker_of};
+ghost use Rattle.df_start.specs.declared.start.RootStart.{RootStart};
 ghost use Rattle.df_lint.specs.code.Cells.{cells_at};
 ghost use Rattle.df_lint.specs.code.First.{first_cell, first_cells, first_has};
-ghost use Rattle.df_machine.specs.declared.start.RootStart.{RootStart};
 
 use crate::cell::Cell;
 use crate::row::Row;
 use df_label::{NoMemory, Privilege, Right, Tag, TagSet};
-use df_machine::RootStart;
+use df_start::RootStart;
 use std::alloc::Global;
 
 /// For each root what the start gives to it, and all privileges over the tags that one of its

@@ -6,7 +6,7 @@ ghost use Rattle.df_lint.specs.code.Spread.{Extends, IsSeenBy, IsSpread};
 
 use crate::row::{Row, pass_between, reaches_between};
 use df_label::{NoMemory, Tag};
-use df_machine::RootStart;
+use df_start::RootStart;
 use std::alloc::Global;
 
 /// Passes on, until nothing more comes of it, what the family of one root may attach for that of

@@ -9,7 +9,7 @@ use crate::row::{Row, cell_of};
 use crate::tags::place_of;
 use crate::text::append_rows;
 use df_label::{NoMemory, Privilege, TagSet};
-use df_machine::RootStart;
+use df_start::RootStart;
 use std::alloc::Global;
 use std::marker::Model;
 
@@ -24,8 +24,8 @@ pub struct Lint {
 
 impl Model for Lint {
     ghost use Rattle.std.specs.Prelude.{map};
+    ghost use Rattle.df_start.specs.Begun.{begun};
     ghost use Rattle.df_lint.specs.code.Linted.{IsLinted};
-    ghost use Rattle.df_machine.specs.Journal.{begun};
     ghost use Rattle.df_rules.specs.Always.{Roots};
 
     ghost Value = { Roots };
@@ -37,8 +37,8 @@ impl Model for Lint {
 
 impl Lint {
     ghost use Rattle.std.specs.Prelude.{map};
+    ghost use Rattle.df_start.specs.Begun.{begun};
     ghost use Rattle.df_lint.specs.code.Linted.{IsLinted};
-    ghost use Rattle.df_machine.specs.Journal.{begun};
 
     pub(crate) fn new(roots: Vec<RootStart>, tags: TagSet, rows: Vec<Row>) -> Lint
         requires { IsLinted roots.items tags rows.items }

@@ -3,11 +3,11 @@ ghost use Rattle.df_family.specs.Family.{root_names};
 ghost use Rattle.df_label.specs.Ascending.{IsAscending};
 ghost use Rattle.df_label.specs.Tag.{tag_cmp};
 ghost use Rattle.df_label.specs.TagSet.{contains};
+ghost use Rattle.df_start.specs.Begun.{begun};
 ghost use Rattle.df_lint.specs.Tags.{AreTagsOf};
-ghost use Rattle.df_machine.specs.Journal.{begun};
 
 use df_label::{NoMemory, Tag, TagSet};
-use df_machine::RootStart;
+use df_start::RootStart;
 use std::alloc::Global;
 
 /// The tags in the labels and privileges of these roots.

@@ -1,7 +1,7 @@
 //! The lines of worked starts.
 use crate::lint_text;
 use df_label::{Label, NoMemory, Privilege, Privileges, Right, Tag, TagSet};
-use df_machine::{RootStart, Start};
+use df_start::{RootStart, Start};
 use std::alloc::Global;
 use std::test::Fail;
 

@@ -3,18 +3,18 @@
 ghost use Rattle.std.specs.Prelude.{◌≡◌, ◌++◌, ◌<◌, ℕ, IfOk, OnOk, codes, length, map};
 ghost use Rattle.std.specs.List.{flat_map};
 ghost use Rattle.df_label.specs.Privileges.{contains as contains_privilege};
+ghost use Rattle.df_start.specs.Begun.{begun};
 ghost use Rattle.df_lint.specs.LintText.{IsLintText, lint_line, lint_lines, may_text, tag_lines};
 ghost use Rattle.df_label.specs.Ascending.{IsAscending};
 ghost use Rattle.df_label.specs.Tag.{tag_cmp};
 ghost use Rattle.df_lint.specs.code.Cells.{cells_at, has, row_of};
 ghost use Rattle.df_lint.specs.code.Rows.{found, rows_of};
-ghost use Rattle.df_machine.specs.Journal.{begun};
 
 use crate::cell::Cell;
 use crate::find::lint;
 use crate::row::Row;
 use df_label::{NoMemory, Privilege, Right, Tag};
-use df_machine::Start;
+use df_start::Start;
 use df_value_text::{append_number, append_privilege};
 use std::alloc::Global;
 

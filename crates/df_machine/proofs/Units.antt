@@ -4,6 +4,7 @@ use Rattle.std.proofs.lemmas.Option.{slice_get-map}
 use Rattle.df_label.proofs.SetFacts.{same_elements}
 use Rattle.df_rules.specs.Deliveries.{deliveries}
 use Rattle.df_rules.specs.Start.{rows}
+use Rattle.df_start.specs.declared.start.RootStart.{RootStart}
 use Rattle.df_tables.specs.Agree.{Agrees}
 use Rattle.df_tables.specs.Table.{find, names_of}
 use Rattle.df_tables.specs.declared.events.EventRow.{EventRow}
@@ -17,7 +18,6 @@ use Rattle.df_unit.specs.declared.commit.Given.{Given}
 use Rattle.df_unit.specs.declared.entry.Entry.{Entry}
 use Rattle.df_unit.specs.declared.name.UnitName.{UnitName}
 use Rattle.df_machine.specs.Journal.{IsRoll, firsts, has_delivery_in, is_due}
-use Rattle.df_machine.specs.declared.start.RootStart.{RootStart}
 
 module _ (start : List RootStart) (past : List Entry) (us : List Unit) (evs : List EventRow) (agree : Agrees rows (firsts start) past us evs) where
   -- what is left in a unit's row is left to the unit

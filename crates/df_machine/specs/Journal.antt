@@ -9,6 +9,8 @@ use Rattle.df_rules.specs.Deliveries.{deliveries}
 use Rattle.df_rules.specs.Legal.{Legal, answer, answered, left}
 use Rattle.df_rules.specs.Own.{exists, own}
 use Rattle.df_rules.specs.Start.{rows, roots}
+use Rattle.df_start.specs.Begun.{begun}
+use Rattle.df_start.specs.declared.start.RootStart.{RootStart}
 use Rattle.df_unit.specs.OwnState.{OwnState}
 use Rattle.df_unit.specs.Rows.{is_nil}
 use Rattle.df_unit.specs.UnitOrder.{unit_cmp}
@@ -18,14 +20,10 @@ use Rattle.df_unit.specs.declared.entry.Effect.{Effect}
 use Rattle.df_unit.specs.declared.entry.Entry.{Entry}
 use Rattle.df_unit.specs.declared.name.UnitName.{UnitName}
 use Rattle.df_unit.specs.declared.reply.Reply.{Reply}
-use Rattle.df_machine.specs.declared.start.RootStart.{RootStart}
 
 -- a machine's start and its journal, the newest entry first
 abbrev pub State : Type 0
 State = List RootStart × List Entry
-
-abbrev pub begun : RootStart → Label × List Privilege
-begun r = (r.label, r.privileges)
 
 -- the roots as they begin
 abbrev pub firsts : List RootStart → List OwnState

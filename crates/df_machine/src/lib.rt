@@ -2,10 +2,8 @@
 #![tactic(auto)]
 
 mod machine;
-mod start;
 
 pub use machine::{Core, NotStepped};
-pub use start::{RootStart, Start};
 
 #[cfg(test)]
 mod tests;

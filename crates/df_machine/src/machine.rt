@@ -1,5 +1,6 @@
 ghost use Rattle.std.specs.Prelude.{◌≡◌, ◌^◌, ◌<◌, ◌∷◌, [], length, IfErr, IfOk, List, None, OnErr, OnOk, map, option_copied, reverse, slice_get, vec_len, vec_capacity};
 ghost use Rattle.df_rules.specs.Commits.{commit_in};
+ghost use Rattle.df_start.specs.Begun.{begun};
 ghost use Rattle.df_tables.specs.Moves.{IsReady};
 ghost use Rattle.df_tables.specs.Table.{parts_of, rows_from};
 ghost use Rattle.df_unit.specs.Served.{IsBuilt};
@@ -7,11 +8,11 @@ ghost use Rattle.df_unit.specs.declared.entry.Effect.{Effect};
 ghost use Rattle.df_unit.specs.declared.entry.Entry.TheVariants.{Done};
 ghost use Rattle.df_unit.specs.declared.name.EventName.{EventName};
 ghost use Rattle.df_unit.specs.declared.name.UnitName.{UnitName};
-ghost use Rattle.df_machine.specs.Journal.{IsLegal, IsRoll, answer_in, appended, begun, has_delivery_in, local_of};
+ghost use Rattle.df_machine.specs.Journal.{IsLegal, IsRoll, answer_in, appended, has_delivery_in, local_of};
 
-use crate::start::{RootStart, Start};
 use df_label::NoMemory;
 use df_local::{Answer, Local};
+use df_start::{RootStart, Start};
 use df_tables::{Events, Ready, Unit, find, first_unit, hand_over, move_unit, prepare};
 use df_unit::{Call, Commit, Effect, Entry, Reply, UnitName};
 use std::alloc::Global;
@@ -31,9 +32,9 @@ impl Model for Core {
     ghost use Rattle.std.specs.Prelude.{List, reverse};
     ghost use Rattle.std.specs.Coded.{coded×, coded_list};
     ghost use Rattle.df_rules.specs.Start.{rows};
+    ghost use Rattle.df_start.specs.contracts.start.Start as begun;
     ghost use Rattle.df_tables.specs.Agree.{Agrees};
     ghost use Rattle.df_unit.specs.contracts.entry.Entry as entry;
-    ghost use Rattle.df_machine.specs.contracts.start.Start as begun;
     ghost use Rattle.df_machine.specs.Journal.{State, firsts};
 
     ghost Value = { State };

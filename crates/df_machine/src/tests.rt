@@ -2,10 +2,11 @@
 ghost use Rattle.std.specs.Prelude.{IfOk};
 ghost use Rattle.df_unit.specs.Served.{IsBuilt};
 
-use crate::{Core, RootStart, Start};
+use crate::Core;
 use df_filter::{Clause, Filter, Test};
 use df_frozen::{Name, Value};
 use df_label::{Label, Privileges, TagSet};
+use df_start::{RootStart, Start};
 use df_unit::{Call, Path, UnitName};
 use std::alloc::Global;
 use std::test::Fail;

@@ -1,8 +1,6 @@
 -- The journal of a script's calls is sound.
 use Rattle.std.proofs.Common.{map, reverse}
-use Rattle.df_machine.specs.Journal.{begun}
 use Rattle.df_machine.specs.Journal as machine
-use Rattle.df_machine.specs.declared.start.RootStart.{RootStart}
 use Rattle.df_rules.proofs.Exercised.{exercised}
 use Rattle.df_rules.proofs.Places.{legal_before}
 use Rattle.df_rules.proofs.PurgeKeeps.{purge_keeps, purge_legal}
@@ -13,6 +11,8 @@ use Rattle.df_rules.proofs.Taking.{gets_give_deliveries}
 use Rattle.df_rules.proofs.TakingRows.{row_taking_laws, nothing_after_all}
 use Rattle.df_rules.specs.Start.{rows, roots}
 use Rattle.std.specs.Prelude.{List, ◌∷◌}
+use Rattle.df_start.specs.Begun.{begun}
+use Rattle.df_start.specs.declared.start.RootStart.{RootStart}
 use Rattle.df_unit.specs.declared.call.Call.TheVariants.{Get}
 use Rattle.df_unit.specs.declared.entry.Entry.TheVariants.{Done}
 use Rattle.df_unit.specs.declared.reply.Reply.{Reply}

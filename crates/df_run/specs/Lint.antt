@@ -1,10 +1,10 @@
 -- What a script's start makes of lines on privileges.
 use Rattle.std.specs.Prelude.{◌≡◌, ℕ, List, map}
 use Rattle.df_lint.specs.LintText.{IsLintText}
-use Rattle.df_machine.specs.Journal.{begun}
-use Rattle.df_machine.specs.declared.start.RootStart.{RootStart}
 use Rattle.df_script_text.specs.Script.{IsScript, script_text}
 use Rattle.df_script_text.specs.declared.line.ScriptLine.{ScriptLine}
+use Rattle.df_start.specs.Begun.{begun}
+use Rattle.df_start.specs.declared.start.RootStart.{RootStart}
 
 -- the bytes are the text of a script, and the text tells who may hold what from its start
 abbrev pub LintsScript : List ℕ → List ℕ → Type 0

@@ -3,7 +3,6 @@ use Rattle.std.specs.Prelude.{◌≡◌, ◌⊎◌, ⊤, ℕ, ◌+◌, List, [],
 use Rattle.std.specs.List.{All}
 use Rattle.std.specs.Option.{option_map}
 use Rattle.df_label.specs.declared.label.Label.{Label}
-use Rattle.df_machine.specs.declared.start.RootStart.{RootStart}
 use Rattle.df_machine.specs.Journal.{State, appended, firsts}
 use Rattle.df_rules.specs.Deliveries.{deliveries}
 use Rattle.df_rules.specs.Legal.{IsUnaided, Legal, answered, run}
@@ -11,6 +10,7 @@ use Rattle.df_rules.specs.Own.{own}
 use Rattle.df_rules.specs.Received.{Receives, received}
 use Rattle.df_rules.specs.Separates.{Separates}
 use Rattle.df_rules.specs.Start.{rows}
+use Rattle.df_start.specs.declared.start.RootStart.{RootStart}
 use Rattle.df_unit.specs.OwnState.{OwnState}
 use Rattle.df_unit.specs.declared.call.Call.{Call}
 use Rattle.df_unit.specs.declared.name.UnitName.{UnitName}

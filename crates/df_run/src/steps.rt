@@ -8,8 +8,9 @@ ghost use Rattle.df_run.specs.Steps.{AppendsStep, AreBuilt, Records, RecordsScri
 use df_journal_text::{write_head, write_noting};
 use df_label::{Label, NoMemory};
 use df_lines::FileRefused;
-use df_machine::{Core, Start};
+use df_machine::Core;
 use df_script_text::{ScriptLine, read_script};
+use df_start::Start;
 use df_unit::{Call, UnitName};
 use std::alloc::Global;
 

@@ -6,7 +6,7 @@ use Rattle.std.proofs.lemmas.List.Elements.{All-cons, All-append, All-from_recur
 use Rattle.std.proofs.lemmas.List.Concat.{flat_map-append}
 use Rattle.df_lines.specs.Lines.{IsLine, ended, lines_text}
 use Rattle.df_lines.proofs.FirstBad.{IsGrammar}
-use Rattle.df_machine.specs.declared.start.RootStart.{RootStart}
+use Rattle.df_start.specs.declared.start.RootStart.{RootStart}
 use Rattle.df_value_text.specs.Label.{label_text, privilege_text}
 use Rattle.df_journal_text.specs.Fits.{IsRoot}
 use Rattle.df_journal_text.specs.Start.{root_text, roots_text, start_text}

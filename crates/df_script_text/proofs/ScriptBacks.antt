@@ -5,7 +5,7 @@ use Rattle.std.proofs.lemmas.List.{append-nil}
 use Rattle.std.proofs.lemmas.List.Elements.{recursion_from_All}
 use Rattle.df_format.proofs.Backs.{Back, all_back}
 use Rattle.df_format.proofs.Laws.{ok_is}
-use Rattle.df_machine.specs.declared.start.RootStart.{RootStart}
+use Rattle.df_start.specs.declared.start.RootStart.{RootStart}
 use Rattle.df_value_text.specs.ReadTag.{begins_digit}
 use Rattle.df_journal_text.specs.Call.{call_words}
 use Rattle.df_journal_text.specs.Fits.{IsRoot}

@@ -5,7 +5,7 @@ use Rattle.std.specs.List.{All, AllByRecursion, slice_split, join_with_byte}
 use Rattle.std.proofs.lemmas.List.Elements.{All-nil, All-cons, All-append, recursion_from_All}
 use Rattle.std.proofs.lemmas.List.Splits.{slice_split_none, slice_split_at, join_with_byte-slice_split}
 use Rattle.std.proofs.lemmas.Bool.Decides.{nat_tests}
-use Rattle.df_machine.specs.declared.start.RootStart.{RootStart}
+use Rattle.df_start.specs.declared.start.RootStart.{RootStart}
 use Rattle.df_value_text.specs.Fits.{IsPrivilege}
 use Rattle.df_value_text.specs.Label.{label_text, privilege_text}
 use Rattle.df_journal_text.specs.Line.{spaced}

@@ -9,9 +9,9 @@ use Rattle.df_lines.specs.declared.refused.FileRefused.TheVariants as refused
 use Rattle.df_lines.specs.declared.fault.FileFault.{FileFault}
 use Rattle.df_lines.specs.declared.fault.FileFault.TheVariants as fault
 use Rattle.df_lines.proofs.FirstBad.{first_bad}
-use Rattle.df_machine.specs.declared.start.RootStart.{RootStart}
 use Rattle.df_journal_text.specs.Fits.{IsRoot}
 use Rattle.df_journal_text.specs.Start.{root_text}
+use Rattle.df_start.specs.declared.start.RootStart.{RootStart}
 use Rattle.df_script_text.specs.Script.{IsScript, IsScriptLine, IsScriptText, script_text}
 use Rattle.df_script_text.specs.TooLarge.{IsTooLargeIn, IsTooLargeLine}
 use Rattle.df_script_text.specs.code.Lines.{call_line, head_lines, numbered, script_lines}

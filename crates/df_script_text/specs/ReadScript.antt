@@ -1,7 +1,7 @@
 -- Reading scripts.
 use Rattle.std.specs.Prelude.{ℕ, List, codes}
 use Rattle.df_format.specs.Reading.{Read, as_at, then_at, behind_at, all_at}
-use Rattle.df_machine.specs.declared.start.RootStart.{RootStart}
+use Rattle.df_start.specs.declared.start.RootStart.{RootStart}
 use Rattle.df_unit.specs.declared.call.Call.{Call}
 use Rattle.df_unit.specs.declared.name.UnitName.{UnitName}
 use Rattle.df_value_text.specs.ReadTag.{begins_digit}

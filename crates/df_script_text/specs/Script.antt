@@ -3,12 +3,12 @@ use Rattle.std.specs.Prelude.{◌≡◌, ℕ, List, [], ◌∷◌, ◌++◌, cod
 use Rattle.std.specs.List.{All, flat_map}
 use Rattle.df_lines.specs.declared.refused.FileRefused.{FileRefused}
 use Rattle.df_lines.specs.declared.refused.FileRefused.TheVariants.{NoMemory}
-use Rattle.df_machine.specs.declared.start.RootStart.{RootStart}
 use Rattle.df_journal_text.specs.Fits.{AreRoots, IsCall, IsUnit}
 use Rattle.df_journal_text.specs.Line.{line}
 use Rattle.df_journal_text.specs.Name.{unit_text}
 use Rattle.df_journal_text.specs.Call.{call_words}
 use Rattle.df_journal_text.specs.Start.{start_text}
+use Rattle.df_start.specs.declared.start.RootStart.{RootStart}
 use Rattle.df_script_text.specs.declared.line.ScriptLine.{ScriptLine}
 
 -- the line of a call: who makes it, and its words

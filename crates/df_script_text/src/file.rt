@@ -5,7 +5,7 @@ ghost use Rattle.df_lines.specs.FirstBad.{IsFirstBad};
 ghost use Rattle.df_lines.specs.Refused.{IsRefused, NamesBadLine};
 ghost use Rattle.df_lines.specs.code.Faults.{IsInside, NamesBadPlace};
 ghost use Rattle.df_lines.specs.declared.refused.FileRefused.TheVariants as refused;
-ghost use Rattle.df_machine.specs.declared.start.RootStart.{RootStart};
+ghost use Rattle.df_start.specs.declared.start.RootStart.{RootStart};
 ghost use Rattle.df_script_text.specs.Script.{IsReadScript, IsScript, IsScriptText, script_text};
 ghost use Rattle.df_script_text.specs.TooLarge.{IsTooLargeIn};
 ghost use Rattle.df_script_text.specs.code.Stops.{IsFirstAt, StopsFirst};
@@ -14,7 +14,7 @@ ghost use Rattle.df_script_text.specs.declared.line.ScriptLine.{ScriptLine};
 use crate::line::{ScriptLine, calls_at};
 use crate::root::roots_at;
 use df_lines::{FileFault, FileRefused, file_refused, line_at};
-use df_machine::Start;
+use df_start::Start;
 use std::alloc::Global;
 
 /// The place behind the first line.

@@ -1,6 +1,6 @@
 //! What the text of a script tells, as laws.
 ghost use Rattle.std.specs.Prelude.{◌≡◌, ◌++◌, ℕ, List, Ok, false};
-ghost use Rattle.df_machine.specs.declared.start.RootStart.{RootStart};
+ghost use Rattle.df_start.specs.declared.start.RootStart.{RootStart};
 ghost use Rattle.df_value_text.specs.ReadTag.{begins_digit};
 ghost use Rattle.df_script_text.specs.ReadScript.{script_at};
 ghost use Rattle.df_script_text.specs.Script.{IsScript, script_text};

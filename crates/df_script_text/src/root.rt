@@ -16,7 +16,7 @@ use crate::pieces::pieces;
 use crate::word::{read_label, read_number, read_privilege};
 use df_label::{NoMemory, Privilege, Privileges};
 use df_lines::{FileFault, line_at};
-use df_machine::{RootStart, Start};
+use df_start::{RootStart, Start};
 use std::alloc::Global;
 
 /// Whether each privilege is above all before it.

@@ -6,8 +6,8 @@ use Rattle.df_label.specs.Tag.{maker_of}
 use Rattle.df_label.specs.TagSet.{contains}
 use Rattle.df_label.specs.declared.privilege.Right.{Right}
 use Rattle.df_label.specs.declared.privilege.Right.TheVariants.{Plus, Minus, PlusAuth, MinusAuth}
+use Rattle.df_start.specs.declared.start.RootStart.{RootStart}
 use Rattle.df_lint.specs.declared.cell.Cell.{Cell}
-use Rattle.df_machine.specs.declared.start.RootStart.{RootStart}
 
 -- whether the family may make the tag, or the start gives the right over it to the root
 abbrev pub first_has : ℕ → RootStart → List ℕ → Right → Bool

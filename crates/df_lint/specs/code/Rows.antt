@@ -8,7 +8,7 @@ use Rattle.df_label.specs.Tag.{maker_of}
 use Rattle.df_label.specs.TagSet.{contains}
 use Rattle.df_label.specs.declared.label.Label.{Label}
 use Rattle.df_label.specs.declared.privilege.Privilege.{Privilege}
-use Rattle.df_machine.specs.declared.start.RootStart.{RootStart}
+use Rattle.df_start.specs.declared.start.RootStart.{RootStart}
 use Rattle.df_lint.specs.code.Cells.{IsRow, cells_at, row_of}
 use Rattle.df_lint.specs.code.Passing.{Gains, row_reaches}
 use Rattle.df_label.specs.Ascending.{IsAscending}

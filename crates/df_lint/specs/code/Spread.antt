@@ -4,9 +4,9 @@ use Rattle.std.specs.List.{Contains}
 use Rattle.df_family.specs.May.{Relation}
 use Rattle.df_label.specs.Privileges.{contains as contains_privilege}
 use Rattle.df_label.specs.declared.privilege.Privilege.{Privilege}
+use Rattle.df_start.specs.declared.start.RootStart.{RootStart}
 use Rattle.df_lint.specs.code.Passing.{row_reaches}
 use Rattle.df_lint.specs.code.Rows.{row_at}
-use Rattle.df_machine.specs.declared.start.RootStart.{RootStart}
 use Rattle.df_priv.specs.Needed.{needed_to_attach}
 
 -- how many of the privileges a row lacks

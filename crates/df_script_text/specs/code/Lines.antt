@@ -1,9 +1,9 @@
 -- The lines of a script without their line feeds, and their words.
 use Rattle.std.specs.Prelude.{ℕ, ◌+◌, List, [], ◌∷◌, ◌++◌, map, codes, decimal}
 use Rattle.std.specs.List.{join_with_byte}
+use Rattle.df_start.specs.declared.start.RootStart.{RootStart}
 use Rattle.df_value_text.specs.Label.{label_text, privilege_text, tags_text}
 use Rattle.df_unit.specs.declared.call.Call.{Call}
-use Rattle.df_machine.specs.declared.start.RootStart.{RootStart}
 use Rattle.df_journal_text.specs.Line.{spaced}
 use Rattle.df_journal_text.specs.Name.{unit_text}
 use Rattle.df_journal_text.specs.Call.{call_words}

@@ -4,9 +4,9 @@ use Rattle.std.specs.List.{All, join_with_byte}
 use Rattle.df_lines.specs.Lines.{EndsLine, IsLine, ended, lines_text}
 use Rattle.df_lines.specs.declared.fault.FileFault.{FileFault}
 use Rattle.df_lines.specs.declared.fault.FileFault.TheVariants as fault
-use Rattle.df_machine.specs.declared.start.RootStart.{RootStart}
 use Rattle.df_journal_text.specs.Fits.{IsRoot}
 use Rattle.df_journal_text.specs.Start.{root_text}
+use Rattle.df_start.specs.declared.start.RootStart.{RootStart}
 use Rattle.df_script_text.specs.Script.{IsScriptLine}
 use Rattle.df_script_text.specs.TooLarge.{AddsTooLarge, IsTooLargeLine}
 use Rattle.df_script_text.specs.code.Lines.{call_line, numbered}

@@ -1,5 +1,5 @@
 use Rattle.std.proofs.Common.{◌≡◌, ◌++◌, drop, map}
-use Rattle.df_machine.specs.Journal.{begun}
+use Rattle.df_start.specs.Begun.{begun}
 use Rattle.df_tables.specs.Table.{rows_from}
 use Rattle.df_machine.proofs.machine.first_units.Given as goal
 

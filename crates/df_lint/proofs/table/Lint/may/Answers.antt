@@ -5,11 +5,11 @@ use Rattle.df_family.proofs.BoundJournal.{never}
 use Rattle.df_family.specs.Family.{names}
 use Rattle.df_family.specs.May.{IsLeast}
 use Rattle.df_label.specs.TagSet.{contains}
+use Rattle.df_start.specs.Begun.{begun}
 use Rattle.df_lint.proofs.Least.{looked_up, may_holds, holds_may, row_many}
 use Rattle.df_lint.specs.code.Cells.{has}
 use Rattle.df_lint.specs.code.Rows.{found, rows_of}
 use Rattle.df_lint.specs.declared.cell.Cell.{Cell}
-use Rattle.df_machine.specs.Journal.{begun}
 use Rattle.df_rules.specs.Always.{Roots}
 use Rattle.df_lint.proofs.table.Lint.may.Goals as goal
 

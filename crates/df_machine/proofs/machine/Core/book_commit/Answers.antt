@@ -2,6 +2,7 @@ use Rattle.std.proofs.Common.{◌≡◌, List, [], ◌∷◌, ◌++◌, map, rev
 use Rattle.df_part.specs.declared.part.Part.{Part}
 use Rattle.df_rules.specs.Start.{rows}
 use Rattle.df_rules.proofs.TakingRows.{row_taking_laws}
+use Rattle.df_start.specs.Begun.{begun}
 use Rattle.df_unit.specs.Name.{same_event}
 use Rattle.df_unit.specs.declared.entry.Effect.{Effect}
 use Rattle.df_unit.specs.declared.entry.Entry.{Entry}
@@ -14,7 +15,7 @@ use Rattle.df_tables.proofs.Built.{built_makes_none}
 use Rattle.df_tables.proofs.Opened.{place_within}
 use Rattle.df_tables.proofs.Steps.{agrees_commit, agrees_like, agrees_parts}
 use Rattle.df_tables.proofs.Tells.{answer_at}
-use Rattle.df_machine.specs.Journal.{begun, firsts}
+use Rattle.df_machine.specs.Journal.{firsts}
 use Rattle.df_machine.proofs.Journal.{journal_more}
 use Rattle.df_machine.proofs.machine.Core.book_commit.Goals as goal
 

@@ -1,6 +1,7 @@
 use Rattle.std.proofs.Common.{◌≡◌, List, ◌∷◌, map, reverse, ap, sym, subst, ◌∙◌}
 use Rattle.df_rules.specs.Start.{rows}
 use Rattle.df_rules.proofs.TakingRows.{row_taking_laws}
+use Rattle.df_start.specs.Begun.{begun}
 use Rattle.df_unit.specs.declared.entry.Entry.{Entry}
 use Rattle.df_unit.specs.declared.entry.Entry.TheVariants.{Done}
 use Rattle.df_tables.specs.Agree.{Agrees}
@@ -8,7 +9,7 @@ use Rattle.df_tables.specs.declared.units.Unit.{Unit}
 use Rattle.df_tables.proofs.Built.{built_makes_none}
 use Rattle.df_tables.proofs.Steps.{agrees_plain}
 use Rattle.df_tables.proofs.Tells.{answer_at}
-use Rattle.df_machine.specs.Journal.{begun, firsts}
+use Rattle.df_machine.specs.Journal.{firsts}
 use Rattle.df_machine.specs.declared.machine.Copies.{Copies}
 use Rattle.df_machine.proofs.Journal.{journal_more}
 use Rattle.df_machine.proofs.machine.Core.book_plain.Goals as goal

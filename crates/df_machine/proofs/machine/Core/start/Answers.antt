@@ -1,13 +1,14 @@
 use Rattle.std.proofs.Common.{◌≡◌, List, [], map, reverse, sym, subst, ap, ◌∙◌}
 use Rattle.df_rules.specs.Start.{rows}
+use Rattle.df_start.specs.Begun.{begun}
+use Rattle.df_start.specs.declared.start.RootStart.{RootStart}
 use Rattle.df_unit.specs.declared.entry.Entry.{Entry}
 use Rattle.df_tables.specs.Agree.{Agrees}
 use Rattle.df_tables.specs.Table.{rows_from}
 use Rattle.df_tables.specs.declared.events.EventRow.{EventRow}
 use Rattle.df_tables.specs.declared.units.Unit.{Unit}
 use Rattle.df_tables.proofs.Begin.{agrees_first}
-use Rattle.df_machine.specs.Journal.{begun, firsts}
-use Rattle.df_machine.specs.declared.start.RootStart.{RootStart}
+use Rattle.df_machine.specs.Journal.{firsts}
 use Rattle.df_machine.proofs.machine.Core.start.Goals as goal
 
 pub invariant_of-result : goal.invariant_of-result

@@ -19,7 +19,7 @@ pub struct Start {
 
 impl Model for Start {
     ghost use Rattle.std.specs.Prelude.{List, ◌<◌, ◌^◌, length};
-    ghost use Rattle.df_machine.specs.declared.start.RootStart.{RootStart};
+    ghost use Rattle.df_start.specs.declared.start.RootStart.{RootStart};
 
     ghost Value = { List RootStart };
 
