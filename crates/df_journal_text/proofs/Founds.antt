@@ -4,7 +4,6 @@ use Rattle.std.specs.Prelude.{⊤}
 use Rattle.std.specs.List.{AllByRecursion, flat_map}
 use Rattle.std.proofs.lemmas.List.Elements.{All-from_recursion}
 use Rattle.df_format.specs.Reading.{Bad, Low, Read, ◌>>=◌, as_at, then_at, maybe_at, text_at, behind_at, closed_at, while_at, all_at}
-use Rattle.df_format.specs.Format.{Format}
 use Rattle.df_format.proofs.Laws.{bind_ok, chosen, ok_is, not_both}
 use Rattle.df_format.proofs.Texts.{text_found}
 use Rattle.df_frozen.specs.Name.{is_name}
@@ -38,9 +37,6 @@ use Rattle.df_journal_text.proofs.Words.{ascending_of}
 pub record Finds {X : Type 0} (spell : X → List ℕ) (Fits : X → Type 0) (read : List ℕ → Read ℕ X) : Type 0 where
   pub found : (bytes : List ℕ) (x : X) (rest : List ℕ) → read bytes ≡ Ok (x, rest) → (bytes ≡ spell x ++ rest) × Fits x
 
-pub finds_format : {X : Type 0} (IsLow : List ℕ → List ℕ → Type 0) (spell : X → List ℕ) (Fits : X → Type 0) (goes : X → ℕ → Bool) (read : List ℕ → Read ℕ X) → Format IsLow spell Fits goes read → Finds spell Fits read
-finds_format IsLow spell Fits goes read f = record { found = λ bytes x rest e. let k = f.found bytes x rest e in (k.parts, k.fits) }
-
 -- ---- steps
 
 pub as_found : {X Y : Type 0} (make : X → Y) (read : List ℕ → Read ℕ X) (bytes : List ℕ) (y : Y) (rest : List ℕ) → as_at make read bytes ≡ Ok (y, rest) → (x : X) × (read bytes ≡ Ok (x, rest)) × (make x ≡ y)
@@ -56,15 +52,6 @@ then_found {X} {Y} rx ry bytes x y rest e =
     let b = bind_ok (ry a.0.1) (λ y. Ok ((a.0.0, y.0), y.1)) ((x, y), rest) a.2 in
     let p = ok_is ((a.0.0, b.0.0), b.0.1) ((x, y), rest) b.2 in
     (a.0.1, a.1 ∙ ap (λ (q : (X × Y) × List ℕ). Ok (q.0.0, a.0.1)) p, b.1 ∙ ap (λ (q : (X × Y) × List ℕ). Ok (q.0.1, q.1)) p)
-
-pub finds_as : {X Y : Type 0} {sx : X → List ℕ} {FX : X → Type 0} {read : List ℕ → Read ℕ X} (make : X → Y) (f : Finds sx FX read) (sy : Y → List ℕ) (FY : Y → Type 0) → ((x : X) → FX x → (sy (make x) ≡ sx x) × FY (make x)) → Finds sy FY (as_at make read)
-finds_as {X} {Y} {sx} {FX} {read} make f sy FY to = record {
-  found = λ bytes y rest e.
-      let a = as_found make read bytes y rest e in
-      let k = f.found bytes a.0 rest a.1 in
-      let t = to a.0 k.1 in
-      subst (λ (z : Y). (bytes ≡ sy z ++ rest) × FY z) a.2 (k.0 ∙ ap (λ (u : List ℕ). u ++ rest) (sym t.0), t.1);
-}
 
 pub finds_then : {X Y : Type 0} {sx : X → List ℕ} {FX : X → Type 0} {rx : List ℕ → Read ℕ X} {sy : Y → List ℕ} {FY : Y → Type 0} {ry : List ℕ → Read ℕ Y} → Finds sx FX rx → Finds sy FY ry → Finds (λ (p : X × Y). sx p.0 ++ sy p.1) (λ (p : X × Y). FX p.0 × FY p.1) (then_at rx ry)
 finds_then {X} {Y} {sx} {FX} {rx} {sy} {FY} {ry} f g = record {

@@ -3,8 +3,8 @@
 use crate::{write_entry, write_event, write_head, write_noted, write_start, write_unit};
 use df_frozen::{Frozen, Name, Value};
 use df_label::{Label, NoMemory, Privilege, Privileges, Right, Tag, TagSet};
-use df_start::{RootStart, Start};
 use df_part::{Edit, Part, PartRef, Spot};
+use df_start::{RootStart, Start};
 use df_unit::{
     Call, Commit, Effect, Entry, EventName, Given, Noted, PartRead, Parts, PartsRead, Path, Reply,
     UnitName,

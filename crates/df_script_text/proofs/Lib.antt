@@ -5,9 +5,9 @@ pub mod Lists
 pub mod Literals
 pub mod Numbered
 pub mod Privileges
+pub mod Readers
+pub mod ScriptBacks
 pub mod Splits
 pub mod Stops
-pub mod Units
 pub mod Values
 pub mod Words
-pub mod ScriptBacks

@@ -20,7 +20,7 @@ use Rattle.df_value_text.proofs.LimitFronts.{within_in_front}
 use Rattle.df_script_text.specs.TooLarge.{IsTooLarge}
 use Rattle.df_script_text.specs.code.Reads.{Reads}
 use Rattle.df_script_text.specs.code.Whole.{IsEnded, IsWhole}
-use Rattle.df_script_text.proofs.Units.{IsReader}
+use Rattle.df_script_text.proofs.Readers.{IsReader}
 
 -- numbers of one spelling are one
 pub same_number : (word : List ℕ) (n m : ℕ) → n < 2 ^ 32 → m < 2 ^ 32 → word ≡ decimal n → word ≡ decimal m → n ≡ m

@@ -214,12 +214,8 @@ fn read_with_three(
 {
     if keyword == b"del".as_slice() {
         read_del(alloc, first, second, third)
-    } else if keyword == b"out".as_slice() {
-        read_out(alloc, first, second, third)
-    } else if keyword == b"inout".as_slice() {
-        read_inout(alloc, first, second, third)
     } else {
-        Ok(None)
+        read_change(alloc, keyword, first, second, third)
     }
 }
 
@@ -240,10 +236,18 @@ fn read_del(alloc: Global, h: &[u8], label: &[u8], name: &[u8]) -> Result<Option
     Ok(Some(Call::DelPart { h, label, name }))
 }
 
-/// The call that changes the label of what a unit adds.
-fn read_out(alloc: Global, half: &[u8], act: &[u8], tag: &[u8]) -> Result<Option<Call>, NoMemory>
+/// A call that is a keyword, a half of a label, what is done there, and a tag.
+fn read_change(
+    alloc: Global,
+    keyword: &[u8],
+    half: &[u8],
+    act: &[u8],
+    tag: &[u8],
+) -> Result<Option<Call>, NoMemory>
+    requires no_spawn { keyword.now ≢ codes "spawn" }
+    requires no_del { keyword.now ≢ codes "del" }
     ensures { IfOk result (Reads call_words IsCall
-        (codes "out" ∷ half.now ∷ act.now ∷ tag.now ∷ [])) }
+        (keyword.now ∷ half.now ∷ act.now ∷ tag.now ∷ [])) }
 {
     let Some(half) = read_half(half) else {
         return Ok(None);
@@ -254,24 +258,13 @@ fn read_out(alloc: Global, half: &[u8], act: &[u8], tag: &[u8]) -> Result<Option
     let Some(tag) = read_tag(alloc, tag)? else {
         return Ok(None);
     };
-    Ok(Some(Call::ChangeOutLabel { half, act, tag }))
-}
-
-/// The call that changes both labels of a unit.
-fn read_inout(alloc: Global, half: &[u8], act: &[u8], tag: &[u8]) -> Result<Option<Call>, NoMemory>
-    ensures { IfOk result (Reads call_words IsCall
-        (codes "inout" ∷ half.now ∷ act.now ∷ tag.now ∷ [])) }
-{
-    let Some(half) = read_half(half) else {
-        return Ok(None);
-    };
-    let Some(act) = read_act(act) else {
-        return Ok(None);
-    };
-    let Some(tag) = read_tag(alloc, tag)? else {
-        return Ok(None);
-    };
-    Ok(Some(Call::ChangeInOut { half, act, tag }))
+    if keyword == b"out".as_slice() {
+        Ok(Some(Call::ChangeOutLabel { half, act, tag }))
+    } else if keyword == b"inout".as_slice() {
+        Ok(Some(Call::ChangeInOut { half, act, tag }))
+    } else {
+        Ok(None)
+    }
 }
 
 /// A call that is a keyword, a handle, a label, a name and a privilege.

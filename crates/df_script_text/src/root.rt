@@ -2,8 +2,6 @@
 
 ghost use Rattle.std.specs.Prelude.{◌≡◌, ◌≤◌, ◌↔◌, IsTrue, codes, decimal, length, map, option_map, IfErr, IfOk};
 ghost use Rattle.std.specs.List.{All};
-ghost use Rattle.df_label.specs.Ascending.{IsAscending};
-ghost use Rattle.df_label.specs.Privilege.{privilege_cmp};
 ghost use Rattle.df_value_text.specs.Fits.{IsPrivilege};
 ghost use Rattle.df_value_text.specs.Label.{privilege_text};
 ghost use Rattle.df_journal_text.specs.Start.{root_text};
@@ -14,22 +12,11 @@ ghost use Rattle.df_journal_text.specs.Fits.{ArePrivileges, IsRoot};
 
 use crate::pieces::pieces;
 use crate::word::{read_label, read_number, read_privilege};
+use df_journal_text::are_ascending;
 use df_label::{NoMemory, Privilege, Privileges};
 use df_lines::{FileFault, line_at};
 use df_start::{RootStart, Start};
 use std::alloc::Global;
-
-/// Whether each privilege is above all before it.
-fn are_ascending(privileges: &[Privilege]) -> bool
-    ensures { IsTrue result ↔ IsAscending privilege_cmp privileges.now }
-{
-    for i in 1..privileges.len() {
-        if !privileges[i - 1].cmp(&privileges[i]).is_lt() {
-            return false;
-        }
-    }
-    true
-}
 
 /// Privileges, whatever their order.
 fn read_each(alloc: Global, words: &[&[u8]]) -> Result<Option<Vec<Privilege>>, NoMemory>

@@ -16,10 +16,10 @@ ghost use Rattle.df_script_text.specs.code.Reads.{Reads, Tells};
 ghost use Rattle.df_script_text.specs.code.Whole.{IsEnded, IsWhole};
 ghost use Rattle.df_script_text.specs.declared.word.Unread.TheVariants as unread;
 
-use crate::unit::{braced_at, unit_at};
 use df_filter::Filter;
 use df_filter_text::FilterTextRefused;
 use df_frozen::{Frozen, Name};
+use df_journal_text::{braced_at, unit_at};
 use df_label::{Label, NoMemory, Privilege, Tag, TagSet};
 use df_priv::{Act, Half};
 use df_unit::UnitName;

@@ -3,7 +3,7 @@ use Rattle.df_journal_text.specs.Name.{unit_text}
 use Rattle.df_journal_text.specs.ReadName.{unit_at}
 use Rattle.df_script_text.proofs.Literals.{Reads-ended}
 use Rattle.df_script_text.proofs.Splits.{IfOk-weaker}
-use Rattle.df_script_text.proofs.Units.{unit_reader}
+use Rattle.df_script_text.proofs.Readers.{unit_reader}
 use Rattle.df_script_text.proofs.word.read_actor.Goals as goal
 
 pub returns : goal.returns

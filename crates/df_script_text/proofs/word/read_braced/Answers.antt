@@ -3,7 +3,7 @@ use Rattle.df_journal_text.specs.ReadCall.{braced_at}
 use Rattle.df_script_text.specs.code.Lines.{braced}
 use Rattle.df_script_text.proofs.Literals.{Reads-ended}
 use Rattle.df_script_text.proofs.Splits.{IfOk-weaker}
-use Rattle.df_script_text.proofs.Units.{braced_reader}
+use Rattle.df_script_text.proofs.Readers.{braced_reader}
 use Rattle.df_script_text.proofs.word.read_braced.Goals as goal
 
 pub returns : goal.returns

@@ -2,7 +2,7 @@ use Rattle.std.proofs.Common.{decimal, ◌<◌, ◌^◌}
 use Rattle.df_value_text.specs.ReadTag.{short_at}
 use Rattle.df_script_text.proofs.Literals.{Reads-ended}
 use Rattle.df_script_text.proofs.Splits.{IfOk-weaker}
-use Rattle.df_script_text.proofs.Units.{short_reader}
+use Rattle.df_script_text.proofs.Readers.{short_reader}
 use Rattle.df_script_text.proofs.word.read_number.Goals as goal
 
 pub returns : goal.returns

@@ -1,7 +1,0 @@
-use Rattle.std.proofs.Common.{take}
-use Rattle.df_label.specs.Ascending.{IsAscending}
-use Rattle.df_label.specs.Privilege.{privilege_cmp}
-use Rattle.df_script_text.proofs.root.are_ascending.Given as goal
-
-abbrev pub invariant-loop-i : goal.invariant-loop-i
-invariant-loop-i l = IsAscending privilege_cmp (take l.i l.privileges)
