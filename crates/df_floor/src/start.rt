@@ -6,8 +6,8 @@ ghost use Rattle.df_floor.specs.Starting.{floor_start, may_take_out, monitor_roo
 
 use df_config::{Config, TraderRow};
 use df_label::{Label, NoMemory, Privilege, Privileges, Right, Tag, TagSet};
-use df_start::{RootStart, Start};
 use df_messages::{endorsed, public, secret};
+use df_start::{RootStart, Start};
 use std::alloc::Global;
 
 fn may_take_out(alloc: Global, number: u32) -> Result<Privileges, NoMemory>
