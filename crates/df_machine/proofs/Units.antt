@@ -1,13 +1,15 @@
 -- What the tables tell of the units that exist.
-use Rattle.std.proofs.Common.{◌≡◌, ℕ, List, Option, Some, None, false, not, option_map, slice_get, ap, sym, ◌∙◌}
+use Rattle.std.proofs.Common.{◌≡◌, ℕ, List, Option, Some, None, false, map, not, option_map, slice_get, ap, sym, ◌∙◌}
 use Rattle.std.proofs.lemmas.Option.{slice_get-map}
 use Rattle.df_label.proofs.SetFacts.{same_elements}
 use Rattle.df_rules.specs.Deliveries.{deliveries}
 use Rattle.df_rules.specs.Start.{rows}
+use Rattle.df_local.specs.code.LocalState.{LocalState}
+use Rattle.df_start.specs.Begun.{begun}
 use Rattle.df_start.specs.declared.start.RootStart.{RootStart}
-use Rattle.df_tables.specs.Agree.{Agrees}
+use Rattle.df_tables.specs.Board.{IsBoard, TellsOf}
 use Rattle.df_tables.specs.Table.{find, names_of}
-use Rattle.df_tables.specs.declared.events.EventRow.{EventRow}
+use Rattle.df_tables.specs.declared.board.Board.{Board}
 use Rattle.df_tables.specs.declared.units.Unit.{Unit}
 use Rattle.df_tables.proofs.Tells.{named_at, none_at, row_at}
 use Rattle.df_unit.proofs.OrderFacts.{unit_cmp_exact}
@@ -17,27 +19,38 @@ use Rattle.df_unit.specs.UnitOrder.{unit_cmp}
 use Rattle.df_unit.specs.declared.commit.Given.{Given}
 use Rattle.df_unit.specs.declared.entry.Entry.{Entry}
 use Rattle.df_unit.specs.declared.name.UnitName.{UnitName}
-use Rattle.df_machine.specs.Journal.{IsRoll, firsts, has_delivery_in, is_due}
+use Rattle.df_machine.specs.Journal.{IsRoll, firsts, has_delivery_in, is_due, local_of}
 
-module _ (start : List RootStart) (past : List Entry) (us : List Unit) (evs : List EventRow) (agree : Agrees rows (firsts start) past us evs) where
+module _ (start : List RootStart) (past : List Entry) (b : Board) (board : IsBoard b) (tells : TellsOf (map begun start) past b) where
+  abbrev us : List Unit
+  us = b.rows.items
+
+  -- what is found is the unit's own state
+  pub local_at : (a : UnitName) (o : Option Unit) → o ≡ find a us → option_map (λ (u : Unit). u.local) o ≡ local_of (start, past) a
+  local_at a None e = ap (option_map (λ (st : OwnState). let l : LocalState = record { unit = a; own = st } in l)) (sym (none_at rows (firsts start) past us b.events b.index tells a (sym e)))
+  local_at a (Some u) e =
+      let row = row_at rows (firsts start) past us b.events b.index tells a u (sym e) in
+      ap (λ (n : UnitName). let l : LocalState = record { unit = n; own = u.local.own } in Some l) row.0.unit
+      ∙ ap (option_map (λ (st : OwnState). let l : LocalState = record { unit = a; own = st } in l)) (sym row.1)
+
   -- what is left in a unit's row is left to the unit
   pub due_at : (a : UnitName) (u : Unit) → find a us ≡ Some u → not (is_nil u.line.left) ≡ has_delivery_in (start, past) a
   due_at a u e =
-      let row = row_at rows (firsts start) past us evs agree a u e in
+      let row = row_at rows (firsts start) past us b.events b.index tells a u e in
       ap (λ (ds : List Given). not (is_nil ds)) row.0.left
       ∙ ap (λ (o : Option OwnState). is_due o (deliveries rows (firsts start) past a)) (sym row.1)
 
   -- nothing is left to who has no row
   pub due_none : (a : UnitName) → find a us ≡ None → false ≡ has_delivery_in (start, past) a
-  due_none a e = ap (λ (o : Option OwnState). is_due o (deliveries rows (firsts start) past a)) (sym (none_at rows (firsts start) past us evs agree a e))
+  due_none a e = ap (λ (o : Option OwnState). is_due o (deliveries rows (firsts start) past a)) (sym (none_at rows (firsts start) past us b.events b.index tells a e))
 
   -- the names of the rows are those of the units that exist, in their order
   pub roll_of : IsRoll (start, past) (names_of us)
-  roll_of = record { order = agree.order; units = named_at rows (firsts start) past us evs agree }
+  roll_of = record { order = board.whole.order; units = named_at rows (firsts start) past us b.events b.index tells }
 
   -- and there is no other such list
   pub roll_is : (names : List UnitName) → IsRoll (start, past) names → names ≡ names_of us
-  roll_is names roll = same_elements unit_cmp unit_cmp_exact names (names_of us) roll.order agree.order (λ n. roll.units n ∙ sym (named_at rows (firsts start) past us evs agree n))
+  roll_is names roll = same_elements unit_cmp unit_cmp_exact names (names_of us) roll.order board.whole.order (λ n. roll.units n ∙ sym (named_at rows (firsts start) past us b.events b.index tells n))
 
   -- what stands at a place of the table stands there in the list
   pub unit_is : (k : ℕ) (o : Option Unit) → o ≡ slice_get us k → (names : List UnitName) → IsRoll (start, past) names → option_map (λ (u : Unit). u.local.unit) o ≡ slice_get names k

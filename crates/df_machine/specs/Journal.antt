@@ -2,8 +2,6 @@
 use Rattle.std.specs.Prelude.{◌≡◌, Bool, false, not, List, ◌∷◌, Option, Some, None, map}
 use Rattle.std.specs.Option.{option_map}
 use Rattle.df_label.specs.Ascending.{IsAscending, contains_by}
-use Rattle.df_label.specs.declared.label.Label.{Label}
-use Rattle.df_label.specs.declared.privilege.Privilege.{Privilege}
 use Rattle.df_local.specs.code.LocalState.{LocalState}
 use Rattle.df_rules.specs.Deliveries.{deliveries}
 use Rattle.df_rules.specs.Legal.{Legal, answer, answered, left}

@@ -1,20 +1,16 @@
 ghost use Rattle.std.specs.Prelude.{◌≡◌, ◌^◌, ◌<◌, ◌∷◌, [], length, IfErr, IfOk, List, None, OnErr, OnOk, map, option_copied, reverse, slice_get, vec_len, vec_capacity};
-ghost use Rattle.df_rules.specs.Commits.{commit_in};
 ghost use Rattle.df_start.specs.Begun.{begun};
-ghost use Rattle.df_tables.specs.Moves.{IsReady};
-ghost use Rattle.df_tables.specs.Table.{parts_of, rows_from};
+ghost use Rattle.df_tables.specs.Table.{rows_from};
 ghost use Rattle.df_unit.specs.Served.{IsBuilt};
-ghost use Rattle.df_unit.specs.declared.entry.Effect.{Effect};
 ghost use Rattle.df_unit.specs.declared.entry.Entry.TheVariants.{Done};
-ghost use Rattle.df_unit.specs.declared.name.EventName.{EventName};
 ghost use Rattle.df_unit.specs.declared.name.UnitName.{UnitName};
 ghost use Rattle.df_machine.specs.Journal.{IsLegal, IsRoll, answer_in, appended, has_delivery_in, local_of};
 
 use df_label::NoMemory;
 use df_local::{Answer, Local};
 use df_start::{RootStart, Start};
-use df_tables::{Events, Ready, Unit, find, first_unit, hand_over, move_unit, prepare};
-use df_unit::{Call, Commit, Effect, Entry, Reply, UnitName};
+use df_tables::{Board, Unit, first_unit};
+use df_unit::{Call, Effect, Entry, Reply, UnitName};
 use std::alloc::Global;
 use std::marker::Model;
 
@@ -23,28 +19,26 @@ use std::marker::Model;
 pub struct Core {
     start: Start,
     journal: Vec<Entry>,
-    units: Vec<Unit>,
-    events: Events,
-    alloc: Global,
+    board: Board,
 }
 
 impl Model for Core {
-    ghost use Rattle.std.specs.Prelude.{List, reverse};
+    ghost use Rattle.std.specs.Prelude.{List, map, reverse};
     ghost use Rattle.std.specs.Coded.{coded×, coded_list};
-    ghost use Rattle.df_rules.specs.Start.{rows};
-    ghost use Rattle.df_start.specs.contracts.start.Start as begun;
-    ghost use Rattle.df_tables.specs.Agree.{Agrees};
+    ghost use Rattle.df_tables.specs.Board.{IsBoard, TellsOf};
     ghost use Rattle.df_unit.specs.contracts.entry.Entry as entry;
-    ghost use Rattle.df_machine.specs.Journal.{State, firsts};
+    ghost use Rattle.df_start.specs.contracts.start.Start as started;
+    ghost use Rattle.df_start.specs.Begun.{begun};
+    ghost use Rattle.df_machine.specs.Journal.{State};
 
     ghost Value = { State };
 
-    ghost coded = { coded× begun.the_row.coded (coded_list entry.the_row.coded) };
+    ghost coded = { coded× started.the_row.coded (coded_list entry.the_row.coded) };
 
     ghost view = { λ c. (c.start, reverse c.journal.items) };
 
-    ghost invariant = { λ c. Agrees rows (firsts c.start)
-        (reverse c.journal.items) c.units.items c.events };
+    ghost invariant = { λ c. IsBoard c.board
+        × TellsOf (map begun c.start) (reverse c.journal.items) c.board };
 }
 
 /// A call that was not made, for want of memory. Nothing has changed.
@@ -67,19 +61,15 @@ fn first_units(alloc: Global, roots: &[RootStart]) -> Result<Vec<Unit>, NoMemory
     Ok(units)
 }
 
-/// What an entry without a commit needs a second time.
+/// What an entry needs a second time.
 #[derive(Drop)]
 struct Copies {
     actor: UnitName,
     kept: Reply,
 }
 
-/// Makes room in the journal, and ready what an entry without a commit needs.
-fn prepare_plain(
-    journal: &mut Vec<Entry>,
-    actor: &UnitName,
-    reply: &Reply,
-) -> Result<Copies, NoMemory>
+/// Makes room in the journal, and ready what an entry needs.
+fn prepare(journal: &mut Vec<Entry>, actor: &UnitName, reply: &Reply) -> Result<Copies, NoMemory>
     ensures copies { IfOk result (λ c. c ≡ record { actor = actor.now; kept = reply.now }) }
     ensures room { OnOk result (vec_len journal.new < vec_capacity journal.new) }
     ensures journal { journal.new.items ≡ journal.old.items }
@@ -90,36 +80,17 @@ fn prepare_plain(
     Ok(Copies { actor, kept })
 }
 
-/// Makes room in the journal, and ready what an entry with a commit needs.
-fn prepare_commit(
-    journal: &mut Vec<Entry>,
-    events: &mut Events,
-    actor: &UnitName,
-    reply: &Reply,
-    commit: &Commit,
-) -> Result<Ready, NoMemory>
-    ensures ready { IfOk result (λ r.
-        IsReady actor.now reply.now commit.now events.old events.new r) }
-    ensures room { OnOk result (vec_len journal.new < vec_capacity journal.new) }
-    ensures journal { journal.new.items ≡ journal.old.items }
-    ensures parts { (e : EventName) → parts_of e events.new ≡ parts_of e events.old }
-{
-    journal.reserve(1)?;
-    prepare(events, actor, reply, commit)
-}
-
 impl Core {
     /// A machine whose journal is empty.
     pub fn start(alloc: Global, start: Start) -> Result<Core, NoMemory>
         ensures { IfOk result (λ c. c ≡ (start, [])) }
     {
         let units = first_units(alloc, start.as_slice())?;
+        let board = Board::new(alloc, units)?;
         Ok(Core {
             start,
             journal: Vec::new(alloc),
-            units,
-            events: Events::new(alloc),
-            alloc,
+            board,
         })
     }
 
@@ -150,7 +121,7 @@ impl Core {
     pub fn local(&self, name: &UnitName) -> Option<&Local>
         ensures { option_copied result ≡ local_of self.now name.now }
     {
-        match find(self.units.as_slice(), name) {
+        match self.board.unit(name) {
             Some(unit) => Some(&unit.local),
             None => None,
         }
@@ -160,7 +131,7 @@ impl Core {
     pub fn has_delivery(&self, name: &UnitName) -> bool
         ensures { result ≡ has_delivery_in self.now name.now }
     {
-        match find(self.units.as_slice(), name) {
+        match self.board.unit(name) {
             Some(unit) => !unit.line.is_empty(),
             None => false,
         }
@@ -172,7 +143,7 @@ impl Core {
             option_copied result ≡ slice_get names k }
         ensures roll { (names : List UnitName) × IsRoll self.now names }
     {
-        match self.units.get(k) {
+        match self.board.unit_at(k) {
             Some(unit) => Some(unit.local.name()),
             None => None,
         }
@@ -183,20 +154,11 @@ impl Core {
         requires { IsBuilt call.now }
         ensures { IfOk result (λ a. (a.reply, a.effect) ≡ answer_in self.now actor.now call.now) }
     {
-        match find(self.units.as_slice(), actor) {
-            Some(unit) => {
-                let answer = unit.local.answer(unit.line.first(), call)?;
-                Ok(answer)
-            }
-            None => Ok(Answer {
-                reply: Reply::NoSuchUnit,
-                effect: Effect::Nothing,
-            }),
-        }
+        self.board.answer(actor, call)
     }
 
-    /// Appends the entry of a call without a commit.
-    fn book_plain(
+    /// Appends the entry of a call.
+    fn book(
         &mut self,
         actor: &UnitName,
         call: Call,
@@ -204,7 +166,6 @@ impl Core {
         effect: Effect,
     ) -> Result<Reply, NotStepped>
         requires built { IsBuilt call }
-        requires plain { commit_in effect ≡ None }
         requires right { answer_in self.old actor.now call ≡ (reply, effect) }
         ensures ok { OnOk result (self.new ≡ (
           self.old.0,
@@ -214,10 +175,10 @@ impl Core {
         ensures unchanged { OnErr result (self.new ≡ self.old) }
         ensures back { IfErr result (λ e. e.call ≡ call) }
     {
-        let Ok(copies) = prepare_plain(&mut self.journal, actor, &reply) else {
+        let Ok(copies) = prepare(&mut self.journal, actor, &reply) else {
             return Err(NotStepped { call });
         };
-        let Ok(()) = move_unit(&mut self.units, actor, &call, &reply, &effect) else {
+        let Ok(()) = self.board.book(actor, &call, &reply, &effect) else {
             return Err(NotStepped { call });
         };
         self.journal.push_reserved(Entry::Done {
@@ -227,49 +188,6 @@ impl Core {
             effect,
         });
         Ok(copies.kept)
-    }
-
-    /// Appends the entry of a call that makes a commit.
-    fn book_commit(
-        &mut self,
-        actor: &UnitName,
-        call: Call,
-        reply: Reply,
-        commit: Commit,
-    ) -> Result<Reply, NotStepped>
-        requires built { IsBuilt call }
-        requires right { answer_in self.old actor.now call ≡ (reply, Effect.Commit commit) }
-        ensures ok { OnOk result (self.new ≡ (
-          self.old.0,
-          Done actor.now call reply (Effect.Commit commit) ∷ self.old.1,
-        )) }
-        ensures reply { IfOk result (λ r. r ≡ reply) }
-        ensures unchanged { OnErr result (self.new ≡ self.old) }
-        ensures back { IfErr result (λ e. e.call ≡ call) }
-    {
-        let Ok(ready) = prepare_commit(&mut self.journal, &mut self.events, actor, &reply, &commit)
-        else {
-            return Err(NotStepped { call });
-        };
-        let Ok(effect) = hand_over(
-            self.alloc,
-            &mut self.units,
-            actor,
-            &call,
-            &reply,
-            commit,
-            &ready.after,
-        ) else {
-            return Err(NotStepped { call });
-        };
-        self.events.set(ready.place, ready.after);
-        self.journal.push_reserved(Entry::Done {
-            actor: ready.actor,
-            call,
-            reply,
-            effect,
-        });
-        Ok(ready.kept)
     }
 
     /// Makes a call for a unit: appends one entry, with the answer that the rules give, and answers
@@ -285,10 +203,6 @@ impl Core {
             return Err(NotStepped { call });
         };
         let Answer { reply, effect } = answer;
-        match effect {
-            Effect::Nothing => self.book_plain(actor, call, reply, Effect::Nothing),
-            Effect::Given(given) => self.book_plain(actor, call, reply, Effect::Given(given)),
-            Effect::Commit(commit) => self.book_commit(actor, call, reply, commit),
-        }
+        self.book(actor, call, reply, effect)
     }
 }

@@ -1,18 +1,21 @@
 -- In the beginning the tables agree with the empty journal.
-use Rattle.std.proofs.Common.{◌≡◌, ℕ, zero, suc, ◌+◌, ◌==◌, List, [], ◌∷◌, Option, Some, None, Bool, true, false, ◌&&◌, if◌then◌else◌, map, slice_get, refl, ap, sym, subst, ◌∙◌, arith, eq-eqb, nat_eq}
+use Rattle.std.proofs.Common.{◌≡◌, ℕ, zero, suc, ◌+◌, ◌==◌, List, [], ◌∷◌, Option, Some, None, Bool, true, false, ◌&&◌, if◌then◌else◌, map, slice_get, refl, ap, sym, subst, ◌∙◌, arith, eq-eqb, nat_eq, All}
+use Rattle.std.proofs.lemmas.List.Elements.{All-cons, All-nil}
+use Rattle.df_index.specs.Due.{Pair}
 use Rattle.df_label.specs.declared.label.Label.{Label}
 use Rattle.df_label.specs.declared.privilege.Privilege.{Privilege}
-use Rattle.df_rules.specs.Deliveries.{deliveries}
+use Rattle.df_rules.specs.Deliveries.{deliveries, was_handed}
 use Rattle.df_rules.specs.Own.{own}
 use Rattle.df_rules.specs.Start.{rows, roots, root_of}
-use Rattle.df_rules.specs.Subscriptions.{subscriptions}
 use Rattle.df_unit.specs.Name.{same}
 use Rattle.df_unit.specs.declared.name.UnitName.{UnitName}
 use Rattle.df_unit.specs.declared.name.UnitName.TheVariants.{Root, Managed}
-use Rattle.df_tables.specs.Agree.{IsSeat, Agrees}
-use Rattle.df_tables.specs.Table.{find, first_row, rows_from}
+use Rattle.df_unit.specs.declared.name.EventName.{EventName}
+use Rattle.df_tables.specs.Agree.{Agrees, IsSeat, is_marked, subscribed_at}
+use Rattle.df_tables.specs.Events.{event_place}
+use Rattle.df_tables.specs.Hand.{IsCalm}
+use Rattle.df_tables.specs.Table.{find, first_row, place_of, rows_from}
 use Rattle.df_tables.specs.declared.units.Unit.{Unit}
-use Rattle.df_tables.proofs.Order.{order_first}
 
 abbrev Starts : Type 0
 Starts = List (Label × List Privilege)
@@ -41,32 +44,48 @@ one : (b : Bool) → (b && true) ≡ b
 one true = refl
 one false = refl
 
-root_seat : (m k j : ℕ) (rs : Starts) → j ≡ k + m → IsSeat (Root (j ∷ [])) (slice_get (map root_of rs) m) [] [] (find (Root (j ∷ [])) (rows_from k rs))
-root_seat zero k j [] e = (refl, refl)
-root_seat (suc m) k j [] e = (refl, refl)
+root_seat : (m k j : ℕ) (rs : Starts) → j ≡ k + m → IsSeat (Root (j ∷ [])) (slice_get (map root_of rs) m) [] (find (Root (j ∷ [])) (rows_from k rs))
+root_seat zero k j [] e = refl
+root_seat (suc m) k j [] e = refl
 root_seat zero k j (r ∷ rs) e =
     let h : (k == j) ≡ true = eq-eqb k j (omega arith) in
     let test : same (first_row k r).local.unit (Root (j ∷ [])) ≡ true = one (k == j) ∙ h in
-    subst (λ (b : Bool). IsSeat (Root (j ∷ [])) (Some (root_of r)) [] [] (if b then Some (first_row k r) else find (Root (j ∷ [])) (rows_from (k + 1) rs))) (sym test)
-    (record { unit = ap (λ (n : ℕ). Root (n ∷ [])) (omega arith); own = refl; subscriptions = refl; left = refl; marks = refl; taken = omega arith })
+    subst (λ (b : Bool). IsSeat (Root (j ∷ [])) (Some (root_of r)) [] (if b then Some (first_row k r) else find (Root (j ∷ [])) (rows_from (k + 1) rs))) (sym test)
+    (record { unit = ap (λ (n : ℕ). Root (n ∷ [])) (omega arith); own = refl; left = refl; taken = omega arith })
 root_seat (suc m) k j (r ∷ rs) e =
     let h : (k == j) ≡ false = subst (λ x. (k == x) ≡ false) (sym e) (other k m) in
     let test : same (first_row k r).local.unit (Root (j ∷ [])) ≡ false = one (k == j) ∙ h in
-    subst (λ (b : Bool). IsSeat (Root (j ∷ [])) (slice_get (map root_of rs) m) [] [] (if b then Some (first_row k r) else find (Root (j ∷ [])) (rows_from (k + 1) rs))) (sym test)
+    subst (λ (b : Bool). IsSeat (Root (j ∷ [])) (slice_get (map root_of rs) m) [] (if b then Some (first_row k r) else find (Root (j ∷ [])) (rows_from (k + 1) rs))) (sym test)
     (root_seat m (k + 1) j rs (omega arith))
 
-seat_first : (rs : Starts) (n : UnitName) → IsSeat n (own rows (roots rs) [] n) (subscriptions rows (roots rs) [] n) (deliveries rows (roots rs) [] n) (find n (rows_from 0 rs))
-seat_first rs (Root []) = subst (λ (p : Option Unit). IsSeat (Root []) None [] [] p) (sym (empty_none 0 rs)) (refl, refl)
+seat_first : (rs : Starts) (n : UnitName) → IsSeat n (own rows (roots rs) [] n) (deliveries rows (roots rs) [] n) (find n (rows_from 0 rs))
+seat_first rs (Root []) = subst (λ (p : Option Unit). IsSeat (Root []) None [] p) (sym (empty_none 0 rs)) refl
 seat_first rs (Root (j ∷ [])) = root_seat j 0 j rs (omega arith)
-seat_first rs (Root (j ∷ m ∷ path)) = subst (λ (p : Option Unit). IsSeat (Root (j ∷ m ∷ path)) None [] [] p) (sym (long_none j m path 0 rs)) (refl, refl)
-seat_first rs (Managed o n t) = subst (λ (p : Option Unit). IsSeat (Managed o n t) None [] [] p) (sym (managed_none o n t 0 rs)) (refl, refl)
+seat_first rs (Root (j ∷ m ∷ path)) = subst (λ (p : Option Unit). IsSeat (Root (j ∷ m ∷ path)) None [] p) (sym (long_none j m path 0 rs)) refl
+seat_first rs (Managed o n t) = subst (λ (p : Option Unit). IsSeat (Managed o n t) None [] p) (sym (managed_none o n t 0 rs)) refl
 
-pub agrees_first : (rs : Starts) → Agrees rows (roots rs) [] (rows_from 0 rs) []
-agrees_first rs = record {
+none_at : (p : Option ℕ) → subscribed_at p [] ≡ []
+none_at None = refl
+none_at (Some k) = refl
+
+unmarked : (rs : Starts) (n : UnitName) (p : Option ℕ) (ev : EventName) (m : ℕ) → is_marked [] p (event_place ev []) m ≡ was_handed (deliveries rows (roots rs) [] n) ev m
+unmarked rs (Root path) None ev m = refl
+unmarked rs (Root path) (Some k) ev m = refl
+unmarked rs (Managed o n t) None ev m = refl
+unmarked rs (Managed o n t) (Some k) ev m = refl
+
+pub agrees_first : (rs : Starts) → (ready : Option (ℕ × List Pair)) → Agrees rows (roots rs) [] (rows_from 0 rs) [] (record { enrolled = []; handed = []; ready = ready })
+agrees_first rs ready = record {
   legal = tt;
   seats = seat_first rs;
-  order = order_first 0 rs;
+  subscribed = λ n. none_at (place_of n (rows_from 0 rs));
+  marked = λ n ev m. unmarked rs n (place_of n (rows_from 0 rs)) ev m;
   parts = λ ev. refl;
   unmanaged = λ o n. refl;
   no_instances = λ o n t. refl;
 }
+
+-- in the beginning nothing is staged
+pub calm_first : (k : ℕ) (rs : Starts) → All IsCalm (rows_from k rs)
+calm_first k [] = All-nil IsCalm
+calm_first k (r ∷ rs) = All-cons IsCalm (first_row k r) (rows_from (k + 1) rs) refl (calm_first (k + 1) rs)

@@ -1,35 +1,14 @@
 -- The place of the first row that passes a test, and what stands there.
 use Rattle.std.proofs.Common.{◌≡◌, ℕ, zero, suc, ◌+◌, ◌<◌, Bool, true, false, if◌then◌else◌, List, [], ◌∷◌, ◌++◌, set, get_or, length, take, drop, map, refl, ap, sym, ◌∙◌, subst, arith, Option, Some, None, option_map}
-use Rattle.std.specs.List.{position_from}
 use Rattle.df_part.specs.declared.part.Part.{Part}
 use Rattle.df_unit.specs.Name.{same, same_event}
-use Rattle.df_unit.specs.declared.commit.Commit.{Commit}
 use Rattle.df_unit.specs.declared.name.EventName.{EventName}
 use Rattle.df_unit.specs.declared.name.UnitName.{UnitName}
 use Rattle.df_unit.proofs.SameFacts.{same_event_decides}
 use Rattle.df_tables.specs.Events.{place_by}
-use Rattle.df_tables.specs.Table.{find, moved_at, parts_of, quieted, with_news}
+use Rattle.df_tables.specs.Table.{find, moved_at, parts_of}
 use Rattle.df_tables.specs.declared.events.EventRow.{EventRow}
 use Rattle.df_tables.specs.declared.units.Unit.{Unit}
-
-place_by-from : {A : Type 0} (p : A → Bool) (i : ℕ) (xs : List A) → position_from p i xs ≡ option_map (λ m. i + m) (place_by p xs)
-place_by-from p i [] = refl
-place_by-from p i (x ∷ xs) = by (p x) (place_by-from p (i + 1) xs)
-  where
-    more : (o : Option ℕ) → option_map (λ m. i + 1 + m) o ≡ option_map (λ m. i + m) (option_map suc o)
-    more None = refl
-    more (Some m) = ap Some (omega arith)
-
-    by : (b : Bool) → position_from p (i + 1) xs ≡ option_map (λ m. i + 1 + m) (place_by p xs) → (if b then Some i else position_from p (i + 1) xs) ≡ option_map (λ m. i + m) (if b then Some 0 else option_map suc (place_by p xs))
-    by true ih = ap Some (omega arith)
-    by false ih = ih ∙ more (place_by p xs)
-
-plus_none : (o : Option ℕ) → option_map (λ m. 0 + m) o ≡ o
-plus_none None = refl
-plus_none (Some m) = ap Some (omega arith)
-
-pub place_by-is : {A : Type 0} (p : A → Bool) (xs : List A) → position_from p 0 xs ≡ place_by p xs
-place_by-is p xs = place_by-from p 0 xs ∙ plus_none (place_by p xs)
 
 -- units
 
@@ -103,14 +82,3 @@ put_at ev ps e (r ∷ rs) k d h = by (same_event r.event ev) refl (place_by (λ 
     by false f (Some j) ih h =
         let z : suc j ≡ k = cc in
         subst Here z (ap (λ (l : List Part). if same_event r.event e then r.contents else l) (ih j refl) ∙ swap (same_event ev e) (same_event r.event e) r.contents ps (parts_of e rs) (not_both r.event ev e f))
-
--- a loop that changes each row
-pub map_step : {A : Type 0} (g : A → A) (xs : List A) (i : ℕ) (d x : A) → i < length xs → x ≡ g (get_or (map g (take i xs) ++ drop i xs) i d) → set (map g (take i xs) ++ drop i xs) i x ≡ map g (take (suc i) xs) ++ drop (suc i) xs
-map_step g [] i d x h e = absurd (omega arith)
-map_step g (y ∷ ys) zero d x h e = ap (λ z. z ∷ ys) e
-map_step g (y ∷ ys) (suc i) d x h e = ap (λ l. g y ∷ l) (map_step g ys i d x (omega arith) e)
-
--- staging in a part of the table shows nowhere else
-pub quiet_part : (c : Commit) (parts : List Part) (xs ys : List Unit) → map quieted (map (with_news c parts) xs ++ ys) ≡ map quieted (xs ++ ys)
-quiet_part c parts [] ys = refl
-quiet_part c parts (x ∷ xs) ys = ap (λ l. quieted x ∷ l) (quiet_part c parts xs ys)

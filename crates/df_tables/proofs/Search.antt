@@ -2,7 +2,6 @@
 use Rattle.std.proofs.Common.{◌≡◌, ℕ, zero, suc, ◌<◌, ◌≤◌, List, [], ◌∷◌, get_or, length, Some, None, Result, Ok, Err, refl, ap, sym, subst, ◌∙◌, arith}
 use Rattle.std.proofs.Math.ListN.{get_or-map}
 use Rattle.std.proofs.lemmas.List.{length-map}
-use Rattle.std.specs.List.{position_from}
 use Rattle.std.specs.List.Sorted.{IsBinarySearchResult, IsNonDecreasingBy, IsPartitionPoint, IsSearchInRange}
 use Rattle.std.specs.Ordering.{is_eq, ordering_index}
 use Rattle.std.specs.Result.{result_ok}
@@ -15,9 +14,8 @@ use Rattle.df_unit.specs.UnitOrderLaws.{unit_cmp_ties}
 use Rattle.df_unit.specs.declared.name.UnitName.{UnitName}
 use Rattle.df_unit.proofs.OrderFacts.{unit_cmp_exact}
 use Rattle.df_tables.specs.Events.{place_by}
-use Rattle.df_tables.specs.Table.{IsInOrder, names_of}
+use Rattle.df_tables.specs.Table.{IsInOrder, names_of, place_of}
 use Rattle.df_tables.specs.declared.units.Unit.{Unit}
-use Rattle.df_tables.proofs.Places.{place_by-is}
 
 abbrev name : Unit → UnitName
 name u = u.local.unit
@@ -36,7 +34,7 @@ module _ (a : UnitName) where
       rw (get_or-map name us i d, get_or-map name us j d) at at
 
   -- the row that is the unit's is the first that is
-  found_at : (us : List Unit) (k : ℕ) (d : Unit) → IsInOrder us → k < length us → unit_cmp (get_or us k d).local.unit a ≡ Equal → place_by (λ u. same u.local.unit a) us ≡ Some k
+  pub found_at : (us : List Unit) (k : ℕ) (d : Unit) → IsInOrder us → k < length us → unit_cmp (get_or us k d).local.unit a ≡ Equal → place_by (λ u. same u.local.unit a) us ≡ Some k
   found_at [] k d order h e = absurd (omega arith)
   found_at (u ∷ us) zero d order h e = rw (unit_cmp_ties u.local.unit a ∙ ap is_eq e) refl
   found_at (u ∷ us) (suc k) d order h e =
@@ -53,9 +51,9 @@ module _ (a : UnitName) where
       rw (unit_cmp_ties u.local.unit a ∙ ap is_eq (lower 0 u (omega arith)), absent us k (λ j d i. lower (suc j) d (omega arith)) (λ j d i l. higher (suc j) d (omega arith) (omega arith))) refl
 
   -- the search places the unit
-  pub searched : (us : List Unit) → IsInOrder us → (r : Result ℕ ℕ) → IsSearchInRange r (length us) → IsBinarySearchResult (λ u. unit_cmp u.local.unit a) us r → result_ok r ≡ position_from (λ u. same u.local.unit a) 0 us
+  pub searched : (us : List Unit) → IsInOrder us → (r : Result ℕ ℕ) → IsSearchInRange r (length us) → IsBinarySearchResult (λ u. unit_cmp u.local.unit a) us r → result_ok r ≡ place_of a us
   searched [] order (Ok k) h p = absurd (omega arith)
-  searched (u ∷ us) order (Ok k) h p = sym (place_by-is (λ (v : Unit). same v.local.unit a) (u ∷ us) ∙ found_at (u ∷ us) k u order h (p u))
+  searched (u ∷ us) order (Ok k) h p = sym (found_at (u ∷ us) k u order h (p u))
   searched us order (Err k) h p =
       let parts : IsPartitionPoint (λ (v : Unit). unit_cmp v.local.unit a ≡ Less) (λ (v : Unit). unit_cmp v.local.unit a ≡ Greater) us k = p (rises us order) in
-      sym (place_by-is (λ (v : Unit). same v.local.unit a) us ∙ absent us k (λ j d i. parts.0 j d (omega arith) i) (λ j d i l. parts.1 j d i l))
+      sym (absent us k (λ j d i. parts.0 j d (omega arith) i) (λ j d i l. parts.1 j d i l))

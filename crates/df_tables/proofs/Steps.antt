@@ -1,14 +1,19 @@
 -- The tables after one more entry.
-use Rattle.std.proofs.Common.{◌≡◌, ℕ, List, [], ◌∷◌, ◌++◌, Option, Some, None, Bool, true, false, if◌then◌else◌, map, option_map, refl, ap, sym, subst, ◌∙◌}
+use Rattle.std.proofs.Common.{◌≡◌, ◌⊎◌, inl, inr, ℕ, ◌≤◌, ◌==◌, ◌&&◌, ◌||◌, List, [], ◌∷◌, ◌++◌, Option, Some, None, Bool, true, false, if◌then◌else◌, length, map, option_map, refl, ap, sym, subst, ◌∙◌, arith, eq-eqb}
 use Rattle.std.specs.Prelude.{option_to_list}
 use Rattle.std.specs.Option.{option_and_then, option_or}
 use Rattle.std.proofs.lemmas.List.{append-nil}
+use Rattle.std.proofs.lemmas.List.Folds.{list_any-append}
 use Rattle.df_filter.specs.declared.clause.Clause.{Clause}
+use Rattle.df_index.specs.Due.{Pair, has_pair}
+use Rattle.df_index.specs.IndexState as index
+use Rattle.df_index.specs.declared.subscription.Subscription.{Subscription}
 use Rattle.df_label.specs.Tag.{maker_of, number_of}
+use Rattle.df_label.specs.declared.label.Label.{Label}
 use Rattle.df_part.specs.Contents.{apply}
 use Rattle.df_part.specs.declared.part.Part.{Part}
 use Rattle.df_rules.specs.Commits.{commit_in, committed, contents}
-use Rattle.df_rules.specs.Deliveries.{plain_news, deliveries, deliveries_plain}
+use Rattle.df_rules.specs.Deliveries.{plain_news, deliveries, deliveries_plain, was_handed}
 use Rattle.df_rules.specs.Laws.{TakingLaws}
 use Rattle.df_rules.specs.Legal.{answer, answer_of}
 use Rattle.df_rules.specs.Own.{own, own_plain, own_instance, fixed}
@@ -27,13 +32,17 @@ use Rattle.df_unit.specs.declared.name.UnitName.{UnitName}
 use Rattle.df_unit.specs.declared.name.UnitName.TheVariants.{Root, Managed}
 use Rattle.df_unit.specs.declared.reply.Reply.{Reply}
 use Rattle.df_unit.proofs.SameFacts.{same_name-exact, same_event_decides}
-use Rattle.df_tables.specs.Agree.{IsRow, IsSeat, Agrees, MakesNoUnit}
-use Rattle.df_tables.specs.Table.{find, names_of, parts_of, moved_at, moved_row, with_news, settled_row, quieted}
+use Rattle.df_tables.specs.Agree.{Agrees, FilterIndex, IsSeat, MakesNoUnit, enrols, is_marked, subscribed_at, subscriptions_at}
+use Rattle.df_tables.specs.Events.{IsOpened, event_place}
+use Rattle.df_tables.specs.Hand.{news_at, with_news}
+use Rattle.df_tables.specs.Table.{find, parts_of, place_of, moved_at, moved_row}
 use Rattle.df_tables.specs.declared.events.EventRow.{EventRow}
 use Rattle.df_tables.specs.declared.units.Unit.{Unit}
 use Rattle.df_tables.proofs.Finds.{find-map, find-moved}
-use Rattle.df_tables.proofs.Order.{names-map, names-moved, order_like}
+use Rattle.df_tables.proofs.Opened.{opened_parts, place_more}
+use Rattle.df_tables.proofs.Order.{names-map, names-moved}
 use Rattle.df_tables.proofs.Rows.{row_plain, row_news, row_commit}
+use Rattle.df_tables.proofs.Seats.{absent, apart, enrols_none, handed_news, not_there, place_of-names, present, same_place, subscriptions_at-append}
 
 or_none : {A : Type 0} (o : Option A) → option_or o None ≡ o
 or_none None = refl
@@ -48,16 +57,15 @@ abbrev subscribed_in : Rules → Bool → Call → Reply → Option OwnState →
 subscribed_in R b c r o = if b then option_and_then (λ st. R.subscribes st c r) o else None
 
 -- what a commit brings to a unit; instances aren't there
-news_of : Rules → List OwnState → List Entry → UnitName → Option Commit → List Given
+unfoldable pub news_of : Rules → List OwnState → List Entry → UnitName → Option Commit → List Given
 news_of R s past (Root path) oc = plain_news (own_plain R s past path) (subscriptions R s past (Root path)) (deliveries_plain R s past path) past oc
 news_of R s past (Managed o n t) oc = []
 
 -- a seat along equal parts
-seat_along : (n : UnitName) (o o' : Option OwnState) (subs subs' : List (ℕ × List Clause)) (ds ds' : List Given) (p p' : Option Unit) → o' ≡ o → subs' ≡ subs → ds' ≡ ds → p' ≡ p → IsSeat n o subs ds p → IsSeat n o' subs' ds' p'
-seat_along n o o' subs subs' ds ds' p p' e b f g seat =
-    subst (λ (x : Option OwnState). IsSeat n x subs' ds' p') (sym e)
-    (subst (λ (x : List (ℕ × List Clause)). IsSeat n o x ds' p') (sym b)
-    (subst (λ (x : List Given). IsSeat n o subs x p') (sym f) (subst (λ (x : Option Unit). IsSeat n o subs ds x) (sym g) seat)))
+seat_along : (n : UnitName) (o o' : Option OwnState) (ds ds' : List Given) (p p' : Option Unit) → o' ≡ o → ds' ≡ ds → p' ≡ p → IsSeat n o ds p → IsSeat n o' ds' p'
+seat_along n o o' ds ds' p p' e f g seat =
+    subst (λ (x : Option OwnState). IsSeat n x ds' p') (sym e)
+    (subst (λ (x : List Given). IsSeat n o x p') (sym f) (subst (λ (x : Option Unit). IsSeat n o ds x) (sym g) seat))
 
 module _ (R : Rules) (s : List OwnState) where
   makes_none : (c : Call) (r : Reply) → MakesNoUnit R c r → (b : Bool) (k : ℕ) (o : Option OwnState) → (if b then option_and_then (λ st. R.makes st k c r) o else None) ≡ None
@@ -103,121 +111,200 @@ module _ (R : Rules) (s : List OwnState) where
       by true = refl
       by false = refl
 
+  -- who doesn't exist is brought nothing
+  none_news : (past : List Entry) (n : UnitName) (oc : Option Commit) → own R s past n ≡ None → news_of R s past n oc ≡ []
+  unfolding news_of
+  none_news past (Root path) oc e = ap (λ (o : Option OwnState). plain_news o (subscriptions R s past (Root path)) (deliveries_plain R s past path) past oc) e
+  none_news past (Managed o n t) oc e = refl
+
+-- the commit that is made, its event's place, its parts after it, and its receivers
+pub record IsMade (R : Rules) (s : List OwnState) (past : List Entry) (us : List Unit) (evs evs' : List EventRow) (x x' : FilterIndex) (k : Commit) (j : ℕ) (after : List Part) (ps : List Pair) (given : Unit → List Given) : Type 0 where
+  pub place : event_place k.event evs ≡ Some j
+  pub applied : after ≡ apply k.edit (parts_of k.event evs)
+  pub put : (e : EventName) → parts_of e evs' ≡ (if same_event k.event e then after else parts_of e evs)
+  pub places : (e : EventName) → event_place e evs' ≡ event_place e evs
+  pub enrolled : x'.enrolled ≡ x.enrolled
+  pub booked : (e : ℕ) (p : Pair) → index.was_handed x'.handed e p ≡ (index.was_handed x.handed e p || ((e == j) && has_pair ps p))
+  pub gives : (u : Unit) → given u ≡ news_of R s past u.local.unit (Some k)
+  pub brought : (n : UnitName) (q : ℕ) → place_of n us ≡ Some q → (at : Label) × (news_of R s past n (Some k) ≡ news_at k.event after at ps q)
+
 module _ (R : Rules) (s : List OwnState) (laws : TakingLaws R s) where
   -- seats after an entry that commits nothing
 
-  seat_plain : (n : UnitName) (b : Bool) (o : Option OwnState) (subs : List (ℕ × List Clause)) (ds : List Given) (p : Option Unit) (c : Call) (r : Reply) (f : Effect) → commit_in f ≡ None → (b ≡ true → answer_of R n o ds c ≡ (r, f)) → IsSeat n o subs ds p →
-      IsSeat n (after_entry R n b c r f o) (subs ++ option_to_list (subscribed_in R b c r o)) ds (if b then option_map (moved_row R c r f) p else p)
-  seat_plain n false o subs ds p c r f h e seat = subst (λ (x : List (ℕ × List Clause)). IsSeat n o x ds p) (sym (append-nil subs)) seat
-  seat_plain n true None subs ds None c r f h e seat = (append-nil subs ∙ seat.0, seat.1)
-  seat_plain n true None subs ds (Some u) c r f h e seat = absurd seat
-  seat_plain n true (Some st) subs ds None c r f h e seat = absurd seat
-  seat_plain n true (Some st) subs ds (Some u) c r f h e seat = row_plain R s laws n st subs ds u c r f h (e refl) seat
+  seat_plain : (n : UnitName) (b : Bool) (o : Option OwnState) (ds : List Given) (p : Option Unit) (c : Call) (r : Reply) (f : Effect) → commit_in f ≡ None → (b ≡ true → answer_of R n o ds c ≡ (r, f)) → IsSeat n o ds p →
+      IsSeat n (after_entry R n b c r f o) ds (if b then option_map (moved_row R c r f) p else p)
+  seat_plain n false o ds p c r f h e seat = seat
+  seat_plain n true None ds None c r f h e seat = seat
+  seat_plain n true None ds (Some u) c r f h e seat = absurd seat
+  seat_plain n true (Some st) ds None c r f h e seat = absurd seat
+  seat_plain n true (Some st) ds (Some u) c r f h e seat = row_plain R s laws n st ds u c r f h (e refl) seat
 
-  pub agrees_plain : (past : List Entry) (us : List Unit) (evs : List EventRow) (a : UnitName) (c : Call) (r : Reply) (f : Effect) → Agrees R s past us evs → MakesNoUnit R c r → commit_in f ≡ None → answer R s past a c ≡ (r, f) →
-      Agrees R s (Done a c r f ∷ past) (moved_at a (moved_row R c r f) us) evs
-  agrees_plain past us evs a c r f agree none quiet right = record {
-    legal = (agree.legal, right);
-    seats = λ n. seat_along n _ _ _ _ _ _ _ _
-        (own_step R s past a c r f none agree.unmanaged n)
-        refl
-        (deliveries_step R s past a c r f agree.unmanaged n ∙ ap (λ k. deliveries R s past n ++ news_of R s past n k) quiet ∙ ap (λ (l : List Given). deliveries R s past n ++ l) (no_news R s past n) ∙ append-nil (deliveries R s past n))
-        (find-moved a (moved_row R c r f) (λ u. refl) n us)
-        (seat_plain n (same a n) (own R s past n) (subscriptions R s past n) (deliveries R s past n) (find n us) c r f quiet
-        (λ e. subst (λ (m : UnitName). answer R s past m c ≡ (r, f)) (same_name-exact a n e) right) (agree.seats n));
-    order = order_like us (moved_at a (moved_row R c r f) us) (names-moved a (moved_row R c r f) (λ u. refl) us) agree.order;
-    parts = λ ev. agree.parts ev ∙ sym (ap (λ k. committed ev k (contents past ev)) quiet);
-    unmanaged = unmanaged_step R s past a c r f none agree.unmanaged;
-    no_instances = no_instances_step R s past a c r f agree.unmanaged agree.no_instances;
-  }
+  -- what is subscribed after an entry that makes this subscription, if any
+  subscribed_more : (past : List Entry) (us : List Unit) (evs : List EventRow) (x : FilterIndex) (a : UnitName) (c : Call) (r : Reply) (made : Option (ℕ × List Clause)) → Agrees R s past us evs x → ((st : OwnState) → own R s past a ≡ Some st → R.subscribes st c r ≡ made) → (n : UnitName) →
+      subscribed_at (place_of n us) (x.enrolled ++ enrols (place_of a us) made) ≡ subscriptions R s past n ++ option_to_list (subscribed_in R (same a n) c r (own R s past n))
+  subscribed_more past us evs x a c r made agree makes n = by (place_of n us) refl (same a n) refl
+    where
+      Goal : Option ℕ → Bool → Type 0
+      Goal p b = subscribed_at p (x.enrolled ++ enrols (place_of a us) made) ≡ subscriptions R s past n ++ option_to_list (subscribed_in R b c r (own R s past n))
+
+      nothing : (b : Bool) (o : Option OwnState) → o ≡ None → option_to_list (subscribed_in R b c r o) ≡ []
+      nothing true None e = refl
+      nothing true (Some st) e = absurd (let z : ⊥ = cc in z)
+      nothing false o e = refl
+
+      made_here : (k : ℕ) (m : Option (ℕ × List Clause)) → subscriptions_at k (enrols (Some k) m) ≡ option_to_list m
+      made_here k None = refl
+      made_here k (Some sub) = ap (λ (b : Bool). if b then sub ∷ [] else []) (eq-eqb k k refl)
+
+      made_there : (k : ℕ) (q : Option ℕ) (m : Option (ℕ × List Clause)) → ((j : ℕ) → q ≡ Some j → (j == k) ≡ false) → subscriptions_at k (enrols q m) ≡ []
+      made_there k None m other = refl
+      made_there k (Some j) None other = refl
+      made_there k (Some j) (Some sub) other = ap (λ (b : Bool). if b then sub ∷ [] else []) (other j refl)
+
+      by : (p : Option ℕ) → place_of n us ≡ p → (b : Bool) → same a n ≡ b → Goal p b
+      by None h b g =
+          let gone = absent R s past us n agree.seats h in
+          sym (ap (λ (l : List (ℕ × List Clause)). subscriptions R s past n ++ l) (nothing b (own R s past n) gone) ∙ append-nil (subscriptions R s past n) ∙ sym (agree.subscribed n) ∙ ap (λ (q : Option ℕ). subscribed_at q x.enrolled) h)
+      by (Some k) h true g =
+          let is : a ≡ n = same_name-exact a n g in
+          let there = present R s past us n agree.seats k h in
+          subscriptions_at-append k x.enrolled (enrols (place_of a us) made)
+          ∙ ap (λ (q : Option ℕ). subscriptions_at k x.enrolled ++ subscriptions_at k (enrols q made)) (ap (λ (m : UnitName). place_of m us) is ∙ h)
+          ∙ ap (λ (l : List (ℕ × List Clause)). subscriptions_at k x.enrolled ++ l) (made_here k made)
+          ∙ ap (λ (l : List (ℕ × List Clause)). l ++ option_to_list made) (sym (ap (λ (q : Option ℕ). subscribed_at q x.enrolled) h) ∙ agree.subscribed n)
+          ∙ ap (λ (m : Option (ℕ × List Clause)). subscriptions R s past n ++ option_to_list m) (sym (makes there.0 (subst (λ (m : UnitName). own R s past m ≡ Some there.0) (sym is) there.1)))
+          ∙ ap (λ (o : Option OwnState). subscriptions R s past n ++ option_to_list (subscribed_in R true c r o)) (sym there.1)
+      by (Some k) h false g =
+          subscriptions_at-append k x.enrolled (enrols (place_of a us) made)
+          ∙ ap (λ (l : List (ℕ × List Clause)). subscriptions_at k x.enrolled ++ l) (made_there k (place_of a us) made (λ j e. apart us a n j k e h g))
+          ∙ ap (λ (l : List (ℕ × List Clause)). l ++ []) (sym (ap (λ (q : Option ℕ). subscribed_at q x.enrolled) h) ∙ agree.subscribed n)
+
+  pub agrees_plain : (past : List Entry) (us : List Unit) (evs : List EventRow) (x x' : FilterIndex) (a : UnitName) (c : Call) (r : Reply) (f : Effect) (made : Option (ℕ × List Clause)) → Agrees R s past us evs x → MakesNoUnit R c r → commit_in f ≡ None → answer R s past a c ≡ (r, f) →
+      ((st : OwnState) → own R s past a ≡ Some st → R.subscribes st c r ≡ made) → x'.enrolled ≡ x.enrolled ++ enrols (place_of a us) made → x'.handed ≡ x.handed → Agrees R s (Done a c r f ∷ past) (moved_at a (moved_row R c r f) us) evs x'
+  agrees_plain past us evs x x' a c r f made agree none quiet right makes enrolled handed =
+      let here : (n : UnitName) → place_of n (moved_at a (moved_row R c r f) us) ≡ place_of n us = λ n. place_of-names n us (moved_at a (moved_row R c r f) us) (names-moved a (moved_row R c r f) (λ u. refl) us) in
+      let delivered : (n : UnitName) → deliveries R s (Done a c r f ∷ past) n ≡ deliveries R s past n = λ n. deliveries_step R s past a c r f agree.unmanaged n ∙ ap (λ k. deliveries R s past n ++ news_of R s past n k) quiet ∙ ap (λ (l : List Given). deliveries R s past n ++ l) (no_news R s past n) ∙ append-nil (deliveries R s past n) in record {
+        legal = (agree.legal, right);
+        seats = λ n. seat_along n _ _ _ _ _ _
+            (own_step R s past a c r f none agree.unmanaged n)
+            (delivered n)
+            (find-moved a (moved_row R c r f) (λ u. refl) n us)
+            (seat_plain n (same a n) (own R s past n) (deliveries R s past n) (find n us) c r f quiet
+            (λ e. subst (λ (m : UnitName). answer R s past m c ≡ (r, f)) (same_name-exact a n e) right) (agree.seats n));
+        subscribed = λ n. ap (λ (p : Option ℕ). subscribed_at p x'.enrolled) (here n) ∙ ap (subscribed_at (place_of n us)) enrolled ∙ subscribed_more past us evs x a c r made agree makes n;
+        marked = λ n ev m. ap (λ (p : Option ℕ). is_marked x'.handed p (event_place ev evs) m) (here n) ∙ ap (λ (h : List (List Pair)). is_marked h (place_of n us) (event_place ev evs) m) handed ∙ agree.marked n ev m ∙ ap (λ (ds : List Given). was_handed ds ev m) (sym (delivered n));
+        parts = λ ev. agree.parts ev ∙ sym (ap (λ k. committed ev k (contents past ev)) quiet);
+        unmanaged = unmanaged_step R s past a c r f none agree.unmanaged;
+        no_instances = no_instances_step R s past a c r f agree.unmanaged agree.no_instances;
+      }
 
   -- seats after a commit
 
-  abbrev handed_over : Bool → Call → Reply → Commit → List Part → Option Unit → Option Unit
-  handed_over b c r k parts p = option_map settled_row (if b then option_map (moved_row R c r (Effect.Commit k)) (option_map (with_news k parts) p) else option_map (with_news k parts) p)
+  abbrev handed_over : (Unit → List Given) → Bool → Call → Reply → Commit → Option Unit → Option Unit
+  handed_over given b c r k p = if b then option_map (moved_row R c r (Effect.Commit k)) (option_map (with_news given) p) else option_map (with_news given) p
 
-  seat_commit : (n : UnitName) (b : Bool) (o : Option OwnState) (subs : List (ℕ × List Clause)) (ds : List Given) (p : Option Unit) (past : List Entry) (c : Call) (r : Reply) (k : Commit) (parts : List Part) → parts ≡ apply k.edit (contents past k.event) → (b ≡ true → answer_of R n o ds c ≡ (r, Effect.Commit k)) → IsSeat n o subs ds p →
-      IsSeat n (after_entry R n b c r (Effect.Commit k) o) (subs ++ option_to_list (subscribed_in R b c r o)) (ds ++ plain_news o subs ds past (Some k)) (handed_over b c r k parts p)
-  seat_commit n true None subs ds None past c r k parts is e seat = (append-nil subs ∙ seat.0, append-nil ds ∙ seat.1)
-  seat_commit n false None subs ds None past c r k parts is e seat = (append-nil subs ∙ seat.0, append-nil ds ∙ seat.1)
-  seat_commit n b None subs ds (Some u) past c r k parts is e seat = absurd seat
-  seat_commit n b (Some st) subs ds None past c r k parts is e seat = absurd seat
-  seat_commit n true (Some st) subs ds (Some u) past c r k parts is e seat = row_commit R s laws n st subs ds past k parts u c r (e refl) is seat
-  seat_commit n false (Some st) subs ds (Some u) past c r k parts is e seat =
-      subst (λ (x : List (ℕ × List Clause)). IsRow n st x (ds ++ plain_news (Some st) subs ds past (Some k)) (settled_row (with_news k parts u))) (sym (append-nil subs)) (row_news n st subs ds past k parts u is seat)
+  seat_commit : (given : Unit → List Given) (n : UnitName) (b : Bool) (o : Option OwnState) (ds news : List Given) (p : Option Unit) (c : Call) (r : Reply) (k : Commit) → (o ≡ None → news ≡ []) → (b ≡ true → answer_of R n o ds c ≡ (r, Effect.Commit k)) → ((u : Unit) → u.local.unit ≡ n → given u ≡ news) → IsSeat n o ds p →
+      IsSeat n (after_entry R n b c r (Effect.Commit k) o) (ds ++ news) (handed_over given b c r k p)
+  seat_commit given n true None ds news None c r k h e is seat = ap (λ (l : List Given). ds ++ l) (h refl) ∙ append-nil ds ∙ seat
+  seat_commit given n false None ds news None c r k h e is seat = ap (λ (l : List Given). ds ++ l) (h refl) ∙ append-nil ds ∙ seat
+  seat_commit given n b None ds news (Some u) c r k h e is seat = absurd seat
+  seat_commit given n b (Some st) ds news None c r k h e is seat = absurd seat
+  seat_commit given n true (Some st) ds news (Some u) c r k h e is seat = row_commit R s laws given n st ds news u c r k (e refl) (is u seat.unit) seat
+  seat_commit given n false (Some st) ds news (Some u) c r k h e is seat = row_news given n st ds news u (is u seat.unit) seat
 
-  -- the seat of an instance: there is none
-  seat_none : (n : UnitName) (b : Bool) (o : Option OwnState) (subs : List (ℕ × List Clause)) (ds : List Given) (p : Option Unit) (c : Call) (r : Reply) (k : Commit) (parts : List Part) → o ≡ None → IsSeat n o subs ds p →
-      IsSeat n (after_entry R n b c r (Effect.Commit k) o) (subs ++ option_to_list (subscribed_in R b c r o)) (ds ++ []) (handed_over b c r k parts p)
-  seat_none n true None subs ds None c r k parts h seat = (append-nil subs ∙ seat.0, append-nil ds ∙ seat.1)
-  seat_none n false None subs ds None c r k parts h seat = (append-nil subs ∙ seat.0, append-nil ds ∙ seat.1)
-  seat_none n b None subs ds (Some u) c r k parts h seat = absurd seat
-  seat_none n b (Some st) subs ds p c r k parts h seat = absurd (let z : ⊥ = cc in z)
+  -- marks after a commit
+  marked_commit : (past : List Entry) (us us' : List Unit) (evs evs' : List EventRow) (x x' : FilterIndex) (k : Commit) (j : ℕ) (after : List Part) (ps : List Pair) (given : Unit → List Given) → Agrees R s past us evs x → IsMade R s past us evs evs' x x' k j after ps given → ((n : UnitName) → place_of n us' ≡ place_of n us) →
+      (n : UnitName) (ev : EventName) (m : ℕ) → is_marked x'.handed (place_of n us') (event_place ev evs') m ≡ was_handed (deliveries R s past n ++ news_of R s past n (Some k)) ev m
+  marked_commit past us us' evs evs' x x' k j after ps given agree made here n ev m =
+      ap (λ (p : Option ℕ). is_marked x'.handed p (event_place ev evs') m) (here n)
+      ∙ ap (λ (e : Option ℕ). is_marked x'.handed (place_of n us) e m) (made.places ev)
+      ∙ by (place_of n us) refl (event_place ev evs) refl
+      ∙ sym (list_any-append (λ (d : Given). same_event d.event ev && (d.sub == m)) (deliveries R s past n) (news_of R s past n (Some k)))
+    where
+      before : Bool
+      before = was_handed (deliveries R s past n) ev m
 
-  seat_after : (past : List Entry) (n : UnitName) (b : Bool) (p : Option Unit) (c : Call) (r : Reply) (k : Commit) (parts : List Part) → ((o : List ℕ) (m : ℕ) (t : List (List ℕ)) → own_instance R s past o m t ≡ None) → parts ≡ apply k.edit (contents past k.event) → (b ≡ true → answer R s past n c ≡ (r, Effect.Commit k)) →
-      IsSeat n (own R s past n) (subscriptions R s past n) (deliveries R s past n) p →
-      IsSeat n (after_entry R n b c r (Effect.Commit k) (own R s past n)) (subscriptions R s past n ++ option_to_list (subscribed_in R b c r (own R s past n))) (deliveries R s past n ++ news_of R s past n (Some k)) (handed_over b c r k parts p)
-  unfolding news_of
-  seat_after past (Root path) b p c r k parts g is e seat = seat_commit (Root path) b (own_plain R s past path) (subscriptions R s past (Root path)) (deliveries_plain R s past path) p past c r k parts is e seat
-  seat_after past (Managed o m t) b p c r k parts g is e seat = seat_none (Managed o m t) b (own_instance R s past o m t) _ _ p c r k parts (g o m t) seat
+      after_it : Bool
+      after_it = was_handed (news_of R s past n (Some k)) ev m
 
-  pub agrees_commit : (past : List Entry) (us : List Unit) (evs evs' : List EventRow) (a : UnitName) (c : Call) (r : Reply) (k : Commit) (parts : List Part) → Agrees R s past us evs → MakesNoUnit R c r → answer R s past a c ≡ (r, Effect.Commit k) → parts ≡ apply k.edit (parts_of k.event evs) →
-      ((e : EventName) → parts_of e evs' ≡ (if same_event k.event e then parts else parts_of e evs)) → Agrees R s (Done a c r (Effect.Commit k) ∷ past) (map settled_row (moved_at a (moved_row R c r (Effect.Commit k)) (map (with_news k parts) us))) evs'
-  agrees_commit past us evs evs' a c r k parts agree none right is put =
-      let is' : parts ≡ apply k.edit (contents past k.event) = is ∙ ap (apply k.edit) (agree.parts k.event) in record {
+      or_false : (b : Bool) → (b || false) ≡ b
+      or_false true = refl
+      or_false false = refl
+
+      by : (p : Option ℕ) → place_of n us ≡ p → (e : Option ℕ) → event_place ev evs ≡ e → is_marked x'.handed p e m ≡ (before || after_it)
+      by None h e g =
+          ap (λ (p : Option ℕ). is_marked x.handed p (event_place ev evs) m) (sym h) ∙ agree.marked n ev m
+          ∙ sym (or_false before) ∙ ap (λ (ds : List Given). before || was_handed ds ev m) (sym (none_news R s past n (Some k) (absent R s past us n agree.seats h)))
+      by (Some q) h None g =
+          let brought = made.brought n q h in
+          let old : false ≡ before = ap (λ (p : Option ℕ). is_marked x.handed p None m) (sym h) ∙ ap (λ (e : Option ℕ). is_marked x.handed (place_of n us) e m) (sym g) ∙ agree.marked n ev m in
+          let other : same_event k.event ev ≡ false = not_there evs k.event ev j made.place g in
+          old ∙ sym (or_false before) ∙ ap (λ (b : Bool). before || b)
+          (sym (ap (λ (ds : List Given). was_handed ds ev m) brought.1 ∙ handed_news k.event after brought.0 ps q ev m ∙ ap (λ (b : Bool). b && has_pair ps (q, m)) other))
+      by (Some q) h (Some i) g =
+          let brought = made.brought n q h in
+          let old : index.was_handed x.handed i (q, m) ≡ before = ap (λ (p : Option ℕ). is_marked x.handed p (Some i) m) (sym h) ∙ ap (λ (e : Option ℕ). is_marked x.handed (place_of n us) e m) (sym g) ∙ agree.marked n ev m in
+          made.booked i (q, m)
+          ∙ ap (λ (b : Bool). b || ((i == j) && has_pair ps (q, m))) old
+          ∙ ap (λ (b : Bool). before || (b && has_pair ps (q, m))) (same_place evs k.event ev j i made.place g)
+          ∙ ap (λ (b : Bool). before || b) (sym (ap (λ (ds : List Given). was_handed ds ev m) brought.1 ∙ handed_news k.event after brought.0 ps q ev m))
+
+  pub agrees_commit : (past : List Entry) (us : List Unit) (evs evs' : List EventRow) (x x' : FilterIndex) (a : UnitName) (c : Call) (r : Reply) (k : Commit) (j : ℕ) (after : List Part) (ps : List Pair) (given : Unit → List Given) → Agrees R s past us evs x → MakesNoUnit R c r → answer R s past a c ≡ (r, Effect.Commit k) →
+      ((st : OwnState) → own R s past a ≡ Some st → R.subscribes st c r ≡ None) → IsMade R s past us evs evs' x x' k j after ps given → Agrees R s (Done a c r (Effect.Commit k) ∷ past) (moved_at a (moved_row R c r (Effect.Commit k)) (map (with_news given) us)) evs' x'
+  agrees_commit past us evs evs' x x' a c r k j after ps given agree none right makes made =
+      let us' = moved_at a (moved_row R c r (Effect.Commit k)) (map (with_news given) us) in
+      let here : (n : UnitName) → place_of n us' ≡ place_of n us = λ n. place_of-names n us us' (names-moved a (moved_row R c r (Effect.Commit k)) (λ u. refl) (map (with_news given) us) ∙ names-map (with_news given) (λ u. refl) us) in
+      let is' : after ≡ apply k.edit (contents past k.event) = made.applied ∙ ap (apply k.edit) (agree.parts k.event) in record {
         legal = (agree.legal, right);
-        seats = λ n. seat_along n _ _ _ _ _ _ _ _
+        seats = λ n. seat_along n _ _ _ _ _ _
             (own_step R s past a c r (Effect.Commit k) none agree.unmanaged n)
-            refl
             (deliveries_step R s past a c r (Effect.Commit k) agree.unmanaged n)
-            (find-map settled_row (λ u. refl) n _ ∙ ap (option_map settled_row) (find-moved a (moved_row R c r (Effect.Commit k)) (λ u. refl) n _ ∙ ap (λ (p : Option Unit). if same a n then option_map (moved_row R c r (Effect.Commit k)) p else p) (find-map (with_news k parts) (λ u. refl) n us)))
-            (seat_after past n (same a n) (find n us) c r k parts agree.no_instances is' (λ e. subst (λ (m : UnitName). answer R s past m c ≡ (r, Effect.Commit k)) (same_name-exact a n e) right) (agree.seats n));
-        order = order_like us (map settled_row (moved_at a (moved_row R c r (Effect.Commit k)) (map (with_news k parts) us)))
-            (names-map settled_row (λ u. refl) (moved_at a (moved_row R c r (Effect.Commit k)) (map (with_news k parts) us)) ∙ names-moved a (moved_row R c r (Effect.Commit k)) (λ u. refl) (map (with_news k parts) us) ∙ names-map (with_news k parts) (λ u. refl) us)
-            agree.order;
-        parts = λ ev. put ev ∙ by ev (same_event k.event ev) refl is';
+            (find-moved a (moved_row R c r (Effect.Commit k)) (λ u. refl) n _ ∙ ap (λ (p : Option Unit). if same a n then option_map (moved_row R c r (Effect.Commit k)) p else p) (find-map (with_news given) (λ u. refl) n us))
+            (seat_commit given n (same a n) (own R s past n) (deliveries R s past n) (news_of R s past n (Some k)) (find n us) c r k
+            (none_news R s past n (Some k))
+            (λ e. subst (λ (m : UnitName). answer R s past m c ≡ (r, Effect.Commit k)) (same_name-exact a n e) right)
+            (λ u e. made.gives u ∙ ap (λ (m : UnitName). news_of R s past m (Some k)) e)
+            (agree.seats n));
+        subscribed = λ n. ap (λ (p : Option ℕ). subscribed_at p x'.enrolled) (here n) ∙ ap (subscribed_at (place_of n us)) (made.enrolled ∙ sym (append-nil x.enrolled) ∙ ap (λ (l : List (Subscription (List Clause))). x.enrolled ++ l) (sym (enrols_none (place_of a us)))) ∙ subscribed_more past us evs x a c r None agree makes n;
+        marked = λ n ev m. marked_commit past us us' evs evs' x x' k j after ps given agree made here n ev m ∙ ap (λ (ds : List Given). was_handed ds ev m) (sym (deliveries_step R s past a c r (Effect.Commit k) agree.unmanaged n));
+        parts = λ ev. made.put ev ∙ by ev (same_event k.event ev) refl is';
         unmanaged = unmanaged_step R s past a c r (Effect.Commit k) none agree.unmanaged;
         no_instances = no_instances_step R s past a c r (Effect.Commit k) agree.unmanaged agree.no_instances;
       }
     where
-      by : (ev : EventName) (b : Bool) → same_event k.event ev ≡ b → parts ≡ apply k.edit (contents past k.event) → (if b then parts else parts_of ev evs) ≡ (if b then apply k.edit (contents past ev) else contents past ev)
+      by : (ev : EventName) (b : Bool) → same_event k.event ev ≡ b → after ≡ apply k.edit (contents past k.event) → (if b then after else parts_of ev evs) ≡ (if b then apply k.edit (contents past ev) else contents past ev)
       by ev true e is' = is' ∙ ap (λ (x : EventName). apply k.edit (contents past x)) ((same_event_decides k.event ev).0 e)
       by ev false e is' = agree.parts ev
 
--- a table that differs in what is staged
-
-seat_like : (n : UnitName) (o : Option OwnState) (subs : List (ℕ × List Clause)) (ds : List Given) (p q : Option Unit) → option_map quieted q ≡ option_map quieted p → IsSeat n o subs ds p → IsSeat n o subs ds q
-seat_like n o subs ds p q e seat = back o q (subst (IsSeat n o subs ds) (sym e) (quiet o p seat))
-  where
-    quiet : (o : Option OwnState) (p : Option Unit) → IsSeat n o subs ds p → IsSeat n o subs ds (option_map quieted p)
-    quiet None None seat = seat
-    quiet None (Some u) seat = seat
-    quiet (Some st) None seat = seat
-    quiet (Some st) (Some u) seat = record { unit = seat.unit; own = seat.own; subscriptions = seat.subscriptions; left = seat.left; marks = seat.marks; taken = seat.taken }
-
-    back : (o : Option OwnState) (p : Option Unit) → IsSeat n o subs ds (option_map quieted p) → IsSeat n o subs ds p
-    back None None seat = seat
-    back None (Some u) seat = seat
-    back (Some st) None seat = seat
-    back (Some st) (Some u) seat = record { unit = seat.unit; own = seat.own; subscriptions = seat.subscriptions; left = seat.left; marks = seat.marks; taken = seat.taken }
-
-pub agrees_like : (R : Rules) (s : List OwnState) (past : List Entry) (us us' : List Unit) (evs : List EventRow) → map quieted us' ≡ map quieted us → Agrees R s past us evs → Agrees R s past us' evs
-agrees_like R s past us us' evs e agree = record {
-  legal = agree.legal;
-  seats = λ n. seat_like n _ _ _ (find n us) (find n us') (sym (find-map quieted (λ u. refl) n us') ∙ ap (find n) e ∙ find-map quieted (λ u. refl) n us) (agree.seats n);
-  order = order_like us us' (sym (names-map quieted (λ u. refl) us') ∙ ap names_of e ∙ names-map quieted (λ u. refl) us) agree.order;
-  parts = agree.parts;
-  unmanaged = agree.unmanaged;
-  no_instances = agree.no_instances;
-}
-
--- rows of events that tell the same parts serve as well
-pub agrees_parts : (R : Rules) (s : List OwnState) (past : List Entry) (us : List Unit) (evs evs' : List EventRow) → ((e : EventName) → parts_of e evs' ≡ parts_of e evs) → Agrees R s past us evs → Agrees R s past us evs'
-agrees_parts R s past us evs evs' same agree = record {
+-- a row without parts for an event that had none
+pub agrees_opened : (R : Rules) (s : List OwnState) (past : List Entry) (us : List Unit) (evs evs' : List EventRow) (x : FilterIndex) (event : EventName) → IsOpened event evs evs' → ((e : ℕ) (p : Pair) → length evs ≤ e → index.was_handed x.handed e p ≡ false) → Agrees R s past us evs x → Agrees R s past us evs' x
+agrees_opened R s past us evs evs' x event opened fresh agree = record {
   legal = agree.legal;
   seats = agree.seats;
-  order = agree.order;
-  parts = λ e. same e ∙ agree.parts e;
+  subscribed = agree.subscribed;
+  marked = λ n ev m. same n ev m opened ∙ agree.marked n ev m;
+  parts = λ e. opened_parts event evs evs' opened e ∙ agree.parts e;
   unmanaged = agree.unmanaged;
   no_instances = agree.no_instances;
 }
+  where
+    blank_marked : (p : Option ℕ) (m : ℕ) → is_marked x.handed p (Some (length evs)) m ≡ false
+    blank_marked None m = refl
+    blank_marked (Some k) m = fresh (length evs) (k, m) (omega arith)
+
+    none_marked : (p : Option ℕ) (m : ℕ) → is_marked x.handed p None m ≡ false
+    none_marked None m = refl
+    none_marked (Some k) m = refl
+
+    same : (n : UnitName) (ev : EventName) (m : ℕ) → IsOpened event evs evs' → is_marked x.handed (place_of n us) (event_place ev evs') m ≡ is_marked x.handed (place_of n us) (event_place ev evs) m
+    same n ev m (inl e) = ap (λ (l : List EventRow). is_marked x.handed (place_of n us) (event_place ev l) m) e
+    same n ev m (inr e) =
+        ap (λ (l : List EventRow). is_marked x.handed (place_of n us) (event_place ev l) m) e.1
+        ∙ ap (λ (q : Option ℕ). is_marked x.handed (place_of n us) q m) (place_more event evs ev e.0)
+        ∙ by (same_event event ev) refl
+      where
+        by : (b : Bool) → same_event event ev ≡ b → is_marked x.handed (place_of n us) (if b then Some (length evs) else event_place ev evs) m ≡ is_marked x.handed (place_of n us) (event_place ev evs) m
+        by true f =
+            let gone : event_place ev evs ≡ None = subst (λ (z : EventName). event_place z evs ≡ None) ((same_event_decides event ev).0 f) e.0 in
+            blank_marked (place_of n us) m ∙ sym (ap (λ (q : Option ℕ). is_marked x.handed (place_of n us) q m) gone ∙ none_marked (place_of n us) m)
+        by false f = refl

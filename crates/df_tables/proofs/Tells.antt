@@ -1,47 +1,42 @@
 -- What the tables tell of units and of answers.
 use Rattle.std.proofs.Common.{◌≡◌, List, [], ◌∷◌, Option, Some, None, map, is_some, refl, ap, sym, subst, ◌∙◌}
 use Rattle.std.specs.Prelude.{option_to_list, slice_get}
-use Rattle.std.proofs.lemmas.List.{append-nil}
 use Rattle.df_label.specs.Ascending.{contains_by}
 use Rattle.df_local.specs.code.LocalState.{LocalState}
-use Rattle.df_part.specs.declared.part.Part.{Part}
 use Rattle.df_rules.specs.Deliveries.{deliveries}
 use Rattle.df_rules.specs.Legal.{answer, answer_of}
 use Rattle.df_rules.specs.Own.{exists, own}
 use Rattle.df_rules.specs.Rules.{Rules}
-use Rattle.df_rules.specs.Subscriptions.{subscriptions}
 use Rattle.df_unit.specs.OwnState.{OwnState}
 use Rattle.df_unit.specs.UnitOrder.{unit_cmp}
 use Rattle.df_unit.specs.declared.call.Call.{Call}
 use Rattle.df_unit.specs.declared.call.Call.TheVariants.{Get}
-use Rattle.df_unit.specs.declared.commit.Commit.{Commit}
 use Rattle.df_unit.specs.declared.commit.Given.{Given}
 use Rattle.df_unit.specs.declared.entry.Effect.{Effect}
 use Rattle.df_unit.specs.declared.entry.Entry.{Entry}
 use Rattle.df_unit.specs.declared.name.UnitName.{UnitName}
 use Rattle.df_unit.specs.declared.reply.Reply.{Reply}
-use Rattle.df_tables.specs.Agree.{IsRow, IsSeat, Agrees}
+use Rattle.df_tables.specs.Agree.{Agrees, FilterIndex, IsRow, IsSeat}
 use Rattle.df_local.specs.Locally.{row_answer}
-use Rattle.df_tables.specs.Table.{find, names_of, quieted, with_news}
+use Rattle.df_tables.specs.Table.{find, names_of}
 use Rattle.df_tables.specs.declared.events.EventRow.{EventRow}
 use Rattle.df_tables.specs.declared.units.Unit.{Unit}
 use Rattle.df_tables.proofs.Finds.{find_some}
-use Rattle.df_tables.proofs.Places.{quiet_part}
 
-module _ (R : Rules) (s : List OwnState) (past : List Entry) (us : List Unit) (evs : List EventRow) (agree : Agrees R s past us evs) (a : UnitName) where
+module _ (R : Rules) (s : List OwnState) (past : List Entry) (us : List Unit) (evs : List EventRow) (x : FilterIndex) (agree : Agrees R s past us evs x) (a : UnitName) where
   -- the unit's row is that of its own state
-  pub row_at : (u : Unit) → find a us ≡ Some u → IsRow a u.local.own (subscriptions R s past a) (deliveries R s past a) u × (own R s past a ≡ Some u.local.own)
-  row_at u e = by (own R s past a) (subst (λ (p : Option Unit). IsSeat a (own R s past a) (subscriptions R s past a) (deliveries R s past a) p) e (agree.seats a))
+  pub row_at : (u : Unit) → find a us ≡ Some u → IsRow a u.local.own (deliveries R s past a) u × (own R s past a ≡ Some u.local.own)
+  row_at u e = by (own R s past a) (subst (λ (p : Option Unit). IsSeat a (own R s past a) (deliveries R s past a) p) e (agree.seats a))
     where
-      by : (o : Option OwnState) → IsSeat a o (subscriptions R s past a) (deliveries R s past a) (Some u) → IsRow a u.local.own (subscriptions R s past a) (deliveries R s past a) u × (o ≡ Some u.local.own)
+      by : (o : Option OwnState) → IsSeat a o (deliveries R s past a) (Some u) → IsRow a u.local.own (deliveries R s past a) u × (o ≡ Some u.local.own)
       by None seat = absurd seat
-      by (Some st) seat = (subst (λ (x : OwnState). IsRow a x (subscriptions R s past a) (deliveries R s past a) u) (sym seat.own) seat, ap Some (sym seat.own))
+      by (Some st) seat = (subst (λ (x : OwnState). IsRow a x (deliveries R s past a) u) (sym seat.own) seat, ap Some (sym seat.own))
 
   -- who has no row isn't there
   pub none_at : find a us ≡ None → own R s past a ≡ None
-  none_at e = by (own R s past a) (subst (λ (p : Option Unit). IsSeat a (own R s past a) (subscriptions R s past a) (deliveries R s past a) p) e (agree.seats a))
+  none_at e = by (own R s past a) (subst (λ (p : Option Unit). IsSeat a (own R s past a) (deliveries R s past a) p) e (agree.seats a))
     where
-      by : (o : Option OwnState) → IsSeat a o (subscriptions R s past a) (deliveries R s past a) None → o ≡ None
+      by : (o : Option OwnState) → IsSeat a o (deliveries R s past a) None → o ≡ None
       by None seat = refl
       by (Some st) seat = absurd seat
 
@@ -49,7 +44,7 @@ module _ (R : Rules) (s : List OwnState) (past : List Entry) (us : List Unit) (e
   pub named_at : contains_by unit_cmp (names_of us) a ≡ exists R s past a
   named_at = find_some a us ∙ by (own R s past a) (find a us) (agree.seats a)
     where
-      by : (o : Option OwnState) (p : Option Unit) → IsSeat a o (subscriptions R s past a) (deliveries R s past a) p → is_some p ≡ is_some o
+      by : (o : Option OwnState) (p : Option Unit) → IsSeat a o (deliveries R s past a) p → is_some p ≡ is_some o
       by None None seat = refl
       by None (Some u) seat = absurd seat
       by (Some st) None seat = absurd seat
@@ -71,7 +66,3 @@ pub first_answers : (l : LocalState) (ds : List Given) (c : Call) → row_answer
 first_answers l [] Get = refl
 first_answers l (d ∷ ds) Get = refl
 first_answers l ds _ = refl
-
--- what is staged at all units is seen nowhere
-pub quiet_all : (k : Commit) (parts : List Part) (us : List Unit) → map quieted (map (with_news k parts) us) ≡ map quieted us
-quiet_all k parts us = ap (map quieted) (sym (append-nil (map (with_news k parts) us))) ∙ quiet_part k parts us [] ∙ ap (map quieted) (append-nil us)

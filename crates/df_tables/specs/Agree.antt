@@ -1,8 +1,13 @@
 -- When the tables agree with the journal. The newest entry stands first.
-use Rattle.std.specs.Prelude.{◌≡◌, ℕ, ◌≤◌, Option, Some, None, List, [], map, drop, length}
+use Rattle.std.specs.Prelude.{◌≡◌, ℕ, ◌≤◌, ◌<◌, ◌==◌, Bool, false, if◌then◌else◌, Option, Some, None, List, [], ◌∷◌, drop, length}
+use Rattle.std.specs.List.{All}
 use Rattle.df_filter.specs.declared.clause.Clause.{Clause}
+use Rattle.df_index.specs.Due.{Pair}
+use Rattle.df_index.specs.IndexState as index
+use Rattle.df_index.specs.IndexState.{IndexState}
+use Rattle.df_index.specs.declared.subscription.Subscription.{Subscription}
 use Rattle.df_rules.specs.Commits.{contents}
-use Rattle.df_rules.specs.Deliveries.{deliveries}
+use Rattle.df_rules.specs.Deliveries.{deliveries, was_handed}
 use Rattle.df_rules.specs.Legal.{Legal}
 use Rattle.df_rules.specs.Own.{own, own_instance, fixed}
 use Rattle.df_rules.specs.Rules.{Rules}
@@ -14,41 +19,79 @@ use Rattle.df_unit.specs.declared.entry.Entry.{Entry}
 use Rattle.df_unit.specs.declared.name.EventName.{EventName}
 use Rattle.df_unit.specs.declared.name.UnitName.{UnitName}
 use Rattle.df_unit.specs.declared.reply.Reply.{Reply}
-use Rattle.df_tables.specs.Line.{mark_of}
-use Rattle.df_tables.specs.Table.{IsInOrder, find, parts_of}
+use Rattle.df_tables.specs.Events.{event_place}
+use Rattle.df_tables.specs.Hand.{IsCalm}
+use Rattle.df_tables.specs.Table.{IsInOrder, find, parts_of, place_of}
 use Rattle.df_tables.specs.declared.events.EventRow.{EventRow}
 use Rattle.df_tables.specs.declared.units.Unit.{Unit}
 
--- the row of the unit, with its own state, its subscriptions and its deliveries
-pub record IsRow (n : UnitName) (st : OwnState) (subs : List (ℕ × List Clause)) (ds : List Given)
-    (u : Unit) : Type 0 where
+-- the index of ordinary subscriptions
+abbrev pub FilterIndex : Type 0
+FilterIndex = IndexState (List Clause)
+
+-- the row of the unit, with its own state and its deliveries
+pub record IsRow (n : UnitName) (st : OwnState) (ds : List Given) (u : Unit) : Type 0 where
   pub unit : u.local.unit ≡ n
   pub own : u.local.own ≡ st
-  pub subscriptions : u.subscriptions ≡ subs
   pub left : u.line.left ≡ drop st.given ds
-  pub marks : u.line.marks ≡ map mark_of ds
   pub taken : st.given ≤ length ds
 
 -- a unit has a row exactly where it exists
-abbrev pub IsSeat : UnitName → Option OwnState → List (ℕ × List Clause) → List Given → Option Unit →
-    Type 0
-IsSeat n None subs ds None = (subs ≡ []) × (ds ≡ [])
-IsSeat n (Some st) subs ds (Some u) = IsRow n st subs ds u
-IsSeat n None subs ds (Some u) = ⊥
-IsSeat n (Some st) subs ds None = ⊥
+abbrev pub IsSeat : UnitName → Option OwnState → List Given → Option Unit → Type 0
+IsSeat n None ds None = ds ≡ []
+IsSeat n (Some st) ds (Some u) = IsRow n st ds u
+IsSeat n None ds (Some u) = ⊥
+IsSeat n (Some st) ds None = ⊥
 
--- the journal is legal, each unit's row tells of its own state, its subscriptions and its
--- deliveries, the rows stand in the order of units, and each event's row tells of its parts
+-- the subscriptions of the unit at a place, each a number and a filter, the oldest first
+abbrev pub subscriptions_at : ℕ → List (Subscription (List Clause)) → List (ℕ × List Clause)
+subscriptions_at k [] = []
+subscriptions_at k (s ∷ ss) =
+    if s.unit == k then (s.sub, s.filter) ∷ subscriptions_at k ss else subscriptions_at k ss
+
+-- the subscriptions of the unit whose place is this, if there is one
+abbrev pub subscribed_at : Option ℕ → List (Subscription (List Clause)) → List (ℕ × List Clause)
+subscribed_at None enrolled = []
+subscribed_at (Some k) enrolled = subscriptions_at k enrolled
+
+-- the subscription, if one is made, of the unit whose place is this
+abbrev pub enrols : Option ℕ → Option (ℕ × List Clause) → List (Subscription (List Clause))
+enrols None made = []
+enrols (Some k) None = []
+enrols (Some k) (Some sub) = record { unit = k; sub = sub.0; filter = sub.1 } ∷ []
+
+-- whether the event at a place, if there is one, is marked as handed to a subscription of the unit
+-- at a place, if there is one
+abbrev pub is_marked : List (List Pair) → Option ℕ → Option ℕ → ℕ → Bool
+is_marked handed None event n = false
+is_marked handed (Some k) None n = false
+is_marked handed (Some k) (Some event) n = index.was_handed handed event (k, n)
+
+-- the journal is legal, each unit's row tells of its own state and its deliveries, the index of its
+-- subscriptions and of what was handed to them, and each event's row of its parts
 pub record Agrees (R : Rules) (s : List OwnState) (past : List Entry) (units : List Unit)
-    (events : List EventRow) : Type 0 where
+    (events : List EventRow) (x : FilterIndex) : Type 0 where
   pub legal : Legal R s past
-  pub seats : (n : UnitName) → IsSeat n (own R s past n) (subscriptions R s past n)
-      (deliveries R s past n) (find n units)
-  pub order : IsInOrder units
+  pub seats : (n : UnitName) →
+      IsSeat n (own R s past n) (deliveries R s past n) (find n units)
+  pub subscribed : (n : UnitName) →
+      subscribed_at (place_of n units) x.enrolled ≡ subscriptions R s past n
+  pub marked : (n : UnitName) (event : EventName) (sub : ℕ) →
+      is_marked x.handed (place_of n units) (event_place event events) sub
+      ≡ was_handed (deliveries R s past n) event sub
   pub parts : (event : EventName) → parts_of event events ≡ contents past event
   -- no call so far made a managed subscription, so there is no instance
   pub unmanaged : (o : List ℕ) (n : ℕ) → fixed R s past o n ≡ None
   pub no_instances : (o : List ℕ) (n : ℕ) (t : List (List ℕ)) → own_instance R s past o n t ≡ None
+
+-- the rows stand in the order of units, nothing is staged, each subscription is of a row, and no
+-- event without a row is marked
+pub record IsWhole (units : List Unit) (events : List EventRow) (x : FilterIndex) : Type 0 where
+  pub order : IsInOrder units
+  pub calm : All IsCalm units
+  pub enrolled : All (λ s. s.unit < length units) x.enrolled
+  pub fresh : (event : ℕ) (p : Pair) → length events ≤ event →
+      index.was_handed x.handed event p ≡ false
 
 -- a call with this reply makes neither a managed subscription nor a unit
 pub record MakesNoUnit (R : Rules) (c : Call) (r : Reply) : Type 0 where

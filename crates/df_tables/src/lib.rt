@@ -1,16 +1,15 @@
-//! The tables of the machine: the units, each with what it is to be handed, and the parts that
-//! each event has.
+//! The tables of the machine: the units, each with what it is to be handed, the parts that each
+//! event has, and the index of subscriptions.
 #![tactic(auto)]
 
+mod board;
 mod events;
+mod handing;
 mod line;
 mod moves;
-mod news;
-#[cfg(test)]
-mod tests;
 mod units;
 
+pub use board::Board;
 pub use events::{EventRow, Events};
 pub use line::Line;
-pub use moves::{Ready, hand_over, move_unit, prepare};
-pub use units::{Subscriptions, Unit, find, first_unit};
+pub use units::{Unit, first_unit};

@@ -1,84 +1,45 @@
 //! What a unit is to be handed. Deliveries are staged first, with all the memory that they need,
 //! and settled later without any.
 
-ghost use Rattle.std.specs.Prelude.{◌≡◌, ◌==◌, ◌&&◌, [], IfOk, OnOk, OnErr, slice_get, drop, map, length, option_copied};
-ghost use Rattle.df_unit.specs.Name.{same_event};
+ghost use Rattle.std.specs.Prelude.{◌≡◌, [], OnOk, OnErr, slice_get, drop, option_copied};
 ghost use Rattle.df_unit.specs.Rows.{is_nil};
-ghost use Rattle.df_tables.specs.Line.{mark_of, settled, was_marked};
+ghost use Rattle.df_tables.specs.Line.{quiet, settled, staged_more};
 
 use df_label::NoMemory;
-use df_unit::{EventName, Given};
+use df_unit::Given;
 use std::alloc::Global;
 use std::collections::VecDeque;
 use std::marker::Model;
 
-/// An event that was handed to a subscription.
-#[derive(Drop)]
-pub(crate) struct Mark {
-    pub event: EventName,
-    pub sub: u32,
-}
-
-/// The deliveries that are left, the marks of all that there were, and the deliveries about to be.
+/// The deliveries that are left, and those about to be.
 #[derive(Drop)]
 pub struct Line {
     left: VecDeque<Given>,
-    marks: Vec<Mark>,
     staged: VecDeque<Given>,
-    staged_marks: Vec<Mark>,
 }
 
 impl Model for Line {
-    ghost use Rattle.std.specs.Prelude.{◌≡◌, ◌+◌, ◌≤◌, vec_len, vec_capacity, map};
+    ghost use Rattle.std.specs.Prelude.{◌+◌, ◌≤◌};
     ghost use Rattle.std.specs.VecDeque.{deque_len, deque_capacity};
-    ghost use Rattle.df_tables.specs.Line.{LineState, line_code, mark_of};
+    ghost use Rattle.df_tables.specs.Line.{LineState, line_code};
 
     ghost Value = { LineState };
 
     ghost coded = { line_code };
 
-    ghost view = { λ a. record {
-      left = a.left.items;
-      marks = a.marks.items;
-      staged = a.staged.items;
-    } };
+    ghost view = { λ a. record { left = a.left.items; staged = a.staged.items } };
 
-    ghost invariant = { λ a. record {
-      left_room : deque_len a.left + deque_len a.staged ≤ deque_capacity a.left;
-      marks_room : vec_len a.marks + vec_len a.staged_marks ≤ vec_capacity a.marks;
-      marked : a.staged_marks.items ≡ map mark_of a.staged.items;
-    } };
-}
-
-fn marks_of(alloc: Global, news: &[Given]) -> Result<Vec<Mark>, NoMemory>
-    ensures { IfOk result (λ v. v.items ≡ map mark_of news.now) }
-{
-    let mut marks = Vec::new(alloc);
-    for given in news {
-        let event = given.event.copy()?;
-        marks.push(Mark {
-            event,
-            sub: given.sub,
-        })?;
-    }
-    Ok(marks)
-}
-
-fn is_mark(mark: &Mark, event: &EventName, sub: u32) -> bool
-    ensures { result ≡ (same_event mark.now.event event.now && (mark.now.sub == sub)) }
-{
-    mark.event.same(event) && mark.sub == sub
+    ghost invariant = { λ a. deque_len a.left + deque_len a.staged ≤ deque_capacity a.left };
 }
 
 impl Line {
+    /// Takes no memory.
     pub fn new(alloc: Global) -> Line
-        ensures { result ≡ record { left = []; marks = []; staged = [] } }
+        ensures { result ≡ record { left = []; staged = [] } }
     {
         Line {
             left: VecDeque::new(alloc),
-            marks: Vec::new(alloc),
             staged: VecDeque::new(alloc),
-            staged_marks: Vec::new(alloc),
         }
     }
 
@@ -103,32 +64,33 @@ impl Line {
         let _first = self.left.pop_front();
     }
 
-    /// Whether the event was handed to the subscription.
-    pub fn was_handed(&self, event: &EventName, sub: u32) -> bool
-        ensures { result ≡ was_marked self.now.marks event.now sub }
-    {
-        self.marks.iter().any(|mark| is_mark(mark, event, sub))
-    }
-
-    /// Makes ready what is to be handed.
-    pub fn stage(&mut self, news: Vec<Given>) -> Result<(), NoMemory>
-        ensures ok { OnOk result (self.new ≡ record self.old { staged = news.items }) }
+    /// Makes one more ready, with all the memory that it needs.
+    pub fn stage(&mut self, given: Given) -> Result<(), NoMemory>
+        ensures ok { OnOk result (self.new ≡ staged_more given self.old) }
         ensures unchanged { OnErr result (self.new ≡ self.old) }
     {
-        let alloc = *self.marks.allocator();
-        let marks = marks_of(alloc, news.as_slice())?;
-        self.left.reserve(news.len())?;
-        self.marks.reserve(marks.len())?;
-        self.staged = VecDeque::from(news);
-        self.staged_marks = marks;
+        let Ok(()) = self.staged.reserve(1) else {
+            return Err(NoMemory);
+        };
+        let room = self.staged.len() + 1;
+        let Ok(()) = self.left.reserve(room) else {
+            return Err(NoMemory);
+        };
+        self.staged.push_back_reserved(given);
         Ok(())
     }
 
-    /// Hands what was made ready.
+    /// Hands over what is ready. Takes no memory.
     pub fn settle(&mut self)
         ensures { self.new ≡ settled self.old }
     {
         let _left = self.left.append(&mut self.staged);
-        let _marks = self.marks.append(&mut self.staged_marks);
+    }
+
+    /// Lets go what is ready.
+    pub fn quiet(&mut self)
+        ensures { self.new ≡ quiet self.old }
+    {
+        self.staged.clear();
     }
 }

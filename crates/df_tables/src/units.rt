@@ -1,79 +1,21 @@
-//! The units, each with its own state, its ordinary subscriptions and what it is to be handed.
+//! The units, each with its own state and what it is to be handed.
 
-ghost use Rattle.std.specs.Prelude.{◌≡◌, ◌<◌, ◌∷◌, [], ◌++◌, ◌-◌, length, take, map, IfOk, IfSome, OnOk, OnErr, option_copied};
-ghost use Rattle.std.specs.List.{position_from};
-ghost use Rattle.df_unit.specs.Name.{same};
+ghost use Rattle.std.specs.Prelude.{◌≡◌, ◌<◌, Some, length, IfOk, IfSome, OnOk, OnErr, option_copied};
 ghost use Rattle.df_unit.specs.UnitOrder.{unit_cmp};
-ghost use Rattle.df_tables.specs.Table.{IsInOrder, find, first_row, quieted, settled_row, with_news};
+ghost use Rattle.df_tables.specs.Labels.{AreLabels, inputs};
+ghost use Rattle.df_tables.specs.Table.{IsInOrder, find, first_row, place_of};
 
 use crate::line::Line;
-use crate::news::news;
-use df_filter::Filter;
 use df_label::{Label, NoMemory, Privileges};
 use df_local::Local;
-use df_part::Contents;
-use df_unit::{Commit, UnitName};
+use df_unit::UnitName;
 use std::alloc::Global;
 use std::cmp::Ordering;
-use std::marker::Model;
 
-/// A unit's ordinary subscriptions, each a number and a filter, the oldest first.
-#[derive(Drop)]
-pub struct Subscriptions {
-    rows: Vec<(u32, Filter)>,
-}
-
-impl Model for Subscriptions {
-    ghost use Rattle.std.specs.Prelude.{ℕ, List};
-    ghost use Rattle.df_filter.specs.declared.clause.Clause.{Clause};
-    ghost use Rattle.std.specs.Coded.{coded×, coded_list, coded_ℕ};
-    ghost use Rattle.df_filter.specs.contracts.filter.Filter as filter;
-
-    ghost Value = { List (ℕ × List Clause) };
-
-    ghost coded = { coded_list (coded× coded_ℕ filter.the_row.coded) };
-
-    ghost view = { λ s. s.rows.items };
-}
-
-impl Subscriptions {
-    /// None. Takes no memory.
-    pub fn new(alloc: Global) -> Subscriptions
-        ensures { result ≡ [] }
-    {
-        Subscriptions {
-            rows: Vec::new(alloc),
-        }
-    }
-
-    pub(crate) fn as_slice(&self) -> &[(u32, Filter)]
-        ensures { result.now ≡ self.now }
-    {
-        self.rows.as_slice()
-    }
-
-    /// One more, the newest.
-    pub(crate) fn push(&mut self, number: u32, filter: Filter) -> Result<(), NoMemory>
-        ensures ok { OnOk result (self.new ≡ self.old ++ (number, filter) ∷ []) }
-        ensures unchanged { OnErr result (self.new ≡ self.old) }
-    {
-        self.rows.push((number, filter))?;
-        Ok(())
-    }
-
-    /// The newest goes.
-    pub(crate) fn pop(&mut self)
-        ensures { self.new ≡ take (length self.old - 1) self.old }
-    {
-        let _newest = self.rows.pop();
-    }
-}
-
-/// A unit: its own state, its ordinary subscriptions, and what it is to be handed.
+/// A unit: its own state, and what it is to be handed.
 #[derive(Drop)]
 pub struct Unit {
     pub local: Local,
-    pub subscriptions: Subscriptions,
     pub line: Line,
 }
 
@@ -87,7 +29,7 @@ fn compare(unit: &Unit, name: &UnitName) -> Ordering
 /// The place of a unit.
 pub fn place(units: &[Unit], name: &UnitName) -> Option<usize>
     requires order { IsInOrder units.now }
-    ensures place { result ≡ position_from (λ u. same u.local.unit name.now) 0 units.now }
+    ensures place { result ≡ place_of name.now units.now }
     ensures within { IfSome result (λ k. k < length units.now) }
 {
     units.binary_search_by(|unit| compare(unit, name)).ok()
@@ -115,39 +57,46 @@ pub fn first_unit(
 {
     Ok(Unit {
         local: Local::of_root(alloc, number, label, privileges)?,
-        subscriptions: Subscriptions::new(alloc),
         line: Line::new(alloc),
     })
 }
 
-/// Stages at each unit what a commit brings it.
-pub fn stage_all(
-    alloc: Global,
-    units: &mut [Unit],
-    commit: &Commit,
-    after: &Contents,
-) -> Result<(), NoMemory>
-    ensures ok { OnOk result (units.new ≡ map (with_news commit.now after.now) units.old) }
-    ensures quiet { OnErr result (map quieted units.new ≡ map quieted units.old) }
+/// The labels at which units read.
+pub fn labels_of(alloc: Global, units: &[Unit]) -> Result<Vec<Label>, NoMemory>
+    ensures { IfOk result (λ v. v.items ≡ inputs units.now) }
 {
-    for i in 0..units.len() {
-        let unit = &mut units[i];
-        let Ok(news) = news(alloc, unit, commit, after) else {
-            return Err(NoMemory);
-        };
-        let Ok(()) = unit.line.stage(news) else {
-            return Err(NoMemory);
-        };
+    let mut labels = Vec::new(alloc);
+    for unit in units {
+        labels.push(unit.local.input().copy()?)?;
     }
+    Ok(labels)
+}
+
+/// The label of the unit at a place is that of now.
+fn renew(units: &[Unit], place: usize, labels: &mut Vec<Label>) -> Result<(), NoMemory>
+    requires { AreLabels (inputs units.now) labels.old.items (Some place) }
+    ensures ok { OnOk result (labels.new.items ≡ inputs units.now) }
+    ensures unchanged { OnErr result (labels.new.items ≡ labels.old.items) }
+{
+    let Ok(label) = units[place].local.input().copy() else {
+        return Err(NoMemory);
+    };
+    labels[place] = label;
     Ok(())
 }
 
-/// Hands each unit what was staged. Takes no memory.
-pub fn settle_all(units: &mut [Unit])
-    ensures { units.new ≡ map settled_row units.old }
+/// All labels are those of now.
+pub fn refresh(
+    units: &[Unit],
+    labels: &mut Vec<Label>,
+    stale: Option<usize>,
+) -> Result<(), NoMemory>
+    requires { AreLabels (inputs units.now) labels.old.items stale }
+    ensures ok { OnOk result (labels.new.items ≡ inputs units.now) }
+    ensures unchanged { OnErr result (labels.new.items ≡ labels.old.items) }
 {
-    for i in 0..units.len() {
-        let unit = &mut units[i];
-        unit.line.settle();
+    match stale {
+        None => Ok(()),
+        Some(place) => renew(units, place, labels),
     }
 }

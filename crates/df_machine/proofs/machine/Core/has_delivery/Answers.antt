@@ -5,12 +5,10 @@ use Rattle.df_machine.proofs.machine.Core.has_delivery.Goals as goal
 
 pub returns-in-Some : goal.returns-in-Some
 returns-in-Some c =
-    let found = sym (rw c.as_slice.ensures.value at c.in-Some.ensures) in
     subst (λ (v : State). not c.is_empty.result ≡ has_delivery_in v c.args.name.now) c.self.view_is
-    (ap not c.is_empty.ensures ∙ due_at c.self.inside.start (reverse c.self.inside.journal.items) c.self.inside.units.items c.self.inside.events c.self.invariant c.args.name.now c.in-Some.unit.now found)
+    (ap not c.is_empty.ensures ∙ due_at c.self.inside.start (reverse c.self.inside.journal.items) c.self.inside.board c.self.invariant.0 c.self.invariant.1 c.args.name.now c.in-Some.unit.now (sym c.in-Some.ensures))
 
 pub returns-in-None : goal.returns-in-None
 returns-in-None c =
-    let absent = sym (rw c.as_slice.ensures.value at c.in-None.ensures) in
     subst (λ (v : State). false ≡ has_delivery_in v c.args.name.now) c.self.view_is
-    (due_none c.self.inside.start (reverse c.self.inside.journal.items) c.self.inside.units.items c.self.inside.events c.self.invariant c.args.name.now absent)
+    (due_none c.self.inside.start (reverse c.self.inside.journal.items) c.self.inside.board c.self.invariant.0 c.self.invariant.1 c.args.name.now (sym c.in-None.ensures))

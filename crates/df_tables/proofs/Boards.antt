@@ -1,0 +1,191 @@
+-- Tables that fit each other still do after a change of a row.
+use Rattle.std.proofs.Common.{◌≡◌, ◌⊎◌, inl, inr, ℕ, zero, suc, ◌+◌, ◌≤◌, ◌<◌, ◌==◌, ◌&&◌, ◌||◌, Bool, true, false, if◌then◌else◌, List, [], ◌∷◌, ◌++◌, length, map, get_or, set, Option, Some, None, refl, ap, sym, subst, ◌∙◌, arith, All, length-append}
+use Rattle.std.specs.Cmp.{tied_itself}
+use Rattle.std.proofs.lemmas.Bool.{eqb-true}
+use Rattle.std.proofs.lemmas.List.{append-nil, get_or_default, length-map}
+use Rattle.std.proofs.lemmas.List.Elements.{All-push}
+use Rattle.df_filter.specs.declared.clause.Clause.{Clause}
+use Rattle.df_index.specs.Due.{Pair, has_pair}
+use Rattle.df_index.specs.IndexState as index
+use Rattle.df_index.specs.declared.subscription.Subscription.{Subscription}
+use Rattle.df_label.specs.declared.label.Label.{Label}
+use Rattle.df_part.specs.declared.part.Part.{Part}
+use Rattle.df_rules.specs.Start.{rows}
+use Rattle.df_unit.specs.UnitOrder.{unit_cmp}
+use Rattle.df_unit.specs.UnitOrderLaws.{unit_cmp_total}
+use Rattle.df_unit.specs.declared.call.Call.{Call}
+use Rattle.df_unit.specs.declared.commit.Commit.{Commit}
+use Rattle.df_unit.specs.declared.commit.Given.{Given}
+use Rattle.df_unit.specs.declared.entry.Effect.{Effect}
+use Rattle.df_unit.specs.declared.name.EventName.{EventName}
+use Rattle.df_unit.specs.declared.name.UnitName.{UnitName}
+use Rattle.df_unit.specs.declared.reply.Reply.{Reply}
+use Rattle.df_tables.specs.Agree.{FilterIndex, IsWhole, enrols}
+use Rattle.df_tables.specs.Board.{IsBoard, IsHandedBoard, IsMovedBoard, IsOpenedBoard, IsReady, IsRenewed}
+use Rattle.df_tables.specs.Events.{IsOpened, blank}
+use Rattle.df_tables.specs.Hand.{IsCalm, IsNews, modify, news_at, with_news, with_state}
+use Rattle.df_tables.specs.Labels.{AreLabels, inputs}
+use Rattle.df_tables.specs.Line.{LineState}
+use Rattle.df_tables.specs.Moves.{is_in_out}
+use Rattle.df_tables.specs.Table.{IsInOrder, moved_at, moved_row, names_of, place_of, taken}
+use Rattle.df_tables.specs.declared.board.Board.{Board}
+use Rattle.df_tables.specs.declared.board.Ready.{Ready}
+use Rattle.df_tables.specs.declared.events.EventRow.{EventRow}
+use Rattle.df_tables.specs.declared.units.Unit.{Unit}
+use Rattle.df_tables.proofs.Each.{at_modify, length-modify, set_modify}
+use Rattle.df_tables.proofs.Handed.{at_map}
+use Rattle.df_tables.proofs.Inputs.{after_keeps}
+use Rattle.df_tables.proofs.Opened.{place_within}
+use Rattle.df_tables.proofs.Order.{names-map, order_like}
+use Rattle.df_tables.proofs.Places.{at_some}
+use Rattle.df_tables.proofs.Search.{found_at}
+
+names-modify : (f : Unit → Unit) → ((u : Unit) → (f u).local.unit ≡ u.local.unit) → (k : ℕ) (us : List Unit) → names_of (modify k f us) ≡ names_of us
+names-modify f kept k [] = refl
+names-modify f kept zero (u ∷ us) = ap (λ (n : UnitName). n ∷ names_of us) (kept u)
+names-modify f kept (suc k) (u ∷ us) = ap (λ (ns : List UnitName). u.local.unit ∷ ns) (names-modify f kept k us)
+
+-- to change the row at a unit's place is to change the table at the unit
+pub modify-moved : (a : UnitName) (us : List Unit) (k : ℕ) (f : Unit → Unit) → place_of a us ≡ Some k → modify k f us ≡ moved_at a f us
+modify-moved a [] k f h = refl
+modify-moved a (u ∷ us) k f h = sym (set_modify k f u (u ∷ us)) ∙ (at_some a (u ∷ us) k u h).1 f
+
+pub whole_modified : (us : List Unit) (evs : List EventRow) (x : FilterIndex) (k : ℕ) (f : Unit → Unit) → ((u : Unit) → (f u).local.unit ≡ u.local.unit) → ((u : Unit) → IsCalm u → IsCalm (f u)) → IsWhole us evs x → IsWhole (modify k f us) evs x
+whole_modified us evs x k f named still whole = record {
+  order = order_like us (modify k f us) (names-modify f named k us) whole.order;
+  calm = λ i d within.
+      let e = length-modify k f us in
+      let j : i < length us = omega (arith, e, within) in
+      subst IsCalm (sym (at_modify k f us i d j)) (by (k == i) (get_or us i d) (whole.calm i d j));
+  enrolled = λ i d within. let e = length-modify k f us in let h = whole.enrolled i d within in omega (arith, e, h);
+  fresh = whole.fresh;
+}
+  where
+    by : (b : Bool) (u : Unit) → IsCalm u → IsCalm (if b then f u else u)
+    by true u h = still u h
+    by false u h = h
+
+pub inputs-modify : (f : Unit → Unit) (k : ℕ) (us : List Unit) → ((d : Unit) → k < length us → (f (get_or us k d)).local.own.input ≡ (get_or us k d).local.own.input) → inputs (modify k f us) ≡ inputs us
+inputs-modify f k [] same = refl
+inputs-modify f zero (u ∷ us) same = ap (λ (l : Label). l ∷ inputs us) (same u (omega arith))
+inputs-modify f (suc k) (u ∷ us) same = ap (λ (ls : List Label). u.local.own.input ∷ ls) (inputs-modify f k us (λ d i. same d (omega arith)))
+
+-- labels that are those of now are so but for one, once the unit at its place has changed
+pub labels_stale : (f : Unit → Unit) (k : ℕ) (us : List Unit) → k < length us → AreLabels (inputs (modify k f us)) (inputs us) (Some k)
+labels_stale f k us within = (let e = length-modify k f us in let g = length-map (modify k f us) (λ (u : Unit). u.local.own.input) in omega (arith, e, g, within), λ l. go k us l within)
+  where
+    go : (k : ℕ) (us : List Unit) (l : Label) → k < length us → set (inputs us) k (get_or (inputs (modify k f us)) k l) ≡ inputs (modify k f us)
+    go k [] l h = absurd (omega arith)
+    go zero (u ∷ us) l h = refl
+    go (suc k) (u ∷ us) l h = ap (λ (ls : List Label). u.local.own.input ∷ ls) (go k us l (omega arith))
+
+pub inputs-map : (f : Unit → Unit) → ((u : Unit) → (f u).local.own.input ≡ u.local.own.input) → (us : List Unit) → inputs (map f us) ≡ inputs us
+inputs-map f same [] = refl
+inputs-map f same (u ∷ us) = let first = same u in let rest = inputs-map f same us in cc
+
+-- a board whose rows, events and index are those of another
+pub board_renewed : (old new : Board) → IsWhole old.rows.items old.events old.index → IsRenewed old new → AreLabels (inputs new.rows.items) new.labels.items new.stale → IsBoard new
+board_renewed old new whole same labels = record {
+  whole = subst (λ (us : List Unit). IsWhole us new.events new.index) (sym same.rows)
+      (subst (λ (evs : List EventRow). IsWhole old.rows.items evs new.index) (sym same.events)
+      (subst (λ (x : FilterIndex). IsWhole old.rows.items old.events x) (sym same.index) whole));
+  labels = labels;
+}
+
+taken_calm : (f : Effect) (l : LineState) → l.staged ≡ [] → (taken f l).staged ≡ []
+taken_calm Effect.Nothing l h = h
+taken_calm (Effect.Commit k) l h = h
+taken_calm (Effect.Given d) l h = h
+
+-- the subscription is of one of so many rows
+abbrev IsOf : ℕ → Subscription (List Clause) → Type 0
+IsOf n s = s.unit < n
+
+enrolled_more : (n : ℕ) (xs : List (Subscription (List Clause))) (k : ℕ) (made : Option (ℕ × List Clause)) → k < n → All (IsOf n) xs → All (IsOf n) (xs ++ enrols (Some k) made)
+enrolled_more n xs k None within h = subst (All (IsOf n)) (sym (append-nil xs)) h
+enrolled_more n xs k (Some sub) within h = All-push (IsOf n) xs (record { unit = k; sub = sub.0; filter = sub.1 }) h within
+
+-- the tables fit each other after an entry without a commit
+pub whole_moved : (k : ℕ) (c : Call) (r : Reply) (f : Effect) (made : Option (ℕ × List Clause)) (old new : Board) → k < length old.rows.items → IsMovedBoard k c r f made old new → IsWhole old.rows.items old.events old.index → IsWhole new.rows.items new.events new.index
+whole_moved k c r f made old new within moved whole =
+    let us = old.rows.items in
+    let after = whole_modified us old.events old.index k (moved_row rows c r f) (λ u. refl) (λ u h. taken_calm f u.line h) whole in
+    let more : IsWhole (modify k (moved_row rows c r f) us) old.events new.index = record {
+      order = after.order;
+      calm = after.calm;
+      enrolled = subst (λ (n : ℕ). All (IsOf n) new.index.enrolled) (sym (length-modify k (moved_row rows c r f) us))
+          (subst (All (IsOf (length us))) (sym moved.enrolled) (enrolled_more (length us) old.index.enrolled k made within whole.enrolled));
+      fresh = λ e p h. ap (λ (l : List (List Pair)). index.was_handed l e p) moved.handed ∙ whole.fresh e p h;
+    } in
+    subst (λ (l : List Unit). IsWhole l new.events new.index) (sym moved.rows)
+    (subst (λ (evs : List EventRow). IsWhole (modify k (moved_row rows c r f) us) evs new.index) (sym moved.events) more)
+
+opened_longer : (event : EventName) (old new : List EventRow) → IsOpened event old new → length old ≤ length new
+opened_longer event old new (inl e) = let n : length new ≡ length old = ap length e in omega (arith, n)
+opened_longer event old new (inr e) = let n : length new ≡ length old + 1 = ap length e.1 ∙ length-append old (blank event ∷ []) in omega (arith, n)
+
+pub whole_opened : (event : EventName) (old new : Board) → IsOpenedBoard event old new → IsWhole old.rows.items old.events old.index → IsWhole new.rows.items new.events new.index
+whole_opened event old new o whole = subst (λ (l : List Unit). IsWhole l new.events new.index) (sym o.rows) (record {
+  order = whole.order;
+  calm = whole.calm;
+  enrolled = subst (All (IsOf (length old.rows.items))) (sym o.enrolled) whole.enrolled;
+  fresh = λ e p h. ap (λ (l : List (List Pair)). index.was_handed l e p) o.handed
+      ∙ whole.fresh e p (let longer = opened_longer event old.events new.events o.opened in omega (arith, longer, h));
+})
+
+-- each receiver is one of the rows, since its subscription is of one
+pub receivers_within : (commit : Commit) (b : Board) (ready : Ready) → IsBoard b → IsReady commit b ready → All (λ (p : Pair). p.0 < length b.rows.items) ready.to
+receivers_within commit b ready board is i d within =
+    let due = (is.due (get_or ready.to i d)).0 (i, within, get_or_default ready.to i (get_or ready.to i d) d within) in
+    let row = board.whole.enrolled due.enrolled.0 due.subscription due.enrolled.1 in
+    subst (λ (n : ℕ). n < length b.rows.items) (ap (λ (s : Subscription (List Clause)). s.unit) due.enrolled.2 ∙ ap (λ (p : Pair). p.0) due.pair) row
+
+-- what is handed to each row, by its unit's place
+abbrev news_by : EventName → List Part → List Pair → Unit → Option ℕ → List Given
+news_by event after ps u None = []
+news_by event after ps u (Some k) = news_at event after u.local.own.input ps k
+
+own_news : (event : EventName) (after : List Part) (ps : List Pair) (us : List Unit) → IsInOrder us → IsNews (λ u. news_by event after ps u (place_of u.local.unit us)) event after ps us
+own_news event after ps us order q d within =
+    let u = get_or us q d in
+    ap (news_by event after ps u) (found_at u.local.unit us q d order within (tied_itself unit_cmp_total u.local.unit))
+
+less_apart : (e j : ℕ) → j < e → (e == j) ≡ false
+less_apart e j h = by (e == j) refl
+  where
+    by : (b : Bool) → (e == j) ≡ b → b ≡ false
+    by false g = refl
+    by true g = let same = eqb-true e j g in absurd (omega (arith, h, same))
+
+-- the tables fit each other after a commit
+pub board_handed : (k : ℕ) (c : Call) (r : Reply) (f : Effect) (commit : Commit) (old new : Board) → IsBoard old → (done : IsHandedBoard k c r f commit old new) → is_in_out c ≡ false → AreLabels (inputs old.rows.items) new.labels.items new.stale → IsBoard new
+board_handed k c r f commit old new board done quiet labels =
+    let opened = done.opened in
+    let us = opened.rows.items in
+    let event = commit.event in
+    let after = done.ready.after in
+    let ps = done.ready.to in
+    let before = whole_opened event old opened done.opening board.whole in
+    let given : Unit → List Given = λ u. news_by event after ps u (place_of u.local.unit us) in
+    let handed_to : List Unit = map (with_news given) us in
+    let is : new.rows.items ≡ modify k (with_state c r f) handed_to = done.rows given (own_news event after ps us before.order) in
+    let there = place_within event opened.events done.ready.place done.made.place in
+    let mapped : IsWhole handed_to new.events new.index = record {
+      order = order_like us handed_to (names-map (with_news given) (λ u. refl) us) before.order;
+      calm = λ i d within.
+          let e = length-map us (with_news given) in
+          let j : i < length us = omega (arith, e, within) in
+          subst IsCalm (sym (at_map (with_news given) us i d d j)) (before.calm i d j);
+      enrolled = subst (λ (n : ℕ). All (IsOf n) new.index.enrolled) (sym (length-map us (with_news given)))
+          (subst (All (IsOf (length us))) (sym done.enrolled) before.enrolled);
+      fresh = λ e p h.
+          let long : length opened.events ≤ e = (let n = done.size in omega (arith, n, h)) in
+          done.handed e p
+          ∙ ap (λ (b : Bool). b || ((e == done.ready.place) && has_pair ps p)) (before.fresh e p long)
+          ∙ ap (λ (b : Bool). b && has_pair ps p) (less_apart e done.ready.place (omega (arith, there, long)));
+    } in record {
+      whole = subst (λ (l : List Unit). IsWhole l new.events new.index) (sym is) (whole_modified handed_to new.events new.index k (with_state c r f) (λ u. refl) (λ u h. h) mapped);
+      labels = subst (λ (l : List Label). AreLabels l new.labels.items new.stale)
+          (sym (ap inputs is ∙ inputs-modify (with_state c r f) k handed_to (λ d i. let u = get_or handed_to k d in after_keeps u.local.unit u.local.own c r f quiet) ∙ inputs-map (with_news given) (λ u. refl) us ∙ ap inputs done.opening.rows))
+          labels;
+    }

@@ -1,0 +1,244 @@
+-- The tables tell of one more entry, once they are as the code makes them.
+use Rattle.std.proofs.Common.{◌≡◌, ℕ, zero, suc, ◌<◌, true, false, List, [], ◌∷◌, ◌++◌, get_or, length, map, Option, Some, None, refl, ap, sym, subst, ◌∙◌, arith}
+use Rattle.std.proofs.lemmas.List.{append-nil}
+use Rattle.df_filter.specs.declared.clause.Clause.{Clause}
+use Rattle.df_index.specs.Due.{Pair}
+use Rattle.df_index.specs.declared.subscription.Subscription.{Subscription}
+use Rattle.df_label.specs.declared.label.Label.{Label}
+use Rattle.df_label.specs.declared.privilege.Privilege.{Privilege}
+use Rattle.df_part.specs.declared.part.Part.{Part}
+use Rattle.df_rules.specs.Commits.{commit_in}
+use Rattle.df_rules.specs.Legal.{answer}
+use Rattle.df_rules.specs.Own.{own}
+use Rattle.df_rules.specs.Rules.{Rules}
+use Rattle.df_rules.specs.Start.{rows, roots}
+use Rattle.df_rules.proofs.TakingRows.{row_taking_laws}
+use Rattle.df_unit.specs.Name.{same}
+use Rattle.df_unit.specs.OwnState.{OwnState}
+use Rattle.df_unit.specs.Rows.{subscribes}
+use Rattle.df_unit.specs.Served.{IsBuilt}
+use Rattle.df_unit.specs.declared.call.Call.{Call}
+use Rattle.df_unit.specs.declared.call.Call.TheVariants.{ChangeInOut, Subscribe}
+use Rattle.df_unit.specs.declared.commit.Commit.{Commit}
+use Rattle.df_unit.specs.declared.commit.Given.{Given}
+use Rattle.df_unit.specs.declared.entry.Effect.{Effect}
+use Rattle.df_unit.specs.declared.entry.Entry.{Entry}
+use Rattle.df_unit.specs.declared.entry.Entry.TheVariants.{Done}
+use Rattle.df_unit.specs.declared.name.EventName.{EventName}
+use Rattle.df_unit.specs.declared.name.UnitName.{UnitName}
+use Rattle.df_unit.specs.declared.reply.Reply.{Reply}
+use Rattle.df_unit.specs.declared.reply.Reply.TheVariants.{Sub}
+use Rattle.df_unit.proofs.SameFacts.{same_name-exact}
+use Rattle.df_tables.specs.Agree.{Agrees, FilterIndex, IsWhole, enrols, is_marked, subscribed_at}
+use Rattle.df_tables.specs.Board.{IsBooked, IsHandedBoard, IsKept, IsMovedBoard, IsOpenedBoard, IsRenewed, TellsOf, answer_from, answer_on}
+use Rattle.df_tables.specs.Events.{event_place}
+use Rattle.df_tables.specs.Hand.{IsAnsweredAt, IsNews, modify, news_at, with_news, with_state}
+use Rattle.df_tables.specs.Labels.{inputs}
+use Rattle.df_tables.specs.Moves.{IsAnswered, is_in_out, made_by}
+use Rattle.df_tables.specs.Table.{find, moved_at, moved_row, place_of}
+use Rattle.df_tables.specs.declared.board.Board.{Board}
+use Rattle.df_tables.specs.declared.events.EventRow.{EventRow}
+use Rattle.df_tables.specs.declared.units.Unit.{Unit}
+use Rattle.df_tables.proofs.Boards.{modify-moved, whole_opened}
+use Rattle.df_tables.proofs.Built.{built_makes_none}
+use Rattle.df_tables.proofs.Dispatch.{news_found}
+use Rattle.df_tables.proofs.Opened.{within}
+use Rattle.df_tables.proofs.Order.{names-map}
+use Rattle.df_tables.proofs.Places.{at_none, at_some}
+use Rattle.df_tables.proofs.Seats.{enrols_none, passes_at, place_of-names}
+use Rattle.df_tables.proofs.Steps.{agrees_commit, agrees_opened, agrees_plain, news_of}
+use Rattle.df_tables.proofs.Subscribing.{subscribes_made}
+use Rattle.df_tables.proofs.Tells.{answer_at, answer_none, none_at, row_at}
+
+abbrev Starts : Type 0
+Starts = List (Label × List Privilege)
+
+-- a unit's place is one of the table
+pub place_in : (a : UnitName) (us : List Unit) (k : ℕ) → place_of a us ≡ Some k → k < length us
+place_in a us k h = within (λ (v : Unit). same v.local.unit a) us k h
+
+-- the row at a unit's place
+found : (a : UnitName) (us : List Unit) (k : ℕ) → place_of a us ≡ Some k → (u : Unit) × (find a us ≡ Some u) × ((c : Call) (r : Reply) (f : Effect) → IsAnsweredAt k c r f us → IsAnswered c r f u)
+found a [] k h = absurd (cc)
+found a (u ∷ us) k h = (get_or (u ∷ us) k u, (at_some a (u ∷ us) k u h).0, λ c r f answered. answered u (place_in a (u ∷ us) k h))
+
+-- what the row at a place is handed, by its unit
+brought : (g : UnitName → List Given) (event : EventName) (after : List Part) (ps : List Pair) (us : List Unit) → IsNews (λ u. g u.local.unit) event after ps us → (n : UnitName) (q : ℕ) → place_of n us ≡ Some q → (at : Label) × (g n ≡ news_at event after at ps q)
+brought g event after ps [] news n q h = absurd (cc)
+brought g event after ps (u ∷ us) news n q h =
+    let v = get_or (u ∷ us) q u in
+    let is : v.local.unit ≡ n = same_name-exact v.local.unit n (passes_at (λ (w : Unit). same w.local.unit n) (u ∷ us) q u h) in
+    (v.local.own.input, subst (λ (m : UnitName). g m ≡ news_at event after v.local.own.input ps q) is (news q u (place_in n (u ∷ us) q h)))
+
+modify_same : (f g : Unit → Unit) → ((u : Unit) → f u ≡ g u) → (k : ℕ) (us : List Unit) → modify k f us ≡ modify k g us
+modify_same f g e k [] = refl
+modify_same f g e zero (u ∷ us) = ap (λ (v : Unit). v ∷ us) (e u)
+modify_same f g e (suc k) (u ∷ us) = ap (λ (vs : List Unit). u ∷ vs) (modify_same f g e k us)
+
+-- a commit is the effect of no call that subscribes or changes the label at which its unit reads
+
+commits_none : (c : Call) (r : Reply) (k : Commit) (u : Unit) → IsAnswered c r (Effect.Commit k) u → made_by c r ≡ None
+commits_none (Subscribe filter) r k u h = absurd (let e : Effect.Nothing ≡ Effect.Commit k = ap (λ (p : Reply × Effect). p.1) h in (let z : ⊥ = cc in z))
+commits_none _ r k u h = refl
+
+commits_quiet : (c : Call) (r : Reply) (k : Commit) (u : Unit) → IsAnswered c r (Effect.Commit k) u → is_in_out c ≡ false
+commits_quiet (ChangeInOut half act tag) r k u h = absurd (let e : Effect.Nothing ≡ Effect.Commit k = ap (λ (p : Reply × Effect). p.1) h in (let z : ⊥ = cc in z))
+commits_quiet _ r k u h = refl
+
+-- a commit's call changes no label at which its unit reads
+pub commit_quiet : (us : List Unit) (q : ℕ) (c : Call) (r : Reply) (f : Effect) (k : Commit) → q < length us → f ≡ Effect.Commit k → IsAnsweredAt q c r f us → is_in_out c ≡ false
+commit_quiet [] q c r f k i is answered = absurd (omega (arith, i))
+commit_quiet (u ∷ us) q c r f k i is answered = commits_quiet c r k (get_or (u ∷ us) q u) (subst (λ (x : Effect). IsAnswered c r x (get_or (u ∷ us) q u)) is (answered u i))
+
+pub in_out_makes_none : (c : Call) (r : Reply) → is_in_out c ≡ true → made_by c r ≡ None
+in_out_makes_none (Subscribe filter) r h = absurd (let z : ⊥ = cc in z)
+in_out_makes_none _ r h = refl
+
+abbrev inside : Option (ℕ × List Clause) → ℕ × List Clause
+inside None = (0, [])
+inside (Some p) = p
+
+-- the call and the reply that make a subscription
+pub made_some : (c : Call) (r : Reply) (n : ℕ) (filter : List Clause) → made_by c r ≡ Some (n, filter) → (c ≡ Subscribe filter) × (r ≡ Sub n)
+made_some (Subscribe g) (Sub m) n filter e = let p = ap inside e in (ap (λ (q : ℕ × List Clause). Subscribe q.1) p, ap (λ (q : ℕ × List Clause). Sub q.0) p)
+made_some (Subscribe g) _ n filter e = absurd (let z : ⊥ = cc in z)
+made_some _ r n filter e = absurd (let z : ⊥ = cc in z)
+
+-- who makes a subscription is answered so, and without effect
+pub enrols_at : (us : List Unit) (q : ℕ) (c : Call) (r : Reply) (f : Effect) (n : ℕ) (filter : List Clause) → Some (n, filter) ≡ made_by c r → IsAnsweredAt q c r f us → IsAnsweredAt q (Subscribe filter) (Sub n) Effect.Nothing us
+enrols_at us q c r f n filter e answered d i =
+    let u = get_or us q d in
+    let both = made_some c r n filter (sym e) in
+    let here : IsAnswered (Subscribe filter) (Sub n) f u =
+    subst (λ (x : Call). IsAnswered x (Sub n) f u) both.0 (subst (λ (x : Reply). IsAnswered c x f u) both.1 (answered d i)) in
+    let still : Effect.Nothing ≡ f = ap (λ (p : Reply × Effect). p.1) here in
+    subst (λ (x : Effect). IsAnswered (Subscribe filter) (Sub n) x u) (sym still) here
+
+enrols_still : (us : List Unit) (q : ℕ) (c : Call) (r : Reply) (f : Effect) (n : ℕ) (filter : List Clause) → Some (n, filter) ≡ made_by c r → q < length us → IsAnsweredAt q c r f us → Effect.Nothing ≡ f
+enrols_still [] q c r f n filter e within answered = absurd (omega (arith, within))
+enrols_still (u ∷ us) q c r f n filter e within answered =
+    let both = made_some c r n filter (sym e) in
+    let here : IsAnswered (Subscribe filter) r f (get_or (u ∷ us) q u) = subst (λ (x : Call). IsAnswered x r f (get_or (u ∷ us) q u)) both.0 (answered u within) in
+    ap (λ (p : Reply × Effect). p.1) here
+
+-- what is enrolled is what the call makes
+pub moved_made : (q : ℕ) (c : Call) (r : Reply) (f : Effect) (n : ℕ) (filter : List Clause) (old new : Board) → Some (n, filter) ≡ made_by c r → q < length old.rows.items → IsAnsweredAt q c r f old.rows.items → IsMovedBoard q (Subscribe filter) (Sub n) Effect.Nothing (Some (n, filter)) old new →
+    IsMovedBoard q c r f (made_by c r) old new
+moved_made q c r f n filter old new e within answered moved =
+    let both = made_some c r n filter (sym e) in
+    subst (λ (m : Option (ℕ × List Clause)). IsMovedBoard q c r f m old new) e
+    (subst (λ (x : Effect). IsMovedBoard q c r x (Some (n, filter)) old new) (enrols_still old.rows.items q c r f n filter e within answered)
+    (subst (λ (x : Reply). IsMovedBoard q c x Effect.Nothing (Some (n, filter)) old new) (sym both.1)
+    (subst (λ (x : Call). IsMovedBoard q x (Sub n) Effect.Nothing (Some (n, filter)) old new) (sym both.0) moved)))
+
+-- what a unit's row answers is answered at its place
+pub answered_at : (a : UnitName) (us : List Unit) (k : ℕ) (c : Call) (r : Reply) (f : Effect) → place_of a us ≡ Some k → answer_from (find a us) c ≡ (r, f) → IsAnsweredAt k c r f us
+answered_at a us k c r f h e d i = subst (λ (o : Option Unit). answer_from o c ≡ (r, f)) (at_some a us k d h).0 e
+
+-- what an index waits to book is told nowhere
+agrees_index : (R : Rules) (s : List OwnState) (past : List Entry) (us : List Unit) (evs : List EventRow) (x x' : FilterIndex) → x'.enrolled ≡ x.enrolled → x'.handed ≡ x.handed → Agrees R s past us evs x → Agrees R s past us evs x'
+agrees_index R s past us evs x x' e h agree = record {
+  legal = agree.legal;
+  seats = agree.seats;
+  subscribed = λ n. ap (λ (l : List (Subscription (List Clause))). subscribed_at (place_of n us) l) e ∙ agree.subscribed n;
+  marked = λ n ev m. ap (λ (l : List (List Pair)). is_marked l (place_of n us) (event_place ev evs) m) h ∙ agree.marked n ev m;
+  parts = agree.parts;
+  unmanaged = agree.unmanaged;
+  no_instances = agree.no_instances;
+}
+
+pub kept_renewed : (old new : Board) → IsRenewed old new → IsKept old new
+kept_renewed old new same starts past tells =
+    subst (λ (us : List Unit). Agrees rows (roots starts) past us new.events new.index) (sym same.rows)
+    (subst (λ (evs : List EventRow). Agrees rows (roots starts) past old.rows.items evs new.index) (sym same.events)
+    (subst (λ (x : FilterIndex). Agrees rows (roots starts) past old.rows.items old.events x) (sym same.index) tells))
+
+pub kept_opened : (event : EventName) (old new : Board) → IsWhole old.rows.items old.events old.index → IsOpenedBoard event old new → IsKept old new
+kept_opened event old new whole o starts past tells =
+    subst (λ (us : List Unit). Agrees rows (roots starts) past us new.events new.index) (sym o.rows)
+    (agrees_index rows (roots starts) past old.rows.items new.events old.index new.index o.enrolled o.handed
+    (agrees_opened rows (roots starts) past old.rows.items old.events new.events old.index event o.opened whole.fresh tells))
+
+module _ (starts : Starts) (past : List Entry) (b : Board) (tells : TellsOf starts past b) (a : UnitName) (q : ℕ) (place : place_of a b.rows.items ≡ Some q) (c : Call) (r : Reply) (f : Effect) (answered : IsAnsweredAt q c r f b.rows.items) where
+  right : answer rows (roots starts) past a c ≡ (r, f)
+  right = let row = found a b.rows.items q place in sym (answer_at rows (roots starts) past b.rows.items b.events b.index tells a c row.0 row.1) ∙ row.2 c r f answered
+
+  makes : (st : OwnState) → own rows (roots starts) past a ≡ Some st → subscribes st c r ≡ made_by c r
+  makes st owned =
+      let row = found a b.rows.items q place in
+      let here = (row_at rows (roots starts) past b.rows.items b.events b.index tells a row.0 row.1).1 in
+      let is : row.0.local.own ≡ st = cc in
+      subst (λ (s : OwnState). subscribes s c r ≡ made_by c r) is (subscribes_made c r f row.0 (row.2 c r f answered))
+
+-- a board answers as the rules do
+pub answer_is : (starts : Starts) (past : List Entry) (b : Board) → TellsOf starts past b → (a : UnitName) (c : Call) → answer_on b a c ≡ answer rows (roots starts) past a c
+answer_is starts past b tells a c = by (find a b.rows.items) refl
+  where
+    by : (o : Option Unit) → find a b.rows.items ≡ o → answer_from o c ≡ answer rows (roots starts) past a c
+    by None e = sym (answer_none rows (roots starts) past b.rows.items b.events b.index tells a c e)
+    by (Some u) e = answer_at rows (roots starts) past b.rows.items b.events b.index tells a c u e
+
+-- an effect that is no commit has none
+pub plain_else : (f : Effect) → ((k : Commit) → f ≡ Effect.Commit k → ⊥) → commit_in f ≡ None
+plain_else Effect.Nothing never = refl
+plain_else (Effect.Commit k) never = absurd (never k refl)
+plain_else (Effect.Given d) never = refl
+
+-- after an entry without a commit
+pub booked_plain : (a : UnitName) (q : ℕ) (c : Call) (r : Reply) (f : Effect) (old new : Board) → place_of a old.rows.items ≡ Some q → IsBuilt c → IsAnsweredAt q c r f old.rows.items → commit_in f ≡ None → IsMovedBoard q c r f (made_by c r) old new → IsBooked a c r f old new
+booked_plain a q c r f old new place built answered quiet moved starts past tells =
+    let us = old.rows.items in
+    subst (λ (l : List Unit). Agrees rows (roots starts) (Done a c r f ∷ past) l new.events new.index) (sym (moved.rows ∙ modify-moved a us q (moved_row rows c r f) place))
+    (subst (λ (evs : List EventRow). Agrees rows (roots starts) (Done a c r f ∷ past) (moved_at a (moved_row rows c r f) us) evs new.index) (sym moved.events)
+    (agrees_plain rows (roots starts) (row_taking_laws starts) past us old.events old.index new.index a c r f (made_by c r) tells (built_makes_none c r built) quiet
+    (right starts past old tells a q place c r f answered) (makes starts past old tells a q place c r f answered)
+    (moved.enrolled ∙ ap (λ (p : Option ℕ). old.index.enrolled ++ enrols p (made_by c r)) (sym place)) moved.handed))
+
+-- after a call of who isn't there
+pub booked_none : (a : UnitName) (c : Call) (r : Reply) (f : Effect) (b : Board) → place_of a b.rows.items ≡ None → IsBuilt c → (let p : Reply × Effect = (Reply.NoSuchUnit, Effect.Nothing) in p) ≡ (r, f) → IsBooked a c r f b b
+booked_none a c r f b none built is starts past tells =
+    let us = b.rows.items in
+    let absent = at_none a us none in
+    let plain : commit_in f ≡ None = sym (ap (λ (p : Reply × Effect). commit_in p.1) is) in
+    let answers : answer rows (roots starts) past a c ≡ (r, f) = answer_none rows (roots starts) past us b.events b.index tells a c absent.0 ∙ is in
+    let gone = none_at rows (roots starts) past us b.events b.index tells a absent.0 in
+    subst (λ (l : List Unit). Agrees rows (roots starts) (Done a c r f ∷ past) l b.events b.index) (sym (absent.1 (moved_row rows c r f)))
+    (agrees_plain rows (roots starts) (row_taking_laws starts) past us b.events b.index b.index a c r f None tells (built_makes_none c r built) plain answers
+    (λ st owned. absurd (let z : ⊥ = cc in z))
+    (sym (append-nil b.index.enrolled) ∙ ap (λ (l : List (Subscription (List Clause))). b.index.enrolled ++ l) (sym (enrols_none (place_of a us)))) refl)
+
+-- after a commit
+pub booked_commit : (a : UnitName) (q : ℕ) (c : Call) (r : Reply) (f : Effect) (k : Commit) (old new : Board) → place_of a old.rows.items ≡ Some q → IsBuilt c → IsAnsweredAt q c r f old.rows.items → f ≡ Effect.Commit k → IsWhole old.rows.items old.events old.index → IsHandedBoard q c r f k old new → IsBooked a c r f old new
+booked_commit a q c r f k old new place built answered is whole done starts past tells =
+    let s = roots starts in
+    let opened = done.opened in
+    let us = opened.rows.items in
+    let there = whole_opened k.event old opened done.opening whole in
+    let agree = kept_opened k.event old opened whole done.opening starts past tells in
+    let given : Unit → List Given = λ u. news_of rows s past u.local.unit (Some k) in
+    let handed_to : List Unit = map (with_news given) us in
+    let news = news_found starts past us opened.events opened.index agree there.order k done.ready.place done.ready.after done.ready.to (inputs us) done.made.place done.made.after refl done.made.ascending done.made.due in
+    let here : place_of a us ≡ Some q = ap (place_of a) done.opening.rows ∙ place in
+    let also : place_of a handed_to ≡ Some q = place_of-names a us handed_to (names-map (with_news given) (λ u. refl) us) ∙ here in
+    let row = found a old.rows.items q place in
+    let commits : IsAnswered c r (Effect.Commit k) row.0 = subst (λ (x : Effect). IsAnswered c r x row.0) is (row.2 c r f answered) in
+    let moved : new.rows.items ≡ moved_at a (moved_row rows c r (Effect.Commit k)) handed_to =
+    done.rows given news
+    ∙ ap (λ (x : Effect). modify q (with_state c r x) handed_to) is
+    ∙ modify_same (with_state c r (Effect.Commit k)) (moved_row rows c r (Effect.Commit k)) (λ u. refl) q handed_to
+    ∙ modify-moved a handed_to q (moved_row rows c r (Effect.Commit k)) also in
+    subst (λ (x : Effect). Agrees rows s (Done a c r x ∷ past) new.rows.items new.events new.index) (sym is)
+    (subst (λ (l : List Unit). Agrees rows s (Done a c r (Effect.Commit k) ∷ past) l new.events new.index) (sym moved)
+    (agrees_commit rows s (row_taking_laws starts) past us opened.events new.events opened.index new.index a c r k done.ready.place done.ready.after done.ready.to given agree (built_makes_none c r built)
+    (right starts past old tells a q place c r f answered ∙ ap (λ (x : Effect). let p : Reply × Effect = (r, x) in p) is)
+    (λ st owned. makes starts past old tells a q place c r f answered st owned ∙ commits_none c r k row.0 commits)
+    (record {
+      place = done.made.place;
+      applied = done.made.after;
+      put = done.parts;
+      places = done.places;
+      enrolled = done.enrolled;
+      booked = done.handed;
+      gives = λ u. refl;
+      brought = brought (λ n. news_of rows s past n (Some k)) k.event done.ready.after done.ready.to us news;
+    })))

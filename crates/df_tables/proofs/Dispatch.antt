@@ -1,0 +1,75 @@
+-- The receivers that the index finds are those to whom the definitions hand the event.
+use Rattle.std.proofs.Common.{◌≡◌, ◌↔◌, ℕ, ◌<◌, List, [], ◌∷◌, if◌then◌else◌, map, length, get_or, slice_get, Option, Some, None, option_map, ap, sym, subst, ◌∙◌}
+use Rattle.std.specs.List.{Contains, flat_map}
+use Rattle.std.specs.List.Sorted.{IsStrictlySortedBy}
+use Rattle.std.proofs.lemmas.Option.{slice_get-get_or, slice_get-map}
+use Rattle.df_index.specs.Due.{Pair, pair_cmp}
+use Rattle.df_index.specs.IndexState.{IsReceiver, handed_at}
+use Rattle.df_label.specs.declared.label.Label.{Label}
+use Rattle.df_label.specs.declared.privilege.Privilege.{Privilege}
+use Rattle.df_part.specs.Contents.{apply}
+use Rattle.df_part.specs.Part.{cut}
+use Rattle.df_part.specs.declared.part.Part.{Part}
+use Rattle.df_rules.specs.Choices.{matches}
+use Rattle.df_rules.specs.Commits.{contents}
+use Rattle.df_rules.specs.Deliveries.{deliveries, deliveries_plain, offer, plain_news}
+use Rattle.df_rules.specs.Own.{own, own_plain}
+use Rattle.df_rules.specs.Start.{rows, roots}
+use Rattle.df_rules.specs.Subscriptions.{subscriptions}
+use Rattle.df_rules.proofs.Numbers.{numbers_ascend}
+use Rattle.df_unit.specs.OwnState.{OwnState}
+use Rattle.df_unit.specs.Rows.{is_nil}
+use Rattle.df_unit.specs.UnitOrder.{unit_cmp}
+use Rattle.df_unit.specs.UnitOrderLaws.{unit_cmp_total}
+use Rattle.std.specs.Cmp.{tied_itself}
+use Rattle.df_unit.specs.declared.commit.Commit.{Commit}
+use Rattle.df_unit.specs.declared.commit.Given.{Given}
+use Rattle.df_unit.specs.declared.entry.Entry.{Entry}
+use Rattle.df_unit.specs.declared.name.UnitName.{UnitName}
+use Rattle.df_unit.specs.declared.name.UnitName.TheVariants.{Root, Managed}
+use Rattle.df_tables.specs.Agree.{Agrees, FilterIndex, is_marked, subscribed_at}
+use Rattle.df_tables.specs.Events.{event_place}
+use Rattle.df_tables.specs.Hand.{IsNews, news_at}
+use Rattle.df_tables.specs.Labels.{inputs}
+use Rattle.df_tables.specs.Table.{IsInOrder, find, parts_of, place_of}
+use Rattle.df_tables.specs.declared.events.EventRow.{EventRow}
+use Rattle.df_tables.specs.declared.units.Unit.{Unit}
+use Rattle.df_tables.proofs.Brings.{news_is}
+use Rattle.df_tables.proofs.Places.{at_some}
+use Rattle.df_tables.proofs.Search.{found_at}
+use Rattle.df_tables.proofs.Steps.{news_of}
+use Rattle.df_tables.proofs.Tells.{row_at}
+
+module _ (starts : List (Label × List Privilege)) (past : List Entry) (us : List Unit) (evs : List EventRow) (x : FilterIndex) (agree : Agrees rows (roots starts) past us evs x) (order : IsInOrder us) (k : Commit) (j : ℕ) (after : List Part) (ps : List Pair) (labels : List Label)
+    (there : event_place k.event evs ≡ Some j) (is : after ≡ apply k.edit (parts_of k.event evs)) (inputs_are : labels ≡ inputs us) (sorted : IsStrictlySortedBy pair_cmp ps) (due : (p : Pair) → Contains ps p ↔ IsReceiver matches labels x j after k.edit p) where
+  -- what a plain unit is brought, by its row
+  plain : (q : ℕ) (u : Unit) (path : List ℕ) → slice_get us q ≡ Some u → place_of (Root path) us ≡ Some q → own_plain rows (roots starts) past path ≡ Some u.local.own →
+      plain_news (own_plain rows (roots starts) past path) (subscriptions rows (roots starts) past (Root path)) (deliveries_plain rows (roots starts) past path) past (Some k) ≡ news_at k.event after u.local.own.input ps q
+  plain q u path at place owned =
+      let subs = subscriptions rows (roots starts) past (Root path) in
+      let ds = deliveries_plain rows (roots starts) past path in
+      let input = u.local.own.input in
+      let parts : apply k.edit (contents past k.event) ≡ after = sym (is ∙ ap (apply k.edit) (agree.parts k.event)) in
+      let label : slice_get labels q ≡ Some input = ap (λ (l : List Label). slice_get l q) inputs_are ∙ slice_get-map (λ (v : Unit). v.local.own.input) us q ∙ ap (option_map (λ (v : Unit). v.local.own.input)) at in
+      let marks = λ (n : ℕ). ap (λ (p : Option ℕ). is_marked x.handed p (Some j) n) (sym place) ∙ ap (λ (e : Option ℕ). is_marked x.handed (place_of (Root path) us) e n) (sym there) ∙ agree.marked (Root path) k.event n in
+      let same = ap (λ (p : Option ℕ). subscribed_at p x.enrolled) (sym place) ∙ agree.subscribed (Root path) in
+      ap (λ (o : Option OwnState). plain_news o subs ds past (Some k)) owned
+      ∙ ap (λ (l : List Part). if is_nil (cut input k.edit.1) then [] else flat_map (λ sub. offer ds k.event (cut input l) sub) subs) parts
+      ∙ news_is input ds k.event after k.edit q x.enrolled (handed_at x.handed j) labels ps label marks due subs same (numbers_ascend (roots starts) past (Root path)) sorted
+
+  -- and what any unit is brought
+  pub news_found : IsNews (λ u. news_of rows (roots starts) past u.local.unit (Some k)) k.event after ps us
+  unfolding news_of
+  news_found q d within =
+      let u = get_or us q d in
+      let at : slice_get us q ≡ Some u = slice_get-get_or us q d within in
+      let place : place_of u.local.unit us ≡ Some q = found_at u.local.unit us q d order within (tied_itself unit_cmp_total u.local.unit) in
+      let row = row_at rows (roots starts) past us evs x agree u.local.unit u (at_some u.local.unit us q d place).0 in
+      by u at place row.1
+    where
+      by : (u : Unit) → slice_get us q ≡ Some u → place_of u.local.unit us ≡ Some q → own rows (roots starts) past u.local.unit ≡ Some u.local.own → news_of rows (roots starts) past u.local.unit (Some k) ≡ news_at k.event after u.local.own.input ps q
+      by u at place owned = named u.local.unit at place owned
+        where
+          named : (n : UnitName) → slice_get us q ≡ Some u → place_of n us ≡ Some q → own rows (roots starts) past n ≡ Some u.local.own → news_of rows (roots starts) past n (Some k) ≡ news_at k.event after u.local.own.input ps q
+          named (Root path) at place owned = plain q u path at place owned
+          named (Managed o n t) at place owned = absurd (let z : None ≡ Some u.local.own = sym (agree.no_instances o n t) ∙ owned in (let w : ⊥ = cc in w))

@@ -1,0 +1,24 @@
+-- Only one call changes the label at which a unit reads.
+use Rattle.std.proofs.Common.{◌≡◌, Bool, true, false, if◌then◌else◌, refl}
+use Rattle.df_unit.specs.OwnState.{OwnState}
+use Rattle.df_unit.specs.Rows.{after, changed, is_accepted}
+use Rattle.df_unit.specs.declared.call.Call.{Call}
+use Rattle.df_unit.specs.declared.call.Call.TheVariants.{ChangeInOut, Get}
+use Rattle.df_unit.specs.declared.entry.Effect.{Effect}
+use Rattle.df_unit.specs.declared.name.UnitName.{UnitName}
+use Rattle.df_unit.specs.declared.reply.Reply.{Reply}
+use Rattle.df_tables.specs.Moves.{is_in_out}
+
+changed_keeps : (n : UnitName) (st : OwnState) (c : Call) (f : Effect) → is_in_out c ≡ false → (changed n st c f).input ≡ st.input
+changed_keeps n st (ChangeInOut half act tag) f h = absurd (let z : ⊥ = cc in z)
+changed_keeps n st Get Effect.Nothing h = refl
+changed_keeps n st Get (Effect.Commit k) h = refl
+changed_keeps n st Get (Effect.Given d) h = refl
+changed_keeps n st _ f h = refl
+
+pub after_keeps : (n : UnitName) (st : OwnState) (c : Call) (r : Reply) (f : Effect) → is_in_out c ≡ false → (after n st c r f).input ≡ st.input
+after_keeps n st c r f h = by (is_accepted r)
+  where
+    by : (b : Bool) → (if b then changed n st c f else st).input ≡ st.input
+    by true = changed_keeps n st c f h
+    by false = refl

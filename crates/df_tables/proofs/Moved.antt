@@ -1,0 +1,38 @@
+-- The tables fit each other after an entry without a commit.
+use Rattle.std.proofs.Common.{◌≡◌, ℕ, ◌<◌, false, List, get_or, length, Option, Some, ap, sym, subst, ◌∙◌}
+use Rattle.df_filter.specs.declared.clause.Clause.{Clause}
+use Rattle.df_label.specs.declared.label.Label.{Label}
+use Rattle.df_rules.specs.Start.{rows}
+use Rattle.df_unit.specs.declared.call.Call.{Call}
+use Rattle.df_unit.specs.declared.entry.Effect.{Effect}
+use Rattle.df_unit.specs.declared.reply.Reply.{Reply}
+use Rattle.df_tables.specs.Board.{IsBoard, IsMovedBoard}
+use Rattle.df_tables.specs.Labels.{AreLabels, inputs}
+use Rattle.df_tables.specs.Moves.{is_in_out}
+use Rattle.df_tables.specs.Table.{moved_row}
+use Rattle.df_tables.specs.declared.board.Board.{Board}
+use Rattle.df_tables.specs.declared.units.Unit.{Unit}
+use Rattle.df_tables.proofs.Boards.{inputs-modify, labels_stale, whole_moved}
+use Rattle.df_tables.proofs.Inputs.{after_keeps}
+
+module _ (k : ℕ) (c : Call) (r : Reply) (f : Effect) (made : Option (ℕ × List Clause)) (old new : Board) (within : k < length old.rows.items) (board : IsBoard old) (moved : IsMovedBoard k c r f made old new) where
+  with_labels : (ls : List Label) (p : Option ℕ) → new.labels.items ≡ ls → new.stale ≡ p → AreLabels (inputs new.rows.items) ls p → IsBoard new
+  with_labels ls p labels stale are = record {
+    whole = whole_moved k c r f made old new within moved board.whole;
+    labels = subst (λ (l : List Label). AreLabels (inputs new.rows.items) l new.stale) (sym labels)
+        (subst (λ (q : Option ℕ). AreLabels (inputs new.rows.items) ls q) (sym stale) are);
+  }
+
+  -- where the call changes no label
+  pub board_other : is_in_out c ≡ false → new.labels.items ≡ old.labels.items → new.stale ≡ old.stale → IsBoard new
+  board_other quiet labels stale =
+      let us = old.rows.items in
+      let same : inputs new.rows.items ≡ inputs us = ap inputs moved.rows
+      ∙ inputs-modify (moved_row rows c r f) k us (λ d i. let u = get_or us k d in after_keeps u.local.unit u.local.own c r f quiet) in
+      with_labels old.labels.items old.stale labels stale (subst (λ (l : List Label). AreLabels l old.labels.items old.stale) (sym same) board.labels)
+
+  -- where it may change that of its unit, and all others are those of now
+  pub board_reader : new.labels.items ≡ inputs old.rows.items → new.stale ≡ Some k → IsBoard new
+  board_reader labels stale =
+      with_labels (inputs old.rows.items) (Some k) labels stale
+      (subst (λ (us : List Unit). AreLabels (inputs us) (inputs old.rows.items) (Some k)) (sym moved.rows) (labels_stale (moved_row rows c r f) k old.rows.items within))

@@ -1,0 +1,6 @@
+use Rattle.std.proofs.Common.{◌≡◌, take}
+use Rattle.df_tables.specs.Hand.{each, settled_row}
+use Rattle.df_tables.proofs.handing.settle.Given as goal
+
+abbrev pub invariant-loop-receiver : goal.invariant-loop-receiver
+invariant-loop-receiver l = l.units ≡ each settled_row (take l.receiver-index l.receivers) l.initial.units

@@ -1,0 +1,20 @@
+use Rattle.std.proofs.Common.{◌≡◌, ◌∙◌, ap, arith, get_or, set}
+use Rattle.std.proofs.lemmas.List.{set-get_or}
+use Rattle.df_tables.specs.Hand.{each, quiet_row, staged_row}
+use Rattle.df_tables.specs.declared.units.Unit.{Unit}
+use Rattle.df_tables.proofs.Each.{each_step}
+use Rattle.df_tables.proofs.Handed.{half_way}
+use Rattle.df_tables.proofs.handing.stage.Goals as goal
+
+pub loop-receiver-preserved : goal.loop-receiver-preserved
+loop-receiver-preserved c =
+    each_step (staged_row c.args.event.now c.args.after.now) c.args.receivers.now c.loop-receiver.receiver-index (0, 0) c.index-units-receiver.result _ c.args.units.now c.loop-receiver.units (omega arith) c.loop-receiver.invariant
+    c.in-Ok.ensures.ok
+
+pub returns-in_default-clause-quiet : goal.returns-in_default-clause-quiet
+returns-in_default-clause-quiet c =
+    let k = (get_or c.args.receivers.now c.loop-receiver.receiver-index (0, 0)).0 in
+    ap (λ (x : Unit). each quiet_row c.args.receivers.now (set c.loop-receiver.units k x)) c.in_default.ensures.unchanged
+    ∙ ap (each quiet_row c.args.receivers.now) (set-get_or c.loop-receiver.units k c.index-units-receiver.result)
+    ∙ ap (each quiet_row c.args.receivers.now) c.loop-receiver.invariant
+    ∙ half_way c.args.event.now c.args.after.now c.args.receivers.now c.loop-receiver.receiver-index c.args.units.now

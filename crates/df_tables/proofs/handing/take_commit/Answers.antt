@@ -1,0 +1,18 @@
+use Rattle.std.proofs.Common.{◌∙◌, ap, set, get_or}
+use Rattle.df_local.specs.code.LocalState.{LocalState}
+use Rattle.df_tables.specs.Hand.{with_state}
+use Rattle.df_tables.specs.declared.units.Unit.{Unit}
+use Rattle.df_tables.proofs.Each.{set_modify}
+use Rattle.df_tables.proofs.handing.take_commit.Goals as goal
+
+pub returns-clause-ok : goal.returns-clause-ok
+returns-clause-ok c =
+    let us = c.args.units.now in
+    let u = get_or us c.args.place c.index-units-place.result in
+    ap (λ (l : LocalState). let x : Unit = record { local = l; line = u.line } in set us c.args.place x) c.in-Ok.ensures.ok
+    ∙ set_modify c.args.place (with_state c.args.call.now c.args.reply.now c.args.effect.now) c.index-units-place.result us
+
+pub take-requires : goal.take-requires
+take-requires c =
+    let u = get_or c.args.units.now c.args.place c.index-units-place.result in
+    record { right = (u.line.left, c.requires.right c.index-units-place.result c.requires.within) }

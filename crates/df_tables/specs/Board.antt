@@ -1,0 +1,112 @@
+-- When a board agrees with a journal.
+use Rattle.std.specs.Prelude.{◌≡◌, ◌↔◌, ℕ, ◌==◌, ◌&&◌, ◌||◌, if◌then◌else◌, List, ◌∷◌, ◌++◌, Option, Some, None, length, map}
+use Rattle.std.specs.List.{Contains}
+use Rattle.std.specs.List.Sorted.{IsStrictlySortedBy}
+use Rattle.df_filter.specs.declared.clause.Clause.{Clause}
+use Rattle.df_index.specs.Due.{Pair, has_pair, pair_cmp}
+use Rattle.df_index.specs.Filter.{matches}
+use Rattle.df_index.specs.IndexState.{IsReceiver, was_handed}
+use Rattle.df_local.specs.Locally.{row_answer}
+use Rattle.df_rules.specs.Rules.{Rules}
+use Rattle.df_rules.specs.Start.{rows, roots}
+use Rattle.df_rules.specs.Legal.{answer}
+use Rattle.df_label.specs.declared.label.Label.{Label}
+use Rattle.df_label.specs.declared.privilege.Privilege.{Privilege}
+use Rattle.df_unit.specs.declared.call.Call.{Call}
+use Rattle.df_unit.specs.declared.entry.Effect.{Effect}
+use Rattle.df_unit.specs.declared.entry.Entry.{Entry}
+use Rattle.df_unit.specs.declared.entry.Entry.TheVariants.{Done}
+use Rattle.df_unit.specs.Name.{same_event}
+use Rattle.df_unit.specs.declared.commit.Commit.{Commit}
+use Rattle.df_unit.specs.declared.commit.Given.{Given}
+use Rattle.df_unit.specs.declared.name.EventName.{EventName}
+use Rattle.df_part.specs.Contents.{apply}
+use Rattle.df_unit.specs.declared.name.UnitName.{UnitName}
+use Rattle.df_unit.specs.declared.reply.Reply.{Reply}
+use Rattle.df_tables.specs.Agree.{Agrees, IsWhole, enrols}
+use Rattle.df_tables.specs.Labels.{AreLabels, inputs}
+use Rattle.df_tables.specs.Events.{IsOpened, event_place}
+use Rattle.df_tables.specs.Hand.{IsNews, modify, with_news, with_state}
+use Rattle.df_tables.specs.Table.{find, moved_row, parts_of}
+use Rattle.df_tables.specs.declared.board.Board.{Board}
+use Rattle.df_tables.specs.declared.board.Ready.{Ready}
+use Rattle.df_tables.specs.declared.units.Unit.{Unit}
+
+-- the tables fit each other
+pub record IsBoard (b : Board) : Type 0 where
+  pub whole : IsWhole b.rows.items b.events b.index
+  pub labels : AreLabels (inputs b.rows.items) b.labels.items b.stale
+
+-- the tables tell of the journal of these roots
+abbrev pub TellsOf : List (Label × List Privilege) → List Entry → Board → Type 0
+TellsOf starts past b = Agrees rows (roots starts) past b.rows.items b.events b.index
+
+-- the answer of a row, if there is one
+abbrev pub answer_from : Option Unit → Call → Reply × Effect
+answer_from None c = (Reply.NoSuchUnit, Effect.Nothing)
+answer_from (Some u) c = row_answer u.local u.line.left c
+
+-- the answer of a unit's row to a call
+abbrev pub answer_on : Board → UnitName → Call → Reply × Effect
+answer_on b a c = answer_from (find a b.rows.items) c
+
+-- what the tables told they tell with one more entry
+abbrev pub IsBooked : UnitName → Call → Reply → Effect → Board → Board → Type 0
+IsBooked a c r f old new = (starts : List (Label × List Privilege)) (past : List Entry) →
+    TellsOf starts past old → TellsOf starts (Done a c r f ∷ past) new
+
+-- what the tables told they tell
+abbrev pub IsKept : Board → Board → Type 0
+IsKept old new = (starts : List (Label × List Privilege)) (past : List Entry) →
+    TellsOf starts past old → TellsOf starts past new
+
+-- the rows and the subscriptions stay, and at most a row of the event is new, without parts
+pub record IsOpenedBoard (event : EventName) (old new : Board) : Type 0 where
+  pub rows : new.rows.items ≡ old.rows.items
+  pub enrolled : new.index.enrolled ≡ old.index.enrolled
+  pub handed : new.index.handed ≡ old.index.handed
+  pub opened : IsOpened event old.events new.events
+
+-- the event has this place, its parts after the commit are these, and it waits to be handed to
+-- just those to whom it is to be handed
+pub record IsReady (c : Commit) (b : Board) (ready : Ready) : Type 0 where
+  pub place : event_place c.event b.events ≡ Some ready.place
+  pub after : ready.after ≡ apply c.edit (parts_of c.event b.events)
+  pub ascending : IsStrictlySortedBy pair_cmp ready.to
+  pub due : (p : Pair) → Contains ready.to p
+      ↔ IsReceiver matches (inputs b.rows.items) b.index ready.place ready.after c.edit p
+  pub waits : b.index.ready ≡ Some (ready.place, ready.to)
+
+-- at most the labels are others
+pub record IsRenewed (old new : Board) : Type 0 where
+  pub rows : new.rows.items ≡ old.rows.items
+  pub events : new.events ≡ old.events
+  pub index : new.index ≡ old.index
+
+-- the row at a place is moved as its unit's call does, and the subscription that is made, if any,
+-- is enrolled
+pub record IsMovedBoard (k : ℕ) (c : Call) (r : Reply) (f : Effect)
+    (made : Option (ℕ × List Clause)) (old new : Board) : Type 0 where
+  pub rows : new.rows.items ≡ modify k (moved_row rows c r f) old.rows.items
+  pub events : new.events ≡ old.events
+  pub enrolled : new.index.enrolled ≡ old.index.enrolled ++ enrols (Some k) made
+  pub handed : new.index.handed ≡ old.index.handed
+
+-- the commit of the unit at a place is handed to its receivers and no other row, is marked so, and
+-- its event has the parts after it
+pub record IsHandedBoard (k : ℕ) (c : Call) (r : Reply) (f : Effect) (commit : Commit)
+    (old new : Board) : Type 0 where
+  pub opened : Board
+  pub ready : Ready
+  pub opening : IsOpenedBoard commit.event old opened
+  pub made : IsReady commit opened ready
+  pub rows : (given : Unit → List Given) →
+      IsNews given commit.event ready.after ready.to opened.rows.items →
+      new.rows.items ≡ modify k (with_state c r f) (map (with_news given) opened.rows.items)
+  pub enrolled : new.index.enrolled ≡ opened.index.enrolled
+  pub handed : (e : ℕ) (p : Pair) → was_handed new.index.handed e p
+      ≡ (was_handed opened.index.handed e p || ((e == ready.place) && has_pair ready.to p))
+  pub size : length new.events ≡ length opened.events
+  pub places : (e : EventName) → event_place e new.events ≡ event_place e opened.events
+  pub parts : (e : EventName) → parts_of e new.events
+      ≡ (if same_event commit.event e then ready.after else parts_of e opened.events)

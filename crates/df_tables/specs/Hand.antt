@@ -1,0 +1,76 @@
+-- What receivers are handed, row by row.
+use Rattle.std.specs.Prelude.{◌≡◌, ℕ, zero, suc, ◌<◌, ◌==◌, List, [], ◌∷◌, ◌++◌, map, length, slice_index_or}
+use Rattle.std.specs.List.{filter}
+use Rattle.df_index.specs.Due.{Pair}
+use Rattle.df_label.specs.declared.label.Label.{Label}
+use Rattle.df_local.specs.code.LocalState.{LocalState}
+use Rattle.df_part.specs.Part.{cut}
+use Rattle.df_part.specs.declared.part.Part.{Part}
+use Rattle.df_unit.specs.Rows.{after}
+use Rattle.df_unit.specs.declared.call.Call.{Call}
+use Rattle.df_unit.specs.declared.commit.Given.{Given}
+use Rattle.df_unit.specs.declared.entry.Effect.{Effect}
+use Rattle.df_unit.specs.declared.name.EventName.{EventName}
+use Rattle.df_unit.specs.declared.reply.Reply.{Reply}
+use Rattle.df_tables.specs.Line.{quiet, settled, staged_more}
+use Rattle.df_tables.specs.Moves.{IsAnswered}
+use Rattle.df_tables.specs.declared.units.Unit.{Unit}
+
+-- nothing is staged at the row
+abbrev pub IsCalm : Unit → Type 0
+IsCalm u = u.line.staged ≡ []
+
+-- the row at a place changed
+abbrev pub modify : {X : Type 0} → ℕ → (X → X) → List X → List X
+modify k f [] = []
+modify zero f (x ∷ xs) = f x ∷ xs
+modify (suc k) f (x ∷ xs) = x ∷ modify k f xs
+
+-- the row of each receiver changed, one after another
+abbrev pub each : {X : Type 0} → (Pair → X → X) → List Pair → List X → List X
+each f [] xs = xs
+each f (p ∷ ps) xs = each f ps (modify p.0 (f p) xs)
+
+-- the delivery of an event with these parts to a receiver who reads at a label
+abbrev pub given_to : EventName → List Part → Label → Pair → Given
+given_to event after at p = record { event = event; sub = p.1; parts = cut at after }
+
+abbrev pub staged_row : EventName → List Part → Pair → Unit → Unit
+staged_row event after p u =
+    record u { line = staged_more (given_to event after u.local.own.input p) u.line }
+
+abbrev pub settled_row : Pair → Unit → Unit
+settled_row p u = record u { line = settled u.line }
+
+abbrev pub quiet_row : Pair → Unit → Unit
+quiet_row p u = record u { line = quiet u.line }
+
+-- the receivers at a place
+abbrev pub pairs_of : ℕ → List Pair → List Pair
+pairs_of k ps = filter (λ p. p.0 == k) ps
+
+-- what the receivers at a place are handed
+abbrev pub news_at : EventName → List Part → Label → List Pair → ℕ → List Given
+news_at event after at ps k = map (given_to event after at) (pairs_of k ps)
+
+-- the news of each row are those of the receivers at its place
+abbrev pub IsNews : (Unit → List Given) → EventName → List Part → List Pair → List Unit → Type 0
+IsNews news event after ps us = (k : ℕ) (d : Unit) → k < length us →
+    news (slice_index_or us k d)
+    ≡ news_at event after (slice_index_or us k d).local.own.input ps k
+
+-- the row with news behind what is left
+abbrev pub with_news : (Unit → List Given) → Unit → Unit
+with_news news u = record u { line = record u.line { left = u.line.left ++ news u } }
+
+-- the row with another own state of the unit
+abbrev pub moved_by : (LocalState → LocalState) → Unit → Unit
+moved_by g u = record u { local = g u.local }
+
+-- the row with an entry taken into the unit's own state
+abbrev pub with_state : Call → Reply → Effect → Unit → Unit
+with_state c r f u = moved_by (λ l. record { unit = l.unit; own = after l.unit l.own c r f }) u
+
+-- the reply and the effect are the answer of the unit at the place
+abbrev pub IsAnsweredAt : ℕ → Call → Reply → Effect → List Unit → Type 0
+IsAnsweredAt k c r f us = (d : Unit) → k < length us → IsAnswered c r f (slice_index_or us k d)

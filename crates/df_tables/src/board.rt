@@ -1,0 +1,337 @@
+//! The tables of the machine in one: the units, the events, and the index of subscriptions.
+
+ghost use Rattle.std.specs.Prelude.{◌≡◌, ◌↔◌, ◌<◌, [], false, List, None, Some, IfOk, OnErr, OnOk, length, option_copied, slice_get};
+ghost use Rattle.std.specs.List.{All, Contains};
+ghost use Rattle.std.specs.Option.{option_map};
+ghost use Rattle.std.specs.List.Sorted.{IsStrictlySortedBy};
+ghost use Rattle.df_index.specs.Due.{Pair, pair_cmp};
+ghost use Rattle.df_index.specs.Filter.{matches};
+ghost use Rattle.df_index.specs.IndexState.{IsReceiver};
+ghost use Rattle.df_label.specs.declared.label.Label.{Label};
+ghost use Rattle.df_label.specs.declared.privilege.Privilege.{Privilege};
+ghost use Rattle.df_part.specs.Contents.{apply};
+ghost use Rattle.df_rules.specs.Commits.{commit_in};
+ghost use Rattle.df_unit.specs.Served.{IsBuilt};
+ghost use Rattle.df_unit.specs.declared.call.Call.TheVariants.{Subscribe};
+ghost use Rattle.df_unit.specs.declared.entry.Effect.{Effect};
+ghost use Rattle.df_unit.specs.declared.reply.Reply.TheVariants.{Sub};
+ghost use Rattle.df_tables.specs.Board.{IsBoard, IsBooked, IsHandedBoard, IsKept, IsMovedBoard, IsOpenedBoard, IsReady, IsRenewed, TellsOf, answer_on};
+ghost use Rattle.df_tables.specs.Hand.{IsAnsweredAt, IsCalm};
+ghost use Rattle.df_tables.specs.Labels.{AreLabels, inputs};
+ghost use Rattle.df_tables.specs.Moves.{is_in_out, made_by};
+ghost use Rattle.df_tables.specs.Table.{IsInOrder, find, rows_from};
+
+use crate::events::Events;
+use crate::handing::{News, hand_over};
+use crate::moves::{move_at, subscribe};
+use crate::units::{Unit, find, labels_of, place, refresh};
+use df_filter::Filter;
+use df_index::{Index, Receivers, Steps};
+use df_label::{Label, NoMemory};
+use df_local::Answer;
+use df_part::{Contents, Edit};
+use df_unit::{Call, Commit, Effect, Reply, UnitName};
+use std::alloc::Global;
+use std::marker::Brand;
+use std::sync::ledger::{Blank, Ledger};
+
+/// Units, events, and the index of subscriptions, in which units and events are named by their
+/// places here.
+#[derive(Drop)]
+pub struct Board {
+    pub(crate) rows: Vec<Unit>,
+    pub(crate) labels: Vec<Label>,
+    pub(crate) stale: Option<usize>,
+    pub(crate) events: Events,
+    pub(crate) index: Index<Filter>,
+    alloc: Global,
+}
+
+/// The place of a commit's event, its parts after the commit, and to whom it is to be handed.
+#[derive(Drop)]
+pub(crate) struct Ready {
+    pub place: usize,
+    pub after: Contents,
+    pub to: Receivers,
+}
+
+/// To whom a commit is to be handed.
+fn receivers<L: Ledger>(
+    index: &mut Index<Filter>,
+    labels: &[Label],
+    event: usize,
+    after: &Contents,
+    edit: &Edit,
+    blank: Blank,
+) -> Result<Receivers, NoMemory>
+    requires name { blank.name ≡ L.name }
+    requires parts { blank.parts ≡ L.parts }
+    requires some { 0 < L.parts }
+    requires enrolled { All (λ s. s.unit < length labels.now) index.old.enrolled }
+    ensures ascending { IfOk result (λ to. IsStrictlySortedBy pair_cmp to) }
+    ensures due { IfOk result (λ to. (p : Pair) → Contains to p
+        ↔ IsReceiver matches labels.now index.old event after.now edit.now p) }
+    ensures ready { IfOk result (λ to. index.new
+        ≡ record index.old { ready = Some (event, to) }) }
+    ensures unchanged { OnErr result (index.new ≡ index.old) }
+{
+    let mut steps = Steps::<L>::new(blank);
+    index.receivers(labels, event, after, edit, &mut steps)
+}
+
+/// Whether the call is one that changes the label at which its unit reads.
+fn is_in_out(call: &Call) -> bool
+    ensures { result ≡ is_in_out call.now }
+{
+    matches!(call, Call::ChangeInOut { .. })
+}
+
+/// The ordinary subscription that a call with this reply makes.
+fn made_by<'a>(call: &'a Call, reply: &Reply) -> Option<(u32, &'a Filter)>
+    ensures { option_map (λ made. (made.0, made.1.now)) result ≡ made_by call.now reply.now }
+{
+    match (call, reply) {
+        (Call::Subscribe { filter }, Reply::Sub(number)) => Some((*number, filter)),
+        _ => None,
+    }
+}
+
+/// The parts after an edit.
+fn applied(contents: &Contents, edit: &Edit) -> Result<Contents, NoMemory>
+    ensures { IfOk result (λ c. c ≡ apply edit.now contents.now) }
+{
+    let mut after = contents.copy()?;
+    after.apply(edit)?;
+    Ok(after)
+}
+
+impl Board {
+    /// The tables of units that have these rows.
+    pub fn new(alloc: Global, rows: Vec<Unit>) -> Result<Board, NoMemory>
+        requires order { IsInOrder rows.items }
+        requires calm { All IsCalm rows.items }
+        ensures board { IfOk result IsBoard }
+        ensures tells { IfOk result (λ b. (starts : List (Label × List Privilege)) →
+            rows.items ≡ rows_from 0 starts → TellsOf starts [] b) }
+    {
+        let labels = labels_of(alloc, rows.as_slice())?;
+        Ok(Board {
+            rows,
+            labels,
+            stale: None,
+            events: Events::new(alloc),
+            index: Index::new(alloc),
+            alloc,
+        })
+    }
+
+    /// The row of a unit.
+    pub fn unit(&self, name: &UnitName) -> Option<&Unit>
+        requires { IsBoard self.now }
+        ensures { option_copied result ≡ find name.now self.now.rows.items }
+    {
+        find(self.rows.as_slice(), name)
+    }
+
+    /// The row at a place, in the order of units.
+    pub fn unit_at(&self, place: usize) -> Option<&Unit>
+        ensures { option_copied result ≡ slice_get self.now.rows.items place }
+    {
+        self.rows.get(place)
+    }
+
+    /// What a unit's row answers to a call.
+    pub fn answer(&self, actor: &UnitName, call: &Call) -> Result<Answer, NoMemory>
+        requires board { IsBoard self.now }
+        requires built { IsBuilt call.now }
+        ensures { IfOk result (λ a. (a.reply, a.effect) ≡ answer_on self.now actor.now call.now) }
+    {
+        match self.unit(actor) {
+            Some(unit) => unit.local.answer(unit.line.first(), call),
+            None => Ok(Answer {
+                reply: Reply::NoSuchUnit,
+                effect: Effect::Nothing,
+            }),
+        }
+    }
+
+    /// Moves the row at a place as its unit's call does, which changes the label at which the unit
+    /// reads. Where memory is wanting, at most the labels are others.
+    fn move_reader(
+        &mut self,
+        place: usize,
+        call: &Call,
+        reply: &Reply,
+        effect: &Effect,
+    ) -> Result<(), NoMemory>
+        requires board { IsBoard self.old }
+        requires within { place < length self.old.rows.items }
+        requires built { IsBuilt call.now }
+        requires right { IsAnsweredAt place call.now reply.now effect.now self.old.rows.items }
+        ensures board { IsBoard self.new }
+        ensures ok { OnOk result (IsMovedBoard place call.now reply.now effect.now None
+            self.old self.new) }
+        ensures same { OnErr result (IsRenewed self.old self.new) }
+    {
+        self.refresh()?;
+        move_at(self.rows.as_mut_slice(), place, call, reply, effect)?;
+        self.stale = Some(place);
+        Ok(())
+    }
+
+    /// Moves the row at a place as its unit's call does, which changes no label and subscribes to
+    /// nothing. Where memory is wanting, nothing is another.
+    fn move_other(
+        &mut self,
+        place: usize,
+        call: &Call,
+        reply: &Reply,
+        effect: &Effect,
+    ) -> Result<(), NoMemory>
+        requires board { IsBoard self.old }
+        requires within { place < length self.old.rows.items }
+        requires built { IsBuilt call.now }
+        requires right { IsAnsweredAt place call.now reply.now effect.now self.old.rows.items }
+        requires other { is_in_out call.now ≡ false }
+        ensures board { IsBoard self.new }
+        ensures ok { OnOk result (IsMovedBoard place call.now reply.now effect.now None
+            self.old self.new) }
+        ensures same { OnErr result (IsRenewed self.old self.new) }
+    {
+        move_at(self.rows.as_mut_slice(), place, call, reply, effect)?;
+        Ok(())
+    }
+
+    /// Enrols the subscription that the unit at a place makes. Where memory is wanting, nothing is
+    /// another.
+    fn enrol(&mut self, place: usize, filter: &Filter, number: u32) -> Result<(), NoMemory>
+        requires board { IsBoard self.old }
+        requires within { place < length self.old.rows.items }
+        requires right { IsAnsweredAt place (Subscribe filter.now) (Sub number) Effect.Nothing
+            self.old.rows.items }
+        ensures board { IsBoard self.new }
+        ensures ok { OnOk result (IsMovedBoard place (Subscribe filter.now) (Sub number)
+            Effect.Nothing (Some (number, filter.now)) self.old self.new) }
+        ensures same { OnErr result (IsRenewed self.old self.new) }
+    {
+        let rows = self.rows.as_mut_slice();
+        subscribe(rows, &mut self.index, place, filter, number)?;
+        Ok(())
+    }
+
+    /// Takes in an entry without a commit of the unit at a place.
+    fn book_plain(
+        &mut self,
+        place: usize,
+        call: &Call,
+        reply: &Reply,
+        effect: &Effect,
+    ) -> Result<(), NoMemory>
+        requires board { IsBoard self.old }
+        requires within { place < length self.old.rows.items }
+        requires built { IsBuilt call.now }
+        requires plain { commit_in effect.now ≡ None }
+        requires right { IsAnsweredAt place call.now reply.now effect.now self.old.rows.items }
+        ensures board { IsBoard self.new }
+        ensures ok { OnOk result (IsMovedBoard place call.now reply.now effect.now
+            (made_by call.now reply.now) self.old self.new) }
+        ensures same { OnErr result (IsRenewed self.old self.new) }
+    {
+        if is_in_out(call) {
+            return self.move_reader(place, call, reply, effect);
+        }
+        match made_by(call, reply) {
+            Some((number, filter)) => self.enrol(place, filter, number),
+            None => self.move_other(place, call, reply, effect),
+        }
+    }
+
+    /// All labels are those of now.
+    fn refresh(&mut self) -> Result<(), NoMemory>
+        requires { AreLabels (inputs self.old.rows.items) self.old.labels.items self.old.stale }
+        ensures labels { AreLabels (inputs self.new.rows.items) self.new.labels.items
+            self.new.stale }
+        ensures fresh { OnOk result (self.new.labels.items ≡ inputs self.new.rows.items) }
+        ensures same { IsRenewed self.old self.new }
+    {
+        let rows = self.rows.as_slice();
+        refresh(rows, &mut self.labels, self.stale)?;
+        self.stale = None;
+        Ok(())
+    }
+
+    /// Makes all ready to hand a commit over.
+    fn open(&mut self, commit: &Commit) -> Result<Ready, NoMemory>
+        requires { IsBoard self.old }
+        ensures board { IsBoard self.new }
+        ensures ready { IfOk result (λ r. IsReady commit.now self.new r) }
+        ensures opened { IsOpenedBoard commit.now.event self.old self.new }
+    {
+        let place = self.events.open(&commit.event)?;
+        self.refresh()?;
+        let after = applied(self.events.contents(place), &commit.edit)?;
+        let labels = self.labels.as_slice();
+        let edit = &commit.edit;
+        let index = &mut self.index;
+        let to = receivers::<Brand>(index, labels, place, &after, edit, Blank::new(1))?;
+        Ok(Ready { place, after, to })
+    }
+
+    /// Takes in an entry with a commit of the unit at a place.
+    fn book_commit(
+        &mut self,
+        place: usize,
+        call: &Call,
+        reply: &Reply,
+        effect: &Effect,
+        commit: &Commit,
+    ) -> Result<(), NoMemory>
+        requires board { IsBoard self.old }
+        requires within { place < length self.old.rows.items }
+        requires built { IsBuilt call.now }
+        requires commit { effect.now ≡ Effect.Commit commit.now }
+        requires right { IsAnsweredAt place call.now reply.now effect.now self.old.rows.items }
+        ensures board { IsBoard self.new }
+        ensures ok { OnOk result (IsHandedBoard place call.now reply.now effect.now commit.now
+            self.old self.new) }
+        ensures opened { OnErr result (IsOpenedBoard commit.now.event self.old self.new) }
+    {
+        let ready = self.open(commit)?;
+        let news = News {
+            event: &commit.event,
+            after: &ready.after,
+            receivers: ready.to.as_slice(),
+        };
+        let rows = self.rows.as_mut_slice();
+        hand_over(self.alloc, rows, place, call, reply, effect, &news)?;
+        self.index.book(ready.place, &ready.to);
+        self.events.set(ready.place, ready.after);
+        Ok(())
+    }
+
+    /// Takes in an entry: a call, with the answer that the unit's row gives. Where memory is
+    /// wanting, the tables tell what they told.
+    pub fn book(
+        &mut self,
+        actor: &UnitName,
+        call: &Call,
+        reply: &Reply,
+        effect: &Effect,
+    ) -> Result<(), NoMemory>
+        requires board { IsBoard self.old }
+        requires built { IsBuilt call.now }
+        requires right { answer_on self.old actor.now call.now ≡ (reply.now, effect.now) }
+        ensures board { IsBoard self.new }
+        ensures ok { OnOk result (IsBooked actor.now call.now reply.now effect.now
+            self.old self.new) }
+        ensures kept { OnErr result (IsKept self.old self.new) }
+    {
+        let Some(place) = place(self.rows.as_slice(), actor) else {
+            return Ok(());
+        };
+        match effect {
+            Effect::Commit(commit) => self.book_commit(place, call, reply, effect, commit),
+            _ => self.book_plain(place, call, reply, effect),
+        }
+    }
+}

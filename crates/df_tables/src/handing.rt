@@ -1,0 +1,173 @@
+//! Handing an event to its receivers, and to no other row.
+
+ghost use Rattle.std.specs.Prelude.{◌≡◌, ◌<◌, OnOk, OnErr, IfOk, List, length, map};
+ghost use Rattle.std.specs.List.{All};
+ghost use Rattle.df_part.specs.Part.{cut};
+ghost use Rattle.df_unit.specs.Served.{IsBuilt};
+ghost use Rattle.df_unit.specs.declared.commit.Given.{Given};
+ghost use Rattle.df_tables.specs.Hand.{IsAnsweredAt, IsCalm, IsNews, each, given_to, modify, quiet_row, settled_row, staged_row, with_news, with_state};
+ghost use Rattle.df_tables.specs.declared.units.Unit.{Unit};
+
+use crate::units::Unit;
+use df_label::{Label, NoMemory};
+use df_part::Contents;
+use df_unit::{Call, Effect, EventName, Given, Parts, Reply};
+use std::alloc::Global;
+
+/// What a commit brings: the event, its parts after the commit, and to whom it is to be handed.
+#[derive(Drop)]
+pub(crate) struct News<'a> {
+    pub event: &'a EventName,
+    pub after: &'a Contents,
+    pub receivers: &'a [(usize, u32)],
+}
+
+/// The parts of an event that are readable at a label.
+fn seen_at(alloc: Global, at: &Label, contents: &Contents) -> Result<Parts, NoMemory>
+    ensures { IfOk result (λ p. p ≡ cut at.now contents.now) }
+{
+    let mut seen = Vec::new(alloc);
+    for part in contents.readable_by(at) {
+        seen.push(part.share()?)?;
+    }
+    Ok(Parts::new(seen))
+}
+
+/// The delivery of an event to a receiver who reads at a label.
+fn given_to(
+    alloc: Global,
+    event: &EventName,
+    after: &Contents,
+    at: &Label,
+    receiver: (usize, u32),
+) -> Result<Given, NoMemory>
+    ensures { IfOk result (λ d. d ≡ given_to event.now after.now at.now receiver) }
+{
+    Ok(Given {
+        event: event.copy()?,
+        sub: receiver.1,
+        parts: seen_at(alloc, at, after)?,
+    })
+}
+
+/// Stages one delivery at a row.
+fn stage_at(
+    alloc: Global,
+    unit: &mut Unit,
+    event: &EventName,
+    after: &Contents,
+    receiver: (usize, u32),
+) -> Result<(), NoMemory>
+    ensures ok { OnOk result (unit.new ≡ staged_row event.now after.now receiver unit.old) }
+    ensures unchanged { OnErr result (unit.new ≡ unit.old) }
+{
+    let Ok(given) = given_to(alloc, event, after, unit.local.input(), receiver) else {
+        return Err(NoMemory);
+    };
+    let Ok(()) = unit.line.stage(given) else {
+        return Err(NoMemory);
+    };
+    Ok(())
+}
+
+/// Stages the event at each receiver's row. Where memory is wanting, only what is staged there is
+/// another.
+fn stage(
+    alloc: Global,
+    units: &mut [Unit],
+    receivers: &[(usize, u32)],
+    event: &EventName,
+    after: &Contents,
+) -> Result<(), NoMemory>
+    requires within { All (λ p. p.0 < length units.old) receivers.now }
+    ensures ok { OnOk result (units.new
+        ≡ each (staged_row event.now after.now) receivers.now units.old) }
+    ensures quiet { OnErr result (each quiet_row receivers.now units.new
+        ≡ each quiet_row receivers.now units.old) }
+{
+    for receiver in receivers {
+        let unit = &mut units[receiver.0];
+        let Ok(()) = stage_at(alloc, unit, event, after, *receiver) else {
+            return Err(NoMemory);
+        };
+    }
+    Ok(())
+}
+
+/// Hands over what was staged at each receiver's row. Takes no memory.
+fn settle(units: &mut [Unit], receivers: &[(usize, u32)])
+    requires within { All (λ p. p.0 < length units.old) receivers.now }
+    ensures { units.new ≡ each settled_row receivers.now units.old }
+{
+    for receiver in receivers {
+        let unit = &mut units[receiver.0];
+        unit.line.settle();
+    }
+}
+
+/// Lets go what was staged at each receiver's row.
+fn quiet(units: &mut [Unit], receivers: &[(usize, u32)])
+    requires within { All (λ p. p.0 < length units.old) receivers.now }
+    ensures { units.new ≡ each quiet_row receivers.now units.old }
+{
+    for receiver in receivers {
+        let unit = &mut units[receiver.0];
+        unit.line.quiet();
+    }
+}
+
+/// Takes an entry with a commit into the own state of the row at a place.
+fn take_commit(
+    units: &mut [Unit],
+    place: usize,
+    call: &Call,
+    reply: &Reply,
+    effect: &Effect,
+) -> Result<(), NoMemory>
+    requires within { place < length units.old }
+    requires built { IsBuilt call.now }
+    requires right { IsAnsweredAt place call.now reply.now effect.now units.old }
+    ensures ok { OnOk result (units.new
+        ≡ modify place (with_state call.now reply.now effect.now) units.old) }
+    ensures unchanged { OnErr result (units.new ≡ units.old) }
+{
+    let unit = &mut units[place];
+    let Ok(()) = unit.local.take(call, reply, effect) else {
+        return Err(NoMemory);
+    };
+    Ok(())
+}
+
+/// Hands an event to its receivers, and takes the commit's entry into the own state of the actor,
+/// whose row has this place. Where memory is wanting, the table is as before.
+pub(crate) fn hand_over(
+    alloc: Global,
+    units: &mut [Unit],
+    place: usize,
+    call: &Call,
+    reply: &Reply,
+    effect: &Effect,
+    news: &News<'_>,
+) -> Result<(), NoMemory>
+    requires within { place < length units.old }
+    requires receivers { All (λ p. p.0 < length units.old) news.now.receivers.now }
+    requires built { IsBuilt call.now }
+    requires right { IsAnsweredAt place call.now reply.now effect.now units.old }
+    requires calm { All IsCalm units.old }
+    ensures ok { (given : Unit → List Given) → IsNews given news.now.event.now
+        news.now.after.now news.now.receivers.now units.old → OnOk result (units.new
+        ≡ modify place (with_state call.now reply.now effect.now)
+        (map (with_news given) units.old)) }
+    ensures unchanged { OnErr result (units.new ≡ units.old) }
+{
+    let Ok(()) = stage(alloc, units, news.receivers, news.event, news.after) else {
+        quiet(units, news.receivers);
+        return Err(NoMemory);
+    };
+    let Ok(()) = take_commit(units, place, call, reply, effect) else {
+        quiet(units, news.receivers);
+        return Err(NoMemory);
+    };
+    settle(units, news.receivers);
+    Ok(())
+}
