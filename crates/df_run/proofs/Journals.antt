@@ -21,9 +21,9 @@ use Rattle.df_lines.specs.declared.refused.FileRefused.TheVariants.{Syntax, TooL
 use Rattle.df_script_text.specs.Script.{IsScript, IsScriptText, script_text}
 use Rattle.df_script_text.specs.TooLarge.{IsTooLargeIn}
 use Rattle.df_script_text.proofs.ScriptBacks.{script_is_one}
-use Rattle.df_run.specs.Tasks.{BlamesBytes}
+use Rattle.df_run.specs.Tasks.{BlamesBytes, RefusesInput, told_of}
 use Rattle.df_run.specs.declared.status.BadKind.TheVariants as kind
-use Rattle.df_run.specs.declared.words.Task.TheVariants.{Steps}
+use Rattle.df_words.specs.declared.command.Command.TheVariants.{Steps}
 use Rattle.df_script_text.specs.declared.line.ScriptLine.{ScriptLine}
 use Rattle.df_run.specs.Steps.{AppendsStep, AreBuilt, IsServedText, IsUnserved, RefusesLine, TellsUnserved, called, journal_of, noted, noted_in}
 
@@ -114,9 +114,15 @@ not_served bytes line u served =
     let same = script_is_one served.0 u.roots served.1 (u.older ++ u.unserved ∷ u.newer) served.2 u.script (sym served.4 ∙ u.text) in
     u.unbuilt (all_at (λ (line : ScriptLine). IsBuilt line.call) u.older u.unserved u.newer (subst AreBuilt same.1 served.3))
 
-pub blames_syntax : (bytes : List ℕ) (line : ℕ) → RefusesLine bytes (Syntax line) → BlamesBytes Steps bytes line kind.Syntax
-blames_syntax bytes line (inl names) = record { bad = λ served. names.2.first.none (served.0, served.1, served.2, served.4); place = inl names }
-blames_syntax bytes line (inr unserved) = record { bad = not_served bytes line unserved; place = inr unserved }
+blames_syntax : (file : ℕ) (bytes : List ℕ) (line : ℕ) → RefusesLine bytes (Syntax line) → BlamesBytes (Steps file) bytes line kind.Syntax
+blames_syntax file bytes line (inl names) = record { bad = λ served. names.2.first.none (served.0, served.1, served.2, served.4); place = inl names }
+blames_syntax file bytes line (inr unserved) = record { bad = not_served bytes line unserved; place = inr unserved }
 
-pub blames_too_large : (bytes : List ℕ) (line : ℕ) → RefusesLine bytes (TooLarge line) → BlamesBytes Steps bytes line kind.TooLarge
-blames_too_large bytes line names = record { bad = λ served. names.2.first.none (served.0, served.1, served.2, served.4); place = names }
+blames_too_large : (file : ℕ) (bytes : List ℕ) (line : ℕ) → RefusesLine bytes (TooLarge line) → BlamesBytes (Steps file) bytes line kind.TooLarge
+blames_too_large file bytes line names = record { bad = λ served. names.2.first.none (served.0, served.1, served.2, served.4); place = names }
+
+-- a script that isn't run is blamed
+pub run_blames : (file : ℕ) (bytes : List ℕ) (refused : FileRefused) → RefusesLine bytes refused → RefusesInput (Steps file) bytes (told_of refused)
+run_blames file bytes (Syntax line) refuses = blames_syntax file bytes line refuses
+run_blames file bytes (TooLarge line) refuses = blames_too_large file bytes line refuses
+run_blames file bytes NoMemory refuses = tt

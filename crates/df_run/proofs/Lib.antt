@@ -1,3 +1,4 @@
+pub mod Asked
 pub mod Blame
 pub mod Journals
 pub mod Lints

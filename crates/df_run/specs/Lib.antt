@@ -3,4 +3,3 @@ pub mod Outcome
 pub mod Status
 pub mod Steps
 pub mod Tasks
-pub mod Words

@@ -1,19 +1,41 @@
 -- When each status comes, and what is written then. `told` is what is in the command's file, where
 -- the shelf tells it.
-use Rattle.std.specs.Prelude.{◌≡◌, ◌↔◌, ◌⊎◌, ⊤, ℕ, ◌<◌, ◌≤◌, List, length, Option, Some, None, String}
-use Rattle.std.specs.declared.alloc.Global.{Global}
+use Rattle.std.specs.Prelude.{◌≡◌, ◌↔◌, ◌⊎◌, ⊤, ℕ, ◌<◌, ◌≤◌, List, [], length, Option, Some, None, slice_get}
+use Rattle.std.specs.Option.{option_and_then}
 use Rattle.df_io.specs.Faults.{Rose}
 use Rattle.df_io.specs.Limits.{longest_file}
 use Rattle.df_io.specs.Pieces.{HasAll, HasFront}
 use Rattle.df_run.specs.declared.status.Status.{Status}
 use Rattle.df_run.specs.declared.status.Status.TheVariants as status
-use Rattle.df_run.specs.declared.words.Task.{Task}
 use Rattle.df_run.specs.Tasks.{BlamesBytes, IsInput, IsOutput}
-use Rattle.df_run.specs.Words.{command_of}
+use Rattle.df_words.specs.Words.{Ask, file_of}
+use Rattle.df_words.specs.declared.command.Command.{Command}
+
+-- the words ask for nothing
+abbrev pub AskNothing : List (List ℕ) → Type 0
+AskNothing words = (c : Command) → ¬ Ask words c
+
+-- what holds of the command for which the words ask, where they ask for one
+abbrev pub IfAsked : List (List ℕ) → (Command → Type 0) → Type 0
+IfAsked words P = (c : Command) → Ask words c → P c
+
+-- what is told to be in the file that has a place among the words; where there is no file, there is
+-- nothing to read
+abbrev pub told_at : (List ℕ → Option (List ℕ)) → List (List ℕ) → Option ℕ → Option (List ℕ)
+told_at shelf words None = Some []
+told_at shelf words (Some place) = option_and_then shelf (slice_get words place)
+
+-- what the shelf tells to be in the command's file
+abbrev pub file_told : (List ℕ → Option (List ℕ)) → List (List ℕ) → Command → Option (List ℕ)
+file_told shelf words c = told_at shelf words (file_of c)
 
 -- Usage comes exactly where the words ask for nothing
-abbrev pub UsageIsExact : List (String Global) → Status → Type 0
-UsageIsExact words result = (result ≡ status.Usage) ↔ (command_of words ≡ None)
+abbrev pub UsageIsExact : List (List ℕ) → Status → Type 0
+UsageIsExact words result = (result ≡ status.Usage) ↔ AskNothing words
+
+-- the status is one of a command's run
+abbrev pub IsOfACommand : Status → Type 0
+IsOfACommand result = ¬ (result ≡ status.Usage)
 
 -- the run was cut off while the file was read or for want of memory
 abbrev pub IsCutOff : Status → Type 0
@@ -29,22 +51,22 @@ abbrev pub WasRead : Option (List ℕ) → List ℕ → Type 0
 WasRead told bytes = (length bytes ≤ longest_file) × IfTold told (λ file. bytes ≡ file)
 
 -- a status that blames an input blames the file that was read, which is whole and isn't what the
--- task reads
-abbrev pub BadInputIsDue : Task → Option (List ℕ) → Status → Type 0
-BadInputIsDue task told (status.BadInput input line kind) =
-    (input ≡ 1) × ((bytes : List ℕ) × WasRead told bytes × BlamesBytes task bytes line kind)
-BadInputIsDue task told _ = ⊤
+-- command reads
+abbrev pub BadInputIsDue : Command → Option (List ℕ) → Status → Type 0
+BadInputIsDue command told (status.BadInput input line kind) =
+    (input ≡ 1) × ((bytes : List ℕ) × WasRead told bytes × BlamesBytes command bytes line kind)
+BadInputIsDue command told _ = ⊤
 
 -- the status blames the file
 abbrev pub BlamesFile : Status → Type 0
 BlamesFile (status.BadInput input line kind) = input ≡ 1
 BlamesFile _ = ⊥
 
--- BadInput comes exactly where the file, read whole, isn't what the task reads
-abbrev pub BadInputIsExact : Task → Option (List ℕ) → Status → Type 0
-BadInputIsExact task told result =
-    BadInputIsDue task told result
-    × IfTold told (λ bytes. length bytes ≤ longest_file → ¬ IsInput task bytes →
+-- BadInput comes exactly where the file, read whole, isn't what the command reads
+abbrev pub BadInputIsExact : Command → Option (List ℕ) → Status → Type 0
+BadInputIsExact command told result =
+    BadInputIsDue command told result
+    × IfTold told (λ bytes. length bytes ≤ longest_file → ¬ IsInput command bytes →
     BlamesFile result ⊎ IsCutOff result)
 
 -- a status that calls an input too long says so of the file
@@ -68,23 +90,23 @@ ReadFaultIsDue before now result = result ≡ status.ReadFault → Rose before n
 abbrev pub WriteFaultIsDue : ℕ → ℕ → Status → Type 0
 WriteFaultIsDue before now result = result ≡ status.WriteFault → Rose before now
 
--- the text is what the task writes of bytes that were read
-abbrev pub IsOutputOfSome : Task → Option (List ℕ) → List ℕ → Type 0
-IsOutputOfSome task told text = (bytes : List ℕ) × IsOutput task bytes text
+-- the text is what the command writes of bytes that were read
+abbrev pub IsOutputOfSome : Command → Option (List ℕ) → List ℕ → Type 0
+IsOutputOfSome command told text = (bytes : List ℕ) × IsOutput command bytes text
     × IfTold told (λ file. bytes ≡ file)
 
 -- after Done the whole output was written, after WriteFault a front of it, and after any other
--- status nothing; whatever the shelf tells, it is the output of bytes that the task reads
-abbrev pub Writes : Task → Option (List ℕ) → Option (List ℕ) → Option (List ℕ) → Status → Type 0
-Writes task told old new status.Done = (text : List ℕ) × IsOutputOfSome task told text
+-- status nothing; whatever the shelf tells, it is the output of bytes that the command reads
+abbrev pub Writes : Command → Option (List ℕ) → Option (List ℕ) → Option (List ℕ) → Status → Type 0
+Writes command told old new status.Done = (text : List ℕ) × IsOutputOfSome command told text
     × HasAll old text new
-Writes task told old new status.WriteFault = (text : List ℕ) × IsOutputOfSome task told text
+Writes command told old new status.WriteFault = (text : List ℕ) × IsOutputOfSome command told text
     × HasFront old text new
-Writes task told old new _ = new ≡ old
+Writes command told old new _ = new ≡ old
 
--- a file that fits and is what the task reads is done: what is left is Done, a fault or want of
+-- a file that fits and is what the command reads is done: what is left is Done, a fault or want of
 -- memory
-abbrev pub DoesInput : Task → Option (List ℕ) → Status → Type 0
-DoesInput task told result =
-    IfTold told (λ bytes. length bytes ≤ longest_file → IsInput task bytes →
+abbrev pub DoesInput : Command → Option (List ℕ) → Status → Type 0
+DoesInput command told result =
+    IfTold told (λ bytes. length bytes ≤ longest_file → IsInput command bytes →
     (result ≡ status.Done) ⊎ ((result ≡ status.WriteFault) ⊎ IsCutOff result))

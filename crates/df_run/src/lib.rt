@@ -12,7 +12,6 @@ mod steps;
 mod tasks;
 #[cfg(test)]
 mod tests;
-mod words;
 #[cfg(test)]
 mod worked;
 

@@ -14,12 +14,14 @@ use std::{env, io};
 const HELP: &str = "usage: defcon steps SCRIPT
        defcon auction ORDERS
        defcon lint SCRIPT
+       defcon gen KEY N
 
 steps runs the unit calls of the file SCRIPT, and writes the journal of all calls, replies,
 commits and events handed out. auction reads the order file ORDERS, and writes for each symbol
 the price at which the greatest quantity trades, and the trades. lint makes none of the calls of
 SCRIPT: of its start it writes, for each root and each privilege, whether the units of the root's
-family may ever hold it.
+family may ever hold it. gen writes a tick file of N ticks, at most 100,000, which are the same
+for the same number KEY.
 
   --help     this text
   --version  the version

@@ -154,7 +154,7 @@ fn each_write_may_fail(rt: HostRuntime) -> Result<(), Fail> {
 #[test]
 fn other_words_are_usage(rt: HostRuntime) -> Result<(), Fail> {
     let alloc = rt.alloc();
-    let lines: [&[&str]; 9] = [
+    let lines: [&[&str]; 11] = [
         &[],
         &["steps"],
         &["auction", ""],
@@ -164,6 +164,8 @@ fn other_words_are_usage(rt: HostRuntime) -> Result<(), Fail> {
         &["Steps", "a"],
         &["a", "steps"],
         &["--help", "a"],
+        &["gen", "7"],
+        &["gen", "7", "0"],
     ];
     for line in lines {
         let words = words_of(alloc, line)?;
@@ -176,6 +178,18 @@ fn other_words_are_usage(rt: HostRuntime) -> Result<(), Fail> {
         );
         assert!(rt; sink.bytes().is_empty());
     }
+    Ok(())
+}
+
+#[test]
+fn ticks_are_generated(rt: HostRuntime) -> Result<(), Fail> {
+    let alloc = rt.alloc();
+    let mut shelf = MemoryShelf::new(alloc);
+    let mut sink = MemorySink::new(alloc, 1024, 1024)?;
+    let words = words_of(alloc, &["gen", "7", "2"])?;
+    let status = run_main(alloc, words.as_slice(), &mut shelf, &mut sink);
+    assert_eq!(rt; status, Status::Done);
+    assert_eq!(rt; sink.bytes(), b"symbol,price\nBBB,10088\nBBB,10132\n");
     Ok(())
 }
 

@@ -1,14 +1,13 @@
-use Rattle.std.proofs.Common.{subst}
-use Rattle.df_run.proofs.Blame.{blamed_is_exact, blamed_is_no_input, was_read}
-use Rattle.df_run.specs.Tasks.{BlamesBytes}
+use Rattle.df_run.proofs.Asked.{asks_some}
+use Rattle.df_words.specs.Words.{texts}
 use Rattle.df_run.proofs.run.run_plain.Goals as goal
 
-pub returns-in-Err-BadInput-clause-bad_input : goal.returns-in-Err-BadInput-clause-bad_input
-returns-in-Err-BadInput-clause-bad_input g c =
-    let refuses = rw c.in-Err-BadInput.field-0-is at c.in-Err-BadInput.ensures.refuses in
-    blamed_is_exact c.args.words.now (g.F.Shelf.bytes c.args.shelf.now) c.in-Some.task c.in-Some.name.now c.in-Ok.bytes.items c.in-Err-BadInput.line c.in-Err-BadInput.kind c.in-Some.ensures (was_read _ _ c.in-Ok.ensures.read c.in-Ok.ensures.short) (subst (λ bs. BlamesBytes c.in-Some.task bs c.in-Err-BadInput.line c.in-Err-BadInput.kind) c.as_slice.ensures.value refuses)
+pub returns-in-Some-clause-usage : goal.returns-in-Some-clause-usage
+returns-in-Some-clause-usage g c = (
+  λ usage. absurd (c.run_command.ensures.asked usage),
+  λ nothing. absurd (nothing c.in-Some.command (asks_some (texts c.args.words.now) c.read_words.result c.in-Some.command c.read_words.ensures c.in-Some.is)),
+)
 
-pub returns-in-Err-BadInput-clause-does : goal.returns-in-Err-BadInput-clause-does
-returns-in-Err-BadInput-clause-does g c =
-    let refuses = rw c.in-Err-BadInput.field-0-is at c.in-Err-BadInput.ensures.refuses in
-    blamed_is_no_input c.args.words.now (g.F.Shelf.bytes c.args.shelf.now) c.in-Some.task c.in-Some.name.now c.in-Ok.bytes.items c.in-Err-BadInput.line c.in-Err-BadInput.kind c.in-Some.ensures (was_read _ _ c.in-Ok.ensures.read c.in-Ok.ensures.short) (subst (λ bs. BlamesBytes c.in-Some.task bs c.in-Err-BadInput.line c.in-Err-BadInput.kind) c.as_slice.ensures.value refuses)
+pub returns-in-Some-clause-unused : goal.returns-in-Some-clause-unused
+returns-in-Some-clause-unused g c =
+    λ nothing. absurd (nothing c.in-Some.command (asks_some (texts c.args.words.now) c.read_words.result c.in-Some.command c.read_words.ensures c.in-Some.is))

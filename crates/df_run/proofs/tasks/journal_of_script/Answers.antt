@@ -1,8 +1,8 @@
-use Rattle.df_run.proofs.Journals.{blames_syntax, blames_too_large}
+use Rattle.std.proofs.Common.{sym, subst}
+use Rattle.df_run.specs.Tasks.{RefusesInput}
+use Rattle.df_run.proofs.Journals.{run_blames}
 use Rattle.df_run.proofs.tasks.journal_of_script.Goals as goal
+use Rattle.df_words.specs.declared.command.Command.TheVariants.{Steps}
 
-pub returns-in-Err-Syntax-clause-refuses : goal.returns-in-Err-Syntax-clause-refuses
-returns-in-Err-Syntax-clause-refuses c = blames_syntax c.args.bytes.now c.in-Err-Syntax.line (rw c.in-Err-Syntax.field-0-is at c.in-Err-Syntax.ensures.refuses)
-
-pub returns-in-Err-TooLarge-clause-refuses : goal.returns-in-Err-TooLarge-clause-refuses
-returns-in-Err-TooLarge-clause-refuses c = blames_too_large c.args.bytes.now c.in-Err-TooLarge.line (rw c.in-Err-TooLarge.field-0-is at c.in-Err-TooLarge.ensures.refuses)
+pub returns-in-Err-clause-refuses : goal.returns-in-Err-clause-refuses
+returns-in-Err-clause-refuses c file = subst (RefusesInput (Steps file) c.args.bytes.now) (sym c.blamed_line.ensures) (run_blames file c.args.bytes.now c.in-Err.refused c.in-Err.ensures.refuses)
