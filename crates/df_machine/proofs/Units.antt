@@ -1,14 +1,15 @@
 -- What the tables tell of the units that exist.
 use Rattle.std.proofs.Common.{◌≡◌, ℕ, List, Option, Some, None, false, map, not, option_map, slice_get, ap, sym, ◌∙◌}
-use Rattle.std.proofs.lemmas.Option.{slice_get-map}
 use Rattle.df_label.proofs.SetFacts.{same_elements}
+use Rattle.df_label.specs.Ascending.{IsAscending}
 use Rattle.df_rules.specs.Deliveries.{deliveries}
 use Rattle.df_rules.specs.Start.{rows}
 use Rattle.df_local.specs.code.LocalState.{LocalState}
 use Rattle.df_start.specs.Begun.{begun}
 use Rattle.df_start.specs.declared.start.RootStart.{RootStart}
 use Rattle.df_tables.specs.Board.{IsBoard, TellsOf}
-use Rattle.df_tables.specs.Table.{find, names_of}
+use Rattle.df_tables.specs.Roll.{names_in}
+use Rattle.df_tables.specs.Table.{find}
 use Rattle.df_tables.specs.declared.board.Board.{Board}
 use Rattle.df_tables.specs.declared.units.Unit.{Unit}
 use Rattle.df_tables.proofs.Tells.{named_at, none_at, row_at}
@@ -44,17 +45,11 @@ module _ (start : List RootStart) (past : List Entry) (b : Board) (board : IsBoa
   pub due_none : (a : UnitName) → find a us ≡ None → false ≡ has_delivery_in (start, past) a
   due_none a e = ap (λ (o : Option OwnState). is_due o (deliveries rows (firsts start) past a)) (sym (none_at rows (firsts start) past us b.events b.index tells a e))
 
-  -- the names of the rows are those of the units that exist, in their order
-  pub roll_of : IsRoll (start, past) (names_of us)
-  roll_of = record { order = board.whole.order; units = named_at rows (firsts start) past us b.events b.index tells }
+  module _ (order : IsAscending unit_cmp (names_in b.roll)) where
+    -- the names of the seats are those of the units that exist, in their order
+    pub roll_of : IsRoll (start, past) (names_in b.roll)
+    roll_of = record { order = order; units = λ n. named_at rows (firsts start) past us b.events b.index tells n b.roll board.roll }
 
-  -- and there is no other such list
-  pub roll_is : (names : List UnitName) → IsRoll (start, past) names → names ≡ names_of us
-  roll_is names roll = same_elements unit_cmp unit_cmp_exact names (names_of us) roll.order board.whole.order (λ n. roll.units n ∙ sym (named_at rows (firsts start) past us b.events b.index tells n))
-
-  -- what stands at a place of the table stands there in the list
-  pub unit_is : (k : ℕ) (o : Option Unit) → o ≡ slice_get us k → (names : List UnitName) → IsRoll (start, past) names → option_map (λ (u : Unit). u.local.unit) o ≡ slice_get names k
-  unit_is k o e names roll =
-      ap (option_map (λ (u : Unit). u.local.unit)) e
-      ∙ sym (slice_get-map (λ (u : Unit). u.local.unit) us k)
-      ∙ ap (λ (ns : List UnitName). slice_get ns k) (sym (roll_is names roll))
+    -- and there is no other such list
+    pub roll_is : (names : List UnitName) → IsRoll (start, past) names → names_in b.roll ≡ names
+    roll_is names roll = same_elements unit_cmp unit_cmp_exact (names_in b.roll) names order roll.order (λ n. named_at rows (firsts start) past us b.events b.index tells n b.roll board.roll ∙ sym (roll.units n))

@@ -1,7 +1,7 @@
 ghost use Rattle.std.specs.Prelude.{◌≡◌, ◌^◌, ◌<◌, ◌∷◌, [], length, IfErr, IfOk, List, None, OnErr, OnOk, map, option_copied, reverse, slice_get, vec_len, vec_capacity};
 ghost use Rattle.df_start.specs.Begun.{begun};
+ghost use Rattle.df_tables.specs.Moves.{IsServed};
 ghost use Rattle.df_tables.specs.Table.{rows_from};
-ghost use Rattle.df_unit.specs.Served.{IsBuilt};
 ghost use Rattle.df_unit.specs.declared.entry.Entry.TheVariants.{Done};
 ghost use Rattle.df_unit.specs.declared.name.UnitName.{UnitName};
 ghost use Rattle.df_machine.specs.Journal.{IsLegal, IsRoll, answer_in, appended, has_delivery_in, local_of};
@@ -143,15 +143,12 @@ impl Core {
             option_copied result ≡ slice_get names k }
         ensures roll { (names : List UnitName) × IsRoll self.now names }
     {
-        match self.board.unit_at(k) {
-            Some(unit) => Some(unit.local.name()),
-            None => None,
-        }
+        self.board.name_at(k)
     }
 
     /// What the rules answer to a call.
     fn answer(&self, actor: &UnitName, call: &Call) -> Result<Answer, NoMemory>
-        requires { IsBuilt call.now }
+        requires { IsServed call.now }
         ensures { IfOk result (λ a. (a.reply, a.effect) ≡ answer_in self.now actor.now call.now) }
     {
         self.board.answer(actor, call)
@@ -165,7 +162,7 @@ impl Core {
         reply: Reply,
         effect: Effect,
     ) -> Result<Reply, NotStepped>
-        requires built { IsBuilt call }
+        requires served { IsServed call }
         requires right { answer_in self.old actor.now call ≡ (reply, effect) }
         ensures ok { OnOk result (self.new ≡ (
           self.old.0,
@@ -193,7 +190,7 @@ impl Core {
     /// Makes a call for a unit: appends one entry, with the answer that the rules give, and answers
     /// its reply.
     pub fn step(&mut self, actor: &UnitName, call: Call) -> Result<Reply, NotStepped>
-        requires { IsBuilt call }
+        requires { IsServed call }
         ensures entry { OnOk result (self.new ≡ appended actor.now call self.old) }
         ensures reply { IfOk result (λ r. r ≡ (answer_in self.old actor.now call).0) }
         ensures unchanged { OnErr result (self.new ≡ self.old) }

@@ -1,6 +1,6 @@
 //! Two roots, of which one is handed what the other publishes.
 ghost use Rattle.std.specs.Prelude.{IfOk};
-ghost use Rattle.df_unit.specs.Served.{IsBuilt};
+ghost use Rattle.df_tables.specs.Moves.{IsServed};
 
 use crate::Core;
 use df_filter::{Clause, Filter, Test};
@@ -36,7 +36,7 @@ fn two_roots(alloc: Global) -> Result<Core, Fail> {
 
 // The call that asks for events with a price.
 fn subscribe(alloc: Global) -> Result<Call, Fail>
-    ensures { IfOk result (λ call. IsBuilt call) }
+    ensures { IfOk result (λ call. IsServed call) }
 {
     let mut clauses = Vec::new(alloc);
     clauses.push(Clause {
@@ -49,7 +49,7 @@ fn subscribe(alloc: Global) -> Result<Call, Fail>
 
 // The call that adds a price to the first draft.
 fn add(alloc: Global) -> Result<Call, Fail>
-    ensures { IfOk result (λ call. IsBuilt call) }
+    ensures { IfOk result (λ call. IsServed call) }
 {
     Ok(Call::AddPart {
         h: 0,
@@ -60,7 +60,7 @@ fn add(alloc: Global) -> Result<Call, Fail>
 }
 
 fn make(core: &mut Core, number: u32, call: Call)
-    requires { IsBuilt call }
+    requires { IsServed call }
 {
     let _answer = core.step(&root(number), call);
 }

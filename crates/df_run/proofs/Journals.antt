@@ -14,7 +14,7 @@ use Rattle.df_unit.specs.declared.entry.Entry.{Entry}
 use Rattle.df_unit.specs.declared.name.UnitName.{UnitName}
 use Rattle.df_journal_text.specs.Entry.{noted_text}
 use Rattle.df_journal_text.specs.Start.{head_text}
-use Rattle.df_unit.specs.Served.{IsBuilt}
+use Rattle.df_tables.specs.Moves.{IsServed}
 use Rattle.df_lines.specs.Refused.{NamesBadLine}
 use Rattle.df_lines.specs.declared.refused.FileRefused.{FileRefused}
 use Rattle.df_lines.specs.declared.refused.FileRefused.TheVariants.{Syntax, TooLarge, NoMemory}
@@ -25,7 +25,7 @@ use Rattle.df_run.specs.Tasks.{BlamesBytes, RefusesInput, told_of}
 use Rattle.df_run.specs.declared.status.BadKind.TheVariants as kind
 use Rattle.df_words.specs.declared.command.Command.TheVariants.{Steps}
 use Rattle.df_script_text.specs.declared.line.ScriptLine.{ScriptLine}
-use Rattle.df_run.specs.Steps.{AppendsStep, AreBuilt, IsServedText, IsUnserved, RefusesLine, TellsUnserved, called, journal_of, noted, noted_in}
+use Rattle.df_run.specs.Steps.{AppendsStep, AreServed, IsServedText, IsUnserved, RefusesLine, TellsUnserved, called, journal_of, noted, noted_in}
 
 -- what follows from what holds where a call is done
 pub on_ok-map : {A E : Type 0} {P Q : Type 0} (r : Result A E) → OnOk r P → (P → Q) → OnOk r Q
@@ -99,20 +99,20 @@ refuses_call bytes roots lines at line script text t number =
     })
 
 -- the place of the first such call is found
-pub unserved_at : (lines : List ScriptLine) (i : ℕ) (d : ScriptLine) → i < length lines → AreBuilt (take i lines) → ¬ IsBuilt (get_or lines i d).call → TellsUnserved lines (Some i)
+pub unserved_at : (lines : List ScriptLine) (i : ℕ) (d : ScriptLine) → i < length lines → AreServed (take i lines) → ¬ IsServed (get_or lines i d).call → TellsUnserved lines (Some i)
 unserved_at lines i d inside built unbuilt =
     (take i lines, get_or lines i d, drop (i + 1) lines, sym (take-append-drop i lines) ∙ ap (λ (l : List ScriptLine). take i lines ++ l) (drop_more lines i d inside), sym (length-take-le i lines (omega (arith, inside))), built, unbuilt)
 
 -- one more call that the machine makes
-pub built_more : (lines : List ScriptLine) (i : ℕ) (d : ScriptLine) → i < length lines → AreBuilt (take i lines) → IsBuilt (get_or lines i d).call → AreBuilt (take (i + 1) lines)
+pub built_more : (lines : List ScriptLine) (i : ℕ) (d : ScriptLine) → i < length lines → AreServed (take i lines) → IsServed (get_or lines i d).call → AreServed (take (i + 1) lines)
 built_more lines i d inside built here =
-    subst AreBuilt (sym (take_more lines i d inside)) (All-push (λ (line : ScriptLine). IsBuilt line.call) (take i lines) (get_or lines i d) built here)
+    subst AreServed (sym (take_more lines i d inside)) (All-push (λ (line : ScriptLine). IsServed line.call) (take i lines) (get_or lines i d) built here)
 
 -- what is refused isn't a script whose calls the machine makes
 pub not_served : (bytes : List ℕ) (line : ℕ) → IsUnserved bytes line → ¬ IsServedText bytes
 not_served bytes line u served =
     let same = script_is_one served.0 u.roots served.1 (u.older ++ u.unserved ∷ u.newer) served.2 u.script (sym served.4 ∙ u.text) in
-    u.unbuilt (all_at (λ (line : ScriptLine). IsBuilt line.call) u.older u.unserved u.newer (subst AreBuilt same.1 served.3))
+    u.unbuilt (all_at (λ (line : ScriptLine). IsServed line.call) u.older u.unserved u.newer (subst AreServed same.1 served.3))
 
 blames_syntax : (file : ℕ) (bytes : List ℕ) (line : ℕ) → RefusesLine bytes (Syntax line) → BlamesBytes (Steps file) bytes line kind.Syntax
 blames_syntax file bytes line (inl names) = record { bad = λ served. names.2.first.none (served.0, served.1, served.2, served.4); place = inl names }

@@ -21,7 +21,7 @@ use Rattle.df_unit.specs.declared.entry.Noted.{Noted}
 use Rattle.df_unit.specs.declared.reply.Reply.{Reply}
 use Rattle.df_journal_text.specs.Entry.{noted_text}
 use Rattle.df_journal_text.specs.Start.{journal_text}
-use Rattle.df_unit.specs.Served.{IsBuilt}
+use Rattle.df_tables.specs.Moves.{IsServed}
 use Rattle.df_lines.specs.Refused.{NamesBadLine}
 use Rattle.df_lines.specs.declared.refused.FileRefused.{FileRefused}
 use Rattle.df_lines.specs.declared.refused.FileRefused.TheVariants as refused
@@ -75,13 +75,13 @@ pub record IsSound (s : List OwnState) (past : List Entry) : Type 0 where
   pub separates : (l : Label) → Separates rows s past l
 
 -- the machine makes each of these calls by now
-abbrev pub AreBuilt : List ScriptLine → Type 0
-AreBuilt lines = All (λ line. IsBuilt line.call) lines
+abbrev pub AreServed : List ScriptLine → Type 0
+AreServed lines = All (λ line. IsServed line.call) lines
 
 -- the bytes are the text of a script whose calls the machine makes
 abbrev pub IsServedText : List ℕ → Type 0
 IsServedText bytes = (roots : List RootStart) × (lines : List ScriptLine) × IsScript roots lines
-    × AreBuilt lines × (bytes ≡ script_text roots lines)
+    × AreServed lines × (bytes ≡ script_text roots lines)
 
 -- the bytes are the text of a script, and in this line stands its first call that the machine
 -- doesn't make yet
@@ -92,15 +92,15 @@ pub record IsUnserved (bytes : List ℕ) (line : ℕ) : Type 0 where
   pub newer : List ScriptLine
   pub script : IsScript roots (older ++ unserved ∷ newer)
   pub text : bytes ≡ script_text roots (older ++ unserved ∷ newer)
-  pub built : AreBuilt older
-  pub unbuilt : ¬ IsBuilt unserved.call
+  pub built : AreServed older
+  pub unbuilt : ¬ IsServed unserved.call
   pub number : line ≡ length roots + length older + 3
 
 -- the bytes are the text of a script, and the text is that of the journal of its calls, which is
 -- sound
 abbrev pub RecordsScript : List ℕ → List ℕ → Type 0
 RecordsScript bytes text =
-    (roots : List RootStart) × (lines : List ScriptLine) × IsScript roots lines × AreBuilt lines
+    (roots : List RootStart) × (lines : List ScriptLine) × IsScript roots lines × AreServed lines
     × (bytes ≡ script_text roots lines) × Records roots lines text
     × IsSound (firsts roots) (journal_of roots lines)
 
@@ -113,10 +113,10 @@ pub record AppendsStep (line : ScriptLine) (old new : State) (before now : List 
 
 -- the place of the first call that the machine doesn't make yet
 abbrev pub TellsUnserved : List ScriptLine → Option ℕ → Type 0
-TellsUnserved lines None = AreBuilt lines
+TellsUnserved lines None = AreServed lines
 TellsUnserved lines (Some at) = (older : List ScriptLine) × (unserved : ScriptLine)
     × (newer : List ScriptLine) × (lines ≡ older ++ unserved ∷ newer) × (at ≡ length older)
-    × AreBuilt older × ¬ IsBuilt unserved.call
+    × AreServed older × ¬ IsServed unserved.call
 
 -- A script is refused at its first bad line; or, where the bytes are a script, at the first call
 -- that the machine doesn't make yet.

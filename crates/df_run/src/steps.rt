@@ -1,9 +1,9 @@
 ghost use Rattle.std.specs.Prelude.{◌≡◌, ◌++◌, IfOk, IfErr, MatchBool, OnOk, Some, slice_get};
 ghost use Rattle.df_unit.specs.declared.entry.Entry.{Entry};
-ghost use Rattle.df_unit.specs.Served.{IsBuilt};
+ghost use Rattle.df_tables.specs.Moves.{IsServed};
 ghost use Rattle.df_journal_text.specs.Entry.{entry_text};
 ghost use Rattle.df_machine.specs.Journal.{appended};
-ghost use Rattle.df_run.specs.Steps.{AppendsStep, AreBuilt, Records, RecordsScript, RefusesLine, TellsUnserved, contamination_in};
+ghost use Rattle.df_run.specs.Steps.{AppendsStep, AreServed, Records, RecordsScript, RefusesLine, TellsUnserved, contamination_in};
 
 use df_journal_text::{write_head, write_noting};
 use df_label::{Label, NoMemory};
@@ -35,13 +35,10 @@ pub fn steps(alloc: Global, bytes: &[u8]) -> Result<Vec<u8>, FileRefused>
 }
 
 /// Whether the machine makes the call by now.
-fn is_built(call: &Call) -> bool
-    ensures { MatchBool result (IsBuilt call.now) (¬ IsBuilt call.now) }
+fn is_served(call: &Call) -> bool
+    ensures { MatchBool result (IsServed call.now) (¬ IsServed call.now) }
 {
-    !matches!(
-        call,
-        Call::SubscribeManaged { .. } | Call::Instantiate { .. }
-    )
+    !matches!(call, Call::SubscribeManaged { .. })
 }
 
 /// The place of the first call that the machine doesn't make yet.
@@ -49,7 +46,7 @@ fn first_unserved(lines: &[ScriptLine]) -> Option<usize>
     ensures { TellsUnserved lines.now result }
 {
     for (i, line) in lines.iter().enumerate() {
-        if !is_built(&line.call) {
+        if !is_served(&line.call) {
             return Some(i);
         }
     }
@@ -58,7 +55,7 @@ fn first_unserved(lines: &[ScriptLine]) -> Option<usize>
 
 /// Makes the calls in their order, and gives the text of their journal.
 fn journal_of(alloc: Global, start: Start, mut lines: Vec<ScriptLine>) -> Result<Vec<u8>, NoMemory>
-    requires { AreBuilt lines.items }
+    requires { AreServed lines.items }
     ensures { IfOk result (λ text. Records start lines.items text.items) }
 {
     let mut text = Vec::new(alloc);
@@ -73,7 +70,7 @@ fn journal_of(alloc: Global, start: Start, mut lines: Vec<ScriptLine>) -> Result
 
 /// Makes a call, and appends its entry with the actor's contamination before it.
 fn append_step(core: &mut Core, line: ScriptLine, text: &mut Vec<u8>) -> Result<(), NoMemory>
-    requires { IsBuilt line.call }
+    requires { IsServed line.call }
     ensures { OnOk result (AppendsStep line core.old core.new text.old.items text.new.items) }
 {
     let contamination = contamination_of(core, &line.actor)?;
@@ -94,7 +91,7 @@ fn contamination_of(core: &Core, name: &UnitName) -> Result<Option<Label>, NoMem
 
 /// Makes a call, of which the journal then tells.
 fn make_call(core: &mut Core, actor: &UnitName, call: Call) -> Result<(), NoMemory>
-    requires { IsBuilt call }
+    requires { IsServed call }
     ensures { OnOk result (core.new ≡ appended actor.now call core.old) }
 {
     let reply = core.step(actor, call);

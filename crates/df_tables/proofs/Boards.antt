@@ -1,9 +1,8 @@
 -- Tables that fit each other still do after a change of a row.
-use Rattle.std.proofs.Common.{◌≡◌, ◌⊎◌, inl, inr, ℕ, zero, suc, ◌+◌, ◌≤◌, ◌<◌, ◌==◌, ◌&&◌, ◌||◌, Bool, true, false, if◌then◌else◌, List, [], ◌∷◌, ◌++◌, length, map, get_or, set, Option, Some, None, refl, ap, sym, subst, ◌∙◌, arith, All, length-append}
-use Rattle.std.specs.Cmp.{tied_itself}
+use Rattle.std.proofs.Common.{◌≡◌, inl, inr, ℕ, zero, suc, ◌+◌, ◌≤◌, ◌<◌, ◌==◌, ◌&&◌, ◌||◌, Bool, true, false, if◌then◌else◌, List, [], ◌∷◌, ◌++◌, length, map, get_or, set, Option, Some, None, refl, ap, sym, subst, ◌∙◌, arith, All, length-append}
 use Rattle.std.proofs.lemmas.Bool.{eqb-true}
 use Rattle.std.proofs.lemmas.List.{append-nil, get_or_default, length-map}
-use Rattle.std.proofs.lemmas.List.Elements.{All-push}
+use Rattle.std.proofs.lemmas.List.Elements.{All-head, All-push, All-tail}
 use Rattle.df_filter.specs.declared.clause.Clause.{Clause}
 use Rattle.df_index.specs.Due.{Pair, has_pair}
 use Rattle.df_index.specs.IndexState as index
@@ -11,8 +10,6 @@ use Rattle.df_index.specs.declared.subscription.Subscription.{Subscription}
 use Rattle.df_label.specs.declared.label.Label.{Label}
 use Rattle.df_part.specs.declared.part.Part.{Part}
 use Rattle.df_rules.specs.Start.{rows}
-use Rattle.df_unit.specs.UnitOrder.{unit_cmp}
-use Rattle.df_unit.specs.UnitOrderLaws.{unit_cmp_total}
 use Rattle.df_unit.specs.declared.call.Call.{Call}
 use Rattle.df_unit.specs.declared.commit.Commit.{Commit}
 use Rattle.df_unit.specs.declared.commit.Given.{Given}
@@ -20,14 +17,14 @@ use Rattle.df_unit.specs.declared.entry.Effect.{Effect}
 use Rattle.df_unit.specs.declared.name.EventName.{EventName}
 use Rattle.df_unit.specs.declared.name.UnitName.{UnitName}
 use Rattle.df_unit.specs.declared.reply.Reply.{Reply}
-use Rattle.df_tables.specs.Agree.{FilterIndex, IsWhole, enrols}
+use Rattle.df_tables.specs.Agree.{AreApart, FilterIndex, IsWhole, enrols}
 use Rattle.df_tables.specs.Board.{IsBoard, IsHandedBoard, IsMovedBoard, IsOpenedBoard, IsReady, IsRenewed}
 use Rattle.df_tables.specs.Events.{IsOpened, blank}
 use Rattle.df_tables.specs.Hand.{IsCalm, IsNews, modify, news_at, with_news, with_state}
 use Rattle.df_tables.specs.Labels.{AreLabels, inputs}
 use Rattle.df_tables.specs.Line.{LineState}
 use Rattle.df_tables.specs.Moves.{is_in_out}
-use Rattle.df_tables.specs.Table.{IsInOrder, moved_at, moved_row, names_of, place_of, taken}
+use Rattle.df_tables.specs.Table.{moved_at, moved_row, names_of, place_of, taken}
 use Rattle.df_tables.specs.declared.board.Board.{Board}
 use Rattle.df_tables.specs.declared.board.Ready.{Ready}
 use Rattle.df_tables.specs.declared.events.EventRow.{EventRow}
@@ -36,11 +33,10 @@ use Rattle.df_tables.proofs.Each.{at_modify, length-modify, set_modify}
 use Rattle.df_tables.proofs.Handed.{at_map}
 use Rattle.df_tables.proofs.Inputs.{after_keeps}
 use Rattle.df_tables.proofs.Opened.{place_within}
-use Rattle.df_tables.proofs.Order.{names-map, order_like}
+use Rattle.df_tables.proofs.Order.{apart_like, names-map, roll_like}
 use Rattle.df_tables.proofs.Places.{at_some}
-use Rattle.df_tables.proofs.Search.{found_at}
 
-names-modify : (f : Unit → Unit) → ((u : Unit) → (f u).local.unit ≡ u.local.unit) → (k : ℕ) (us : List Unit) → names_of (modify k f us) ≡ names_of us
+pub names-modify : (f : Unit → Unit) → ((u : Unit) → (f u).local.unit ≡ u.local.unit) → (k : ℕ) (us : List Unit) → names_of (modify k f us) ≡ names_of us
 names-modify f kept k [] = refl
 names-modify f kept zero (u ∷ us) = ap (λ (n : UnitName). n ∷ names_of us) (kept u)
 names-modify f kept (suc k) (u ∷ us) = ap (λ (ns : List UnitName). u.local.unit ∷ ns) (names-modify f kept k us)
@@ -52,13 +48,14 @@ modify-moved a (u ∷ us) k f h = sym (set_modify k f u (u ∷ us)) ∙ (at_some
 
 pub whole_modified : (us : List Unit) (evs : List EventRow) (x : FilterIndex) (k : ℕ) (f : Unit → Unit) → ((u : Unit) → (f u).local.unit ≡ u.local.unit) → ((u : Unit) → IsCalm u → IsCalm (f u)) → IsWhole us evs x → IsWhole (modify k f us) evs x
 whole_modified us evs x k f named still whole = record {
-  order = order_like us (modify k f us) (names-modify f named k us) whole.order;
+  apart = apart_like us (modify k f us) (names-modify f named k us) whole.apart;
   calm = λ i d within.
       let e = length-modify k f us in
       let j : i < length us = omega (arith, e, within) in
       subst IsCalm (sym (at_modify k f us i d j)) (by (k == i) (get_or us i d) (whole.calm i d j));
   enrolled = λ i d within. let e = length-modify k f us in let h = whole.enrolled i d within in omega (arith, e, h);
   fresh = whole.fresh;
+  seated = λ e p h. whole.seated e p (let n = length-modify k f us in omega (arith, n, h));
 }
   where
     by : (b : Bool) (u : Unit) → IsCalm u → IsCalm (if b then f u else u)
@@ -84,11 +81,12 @@ inputs-map f same [] = refl
 inputs-map f same (u ∷ us) = let first = same u in let rest = inputs-map f same us in cc
 
 -- a board whose rows, events and index are those of another
-pub board_renewed : (old new : Board) → IsWhole old.rows.items old.events old.index → IsRenewed old new → AreLabels (inputs new.rows.items) new.labels.items new.stale → IsBoard new
-board_renewed old new whole same labels = record {
+pub board_renewed : (old new : Board) → IsBoard old → IsRenewed old new → AreLabels (inputs new.rows.items) new.labels.items new.stale → IsBoard new
+board_renewed old new board same labels = record {
   whole = subst (λ (us : List Unit). IsWhole us new.events new.index) (sym same.rows)
       (subst (λ (evs : List EventRow). IsWhole old.rows.items evs new.index) (sym same.events)
-      (subst (λ (x : FilterIndex). IsWhole old.rows.items old.events x) (sym same.index) whole));
+      (subst (λ (x : FilterIndex). IsWhole old.rows.items old.events x) (sym same.index) board.whole));
+  roll = roll_like old.roll new.roll old.rows.items new.rows.items same.roll (ap names_of same.rows) board.roll;
   labels = labels;
 }
 
@@ -111,11 +109,12 @@ whole_moved k c r f made old new within moved whole =
     let us = old.rows.items in
     let after = whole_modified us old.events old.index k (moved_row rows c r f) (λ u. refl) (λ u h. taken_calm f u.line h) whole in
     let more : IsWhole (modify k (moved_row rows c r f) us) old.events new.index = record {
-      order = after.order;
+      apart = after.apart;
       calm = after.calm;
       enrolled = subst (λ (n : ℕ). All (IsOf n) new.index.enrolled) (sym (length-modify k (moved_row rows c r f) us))
           (subst (All (IsOf (length us))) (sym moved.enrolled) (enrolled_more (length us) old.index.enrolled k made within whole.enrolled));
       fresh = λ e p h. ap (λ (l : List (List Pair)). index.was_handed l e p) moved.handed ∙ whole.fresh e p h;
+      seated = λ e p h. ap (λ (l : List (List Pair)). index.was_handed l e p) moved.handed ∙ after.seated e p h;
     } in
     subst (λ (l : List Unit). IsWhole l new.events new.index) (sym moved.rows)
     (subst (λ (evs : List EventRow). IsWhole (modify k (moved_row rows c r f) us) evs new.index) (sym moved.events) more)
@@ -126,29 +125,44 @@ opened_longer event old new (inr e) = let n : length new ≡ length old + 1 = ap
 
 pub whole_opened : (event : EventName) (old new : Board) → IsOpenedBoard event old new → IsWhole old.rows.items old.events old.index → IsWhole new.rows.items new.events new.index
 whole_opened event old new o whole = subst (λ (l : List Unit). IsWhole l new.events new.index) (sym o.rows) (record {
-  order = whole.order;
+  apart = whole.apart;
   calm = whole.calm;
   enrolled = subst (All (IsOf (length old.rows.items))) (sym o.enrolled) whole.enrolled;
   fresh = λ e p h. ap (λ (l : List (List Pair)). index.was_handed l e p) o.handed
       ∙ whole.fresh e p (let longer = opened_longer event old.events new.events o.opened in omega (arith, longer, h));
+  seated = λ e p h. ap (λ (l : List (List Pair)). index.was_handed l e p) o.handed ∙ whole.seated e p h;
 })
 
 -- each receiver is one of the rows, since its subscription is of one
-pub receivers_within : (commit : Commit) (b : Board) (ready : Ready) → IsBoard b → IsReady commit b ready → All (λ (p : Pair). p.0 < length b.rows.items) ready.to
-receivers_within commit b ready board is i d within =
+pub receivers_within : (commit : Commit) (b : Board) (ready : Ready) → IsWhole b.rows.items b.events b.index → IsReady commit b ready → All (λ (p : Pair). p.0 < length b.rows.items) ready.to
+receivers_within commit b ready whole is i d within =
     let due = (is.due (get_or ready.to i d)).0 (i, within, get_or_default ready.to i (get_or ready.to i d) d within) in
-    let row = board.whole.enrolled due.enrolled.0 due.subscription due.enrolled.1 in
+    let row = whole.enrolled due.enrolled.0 due.subscription due.enrolled.1 in
     subst (λ (n : ℕ). n < length b.rows.items) (ap (λ (s : Subscription (List Clause)). s.unit) due.enrolled.2 ∙ ap (λ (p : Pair). p.0) due.pair) row
+
+-- who has no row is no receiver
+none_far : (ps : List Pair) (m : ℕ) (p : Pair) → All (λ (q : Pair). q.0 < m) ps → m ≤ p.0 → has_pair ps p ≡ false
+none_far [] m p all far = refl
+none_far (q ∷ qs) m p all far = by (q.0 == p.0) refl (none_far qs m p (All-tail (λ (r : Pair). r.0 < m) q qs all) far)
+  where
+    by : (b : Bool) → (q.0 == p.0) ≡ b → has_pair qs p ≡ false → ((b && (q.1 == p.1)) || has_pair qs p) ≡ false
+    by true e rest =
+        let near = All-head (λ (r : Pair). r.0 < m) q qs all in
+        let same = eqb-true q.0 p.0 e in
+        absurd (omega (arith, near, same, far))
+    by false e rest = rest
 
 -- what is handed to each row, by its unit's place
 abbrev news_by : EventName → List Part → List Pair → Unit → Option ℕ → List Given
 news_by event after ps u None = []
 news_by event after ps u (Some k) = news_at event after u.local.own.input ps k
 
-own_news : (event : EventName) (after : List Part) (ps : List Pair) (us : List Unit) → IsInOrder us → IsNews (λ u. news_by event after ps u (place_of u.local.unit us)) event after ps us
-own_news event after ps us order q d within =
-    let u = get_or us q d in
-    ap (news_by event after ps u) (found_at u.local.unit us q d order within (tied_itself unit_cmp_total u.local.unit))
+own_news : (event : EventName) (after : List Part) (ps : List Pair) (us : List Unit) → AreApart us → IsNews (λ u. news_by event after ps u (place_of u.local.unit us)) event after ps us
+own_news event after ps us apart q d within = ap (news_by event after ps (get_or us q d)) (apart q d within)
+
+neither : (b : Bool) → (b && false) ≡ false
+neither true = refl
+neither false = refl
 
 less_apart : (e j : ℕ) → j < e → (e == j) ≡ false
 less_apart e j h = by (e == j) refl
@@ -168,10 +182,10 @@ board_handed k c r f commit old new board done quiet labels =
     let before = whole_opened event old opened done.opening board.whole in
     let given : Unit → List Given = λ u. news_by event after ps u (place_of u.local.unit us) in
     let handed_to : List Unit = map (with_news given) us in
-    let is : new.rows.items ≡ modify k (with_state c r f) handed_to = done.rows given (own_news event after ps us before.order) in
+    let is : new.rows.items ≡ modify k (with_state c r f) handed_to = done.rows given (own_news event after ps us before.apart) in
     let there = place_within event opened.events done.ready.place done.made.place in
     let mapped : IsWhole handed_to new.events new.index = record {
-      order = order_like us handed_to (names-map (with_news given) (λ u. refl) us) before.order;
+      apart = apart_like us handed_to (names-map (with_news given) (λ u. refl) us) before.apart;
       calm = λ i d within.
           let e = length-map us (with_news given) in
           let j : i < length us = omega (arith, e, within) in
@@ -183,8 +197,17 @@ board_handed k c r f commit old new board done quiet labels =
           done.handed e p
           ∙ ap (λ (b : Bool). b || ((e == done.ready.place) && has_pair ps p)) (before.fresh e p long)
           ∙ ap (λ (b : Bool). b && has_pair ps p) (less_apart e done.ready.place (omega (arith, there, long)));
+      seated = λ e p h.
+          let n = length-map us (with_news given) in
+          let far : length us ≤ p.0 = omega (arith, n, h) in
+          done.handed e p
+          ∙ ap (λ (b : Bool). b || ((e == done.ready.place) && has_pair ps p)) (before.seated e p far)
+          ∙ ap (λ (b : Bool). (e == done.ready.place) && b) (none_far ps (length us) p (receivers_within commit opened done.ready before done.made) far)
+          ∙ neither (e == done.ready.place);
     } in record {
       whole = subst (λ (l : List Unit). IsWhole l new.events new.index) (sym is) (whole_modified handed_to new.events new.index k (with_state c r f) (λ u. refl) (λ u h. h) mapped);
+      roll = roll_like old.roll new.roll old.rows.items new.rows.items (done.roll ∙ done.opening.roll)
+          (ap names_of is ∙ names-modify (with_state c r f) (λ u. refl) k handed_to ∙ names-map (with_news given) (λ u. refl) us ∙ ap names_of done.opening.rows) board.roll;
       labels = subst (λ (l : List Label). AreLabels l new.labels.items new.stale)
           (sym (ap inputs is ∙ inputs-modify (with_state c r f) k handed_to (λ d i. let u = get_or handed_to k d in after_keeps u.local.unit u.local.own c r f quiet) ∙ inputs-map (with_news given) (λ u. refl) us ∙ ap inputs done.opening.rows))
           labels;

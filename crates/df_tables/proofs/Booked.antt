@@ -16,9 +16,8 @@ use Rattle.df_rules.proofs.TakingRows.{row_taking_laws}
 use Rattle.df_unit.specs.Name.{same}
 use Rattle.df_unit.specs.OwnState.{OwnState}
 use Rattle.df_unit.specs.Rows.{subscribes}
-use Rattle.df_unit.specs.Served.{IsBuilt}
 use Rattle.df_unit.specs.declared.call.Call.{Call}
-use Rattle.df_unit.specs.declared.call.Call.TheVariants.{ChangeInOut, Subscribe}
+use Rattle.df_unit.specs.declared.call.Call.TheVariants.{ChangeInOut, Instantiate, Subscribe}
 use Rattle.df_unit.specs.declared.commit.Commit.{Commit}
 use Rattle.df_unit.specs.declared.commit.Given.{Given}
 use Rattle.df_unit.specs.declared.entry.Effect.{Effect}
@@ -27,20 +26,20 @@ use Rattle.df_unit.specs.declared.entry.Entry.TheVariants.{Done}
 use Rattle.df_unit.specs.declared.name.EventName.{EventName}
 use Rattle.df_unit.specs.declared.name.UnitName.{UnitName}
 use Rattle.df_unit.specs.declared.reply.Reply.{Reply}
-use Rattle.df_unit.specs.declared.reply.Reply.TheVariants.{Sub}
+use Rattle.df_unit.specs.declared.reply.Reply.TheVariants.{Sub, Unit as Made}
 use Rattle.df_unit.proofs.SameFacts.{same_name-exact}
 use Rattle.df_tables.specs.Agree.{Agrees, FilterIndex, IsWhole, enrols, is_marked, subscribed_at}
 use Rattle.df_tables.specs.Board.{IsBooked, IsHandedBoard, IsKept, IsMovedBoard, IsOpenedBoard, IsRenewed, TellsOf, answer_from, answer_on}
 use Rattle.df_tables.specs.Events.{event_place}
 use Rattle.df_tables.specs.Hand.{IsAnsweredAt, IsNews, modify, news_at, with_news, with_state}
 use Rattle.df_tables.specs.Labels.{inputs}
-use Rattle.df_tables.specs.Moves.{IsAnswered, is_in_out, made_by}
+use Rattle.df_tables.specs.Moves.{IsAnswered, IsServed, child_by, is_in_out, made_by}
 use Rattle.df_tables.specs.Table.{find, moved_at, moved_row, place_of}
 use Rattle.df_tables.specs.declared.board.Board.{Board}
 use Rattle.df_tables.specs.declared.events.EventRow.{EventRow}
 use Rattle.df_tables.specs.declared.units.Unit.{Unit}
 use Rattle.df_tables.proofs.Boards.{modify-moved, whole_opened}
-use Rattle.df_tables.proofs.Built.{built_makes_none}
+use Rattle.df_tables.proofs.Built.{childless_makes_none, served_makes_none}
 use Rattle.df_tables.proofs.Dispatch.{news_found}
 use Rattle.df_tables.proofs.Opened.{within}
 use Rattle.df_tables.proofs.Order.{names-map}
@@ -58,7 +57,7 @@ pub place_in : (a : UnitName) (us : List Unit) (k : ℕ) → place_of a us ≡ S
 place_in a us k h = within (λ (v : Unit). same v.local.unit a) us k h
 
 -- the row at a unit's place
-found : (a : UnitName) (us : List Unit) (k : ℕ) → place_of a us ≡ Some k → (u : Unit) × (find a us ≡ Some u) × ((c : Call) (r : Reply) (f : Effect) → IsAnsweredAt k c r f us → IsAnswered c r f u)
+pub found : (a : UnitName) (us : List Unit) (k : ℕ) → place_of a us ≡ Some k → (u : Unit) × (find a us ≡ Some u) × ((c : Call) (r : Reply) (f : Effect) → IsAnsweredAt k c r f us → IsAnswered c r f u)
 found a [] k h = absurd (cc)
 found a (u ∷ us) k h = (get_or (u ∷ us) k u, (at_some a (u ∷ us) k u h).0, λ c r f answered. answered u (place_in a (u ∷ us) k h))
 
@@ -97,6 +96,10 @@ in_out_makes_none _ r h = refl
 abbrev inside : Option (ℕ × List Clause) → ℕ × List Clause
 inside None = (0, [])
 inside (Some p) = p
+
+abbrev inside_child : Option (ℕ × (List (List ℕ) × List Privilege)) → ℕ × (List (List ℕ) × List Privilege)
+inside_child None = (0, ([], []))
+inside_child (Some p) = p
 
 -- the call and the reply that make a subscription
 pub made_some : (c : Call) (r : Reply) (n : ℕ) (filter : List Clause) → made_by c r ≡ Some (n, filter) → (c ≡ Subscribe filter) × (r ≡ Sub n)
@@ -160,7 +163,7 @@ kept_opened event old new whole o starts past tells =
     (agrees_opened rows (roots starts) past old.rows.items old.events new.events old.index event o.opened whole.fresh tells))
 
 module _ (starts : Starts) (past : List Entry) (b : Board) (tells : TellsOf starts past b) (a : UnitName) (q : ℕ) (place : place_of a b.rows.items ≡ Some q) (c : Call) (r : Reply) (f : Effect) (answered : IsAnsweredAt q c r f b.rows.items) where
-  right : answer rows (roots starts) past a c ≡ (r, f)
+  pub right : answer rows (roots starts) past a c ≡ (r, f)
   right = let row = found a b.rows.items q place in sym (answer_at rows (roots starts) past b.rows.items b.events b.index tells a c row.0 row.1) ∙ row.2 c r f answered
 
   makes : (st : OwnState) → own rows (roots starts) past a ≡ Some st → subscribes st c r ≡ made_by c r
@@ -185,31 +188,31 @@ plain_else (Effect.Commit k) never = absurd (never k refl)
 plain_else (Effect.Given d) never = refl
 
 -- after an entry without a commit
-pub booked_plain : (a : UnitName) (q : ℕ) (c : Call) (r : Reply) (f : Effect) (old new : Board) → place_of a old.rows.items ≡ Some q → IsBuilt c → IsAnsweredAt q c r f old.rows.items → commit_in f ≡ None → IsMovedBoard q c r f (made_by c r) old new → IsBooked a c r f old new
-booked_plain a q c r f old new place built answered quiet moved starts past tells =
+pub booked_plain : (a : UnitName) (q : ℕ) (c : Call) (r : Reply) (f : Effect) (old new : Board) → place_of a old.rows.items ≡ Some q → IsServed c → child_by c r ≡ None → IsAnsweredAt q c r f old.rows.items → commit_in f ≡ None → IsMovedBoard q c r f (made_by c r) old new → IsBooked a c r f old new
+booked_plain a q c r f old new place served childless answered quiet moved starts past tells =
     let us = old.rows.items in
     subst (λ (l : List Unit). Agrees rows (roots starts) (Done a c r f ∷ past) l new.events new.index) (sym (moved.rows ∙ modify-moved a us q (moved_row rows c r f) place))
     (subst (λ (evs : List EventRow). Agrees rows (roots starts) (Done a c r f ∷ past) (moved_at a (moved_row rows c r f) us) evs new.index) (sym moved.events)
-    (agrees_plain rows (roots starts) (row_taking_laws starts) past us old.events old.index new.index a c r f (made_by c r) tells (built_makes_none c r built) quiet
+    (agrees_plain rows (roots starts) (row_taking_laws starts) past us old.events old.index new.index a c r f (made_by c r) tells (served_makes_none c r served) (childless_makes_none c r childless) quiet
     (right starts past old tells a q place c r f answered) (makes starts past old tells a q place c r f answered)
     (moved.enrolled ∙ ap (λ (p : Option ℕ). old.index.enrolled ++ enrols p (made_by c r)) (sym place)) moved.handed))
 
 -- after a call of who isn't there
-pub booked_none : (a : UnitName) (c : Call) (r : Reply) (f : Effect) (b : Board) → place_of a b.rows.items ≡ None → IsBuilt c → (let p : Reply × Effect = (Reply.NoSuchUnit, Effect.Nothing) in p) ≡ (r, f) → IsBooked a c r f b b
-booked_none a c r f b none built is starts past tells =
+pub booked_none : (a : UnitName) (c : Call) (r : Reply) (f : Effect) (b : Board) → place_of a b.rows.items ≡ None → IsServed c → child_by c r ≡ None → (let p : Reply × Effect = (Reply.NoSuchUnit, Effect.Nothing) in p) ≡ (r, f) → IsBooked a c r f b b
+booked_none a c r f b none served childless is starts past tells =
     let us = b.rows.items in
     let absent = at_none a us none in
     let plain : commit_in f ≡ None = sym (ap (λ (p : Reply × Effect). commit_in p.1) is) in
     let answers : answer rows (roots starts) past a c ≡ (r, f) = answer_none rows (roots starts) past us b.events b.index tells a c absent.0 ∙ is in
     let gone = none_at rows (roots starts) past us b.events b.index tells a absent.0 in
     subst (λ (l : List Unit). Agrees rows (roots starts) (Done a c r f ∷ past) l b.events b.index) (sym (absent.1 (moved_row rows c r f)))
-    (agrees_plain rows (roots starts) (row_taking_laws starts) past us b.events b.index b.index a c r f None tells (built_makes_none c r built) plain answers
+    (agrees_plain rows (roots starts) (row_taking_laws starts) past us b.events b.index b.index a c r f None tells (served_makes_none c r served) (childless_makes_none c r childless) plain answers
     (λ st owned. absurd (let z : ⊥ = cc in z))
     (sym (append-nil b.index.enrolled) ∙ ap (λ (l : List (Subscription (List Clause))). b.index.enrolled ++ l) (sym (enrols_none (place_of a us)))) refl)
 
 -- after a commit
-pub booked_commit : (a : UnitName) (q : ℕ) (c : Call) (r : Reply) (f : Effect) (k : Commit) (old new : Board) → place_of a old.rows.items ≡ Some q → IsBuilt c → IsAnsweredAt q c r f old.rows.items → f ≡ Effect.Commit k → IsWhole old.rows.items old.events old.index → IsHandedBoard q c r f k old new → IsBooked a c r f old new
-booked_commit a q c r f k old new place built answered is whole done starts past tells =
+pub booked_commit : (a : UnitName) (q : ℕ) (c : Call) (r : Reply) (f : Effect) (k : Commit) (old new : Board) → place_of a old.rows.items ≡ Some q → IsServed c → child_by c r ≡ None → IsAnsweredAt q c r f old.rows.items → f ≡ Effect.Commit k → IsWhole old.rows.items old.events old.index → IsHandedBoard q c r f k old new → IsBooked a c r f old new
+booked_commit a q c r f k old new place served childless answered is whole done starts past tells =
     let s = roots starts in
     let opened = done.opened in
     let us = opened.rows.items in
@@ -217,7 +220,7 @@ booked_commit a q c r f k old new place built answered is whole done starts past
     let agree = kept_opened k.event old opened whole done.opening starts past tells in
     let given : Unit → List Given = λ u. news_of rows s past u.local.unit (Some k) in
     let handed_to : List Unit = map (with_news given) us in
-    let news = news_found starts past us opened.events opened.index agree there.order k done.ready.place done.ready.after done.ready.to (inputs us) done.made.place done.made.after refl done.made.ascending done.made.due in
+    let news = news_found starts past us opened.events opened.index agree there.apart k done.ready.place done.ready.after done.ready.to (inputs us) done.made.place done.made.after refl done.made.ascending done.made.due in
     let here : place_of a us ≡ Some q = ap (place_of a) done.opening.rows ∙ place in
     let also : place_of a handed_to ≡ Some q = place_of-names a us handed_to (names-map (with_news given) (λ u. refl) us) ∙ here in
     let row = found a old.rows.items q place in
@@ -229,7 +232,7 @@ booked_commit a q c r f k old new place built answered is whole done starts past
     ∙ modify-moved a handed_to q (moved_row rows c r (Effect.Commit k)) also in
     subst (λ (x : Effect). Agrees rows s (Done a c r x ∷ past) new.rows.items new.events new.index) (sym is)
     (subst (λ (l : List Unit). Agrees rows s (Done a c r (Effect.Commit k) ∷ past) l new.events new.index) (sym moved)
-    (agrees_commit rows s (row_taking_laws starts) past us opened.events new.events opened.index new.index a c r k done.ready.place done.ready.after done.ready.to given agree (built_makes_none c r built)
+    (agrees_commit rows s (row_taking_laws starts) past us opened.events new.events opened.index new.index a c r k done.ready.place done.ready.after done.ready.to given agree (served_makes_none c r served) (childless_makes_none c r childless)
     (right starts past old tells a q place c r f answered ∙ ap (λ (x : Effect). let p : Reply × Effect = (r, x) in p) is)
     (λ st owned. makes starts past old tells a q place c r f answered st owned ∙ commits_none c r k row.0 commits)
     (record {
@@ -242,3 +245,29 @@ booked_commit a q c r f k old new place built answered is whole done starts past
       gives = λ u. refl;
       brought = brought (λ n. news_of rows s past n (Some k)) k.event done.ready.after done.ready.to us news;
     })))
+
+-- the call, the reply and the effect that make a child
+pub child_some : (c : Call) (r : Reply) (n : ℕ) (s : List (List ℕ)) (ps : List Privilege) → child_by c r ≡ Some (n, (s, ps)) → (c ≡ Instantiate s ps) × (r ≡ Reply.Unit n)
+child_some (Instantiate s' ps') (Made m) n s ps e =
+    let p = ap inside_child e in
+    (ap (λ (q : ℕ × (List (List ℕ) × List Privilege)). Instantiate q.1.0 q.1.1) p, ap (λ (q : ℕ × (List (List ℕ) × List Privilege)). Reply.Unit q.0) p)
+child_some (Instantiate s' ps') _ n s ps e = absurd (let z : ⊥ = cc in z)
+child_some _ r n s ps e = absurd (let z : ⊥ = cc in z)
+
+-- who makes a child is answered so, and without effect
+pub child_at : (us : List Unit) (q : ℕ) (c : Call) (r : Reply) (f : Effect) (n : ℕ) (s : List (List ℕ)) (ps : List Privilege) → child_by c r ≡ Some (n, (s, ps)) → IsAnsweredAt q c r f us → IsAnsweredAt q (Instantiate s ps) (Reply.Unit n) Effect.Nothing us
+child_at us q c r f n s ps e answered d i =
+    let u = get_or us q d in
+    let both = child_some c r n s ps e in
+    let here : IsAnswered (Instantiate s ps) (Reply.Unit n) f u =
+    subst (λ (x : Call). IsAnswered x (Reply.Unit n) f u) both.0 (subst (λ (x : Reply). IsAnswered c x f u) both.1 (answered d i)) in
+    let still : Effect.Nothing ≡ f = ap (λ (p : Reply × Effect). p.1) here in
+    subst (λ (x : Effect). IsAnswered (Instantiate s ps) (Reply.Unit n) x u) (sym still) here
+
+-- who isn't there makes no child
+pub absent_childless : (c : Call) (r : Reply) (f : Effect) → (let p : Reply × Effect = (Reply.NoSuchUnit, Effect.Nothing) in p) ≡ (r, f) → child_by c r ≡ None
+absent_childless c r f e = ap (child_by c) (sym (ap (λ (p : Reply × Effect). p.0) e)) ∙ none c
+  where
+    none : (c : Call) → child_by c Reply.NoSuchUnit ≡ None
+    none (Instantiate s ps) = refl
+    none _ = refl

@@ -1,13 +1,18 @@
--- The calls that are built make neither managed subscriptions nor units.
-use Rattle.std.proofs.Common.{refl}
+-- Which calls make neither managed subscriptions nor units.
+use Rattle.std.proofs.Common.{◌≡◌, None, refl}
 use Rattle.df_rules.specs.Start.{rows}
-use Rattle.df_unit.specs.Served.{IsBuilt}
 use Rattle.df_unit.specs.declared.call.Call.{Call}
-use Rattle.df_unit.specs.declared.call.Call.TheVariants.{SubscribeManaged, Instantiate}
+use Rattle.df_unit.specs.declared.call.Call.TheVariants.{Instantiate, SubscribeManaged}
 use Rattle.df_unit.specs.declared.reply.Reply.{Reply}
-use Rattle.df_tables.specs.Agree.{MakesNoUnit}
+use Rattle.df_unit.specs.declared.reply.Reply.TheVariants.{Unit}
+use Rattle.df_tables.specs.Agree.{MakesNoManaged, MakesNoUnit}
+use Rattle.df_tables.specs.Moves.{IsServed, child_by}
 
-pub built_makes_none : (c : Call) (r : Reply) → IsBuilt c → MakesNoUnit rows c r
-built_makes_none (SubscribeManaged filter) r b = absurd b
-built_makes_none (Instantiate s privileges) r b = absurd b
-built_makes_none _ r b = record { fixes = λ st n. refl; makes = λ st k. refl }
+pub served_makes_none : (c : Call) (r : Reply) → IsServed c → MakesNoManaged rows c r
+served_makes_none (SubscribeManaged filter) r served = absurd served
+served_makes_none _ r served = λ st n. refl
+
+pub childless_makes_none : (c : Call) (r : Reply) → child_by c r ≡ None → MakesNoUnit rows c r
+childless_makes_none (Instantiate s privileges) (Unit n) e = absurd (let z : ⊥ = cc in z)
+childless_makes_none (Instantiate s privileges) _ e = λ st k. refl
+childless_makes_none _ r e = λ st k. refl

@@ -1,5 +1,5 @@
 -- The receivers that the index finds are those to whom the definitions hand the event.
-use Rattle.std.proofs.Common.{◌≡◌, ◌↔◌, ℕ, ◌<◌, List, [], ◌∷◌, if◌then◌else◌, map, length, get_or, slice_get, Option, Some, None, option_map, ap, sym, subst, ◌∙◌}
+use Rattle.std.proofs.Common.{◌≡◌, ◌↔◌, ℕ, List, [], if◌then◌else◌, get_or, slice_get, Option, Some, None, option_map, ap, sym, ◌∙◌}
 use Rattle.std.specs.List.{Contains, flat_map}
 use Rattle.std.specs.List.Sorted.{IsStrictlySortedBy}
 use Rattle.std.proofs.lemmas.Option.{slice_get-get_or, slice_get-map}
@@ -12,35 +12,30 @@ use Rattle.df_part.specs.Part.{cut}
 use Rattle.df_part.specs.declared.part.Part.{Part}
 use Rattle.df_rules.specs.Choices.{matches}
 use Rattle.df_rules.specs.Commits.{contents}
-use Rattle.df_rules.specs.Deliveries.{deliveries, deliveries_plain, offer, plain_news}
+use Rattle.df_rules.specs.Deliveries.{deliveries_plain, offer, plain_news}
 use Rattle.df_rules.specs.Own.{own, own_plain}
 use Rattle.df_rules.specs.Start.{rows, roots}
 use Rattle.df_rules.specs.Subscriptions.{subscriptions}
 use Rattle.df_rules.proofs.Numbers.{numbers_ascend}
 use Rattle.df_unit.specs.OwnState.{OwnState}
 use Rattle.df_unit.specs.Rows.{is_nil}
-use Rattle.df_unit.specs.UnitOrder.{unit_cmp}
-use Rattle.df_unit.specs.UnitOrderLaws.{unit_cmp_total}
-use Rattle.std.specs.Cmp.{tied_itself}
 use Rattle.df_unit.specs.declared.commit.Commit.{Commit}
-use Rattle.df_unit.specs.declared.commit.Given.{Given}
 use Rattle.df_unit.specs.declared.entry.Entry.{Entry}
 use Rattle.df_unit.specs.declared.name.UnitName.{UnitName}
 use Rattle.df_unit.specs.declared.name.UnitName.TheVariants.{Root, Managed}
-use Rattle.df_tables.specs.Agree.{Agrees, FilterIndex, is_marked, subscribed_at}
+use Rattle.df_tables.specs.Agree.{Agrees, AreApart, FilterIndex, is_marked, subscribed_at}
 use Rattle.df_tables.specs.Events.{event_place}
 use Rattle.df_tables.specs.Hand.{IsNews, news_at}
 use Rattle.df_tables.specs.Labels.{inputs}
-use Rattle.df_tables.specs.Table.{IsInOrder, find, parts_of, place_of}
+use Rattle.df_tables.specs.Table.{parts_of, place_of}
 use Rattle.df_tables.specs.declared.events.EventRow.{EventRow}
 use Rattle.df_tables.specs.declared.units.Unit.{Unit}
 use Rattle.df_tables.proofs.Brings.{news_is}
 use Rattle.df_tables.proofs.Places.{at_some}
-use Rattle.df_tables.proofs.Search.{found_at}
 use Rattle.df_tables.proofs.Steps.{news_of}
 use Rattle.df_tables.proofs.Tells.{row_at}
 
-module _ (starts : List (Label × List Privilege)) (past : List Entry) (us : List Unit) (evs : List EventRow) (x : FilterIndex) (agree : Agrees rows (roots starts) past us evs x) (order : IsInOrder us) (k : Commit) (j : ℕ) (after : List Part) (ps : List Pair) (labels : List Label)
+module _ (starts : List (Label × List Privilege)) (past : List Entry) (us : List Unit) (evs : List EventRow) (x : FilterIndex) (agree : Agrees rows (roots starts) past us evs x) (apart : AreApart us) (k : Commit) (j : ℕ) (after : List Part) (ps : List Pair) (labels : List Label)
     (there : event_place k.event evs ≡ Some j) (is : after ≡ apply k.edit (parts_of k.event evs)) (inputs_are : labels ≡ inputs us) (sorted : IsStrictlySortedBy pair_cmp ps) (due : (p : Pair) → Contains ps p ↔ IsReceiver matches labels x j after k.edit p) where
   -- what a plain unit is brought, by its row
   plain : (q : ℕ) (u : Unit) (path : List ℕ) → slice_get us q ≡ Some u → place_of (Root path) us ≡ Some q → own_plain rows (roots starts) past path ≡ Some u.local.own →
@@ -63,7 +58,7 @@ module _ (starts : List (Label × List Privilege)) (past : List Entry) (us : Lis
   news_found q d within =
       let u = get_or us q d in
       let at : slice_get us q ≡ Some u = slice_get-get_or us q d within in
-      let place : place_of u.local.unit us ≡ Some q = found_at u.local.unit us q d order within (tied_itself unit_cmp_total u.local.unit) in
+      let place : place_of u.local.unit us ≡ Some q = apart q d within in
       let row = row_at rows (roots starts) past us evs x agree u.local.unit u (at_some u.local.unit us q d place).0 in
       by u at place row.1
     where

@@ -1,22 +1,34 @@
 -- What is found in a changed table.
-use Rattle.std.proofs.Common.{◌≡◌, List, [], ◌∷◌, Option, Some, None, Bool, true, false, if◌then◌else◌, map, option_map, is_some, ◌||◌, refl, ap, sym, ◌∙◌}
+use Rattle.std.proofs.Common.{◌≡◌, ℕ, suc, List, [], ◌∷◌, Option, Some, None, Bool, true, false, if◌then◌else◌, map, option_map, is_some, ◌||◌, refl, ap, sym, ◌∙◌}
 use Rattle.df_label.specs.Ascending.{contains_by}
 use Rattle.df_unit.specs.Name.{same}
 use Rattle.df_unit.specs.UnitOrder.{unit_cmp}
 use Rattle.df_unit.specs.UnitOrderLaws.{unit_cmp_ties}
 use Rattle.df_unit.specs.declared.name.UnitName.{UnitName}
 use Rattle.df_unit.proofs.SameFacts.{same_name-exact, same_name_decides}
-use Rattle.df_tables.specs.Table.{find, moved_at, names_of}
+use Rattle.df_tables.specs.Roll.{names_in, seat_of}
+use Rattle.df_tables.specs.Table.{find, moved_at, place_of}
+use Rattle.df_tables.specs.declared.roll.Seat.{Seat}
 use Rattle.df_tables.specs.declared.units.Unit.{Unit}
 
--- a row is found exactly where the rows have the name
-pub find_some : (n : UnitName) (us : List Unit) → contains_by unit_cmp (names_of us) n ≡ is_some (find n us)
-find_some n [] = refl
-find_some n (u ∷ us) = ap (λ (b : Bool). b || contains_by unit_cmp (names_of us) n) (sym (unit_cmp_ties u.local.unit n)) ∙ by (same u.local.unit n) (find_some n us)
+-- a seat is found exactly where the seats have the name
+pub seat_some : (n : UnitName) (ss : List Seat) → contains_by unit_cmp (names_in ss) n ≡ is_some (seat_of n ss)
+seat_some n [] = refl
+seat_some n (s ∷ ss) = ap (λ (b : Bool). b || contains_by unit_cmp (names_in ss) n) (sym (unit_cmp_ties s.unit n)) ∙ by (same s.unit n) (seat_some n ss)
   where
-    by : (b : Bool) → contains_by unit_cmp (names_of us) n ≡ is_some (find n us) → (b || contains_by unit_cmp (names_of us) n) ≡ is_some (if b then Some u else find n us)
+    by : (b : Bool) → contains_by unit_cmp (names_in ss) n ≡ is_some (seat_of n ss) → (b || contains_by unit_cmp (names_in ss) n) ≡ is_some (if b then Some s.place else seat_of n ss)
     by true rest = refl
     by false rest = rest
+
+-- a unit has a place exactly where it has a row
+pub place_some : (n : UnitName) (us : List Unit) → is_some (place_of n us) ≡ is_some (find n us)
+place_some n [] = refl
+place_some n (u ∷ us) = by (same u.local.unit n) (place_of n us) (place_some n us)
+  where
+    by : (b : Bool) (o : Option ℕ) → is_some o ≡ is_some (find n us) → is_some (if b then Some 0 else option_map suc o) ≡ is_some (if b then Some u else find n us)
+    by true o rest = refl
+    by false None rest = rest
+    by false (Some k) rest = rest
 
 pub find-map : (g : Unit → Unit) → ((u : Unit) → (g u).local.unit ≡ u.local.unit) → (n : UnitName) (us : List Unit) → find n (map g us) ≡ option_map g (find n us)
 find-map g kept n [] = refl

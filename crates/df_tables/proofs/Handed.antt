@@ -1,7 +1,6 @@
 -- What receivers were handed, row by row.
 use Rattle.std.proofs.Common.{◌≡◌, ℕ, zero, suc, ◌<◌, List, [], ◌∷◌, ◌++◌, Bool, true, false, if◌then◌else◌, map, length, get_or, take, refl, ap, sym, subst, ◌∙◌, arith, All, append_assoc}
 use Rattle.std.specs.Prelude.{◌==◌}
-use Rattle.std.specs.List.{filter}
 use Rattle.std.proofs.lemmas.List.{append-nil, length-map, same_lists}
 use Rattle.df_index.specs.Due.{Pair}
 use Rattle.df_local.specs.code.LocalState.{LocalState}

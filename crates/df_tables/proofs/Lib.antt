@@ -1,6 +1,8 @@
 pub mod Places
 pub mod Opened
 pub mod Finds
+pub mod Seating
+pub mod Newborn
 pub mod Order
 pub mod Search
 pub mod Each
@@ -19,3 +21,5 @@ pub mod Subscribing
 pub mod Begin
 pub mod Built
 pub mod Booked
+pub mod Offspring
+pub mod Children

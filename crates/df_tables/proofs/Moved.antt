@@ -1,5 +1,5 @@
 -- The tables fit each other after an entry without a commit.
-use Rattle.std.proofs.Common.{◌≡◌, ℕ, ◌<◌, false, List, get_or, length, Option, Some, ap, sym, subst, ◌∙◌}
+use Rattle.std.proofs.Common.{◌≡◌, ℕ, ◌<◌, false, List, get_or, length, Option, Some, refl, ap, sym, subst, ◌∙◌}
 use Rattle.df_filter.specs.declared.clause.Clause.{Clause}
 use Rattle.df_label.specs.declared.label.Label.{Label}
 use Rattle.df_rules.specs.Start.{rows}
@@ -9,16 +9,19 @@ use Rattle.df_unit.specs.declared.reply.Reply.{Reply}
 use Rattle.df_tables.specs.Board.{IsBoard, IsMovedBoard}
 use Rattle.df_tables.specs.Labels.{AreLabels, inputs}
 use Rattle.df_tables.specs.Moves.{is_in_out}
-use Rattle.df_tables.specs.Table.{moved_row}
+use Rattle.df_tables.specs.Table.{moved_row, names_of}
 use Rattle.df_tables.specs.declared.board.Board.{Board}
 use Rattle.df_tables.specs.declared.units.Unit.{Unit}
-use Rattle.df_tables.proofs.Boards.{inputs-modify, labels_stale, whole_moved}
+use Rattle.df_tables.proofs.Boards.{inputs-modify, labels_stale, names-modify, whole_moved}
+use Rattle.df_tables.proofs.Order.{roll_like}
 use Rattle.df_tables.proofs.Inputs.{after_keeps}
 
 module _ (k : ℕ) (c : Call) (r : Reply) (f : Effect) (made : Option (ℕ × List Clause)) (old new : Board) (within : k < length old.rows.items) (board : IsBoard old) (moved : IsMovedBoard k c r f made old new) where
   with_labels : (ls : List Label) (p : Option ℕ) → new.labels.items ≡ ls → new.stale ≡ p → AreLabels (inputs new.rows.items) ls p → IsBoard new
   with_labels ls p labels stale are = record {
     whole = whole_moved k c r f made old new within moved board.whole;
+    roll = roll_like old.roll new.roll old.rows.items new.rows.items moved.roll
+        (ap names_of moved.rows ∙ names-modify (moved_row rows c r f) (λ u. refl) k old.rows.items) board.roll;
     labels = subst (λ (l : List Label). AreLabels (inputs new.rows.items) l new.stale) (sym labels)
         (subst (λ (q : Option ℕ). AreLabels (inputs new.rows.items) ls q) (sym stale) are);
   }

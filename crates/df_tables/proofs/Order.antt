@@ -1,18 +1,25 @@
 -- The order of the rows, in the beginning and after an entry.
-use Rattle.std.proofs.Common.{◌≡◌, ℕ, ◌+◌, ◌<◌, List, [], ◌∷◌, Bool, true, false, if◌then◌else◌, map, refl, ap, sym, subst, arith}
+use Rattle.std.proofs.Common.{◌≡◌, ℕ, ◌+◌, ◌<◌, List, [], ◌∷◌, Bool, true, false, if◌then◌else◌, get_or, length, map, refl, ap, sym, ◌∙◌, arith}
+use Rattle.std.proofs.Math.ListN.{get_or-map}
+use Rattle.std.proofs.lemmas.List.{length-map}
 use Rattle.std.specs.Cmp.{nat_cmp_is}
 use Rattle.std.specs.Ordering.{ordering_then}
 use Rattle.std.specs.declared.cmp.Ordering.{Ordering}
 use Rattle.std.specs.declared.cmp.Ordering.TheVariants.{Less, Equal}
-use Rattle.df_label.specs.Ascending.{IsAscending, IsBelow}
+use Rattle.df_label.specs.Ascending.{IsBelow}
 use Rattle.df_label.specs.declared.label.Label.{Label}
 use Rattle.df_label.specs.declared.privilege.Privilege.{Privilege}
 use Rattle.df_unit.specs.Name.{same}
 use Rattle.df_unit.specs.UnitOrder.{unit_cmp}
 use Rattle.df_unit.specs.declared.name.UnitName.{UnitName}
 use Rattle.df_unit.specs.declared.name.UnitName.TheVariants.{Root}
-use Rattle.df_tables.specs.Table.{IsInOrder, moved_at, names_of, rows_from}
+use Rattle.df_tables.specs.Agree.{AreApart}
+use Rattle.df_tables.specs.Board.{IsRollOf}
+use Rattle.df_tables.specs.Roll.{seat_of}
+use Rattle.df_tables.specs.Table.{IsInOrder, moved_at, names_of, place_of, rows_from}
+use Rattle.df_tables.specs.declared.roll.Seat.{Seat}
 use Rattle.df_tables.specs.declared.units.Unit.{Unit}
+use Rattle.df_tables.proofs.Seats.{place_of-names}
 
 -- no change of rows that keeps their names changes the names
 
@@ -28,8 +35,24 @@ names-moved a g kept (u ∷ us) = by (same u.local.unit a) (names-moved a g kept
     by true rest = ap (λ (n : UnitName). n ∷ names_of us) (kept u)
     by false rest = ap (λ (ns : List UnitName). u.local.unit ∷ ns) rest
 
-pub order_like : (us us' : List Unit) → names_of us' ≡ names_of us → IsInOrder us → IsInOrder us'
-order_like us us' e order = subst (IsAscending unit_cmp) (sym e) order
+pub same_length : (us us' : List Unit) → names_of us ≡ names_of us' → length us ≡ length us'
+same_length us us' e = sym (length-map us (λ (u : Unit). u.local.unit)) ∙ ap length e ∙ length-map us' (λ (u : Unit). u.local.unit)
+
+-- so no two rows come to be one unit's
+
+unit_like : (us us' : List Unit) → names_of us' ≡ names_of us → (k : ℕ) (d : Unit) → (get_or us' k d).local.unit ≡ (get_or us k d).local.unit
+unit_like us us' e k d = sym (get_or-map (λ (u : Unit). u.local.unit) us' k d) ∙ ap (λ (ns : List UnitName). get_or ns k d.local.unit) e ∙ get_or-map (λ (u : Unit). u.local.unit) us k d
+
+pub apart_like : (us us' : List Unit) → names_of us' ≡ names_of us → AreApart us → AreApart us'
+apart_like us us' e apart k d within =
+    let size : length us' ≡ length us = sym (length-map us' (λ (u : Unit). u.local.unit)) ∙ ap length e ∙ length-map us (λ (u : Unit). u.local.unit) in
+    ap (λ (n : UnitName). place_of n us') (unit_like us us' e k d)
+    ∙ place_of-names (get_or us k d).local.unit us us' e
+    ∙ apart k d (omega (arith, size, within))
+
+-- and the roll is theirs
+pub roll_like : (roll roll' : List Seat) (us us' : List Unit) → roll' ≡ roll → names_of us' ≡ names_of us → IsRollOf roll us → IsRollOf roll' us'
+roll_like roll roll' us us' same e are n = ap (seat_of n) same ∙ are n ∙ sym (place_of-names n us us' e)
 
 -- roots stand by their numbers
 

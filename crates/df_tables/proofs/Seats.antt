@@ -1,5 +1,5 @@
 -- Where units and events stand in the tables, and what stands there.
-use Rattle.std.proofs.Common.{◌≡◌, ℕ, zero, suc, ◌<◌, ◌==◌, ◌&&◌, ◌||◌, Bool, true, false, if◌then◌else◌, List, [], ◌∷◌, ◌++◌, length, get_or, map, Option, Some, None, option_map, refl, ap, sym, subst, ◌∙◌, arith}
+use Rattle.std.proofs.Common.{◌≡◌, ℕ, suc, ◌==◌, ◌&&◌, ◌||◌, Bool, true, false, if◌then◌else◌, List, [], ◌∷◌, ◌++◌, get_or, map, Option, Some, None, option_map, refl, ap, sym, subst, ◌∙◌, arith}
 use Rattle.std.proofs.lemmas.Bool.{eqb-true}
 use Rattle.df_filter.specs.declared.clause.Clause.{Clause}
 use Rattle.df_index.specs.Due.{Pair, has_pair}
@@ -11,7 +11,6 @@ use Rattle.df_rules.specs.Own.{own}
 use Rattle.df_rules.specs.Rules.{Rules}
 use Rattle.df_unit.specs.Name.{same, same_event}
 use Rattle.df_unit.specs.OwnState.{OwnState}
-use Rattle.df_unit.specs.declared.commit.Given.{Given}
 use Rattle.df_unit.specs.declared.entry.Entry.{Entry}
 use Rattle.df_unit.specs.declared.name.EventName.{EventName}
 use Rattle.df_unit.specs.declared.name.UnitName.{UnitName}

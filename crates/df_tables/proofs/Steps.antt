@@ -1,5 +1,5 @@
 -- The tables after one more entry.
-use Rattle.std.proofs.Common.{◌≡◌, ◌⊎◌, inl, inr, ℕ, ◌≤◌, ◌==◌, ◌&&◌, ◌||◌, List, [], ◌∷◌, ◌++◌, Option, Some, None, Bool, true, false, if◌then◌else◌, length, map, option_map, refl, ap, sym, subst, ◌∙◌, arith, eq-eqb}
+use Rattle.std.proofs.Common.{◌≡◌, inl, inr, ℕ, ◌+◌, ◌≤◌, ◌<◌, ◌==◌, ◌&&◌, ◌||◌, List, [], ◌∷◌, ◌++◌, Option, Some, None, Bool, true, false, if◌then◌else◌, length, map, option_map, refl, ap, sym, subst, ◌∙◌, arith, All, eq-eqb}
 use Rattle.std.specs.Prelude.{option_to_list}
 use Rattle.std.specs.Option.{option_and_then, option_or}
 use Rattle.std.proofs.lemmas.List.{append-nil}
@@ -16,7 +16,7 @@ use Rattle.df_rules.specs.Commits.{commit_in, committed, contents}
 use Rattle.df_rules.specs.Deliveries.{plain_news, deliveries, deliveries_plain, was_handed}
 use Rattle.df_rules.specs.Laws.{TakingLaws}
 use Rattle.df_rules.specs.Legal.{answer, answer_of}
-use Rattle.df_rules.specs.Own.{own, own_plain, own_instance, fixed}
+use Rattle.df_rules.specs.Own.{own, own_plain, own_instance, fixed, made_by}
 use Rattle.df_rules.specs.Rules.{Rules}
 use Rattle.df_rules.specs.Subscriptions.{subscriptions}
 use Rattle.df_unit.specs.Name.{same, same_event}
@@ -32,15 +32,16 @@ use Rattle.df_unit.specs.declared.name.UnitName.{UnitName}
 use Rattle.df_unit.specs.declared.name.UnitName.TheVariants.{Root, Managed}
 use Rattle.df_unit.specs.declared.reply.Reply.{Reply}
 use Rattle.df_unit.proofs.SameFacts.{same_name-exact, same_event_decides}
-use Rattle.df_tables.specs.Agree.{Agrees, FilterIndex, IsSeat, MakesNoUnit, enrols, is_marked, subscribed_at, subscriptions_at}
+use Rattle.df_tables.specs.Agree.{Agrees, FilterIndex, IsSeat, MakesNoManaged, MakesNoUnit, enrols, is_marked, subscribed_at, subscriptions_at}
 use Rattle.df_tables.specs.Events.{IsOpened, event_place}
 use Rattle.df_tables.specs.Hand.{news_at, with_news}
 use Rattle.df_tables.specs.Table.{find, parts_of, place_of, moved_at, moved_row}
 use Rattle.df_tables.specs.declared.events.EventRow.{EventRow}
 use Rattle.df_tables.specs.declared.units.Unit.{Unit}
 use Rattle.df_tables.proofs.Finds.{find-map, find-moved}
+use Rattle.df_tables.proofs.Newborn.{find-append, marked_born, place_by-append, subscribed_born}
 use Rattle.df_tables.proofs.Opened.{opened_parts, place_more}
-use Rattle.df_tables.proofs.Order.{names-map, names-moved}
+use Rattle.df_tables.proofs.Order.{names-map, names-moved, same_length}
 use Rattle.df_tables.proofs.Rows.{row_plain, row_news, row_commit}
 use Rattle.df_tables.proofs.Seats.{absent, apart, enrols_none, handed_news, not_there, place_of-names, present, same_place, subscriptions_at-append}
 
@@ -61,6 +62,11 @@ unfoldable pub news_of : Rules → List OwnState → List Entry → UnitName →
 news_of R s past (Root path) oc = plain_news (own_plain R s past path) (subscriptions R s past (Root path)) (deliveries_plain R s past path) past oc
 news_of R s past (Managed o n t) oc = []
 
+-- the state with which an entry makes a unit; instances aren't made
+abbrev pub born_by : Rules → List OwnState → List Entry → Entry → UnitName → Option OwnState
+born_by R s past e (Root path) = made_by R e path (own_plain R s past (maker_of path))
+born_by R s past e (Managed o n t) = None
+
 -- a seat along equal parts
 seat_along : (n : UnitName) (o o' : Option OwnState) (ds ds' : List Given) (p p' : Option Unit) → o' ≡ o → ds' ≡ ds → p' ≡ p → IsSeat n o ds p → IsSeat n o' ds' p'
 seat_along n o o' ds ds' p p' e f g seat =
@@ -70,12 +76,12 @@ seat_along n o o' ds ds' p p' e f g seat =
 module _ (R : Rules) (s : List OwnState) where
   makes_none : (c : Call) (r : Reply) → MakesNoUnit R c r → (b : Bool) (k : ℕ) (o : Option OwnState) → (if b then option_and_then (λ st. R.makes st k c r) o else None) ≡ None
   makes_none c r none true k None = refl
-  makes_none c r none true k (Some st) = none.makes st k
+  makes_none c r none true k (Some st) = none st k
   makes_none c r none false k o = refl
 
-  fixes_none : (c : Call) (r : Reply) → MakesNoUnit R c r → (b : Bool) (k : ℕ) (o : Option OwnState) → (if b then option_and_then (λ st. R.fixes st k c r) o else None) ≡ None
+  fixes_none : (c : Call) (r : Reply) → MakesNoManaged R c r → (b : Bool) (k : ℕ) (o : Option OwnState) → (if b then option_and_then (λ st. R.fixes st k c r) o else None) ≡ None
   fixes_none c r none true k None = refl
-  fixes_none c r none true k (Some st) = none.fixes st k
+  fixes_none c r none true k (Some st) = none st k
   fixes_none c r none false k o = refl
 
   -- the definitions at one more entry
@@ -100,7 +106,7 @@ module _ (R : Rules) (s : List OwnState) where
       by (Some st) = refl
   no_news past (Managed o n t) = refl
 
-  unmanaged_step : (past : List Entry) (a : UnitName) (c : Call) (r : Reply) (f : Effect) → MakesNoUnit R c r → ((o : List ℕ) (k : ℕ) → fixed R s past o k ≡ None) → (o : List ℕ) (k : ℕ) → fixed R s (Done a c r f ∷ past) o k ≡ None
+  unmanaged_step : (past : List Entry) (a : UnitName) (c : Call) (r : Reply) (f : Effect) → MakesNoManaged R c r → ((o : List ℕ) (k : ℕ) → fixed R s past o k ≡ None) → (o : List ℕ) (k : ℕ) → fixed R s (Done a c r f ∷ past) o k ≡ None
   unmanaged_step past a c r f none h o k = rw (h o k) (fixes_none c r none (same a (Root o)) k (own_plain R s past o))
 
   no_instances_step : (past : List Entry) (a : UnitName) (c : Call) (r : Reply) (f : Effect) → ((o : List ℕ) (k : ℕ) → fixed R s past o k ≡ None) → ((o : List ℕ) (k : ℕ) (t : List (List ℕ)) → own_instance R s past o k t ≡ None) →
@@ -179,9 +185,9 @@ module _ (R : Rules) (s : List OwnState) (laws : TakingLaws R s) where
           ∙ ap (λ (l : List (ℕ × List Clause)). subscriptions_at k x.enrolled ++ l) (made_there k (place_of a us) made (λ j e. apart us a n j k e h g))
           ∙ ap (λ (l : List (ℕ × List Clause)). l ++ []) (sym (ap (λ (q : Option ℕ). subscribed_at q x.enrolled) h) ∙ agree.subscribed n)
 
-  pub agrees_plain : (past : List Entry) (us : List Unit) (evs : List EventRow) (x x' : FilterIndex) (a : UnitName) (c : Call) (r : Reply) (f : Effect) (made : Option (ℕ × List Clause)) → Agrees R s past us evs x → MakesNoUnit R c r → commit_in f ≡ None → answer R s past a c ≡ (r, f) →
+  pub agrees_plain : (past : List Entry) (us : List Unit) (evs : List EventRow) (x x' : FilterIndex) (a : UnitName) (c : Call) (r : Reply) (f : Effect) (made : Option (ℕ × List Clause)) → Agrees R s past us evs x → MakesNoManaged R c r → MakesNoUnit R c r → commit_in f ≡ None → answer R s past a c ≡ (r, f) →
       ((st : OwnState) → own R s past a ≡ Some st → R.subscribes st c r ≡ made) → x'.enrolled ≡ x.enrolled ++ enrols (place_of a us) made → x'.handed ≡ x.handed → Agrees R s (Done a c r f ∷ past) (moved_at a (moved_row R c r f) us) evs x'
-  agrees_plain past us evs x x' a c r f made agree none quiet right makes enrolled handed =
+  agrees_plain past us evs x x' a c r f made agree unfixed none quiet right makes enrolled handed =
       let here : (n : UnitName) → place_of n (moved_at a (moved_row R c r f) us) ≡ place_of n us = λ n. place_of-names n us (moved_at a (moved_row R c r f) us) (names-moved a (moved_row R c r f) (λ u. refl) us) in
       let delivered : (n : UnitName) → deliveries R s (Done a c r f ∷ past) n ≡ deliveries R s past n = λ n. deliveries_step R s past a c r f agree.unmanaged n ∙ ap (λ k. deliveries R s past n ++ news_of R s past n k) quiet ∙ ap (λ (l : List Given). deliveries R s past n ++ l) (no_news R s past n) ∙ append-nil (deliveries R s past n) in record {
         legal = (agree.legal, right);
@@ -194,7 +200,60 @@ module _ (R : Rules) (s : List OwnState) (laws : TakingLaws R s) where
         subscribed = λ n. ap (λ (p : Option ℕ). subscribed_at p x'.enrolled) (here n) ∙ ap (subscribed_at (place_of n us)) enrolled ∙ subscribed_more past us evs x a c r made agree makes n;
         marked = λ n ev m. ap (λ (p : Option ℕ). is_marked x'.handed p (event_place ev evs) m) (here n) ∙ ap (λ (h : List (List Pair)). is_marked h (place_of n us) (event_place ev evs) m) handed ∙ agree.marked n ev m ∙ ap (λ (ds : List Given). was_handed ds ev m) (sym (delivered n));
         parts = λ ev. agree.parts ev ∙ sym (ap (λ k. committed ev k (contents past ev)) quiet);
-        unmanaged = unmanaged_step R s past a c r f none agree.unmanaged;
+        unmanaged = unmanaged_step R s past a c r f unfixed agree.unmanaged;
+        no_instances = no_instances_step R s past a c r f agree.unmanaged agree.no_instances;
+      }
+
+  -- an entry that makes units
+
+  own_born : (past : List Entry) (a : UnitName) (c : Call) (r : Reply) (f : Effect) → ((o : List ℕ) (k : ℕ) → fixed R s past o k ≡ None) → (n : UnitName) → own R s (Done a c r f ∷ past) n ≡ option_or (after_entry R n (same a n) c r f (own R s past n)) (born_by R s past (Done a c r f) n)
+  own_born past a c r f h (Root path) = refl
+  own_born past a c r f h (Managed o k t) = rw (h o k) refl
+
+  -- a seat, and one that is new
+  seat_or : (n : UnitName) (o o' : Option OwnState) (ds : List Given) (p p' : Option Unit) → IsSeat n o ds p → (o ≡ None → ds ≡ [] → IsSeat n o' ds p') → IsSeat n (option_or o o') ds (option_or p p')
+  seat_or n None o' ds None p' seat more = more refl seat
+  seat_or n None o' ds (Some u) p' seat more = absurd seat
+  seat_or n (Some st) o' ds None p' seat more = absurd seat
+  seat_or n (Some st) o' ds (Some u) p' seat more = seat
+
+  was_none : (n : UnitName) (b : Bool) (c : Call) (r : Reply) (f : Effect) (o : Option OwnState) → after_entry R n b c r f o ≡ None → o ≡ None
+  was_none n b c r f None e = refl
+  was_none n true c r f (Some st) e = absurd (let z : ⊥ = cc in z)
+  was_none n false c r f (Some st) e = e
+
+  pub agrees_born : (past : List Entry) (us bs : List Unit) (evs : List EventRow) (x : FilterIndex) (a : UnitName) (c : Call) (r : Reply) (f : Effect) → Agrees R s past us evs x → MakesNoManaged R c r → commit_in f ≡ None → answer R s past a c ≡ (r, f) →
+      ((st : OwnState) → own R s past a ≡ Some st → R.subscribes st c r ≡ None) → All (λ s. s.unit < length us) x.enrolled → ((event : ℕ) (p : Pair) → length us ≤ p.0 → index.was_handed x.handed event p ≡ false) →
+      ((n : UnitName) → own R s past n ≡ None → IsSeat n (born_by R s past (Done a c r f) n) [] (find n bs)) → Agrees R s (Done a c r f ∷ past) (moved_at a (moved_row R c r f) us ++ bs) evs x
+  agrees_born past us bs evs x a c r f agree unfixed quiet right makes enrolled seated births =
+      let moved : List Unit = moved_at a (moved_row R c r f) us in
+      let names = names-moved a (moved_row R c r f) (λ u. refl) us in
+      let size : length moved ≡ length us = same_length moved us names in
+      let here : (n : UnitName) → place_of n (moved ++ bs) ≡ option_or (place_of n us) (option_map (λ k. length us + k) (place_of n bs)) = λ n.
+      place_by-append (λ (u : Unit). same u.local.unit n) moved bs
+      ∙ ap (λ (p : Option ℕ). option_or p (option_map (λ k. length moved + k) (place_of n bs))) (place_of-names n us moved names)
+      ∙ ap (λ (m : ℕ). option_or (place_of n us) (option_map (λ k. m + k) (place_of n bs))) size in
+      let delivered : (n : UnitName) → deliveries R s (Done a c r f ∷ past) n ≡ deliveries R s past n = λ n. deliveries_step R s past a c r f agree.unmanaged n ∙ ap (λ k. deliveries R s past n ++ news_of R s past n k) quiet ∙ ap (λ (l : List Given). deliveries R s past n ++ l) (no_news R s past n) ∙ append-nil (deliveries R s past n) in record {
+        legal = (agree.legal, right);
+        seats = λ n. seat_along n _ _ _ _ _ _
+            (own_born past a c r f agree.unmanaged n)
+            (delivered n)
+            (find-append n moved bs ∙ ap (λ (p : Option Unit). option_or p (find n bs)) (find-moved a (moved_row R c r f) (λ u. refl) n us))
+            (seat_or n _ _ _ _ _
+            (seat_plain n (same a n) (own R s past n) (deliveries R s past n) (find n us) c r f quiet
+            (λ e. subst (λ (m : UnitName). answer R s past m c ≡ (r, f)) (same_name-exact a n e) right) (agree.seats n))
+            (λ e none. subst (λ (ds : List Given). IsSeat n (born_by R s past (Done a c r f) n) ds (find n bs)) (sym none) (births n (was_none n (same a n) c r f (own R s past n) e))));
+        subscribed = λ n.
+            ap (λ (p : Option ℕ). subscribed_at p x.enrolled) (here n)
+            ∙ subscribed_born (length us) (place_of n us) (place_of n bs) x.enrolled enrolled
+            ∙ ap (subscribed_at (place_of n us)) (sym (append-nil x.enrolled) ∙ ap (λ (l : List (Subscription (List Clause))). x.enrolled ++ l) (sym (enrols_none (place_of a us))))
+            ∙ subscribed_more past us evs x a c r None agree makes n;
+        marked = λ n ev m.
+            ap (λ (p : Option ℕ). is_marked x.handed p (event_place ev evs) m) (here n)
+            ∙ marked_born (length us) (place_of n us) (place_of n bs) (event_place ev evs) x.handed m seated
+            ∙ agree.marked n ev m ∙ ap (λ (ds : List Given). was_handed ds ev m) (sym (delivered n));
+        parts = λ ev. agree.parts ev ∙ sym (ap (λ k. committed ev k (contents past ev)) quiet);
+        unmanaged = unmanaged_step R s past a c r f unfixed agree.unmanaged;
         no_instances = no_instances_step R s past a c r f agree.unmanaged agree.no_instances;
       }
 
@@ -249,9 +308,9 @@ module _ (R : Rules) (s : List OwnState) (laws : TakingLaws R s) where
           ∙ ap (λ (b : Bool). before || (b && has_pair ps (q, m))) (same_place evs k.event ev j i made.place g)
           ∙ ap (λ (b : Bool). before || b) (sym (ap (λ (ds : List Given). was_handed ds ev m) brought.1 ∙ handed_news k.event after brought.0 ps q ev m))
 
-  pub agrees_commit : (past : List Entry) (us : List Unit) (evs evs' : List EventRow) (x x' : FilterIndex) (a : UnitName) (c : Call) (r : Reply) (k : Commit) (j : ℕ) (after : List Part) (ps : List Pair) (given : Unit → List Given) → Agrees R s past us evs x → MakesNoUnit R c r → answer R s past a c ≡ (r, Effect.Commit k) →
+  pub agrees_commit : (past : List Entry) (us : List Unit) (evs evs' : List EventRow) (x x' : FilterIndex) (a : UnitName) (c : Call) (r : Reply) (k : Commit) (j : ℕ) (after : List Part) (ps : List Pair) (given : Unit → List Given) → Agrees R s past us evs x → MakesNoManaged R c r → MakesNoUnit R c r → answer R s past a c ≡ (r, Effect.Commit k) →
       ((st : OwnState) → own R s past a ≡ Some st → R.subscribes st c r ≡ None) → IsMade R s past us evs evs' x x' k j after ps given → Agrees R s (Done a c r (Effect.Commit k) ∷ past) (moved_at a (moved_row R c r (Effect.Commit k)) (map (with_news given) us)) evs' x'
-  agrees_commit past us evs evs' x x' a c r k j after ps given agree none right makes made =
+  agrees_commit past us evs evs' x x' a c r k j after ps given agree unfixed none right makes made =
       let us' = moved_at a (moved_row R c r (Effect.Commit k)) (map (with_news given) us) in
       let here : (n : UnitName) → place_of n us' ≡ place_of n us = λ n. place_of-names n us us' (names-moved a (moved_row R c r (Effect.Commit k)) (λ u. refl) (map (with_news given) us) ∙ names-map (with_news given) (λ u. refl) us) in
       let is' : after ≡ apply k.edit (contents past k.event) = made.applied ∙ ap (apply k.edit) (agree.parts k.event) in record {
@@ -268,7 +327,7 @@ module _ (R : Rules) (s : List OwnState) (laws : TakingLaws R s) where
         subscribed = λ n. ap (λ (p : Option ℕ). subscribed_at p x'.enrolled) (here n) ∙ ap (subscribed_at (place_of n us)) (made.enrolled ∙ sym (append-nil x.enrolled) ∙ ap (λ (l : List (Subscription (List Clause))). x.enrolled ++ l) (sym (enrols_none (place_of a us)))) ∙ subscribed_more past us evs x a c r None agree makes n;
         marked = λ n ev m. marked_commit past us us' evs evs' x x' k j after ps given agree made here n ev m ∙ ap (λ (ds : List Given). was_handed ds ev m) (sym (deliveries_step R s past a c r (Effect.Commit k) agree.unmanaged n));
         parts = λ ev. made.put ev ∙ by ev (same_event k.event ev) refl is';
-        unmanaged = unmanaged_step R s past a c r (Effect.Commit k) none agree.unmanaged;
+        unmanaged = unmanaged_step R s past a c r (Effect.Commit k) unfixed agree.unmanaged;
         no_instances = no_instances_step R s past a c r (Effect.Commit k) agree.unmanaged agree.no_instances;
       }
     where

@@ -1,5 +1,5 @@
 -- What the tables tell of units and of answers.
-use Rattle.std.proofs.Common.{◌≡◌, List, [], ◌∷◌, Option, Some, None, map, is_some, refl, ap, sym, subst, ◌∙◌}
+use Rattle.std.proofs.Common.{◌≡◌, List, [], ◌∷◌, Option, Some, None, is_some, refl, ap, sym, subst, ◌∙◌}
 use Rattle.std.specs.Prelude.{option_to_list, slice_get}
 use Rattle.df_label.specs.Ascending.{contains_by}
 use Rattle.df_local.specs.code.LocalState.{LocalState}
@@ -18,10 +18,13 @@ use Rattle.df_unit.specs.declared.name.UnitName.{UnitName}
 use Rattle.df_unit.specs.declared.reply.Reply.{Reply}
 use Rattle.df_tables.specs.Agree.{Agrees, FilterIndex, IsRow, IsSeat}
 use Rattle.df_local.specs.Locally.{row_answer}
-use Rattle.df_tables.specs.Table.{find, names_of}
+use Rattle.df_tables.specs.Board.{IsRollOf}
+use Rattle.df_tables.specs.Roll.{names_in}
+use Rattle.df_tables.specs.Table.{find}
+use Rattle.df_tables.specs.declared.roll.Seat.{Seat}
 use Rattle.df_tables.specs.declared.events.EventRow.{EventRow}
 use Rattle.df_tables.specs.declared.units.Unit.{Unit}
-use Rattle.df_tables.proofs.Finds.{find_some}
+use Rattle.df_tables.proofs.Finds.{place_some, seat_some}
 
 module _ (R : Rules) (s : List OwnState) (past : List Entry) (us : List Unit) (evs : List EventRow) (x : FilterIndex) (agree : Agrees R s past us evs x) (a : UnitName) where
   -- the unit's row is that of its own state
@@ -40,9 +43,9 @@ module _ (R : Rules) (s : List OwnState) (past : List Entry) (us : List Unit) (e
       by None seat = refl
       by (Some st) seat = absurd seat
 
-  -- a unit has a row exactly where it exists
-  pub named_at : contains_by unit_cmp (names_of us) a ≡ exists R s past a
-  named_at = find_some a us ∙ by (own R s past a) (find a us) (agree.seats a)
+  -- a unit has a seat exactly where it exists
+  pub named_at : (roll : List Seat) → IsRollOf roll us → contains_by unit_cmp (names_in roll) a ≡ exists R s past a
+  named_at roll are = seat_some a roll ∙ ap is_some (are a) ∙ place_some a us ∙ by (own R s past a) (find a us) (agree.seats a)
     where
       by : (o : Option OwnState) (p : Option Unit) → IsSeat a o (deliveries R s past a) p → is_some p ≡ is_some o
       by None None seat = refl

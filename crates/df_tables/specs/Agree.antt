@@ -1,5 +1,5 @@
 -- When the tables agree with the journal. The newest entry stands first.
-use Rattle.std.specs.Prelude.{◌≡◌, ℕ, ◌≤◌, ◌<◌, ◌==◌, Bool, false, if◌then◌else◌, Option, Some, None, List, [], ◌∷◌, drop, length}
+use Rattle.std.specs.Prelude.{◌≡◌, ℕ, ◌≤◌, ◌<◌, ◌==◌, Bool, false, if◌then◌else◌, Option, Some, None, List, [], ◌∷◌, drop, length, slice_index_or}
 use Rattle.std.specs.List.{All}
 use Rattle.df_filter.specs.declared.clause.Clause.{Clause}
 use Rattle.df_index.specs.Due.{Pair}
@@ -21,7 +21,7 @@ use Rattle.df_unit.specs.declared.name.UnitName.{UnitName}
 use Rattle.df_unit.specs.declared.reply.Reply.{Reply}
 use Rattle.df_tables.specs.Events.{event_place}
 use Rattle.df_tables.specs.Hand.{IsCalm}
-use Rattle.df_tables.specs.Table.{IsInOrder, find, parts_of, place_of}
+use Rattle.df_tables.specs.Table.{find, parts_of, place_of}
 use Rattle.df_tables.specs.declared.events.EventRow.{EventRow}
 use Rattle.df_tables.specs.declared.units.Unit.{Unit}
 
@@ -84,16 +84,26 @@ pub record Agrees (R : Rules) (s : List OwnState) (past : List Entry) (units : L
   pub unmanaged : (o : List ℕ) (n : ℕ) → fixed R s past o n ≡ None
   pub no_instances : (o : List ℕ) (n : ℕ) (t : List (List ℕ)) → own_instance R s past o n t ≡ None
 
--- the rows stand in the order of units, nothing is staged, each subscription is of a row, and no
--- event without a row is marked
+-- each row is the first of its unit
+abbrev pub AreApart : List Unit → Type 0
+AreApart us = (k : ℕ) (d : Unit) → k < length us →
+    place_of (slice_index_or us k d).local.unit us ≡ Some k
+
+-- no unit has two rows, nothing is staged, each subscription is of a row, and no event without a
+-- row is marked, nor any event for who has no row
 pub record IsWhole (units : List Unit) (events : List EventRow) (x : FilterIndex) : Type 0 where
-  pub order : IsInOrder units
+  pub apart : AreApart units
   pub calm : All IsCalm units
   pub enrolled : All (λ s. s.unit < length units) x.enrolled
   pub fresh : (event : ℕ) (p : Pair) → length events ≤ event →
       index.was_handed x.handed event p ≡ false
+  pub seated : (event : ℕ) (p : Pair) → length units ≤ p.0 →
+      index.was_handed x.handed event p ≡ false
 
--- a call with this reply makes neither a managed subscription nor a unit
-pub record MakesNoUnit (R : Rules) (c : Call) (r : Reply) : Type 0 where
-  pub fixes : (st : OwnState) (n : ℕ) → R.fixes st n c r ≡ None
-  pub makes : (st : OwnState) (k : ℕ) → R.makes st k c r ≡ None
+-- a call with this reply makes no managed subscription
+abbrev pub MakesNoManaged : Rules → Call → Reply → Type 0
+MakesNoManaged R c r = (st : OwnState) (n : ℕ) → R.fixes st n c r ≡ None
+
+-- a call with this reply makes no unit
+abbrev pub MakesNoUnit : Rules → Call → Reply → Type 0
+MakesNoUnit R c r = (st : OwnState) (k : ℕ) → R.makes st k c r ≡ None

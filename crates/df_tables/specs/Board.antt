@@ -1,5 +1,5 @@
 -- When a board agrees with a journal.
-use Rattle.std.specs.Prelude.{◌≡◌, ◌↔◌, ℕ, ◌==◌, ◌&&◌, ◌||◌, if◌then◌else◌, List, ◌∷◌, ◌++◌, Option, Some, None, length, map}
+use Rattle.std.specs.Prelude.{◌≡◌, ◌↔◌, ℕ, ◌==◌, ◌&&◌, ◌||◌, if◌then◌else◌, List, ◌∷◌, ◌++◌, Option, Some, None, length, map, slice_index_or}
 use Rattle.std.specs.List.{Contains}
 use Rattle.std.specs.List.Sorted.{IsStrictlySortedBy}
 use Rattle.df_filter.specs.declared.clause.Clause.{Clause}
@@ -7,12 +7,11 @@ use Rattle.df_index.specs.Due.{Pair, has_pair, pair_cmp}
 use Rattle.df_index.specs.Filter.{matches}
 use Rattle.df_index.specs.IndexState.{IsReceiver, was_handed}
 use Rattle.df_local.specs.Locally.{row_answer}
-use Rattle.df_rules.specs.Rules.{Rules}
 use Rattle.df_rules.specs.Start.{rows, roots}
-use Rattle.df_rules.specs.Legal.{answer}
 use Rattle.df_label.specs.declared.label.Label.{Label}
 use Rattle.df_label.specs.declared.privilege.Privilege.{Privilege}
 use Rattle.df_unit.specs.declared.call.Call.{Call}
+use Rattle.df_unit.specs.declared.call.Call.TheVariants.{Instantiate}
 use Rattle.df_unit.specs.declared.entry.Effect.{Effect}
 use Rattle.df_unit.specs.declared.entry.Entry.{Entry}
 use Rattle.df_unit.specs.declared.entry.Entry.TheVariants.{Done}
@@ -27,14 +26,22 @@ use Rattle.df_tables.specs.Agree.{Agrees, IsWhole, enrols}
 use Rattle.df_tables.specs.Labels.{AreLabels, inputs}
 use Rattle.df_tables.specs.Events.{IsOpened, event_place}
 use Rattle.df_tables.specs.Hand.{IsNews, modify, with_news, with_state}
-use Rattle.df_tables.specs.Table.{find, moved_row, parts_of}
+use Rattle.df_tables.specs.Births.{child_row, if_new}
+use Rattle.df_tables.specs.Roll.{seat_of}
+use Rattle.df_tables.specs.Table.{find, moved_row, parts_of, place_of}
+use Rattle.df_tables.specs.declared.roll.Seat.{Seat}
 use Rattle.df_tables.specs.declared.board.Board.{Board}
 use Rattle.df_tables.specs.declared.board.Ready.{Ready}
 use Rattle.df_tables.specs.declared.units.Unit.{Unit}
 
+-- the roll has the place of each unit's row
+abbrev pub IsRollOf : List Seat → List Unit → Type 0
+IsRollOf roll us = (n : UnitName) → seat_of n roll ≡ place_of n us
+
 -- the tables fit each other
 pub record IsBoard (b : Board) : Type 0 where
   pub whole : IsWhole b.rows.items b.events b.index
+  pub roll : IsRollOf b.roll b.rows.items
   pub labels : AreLabels (inputs b.rows.items) b.labels.items b.stale
 
 -- the tables tell of the journal of these roots
@@ -63,6 +70,7 @@ IsKept old new = (starts : List (Label × List Privilege)) (past : List Entry) �
 -- the rows and the subscriptions stay, and at most a row of the event is new, without parts
 pub record IsOpenedBoard (event : EventName) (old new : Board) : Type 0 where
   pub rows : new.rows.items ≡ old.rows.items
+  pub roll : new.roll ≡ old.roll
   pub enrolled : new.index.enrolled ≡ old.index.enrolled
   pub handed : new.index.handed ≡ old.index.handed
   pub opened : IsOpened event old.events new.events
@@ -80,6 +88,7 @@ pub record IsReady (c : Commit) (b : Board) (ready : Ready) : Type 0 where
 -- at most the labels are others
 pub record IsRenewed (old new : Board) : Type 0 where
   pub rows : new.rows.items ≡ old.rows.items
+  pub roll : new.roll ≡ old.roll
   pub events : new.events ≡ old.events
   pub index : new.index ≡ old.index
 
@@ -88,9 +97,26 @@ pub record IsRenewed (old new : Board) : Type 0 where
 pub record IsMovedBoard (k : ℕ) (c : Call) (r : Reply) (f : Effect)
     (made : Option (ℕ × List Clause)) (old new : Board) : Type 0 where
   pub rows : new.rows.items ≡ modify k (moved_row rows c r f) old.rows.items
+  pub roll : new.roll ≡ old.roll
   pub events : new.events ≡ old.events
   pub enrolled : new.index.enrolled ≡ old.index.enrolled ++ enrols (Some k) made
   pub handed : new.index.handed ≡ old.index.handed
+
+-- the row of a unit is new, unless it had one
+pub record IsBornBoard (born : Unit) (old new : Board) : Type 0 where
+  pub rows : new.rows.items ≡ old.rows.items ++ if_new born old.rows.items
+  pub events : new.events ≡ old.events
+  pub index : new.index ≡ old.index
+
+-- the row of the unit at a place has counted a child, whose row is new, unless it had one
+pub record IsChildBoard (k number : ℕ) (s : List (List ℕ)) (privileges : List Privilege)
+    (old new : Board) : Type 0 where
+  pub rows : (d : Unit) → new.rows.items
+      ≡ modify k (moved_row rows (Instantiate s privileges) (Reply.Unit number) Effect.Nothing)
+      (old.rows.items ++ if_new (child_row (slice_index_or old.rows.items k d).local number s
+      privileges) old.rows.items)
+  pub events : new.events ≡ old.events
+  pub index : new.index ≡ old.index
 
 -- the commit of the unit at a place is handed to its receivers and no other row, is marked so, and
 -- its event has the parts after it
@@ -103,6 +129,7 @@ pub record IsHandedBoard (k : ℕ) (c : Call) (r : Reply) (f : Effect) (commit :
   pub rows : (given : Unit → List Given) →
       IsNews given commit.event ready.after ready.to opened.rows.items →
       new.rows.items ≡ modify k (with_state c r f) (map (with_news given) opened.rows.items)
+  pub roll : new.roll ≡ opened.roll
   pub enrolled : new.index.enrolled ≡ opened.index.enrolled
   pub handed : (e : ℕ) (p : Pair) → was_handed new.index.handed e p
       ≡ (was_handed opened.index.handed e p || ((e == ready.place) && has_pair ready.to p))

@@ -1,8 +1,10 @@
 pub mod Agree
+pub mod Births
 pub mod Board
 pub mod Events
 pub mod Hand
 pub mod Labels
 pub mod Line
 pub mod Moves
+pub mod Roll
 pub mod Table

@@ -1,12 +1,13 @@
 -- What the tables need of an entry before they move.
-use Rattle.std.specs.Prelude.{◌≡◌, ℕ, Bool, true, false, List, Option, Some, None}
+use Rattle.std.specs.Prelude.{◌≡◌, ℕ, Bool, true, false, List, Option, Some, None, ⊤}
 use Rattle.df_filter.specs.declared.clause.Clause.{Clause}
+use Rattle.df_label.specs.declared.privilege.Privilege.{Privilege}
 use Rattle.df_local.specs.Locally.{row_answer}
 use Rattle.df_unit.specs.declared.call.Call.{Call}
-use Rattle.df_unit.specs.declared.call.Call.TheVariants.{ChangeInOut, Subscribe}
+use Rattle.df_unit.specs.declared.call.Call.TheVariants.{ChangeInOut, Instantiate, Subscribe, SubscribeManaged}
 use Rattle.df_unit.specs.declared.entry.Effect.{Effect}
 use Rattle.df_unit.specs.declared.reply.Reply.{Reply}
-use Rattle.df_unit.specs.declared.reply.Reply.TheVariants.{Sub}
+use Rattle.df_unit.specs.declared.reply.Reply.TheVariants.{Sub, Unit as Made}
 use Rattle.df_tables.specs.declared.units.Unit.{Unit}
 
 -- the reply and the effect are the unit's answer to the call, by its own state and what is left of
@@ -23,3 +24,13 @@ made_by _ _ = None
 abbrev pub is_in_out : Call → Bool
 is_in_out (ChangeInOut half act tag) = true
 is_in_out _ = false
+
+-- the child, a number, tags and privileges, that a call with this reply makes
+abbrev pub child_by : Call → Reply → Option (ℕ × (List (List ℕ) × List Privilege))
+child_by (Instantiate s privileges) (Made n) = Some (n, (s, privileges))
+child_by _ _ = None
+
+-- a call that the tables take in by now
+abbrev pub IsServed : Call → Type 0
+IsServed (SubscribeManaged filter) = ⊥
+IsServed _ = ⊤

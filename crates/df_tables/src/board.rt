@@ -11,23 +11,28 @@ ghost use Rattle.df_label.specs.declared.label.Label.{Label};
 ghost use Rattle.df_label.specs.declared.privilege.Privilege.{Privilege};
 ghost use Rattle.df_part.specs.Contents.{apply};
 ghost use Rattle.df_rules.specs.Commits.{commit_in};
-ghost use Rattle.df_unit.specs.Served.{IsBuilt};
-ghost use Rattle.df_unit.specs.declared.call.Call.TheVariants.{Subscribe};
+ghost use Rattle.df_unit.specs.declared.call.Call.TheVariants.{Instantiate, Subscribe};
 ghost use Rattle.df_unit.specs.declared.entry.Effect.{Effect};
+ghost use Rattle.df_unit.specs.declared.reply.Reply.{Reply};
 ghost use Rattle.df_unit.specs.declared.reply.Reply.TheVariants.{Sub};
-ghost use Rattle.df_tables.specs.Board.{IsBoard, IsBooked, IsHandedBoard, IsKept, IsMovedBoard, IsOpenedBoard, IsReady, IsRenewed, TellsOf, answer_on};
+ghost use Rattle.df_unit.specs.UnitOrder.{unit_cmp};
+ghost use Rattle.df_label.specs.Ascending.{IsAscending};
+ghost use Rattle.df_tables.specs.Roll.{names_in};
+ghost use Rattle.df_tables.specs.Board.{IsBoard, IsBooked, IsBornBoard, IsChildBoard, IsHandedBoard, IsKept, IsMovedBoard, IsOpenedBoard, IsReady, IsRenewed, TellsOf, answer_on};
 ghost use Rattle.df_tables.specs.Hand.{IsAnsweredAt, IsCalm};
 ghost use Rattle.df_tables.specs.Labels.{AreLabels, inputs};
-ghost use Rattle.df_tables.specs.Moves.{is_in_out, made_by};
+ghost use Rattle.df_tables.specs.Moves.{IsServed, child_by, is_in_out, made_by};
 ghost use Rattle.df_tables.specs.Table.{IsInOrder, find, rows_from};
 
+use crate::births::{child_of, count_child, make_room};
 use crate::events::Events;
 use crate::handing::{News, hand_over};
 use crate::moves::{move_at, subscribe};
-use crate::units::{Unit, find, labels_of, place, refresh};
+use crate::roll::Roll;
+use crate::units::{Unit, labels_of, refresh};
 use df_filter::Filter;
 use df_index::{Index, Receivers, Steps};
-use df_label::{Label, NoMemory};
+use df_label::{Label, NoMemory, Privileges, TagSet};
 use df_local::Answer;
 use df_part::{Contents, Edit};
 use df_unit::{Call, Commit, Effect, Reply, UnitName};
@@ -40,6 +45,7 @@ use std::sync::ledger::{Blank, Ledger};
 #[derive(Drop)]
 pub struct Board {
     pub(crate) rows: Vec<Unit>,
+    pub(crate) roll: Roll,
     pub(crate) labels: Vec<Label>,
     pub(crate) stale: Option<usize>,
     pub(crate) events: Events,
@@ -96,6 +102,19 @@ fn made_by<'a>(call: &'a Call, reply: &Reply) -> Option<(u32, &'a Filter)>
     }
 }
 
+/// The child that a call with this reply makes.
+fn child_by<'a>(call: &'a Call, reply: &Reply) -> Option<(u32, &'a TagSet, &'a Privileges)>
+    ensures { option_map (λ made. (made.0, (made.1.now, made.2.now))) result
+        ≡ child_by call.now reply.now }
+{
+    match (call, reply) {
+        (Call::Instantiate { s, privileges }, Reply::Unit(number)) => {
+            Some((*number, s, privileges))
+        }
+        _ => None,
+    }
+}
+
 /// The parts after an edit.
 fn applied(contents: &Contents, edit: &Edit) -> Result<Contents, NoMemory>
     ensures { IfOk result (λ c. c ≡ apply edit.now contents.now) }
@@ -115,8 +134,10 @@ impl Board {
             rows.items ≡ rows_from 0 starts → TellsOf starts [] b) }
     {
         let labels = labels_of(alloc, rows.as_slice())?;
+        let roll = Roll::of_ordered(alloc, rows.as_slice())?;
         Ok(Board {
             rows,
+            roll,
             labels,
             stale: None,
             events: Events::new(alloc),
@@ -130,20 +151,23 @@ impl Board {
         requires { IsBoard self.now }
         ensures { option_copied result ≡ find name.now self.now.rows.items }
     {
-        find(self.rows.as_slice(), name)
+        match self.roll.place(name) {
+            Some(place) => Some(&self.rows[place]),
+            None => None,
+        }
     }
 
-    /// The row at a place, in the order of units.
-    pub fn unit_at(&self, place: usize) -> Option<&Unit>
-        ensures { option_copied result ≡ slice_get self.now.rows.items place }
+    /// The unit at a place in the order of units.
+    pub fn name_at(&self, place: usize) -> Option<&UnitName>
+        ensures name { option_copied result ≡ slice_get (names_in self.now.roll) place }
+        ensures ascending { IsAscending unit_cmp (names_in self.now.roll) }
     {
-        self.rows.get(place)
+        self.roll.unit_at(place)
     }
 
     /// What a unit's row answers to a call.
     pub fn answer(&self, actor: &UnitName, call: &Call) -> Result<Answer, NoMemory>
         requires board { IsBoard self.now }
-        requires built { IsBuilt call.now }
         ensures { IfOk result (λ a. (a.reply, a.effect) ≡ answer_on self.now actor.now call.now) }
     {
         match self.unit(actor) {
@@ -166,7 +190,6 @@ impl Board {
     ) -> Result<(), NoMemory>
         requires board { IsBoard self.old }
         requires within { place < length self.old.rows.items }
-        requires built { IsBuilt call.now }
         requires right { IsAnsweredAt place call.now reply.now effect.now self.old.rows.items }
         ensures board { IsBoard self.new }
         ensures ok { OnOk result (IsMovedBoard place call.now reply.now effect.now None
@@ -190,7 +213,6 @@ impl Board {
     ) -> Result<(), NoMemory>
         requires board { IsBoard self.old }
         requires within { place < length self.old.rows.items }
-        requires built { IsBuilt call.now }
         requires right { IsAnsweredAt place call.now reply.now effect.now self.old.rows.items }
         requires other { is_in_out call.now ≡ false }
         ensures board { IsBoard self.new }
@@ -229,7 +251,6 @@ impl Board {
     ) -> Result<(), NoMemory>
         requires board { IsBoard self.old }
         requires within { place < length self.old.rows.items }
-        requires built { IsBuilt call.now }
         requires plain { commit_in effect.now ≡ None }
         requires right { IsAnsweredAt place call.now reply.now effect.now self.old.rows.items }
         ensures board { IsBoard self.new }
@@ -244,6 +265,48 @@ impl Board {
             Some((number, filter)) => self.enrol(place, filter, number),
             None => self.move_other(place, call, reply, effect),
         }
+    }
+
+    /// Gives a unit its row, unless it has one. Where memory is wanting, nothing is another.
+    fn bear(&mut self, born: Unit) -> Result<(), NoMemory>
+        requires board { IsBoard self.old }
+        requires calm { IsCalm born }
+        ensures board { IsBoard self.new }
+        ensures ok { OnOk result (IsBornBoard born self.old self.new) }
+        ensures same { OnErr result (IsRenewed self.old self.new) }
+    {
+        let beside = make_room(&mut self.rows, &mut self.labels, &born)?;
+        let place = self.rows.len();
+        if !self.roll.seat(beside.name, place)? {
+            return Ok(());
+        }
+        self.labels.push_reserved(beside.label);
+        self.rows.push_reserved(born);
+        Ok(())
+    }
+
+    /// Makes the child of the unit at a place, unless it is there. Where memory is wanting,
+    /// nothing is another.
+    fn make_child(
+        &mut self,
+        place: usize,
+        number: u32,
+        s: &TagSet,
+        privileges: &Privileges,
+    ) -> Result<(), NoMemory>
+        requires board { IsBoard self.old }
+        requires within { place < length self.old.rows.items }
+        requires right { IsAnsweredAt place (Instantiate s.now privileges.now)
+            (Reply.Unit number) Effect.Nothing self.old.rows.items }
+        ensures board { IsBoard self.new }
+        ensures ok { OnOk result (IsChildBoard place number s.now privileges.now
+            self.old self.new) }
+        ensures same { OnErr result (IsRenewed self.old self.new) }
+    {
+        let born = child_of(self.alloc, &self.rows[place].local, number, s, privileges)?;
+        self.bear(born)?;
+        count_child(self.rows.as_mut_slice(), place, number, s, privileges);
+        Ok(())
     }
 
     /// All labels are those of now.
@@ -288,7 +351,6 @@ impl Board {
     ) -> Result<(), NoMemory>
         requires board { IsBoard self.old }
         requires within { place < length self.old.rows.items }
-        requires built { IsBuilt call.now }
         requires commit { effect.now ≡ Effect.Commit commit.now }
         requires right { IsAnsweredAt place call.now reply.now effect.now self.old.rows.items }
         ensures board { IsBoard self.new }
@@ -319,16 +381,19 @@ impl Board {
         effect: &Effect,
     ) -> Result<(), NoMemory>
         requires board { IsBoard self.old }
-        requires built { IsBuilt call.now }
+        requires served { IsServed call.now }
         requires right { answer_on self.old actor.now call.now ≡ (reply.now, effect.now) }
         ensures board { IsBoard self.new }
         ensures ok { OnOk result (IsBooked actor.now call.now reply.now effect.now
             self.old self.new) }
         ensures kept { OnErr result (IsKept self.old self.new) }
     {
-        let Some(place) = place(self.rows.as_slice(), actor) else {
+        let Some(place) = self.roll.place(actor) else {
             return Ok(());
         };
+        if let Some((number, s, privileges)) = child_by(call, reply) {
+            return self.make_child(place, number, s, privileges);
+        }
         match effect {
             Effect::Commit(commit) => self.book_commit(place, call, reply, effect, commit),
             _ => self.book_plain(place, call, reply, effect),

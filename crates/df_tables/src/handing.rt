@@ -3,7 +3,6 @@
 ghost use Rattle.std.specs.Prelude.{◌≡◌, ◌<◌, OnOk, OnErr, IfOk, List, length, map};
 ghost use Rattle.std.specs.List.{All};
 ghost use Rattle.df_part.specs.Part.{cut};
-ghost use Rattle.df_unit.specs.Served.{IsBuilt};
 ghost use Rattle.df_unit.specs.declared.commit.Given.{Given};
 ghost use Rattle.df_tables.specs.Hand.{IsAnsweredAt, IsCalm, IsNews, each, given_to, modify, quiet_row, settled_row, staged_row, with_news, with_state};
 ghost use Rattle.df_tables.specs.declared.units.Unit.{Unit};
@@ -125,7 +124,6 @@ fn take_commit(
     effect: &Effect,
 ) -> Result<(), NoMemory>
     requires within { place < length units.old }
-    requires built { IsBuilt call.now }
     requires right { IsAnsweredAt place call.now reply.now effect.now units.old }
     ensures ok { OnOk result (units.new
         ≡ modify place (with_state call.now reply.now effect.now) units.old) }
@@ -151,7 +149,6 @@ pub(crate) fn hand_over(
 ) -> Result<(), NoMemory>
     requires within { place < length units.old }
     requires receivers { All (λ p. p.0 < length units.old) news.now.receivers.now }
-    requires built { IsBuilt call.now }
     requires right { IsAnsweredAt place call.now reply.now effect.now units.old }
     requires calm { All IsCalm units.old }
     ensures ok { (given : Unit → List Given) → IsNews given news.now.event.now

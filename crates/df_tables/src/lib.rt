@@ -2,14 +2,17 @@
 //! event has, and the index of subscriptions.
 #![tactic(auto)]
 
+mod births;
 mod board;
 mod events;
 mod handing;
 mod line;
 mod moves;
+mod roll;
 mod units;
 
 pub use board::Board;
 pub use events::{EventRow, Events};
 pub use line::Line;
+pub use roll::{Roll, Seat};
 pub use units::{Unit, first_unit};

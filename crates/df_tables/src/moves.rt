@@ -2,7 +2,6 @@
 
 ghost use Rattle.std.specs.Prelude.{◌≡◌, ◌<◌, ◌∷◌, [], ◌++◌, length, OnErr, OnOk};
 ghost use Rattle.df_rules.specs.Start.{rows};
-ghost use Rattle.df_unit.specs.Served.{IsBuilt};
 ghost use Rattle.df_unit.specs.declared.call.Call.TheVariants.{Subscribe};
 ghost use Rattle.df_unit.specs.declared.entry.Effect.{Effect};
 ghost use Rattle.df_unit.specs.declared.reply.Reply.TheVariants.{Sub};
@@ -28,7 +27,6 @@ fn take_from(line: &mut Line, effect: &Effect)
 
 /// Moves a unit's row as its entry does. Where memory is wanting, it is as before.
 fn move_row(unit: &mut Unit, call: &Call, reply: &Reply, effect: &Effect) -> Result<(), NoMemory>
-    requires built { IsBuilt call.now }
     requires right { IsAnswered call.now reply.now effect.now unit.old }
     ensures ok { OnOk result (unit.new ≡ moved_row rows call.now reply.now effect.now unit.old) }
     ensures unchanged { OnErr result (unit.new ≡ unit.old) }
@@ -50,7 +48,6 @@ pub fn move_at(
     effect: &Effect,
 ) -> Result<(), NoMemory>
     requires within { place < length units.old }
-    requires built { IsBuilt call.now }
     requires right { IsAnsweredAt place call.now reply.now effect.now units.old }
     ensures ok { OnOk result (units.new
         ≡ modify place (moved_row rows call.now reply.now effect.now) units.old) }

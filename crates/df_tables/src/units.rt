@@ -19,33 +19,6 @@ pub struct Unit {
     pub line: Line,
 }
 
-/// How a row's unit and a unit stand to each other.
-fn compare(unit: &Unit, name: &UnitName) -> Ordering
-    ensures { result ≡ unit_cmp unit.now.local.unit name.now }
-{
-    unit.local.name().cmp(name)
-}
-
-/// The place of a unit.
-pub fn place(units: &[Unit], name: &UnitName) -> Option<usize>
-    requires order { IsInOrder units.now }
-    ensures place { result ≡ place_of name.now units.now }
-    ensures within { IfSome result (λ k. k < length units.now) }
-{
-    units.binary_search_by(|unit| compare(unit, name)).ok()
-}
-
-/// The row of a unit.
-pub fn find<'a>(units: &'a [Unit], name: &UnitName) -> Option<&'a Unit>
-    requires order { IsInOrder units.now }
-    ensures { option_copied result ≡ find name.now units.now }
-{
-    match place(units, name) {
-        Some(k) => Some(&units[k]),
-        None => None,
-    }
-}
-
 /// A root's row as it begins.
 pub fn first_unit(
     alloc: Global,

@@ -1,6 +1,6 @@
 use Rattle.std.proofs.Common.{◌≡◌, ℕ, All, List, [], ◌∷◌, ◌++◌, reverse, Option, option_to_list, ap, sym, subst, ◌∙◌, append_assoc}
 use Rattle.std.proofs.lemmas.List.{reverse-reverse}
-use Rattle.df_unit.specs.Served.{IsBuilt}
+use Rattle.df_tables.specs.Moves.{IsServed}
 use Rattle.df_journal_text.specs.Start.{head_text}
 use Rattle.df_script_text.specs.declared.line.ScriptLine.{ScriptLine}
 use Rattle.df_run.proofs.Journals.{all_at, next_line, written_more, written_none}
@@ -15,7 +15,7 @@ append_step-requires c =
     let past = c.loop-line.invariant.0 in
     let popped : c.loop-line.lines.items ≡ c.pop.new.self.items ++ c.in-Some.line ∷ [] = c.pop.ensures.items ∙ ap (λ (o : Option ScriptLine). c.pop.new.self.items ++ option_to_list o) c.in-Some.is in
     let next = next_line c.args.lines.items past c.loop-line.lines.items c.pop.new.self.items c.in-Some.line c.loop-line.invariant.1 popped in
-    all_at (λ (line : ScriptLine). IsBuilt line.call) past c.in-Some.line (reverse c.pop.new.self.items) (subst (λ (ls : List ScriptLine). All (λ (line : ScriptLine). IsBuilt line.call) ls) (sym next) c.requires)
+    all_at (λ (line : ScriptLine). IsServed line.call) past c.in-Some.line (reverse c.pop.new.self.items) (subst (λ (ls : List ScriptLine). All (λ (line : ScriptLine). IsServed line.call) ls) (sym next) c.requires)
 
 pub loop-line-preserved : goal.loop-line-preserved
 loop-line-preserved c =

@@ -1,4 +1,4 @@
-use Rattle.std.proofs.Common.{◌≡◌, ◌∙◌, ap, arith, get_or, set}
+use Rattle.std.proofs.Common.{◌∙◌, ap, arith, get_or, set}
 use Rattle.std.proofs.lemmas.List.{set-get_or}
 use Rattle.df_tables.specs.Hand.{each, quiet_row, staged_row}
 use Rattle.df_tables.specs.declared.units.Unit.{Unit}

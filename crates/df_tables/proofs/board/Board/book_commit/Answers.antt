@@ -1,4 +1,4 @@
-use Rattle.std.proofs.Common.{◌≡◌, ◌<◌, List, All, length, map, ap, sym, subst, ◌∙◌}
+use Rattle.std.proofs.Common.{◌<◌, List, All, length, map, refl, ap, sym, subst, ◌∙◌}
 use Rattle.std.proofs.lemmas.List.{with_items_is}
 use Rattle.df_index.specs.Due.{Pair}
 use Rattle.df_tables.specs.Hand.{IsAnsweredAt, IsNews, modify, with_news, with_state}
@@ -13,7 +13,7 @@ pub hand_over-requires-clause-receivers : goal.hand_over-requires-clause-receive
 hand_over-requires-clause-receivers c =
     subst (λ (us : List Unit). All (λ (p : Pair). p.0 < length us) c.as_slice.result.now) (sym c.as_mut_slice-rows.ensures.value)
     (subst (λ (ps : List Pair). All (λ (p : Pair). p.0 < length c.open.new.self.rows.items) ps) (sym c.as_slice.ensures)
-    (receivers_within c.args.commit.now c.open.new.self c.in_ok-ready.ready c.open.ensures.board c.in_ok-ready.ensures.ready))
+    (receivers_within c.args.commit.now c.open.new.self c.in_ok-ready.ready c.open.ensures.board.whole c.in_ok-ready.ensures.ready))
 
 pub hand_over-requires-clause-right : goal.hand_over-requires-clause-right
 hand_over-requires-clause-right c =
@@ -37,6 +37,7 @@ returns-clause-ok c =
           (subst (λ (us : List Unit). IsNews given event after c.as_slice.result.now us) (sym c.as_mut_slice-rows.ensures.value)
           (subst (λ (ps : List Pair). IsNews given event after ps c.open.new.self.rows.items) (sym c.as_slice.ensures) news))
           ∙ ap (λ (us : List Unit). modify c.args.place (with_state c.args.call.now c.args.reply.now c.args.effect.now) (map (with_news given) us)) c.as_mut_slice-rows.ensures.value;
+      roll = refl;
       enrolled = c.book.ensures.enrolled;
       handed = c.book.ensures.handed;
       size = c.set.ensures.length;

@@ -15,6 +15,7 @@ returns-clause-ok c = record {
   rows = with_items_is c.args.self.now.rows c.subscribe.new.units (c.subscribe.auto.units ∙ c.as_mut_slice-rows.ensures.len)
       ∙ c.in_ok-subscribe.ensures.ok
       ∙ ap (λ (us : List Unit). modify c.args.place (moved_row rows (Subscribe c.args.filter.now) (Sub c.args.number) Effect.Nothing) us) c.as_mut_slice-rows.ensures.value;
+  roll = refl;
   events = refl;
   enrolled = c.in_ok-subscribe.ensures.enrolled;
   handed = c.subscribe.ensures.handed;

@@ -12,6 +12,7 @@ returns-clause-ok c = record {
   rows = with_items_is c.args.self.now.rows c.move_at.new.units (c.move_at.auto.units ∙ c.as_mut_slice.ensures.len)
       ∙ c.in_ok-move_at.ensures.ok
       ∙ ap (λ (us : List Unit). modify c.args.place (moved_row rows c.args.call.now c.args.reply.now c.args.effect.now) us) c.as_mut_slice.ensures.value;
+  roll = refl;
   events = refl;
   enrolled = sym (append-nil c.args.self.now.index.enrolled);
   handed = refl;

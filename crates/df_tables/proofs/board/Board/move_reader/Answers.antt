@@ -15,6 +15,7 @@ returns-clause-ok c =
       rows = with_items_is c.refresh.new.self.rows c.move_at.new.units (c.move_at.auto.units ∙ c.as_mut_slice.ensures.len)
           ∙ c.in_ok-move_at.ensures.ok
           ∙ ap (λ (us : List Unit). modify c.args.place (moved_row rows c.args.call.now c.args.reply.now c.args.effect.now) us) (c.as_mut_slice.ensures.value ∙ same.rows);
+      roll = same.roll;
       events = same.events;
       enrolled = ap (λ (x : FilterIndex). x.enrolled) same.index ∙ sym (append-nil c.args.self.now.index.enrolled);
       handed = ap (λ (x : FilterIndex). x.handed) same.index;

@@ -1,4 +1,4 @@
-use Rattle.std.proofs.Common.{◌≡◌, List, if◌then◌else◌, set, ap, sym, ◌∙◌}
+use Rattle.std.proofs.Common.{List, if◌then◌else◌, set, ap, sym, ◌∙◌}
 use Rattle.df_unit.specs.Name.{same_event}
 use Rattle.df_tables.specs.Events.{event_place}
 use Rattle.df_tables.specs.Table.{parts_of}

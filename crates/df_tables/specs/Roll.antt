@@ -1,0 +1,14 @@
+-- Where each unit's row stands, in the order of units.
+use Rattle.std.specs.Prelude.{ℕ, if◌then◌else◌, List, [], ◌∷◌, Option, Some, None, map}
+use Rattle.df_unit.specs.Name.{same}
+use Rattle.df_unit.specs.declared.name.UnitName.{UnitName}
+use Rattle.df_tables.specs.declared.roll.Seat.{Seat}
+
+-- the units that have a seat
+abbrev pub names_in : List Seat → List UnitName
+names_in seats = map (λ s. s.unit) seats
+
+-- the place of a unit's row, if it has one
+abbrev pub seat_of : UnitName → List Seat → Option ℕ
+seat_of n [] = None
+seat_of n (s ∷ ss) = if same s.unit n then Some s.place else seat_of n ss
