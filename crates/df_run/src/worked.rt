@@ -43,7 +43,7 @@ run
 : {|} 5
 ";
 
-pub static WORKED: [Worked; 15] = [
+pub static WORKED: [Worked; 19] = [
     Worked {
         name: "first script",
         script: FIRST,
@@ -741,6 +741,317 @@ run
 @ {|}
 = 0!0
 + {|} a (k=[1,\"x\\\"y\"],z=x\"00ff\")
+",
+    },
+    Worked {
+        name: "labels of a child",
+        script: b"defcon-script 1
+unit 0 {#0|} #0- #0+auth #2+
+run
+0 spawn {#3}
+0 spawn {#2} #0-
+0 spawn {#2} #0+
+0.0 tag
+0.0 create
+0.0 add 0 {|} a 1
+0.0 publish 0
+0.0 out S del #2
+0.1 get
+0 tag
+",
+        journal: b"defcon-journal 2
+unit 0 {#0|} #0- #0+auth #2+
+run
+0 spawn {#3} -> lacks #3+
+@ {#0|}
+0 spawn {#2} #0- -> lacks #0-auth
+@ {#0|}
+0 spawn {#2} #0+ -> unit 0
+@ {#0|}
+0.0 tag -> tag #0.0.0
+@ {#0,#2|}
+0.0 create -> handle 0
+@ {#0,#2|}
+0.0 add 0 {|} a 1 -> ok
+@ {#0,#2|}
+0.0 publish 0 -> ok
+@ {#0,#2|}
+= 0.0!0
++ {#0,#2|} a 1
+0.0 out S del #2 -> lacks #2-
+@ {#0,#2|}
+0.1 get -> no unit
+0 tag -> tag #0.0
+@ {#0|}
+",
+    },
+    Worked {
+        name: "a child after a declassification",
+        script: b"defcon-script 1
+unit 0 {#0|} #0-
+run
+0 inout S del #0
+0 spawn {}
+0.0 create
+0.0 add 0 {|} a 1
+0.0 publish 0
+",
+        journal: b"defcon-journal 2
+unit 0 {#0|} #0-
+run
+0 inout S del #0 -> ok
+@ {#0|}
+0 spawn {} -> unit 0
+@ {#0|}
+0.0 create -> handle 0
+@ {#0|}
+0.0 add 0 {|} a 1 -> ok
+@ {#0|}
+0.0 publish 0 -> ok
+@ {#0|}
+= 0.0!0
++ {|} a 1
+",
+    },
+    Worked {
+        name: "sixty-four children and one more",
+        script: b"defcon-script 1
+unit 0 {|}
+run
+0 spawn {}
+0 spawn {}
+0 spawn {}
+0 spawn {}
+0 spawn {}
+0 spawn {}
+0 spawn {}
+0 spawn {}
+0 spawn {}
+0 spawn {}
+0 spawn {}
+0 spawn {}
+0 spawn {}
+0 spawn {}
+0 spawn {}
+0 spawn {}
+0 spawn {}
+0 spawn {}
+0 spawn {}
+0 spawn {}
+0 spawn {}
+0 spawn {}
+0 spawn {}
+0 spawn {}
+0 spawn {}
+0 spawn {}
+0 spawn {}
+0 spawn {}
+0 spawn {}
+0 spawn {}
+0 spawn {}
+0 spawn {}
+0 spawn {}
+0 spawn {}
+0 spawn {}
+0 spawn {}
+0 spawn {}
+0 spawn {}
+0 spawn {}
+0 spawn {}
+0 spawn {}
+0 spawn {}
+0 spawn {}
+0 spawn {}
+0 spawn {}
+0 spawn {}
+0 spawn {}
+0 spawn {}
+0 spawn {}
+0 spawn {}
+0 spawn {}
+0 spawn {}
+0 spawn {}
+0 spawn {}
+0 spawn {}
+0 spawn {}
+0 spawn {}
+0 spawn {}
+0 spawn {}
+0 spawn {}
+0 spawn {}
+0 spawn {}
+0 spawn {}
+0 spawn {}
+0 spawn {}
+",
+        journal: b"defcon-journal 2
+unit 0 {|}
+run
+0 spawn {} -> unit 0
+@ {|}
+0 spawn {} -> unit 1
+@ {|}
+0 spawn {} -> unit 2
+@ {|}
+0 spawn {} -> unit 3
+@ {|}
+0 spawn {} -> unit 4
+@ {|}
+0 spawn {} -> unit 5
+@ {|}
+0 spawn {} -> unit 6
+@ {|}
+0 spawn {} -> unit 7
+@ {|}
+0 spawn {} -> unit 8
+@ {|}
+0 spawn {} -> unit 9
+@ {|}
+0 spawn {} -> unit 10
+@ {|}
+0 spawn {} -> unit 11
+@ {|}
+0 spawn {} -> unit 12
+@ {|}
+0 spawn {} -> unit 13
+@ {|}
+0 spawn {} -> unit 14
+@ {|}
+0 spawn {} -> unit 15
+@ {|}
+0 spawn {} -> unit 16
+@ {|}
+0 spawn {} -> unit 17
+@ {|}
+0 spawn {} -> unit 18
+@ {|}
+0 spawn {} -> unit 19
+@ {|}
+0 spawn {} -> unit 20
+@ {|}
+0 spawn {} -> unit 21
+@ {|}
+0 spawn {} -> unit 22
+@ {|}
+0 spawn {} -> unit 23
+@ {|}
+0 spawn {} -> unit 24
+@ {|}
+0 spawn {} -> unit 25
+@ {|}
+0 spawn {} -> unit 26
+@ {|}
+0 spawn {} -> unit 27
+@ {|}
+0 spawn {} -> unit 28
+@ {|}
+0 spawn {} -> unit 29
+@ {|}
+0 spawn {} -> unit 30
+@ {|}
+0 spawn {} -> unit 31
+@ {|}
+0 spawn {} -> unit 32
+@ {|}
+0 spawn {} -> unit 33
+@ {|}
+0 spawn {} -> unit 34
+@ {|}
+0 spawn {} -> unit 35
+@ {|}
+0 spawn {} -> unit 36
+@ {|}
+0 spawn {} -> unit 37
+@ {|}
+0 spawn {} -> unit 38
+@ {|}
+0 spawn {} -> unit 39
+@ {|}
+0 spawn {} -> unit 40
+@ {|}
+0 spawn {} -> unit 41
+@ {|}
+0 spawn {} -> unit 42
+@ {|}
+0 spawn {} -> unit 43
+@ {|}
+0 spawn {} -> unit 44
+@ {|}
+0 spawn {} -> unit 45
+@ {|}
+0 spawn {} -> unit 46
+@ {|}
+0 spawn {} -> unit 47
+@ {|}
+0 spawn {} -> unit 48
+@ {|}
+0 spawn {} -> unit 49
+@ {|}
+0 spawn {} -> unit 50
+@ {|}
+0 spawn {} -> unit 51
+@ {|}
+0 spawn {} -> unit 52
+@ {|}
+0 spawn {} -> unit 53
+@ {|}
+0 spawn {} -> unit 54
+@ {|}
+0 spawn {} -> unit 55
+@ {|}
+0 spawn {} -> unit 56
+@ {|}
+0 spawn {} -> unit 57
+@ {|}
+0 spawn {} -> unit 58
+@ {|}
+0 spawn {} -> unit 59
+@ {|}
+0 spawn {} -> unit 60
+@ {|}
+0 spawn {} -> unit 61
+@ {|}
+0 spawn {} -> unit 62
+@ {|}
+0 spawn {} -> unit 63
+@ {|}
+0 spawn {} -> too many units
+@ {|}
+",
+    },
+    Worked {
+        name: "eight levels of units",
+        script: b"defcon-script 1
+unit 0 {|}
+run
+0 spawn {}
+0.0 spawn {}
+0.0.0 spawn {}
+0.0.0.0 spawn {}
+0.0.0.0.0 spawn {}
+0.0.0.0.0.0 spawn {}
+0.0.0.0.0.0.0 spawn {}
+0.0.0.0.0.0.0.0 spawn {}
+",
+        journal: b"defcon-journal 2
+unit 0 {|}
+run
+0 spawn {} -> unit 0
+@ {|}
+0.0 spawn {} -> unit 0
+@ {|}
+0.0.0 spawn {} -> unit 0
+@ {|}
+0.0.0.0 spawn {} -> unit 0
+@ {|}
+0.0.0.0.0 spawn {} -> unit 0
+@ {|}
+0.0.0.0.0.0 spawn {} -> unit 0
+@ {|}
+0.0.0.0.0.0.0 spawn {} -> unit 0
+@ {|}
+0.0.0.0.0.0.0.0 spawn {} -> too deep
+@ {|}
 ",
     },
 ];
