@@ -1,0 +1,17 @@
+pub mod Totals
+pub mod Balanced
+pub mod Roles
+pub mod Unit
+pub mod Steps
+pub mod Players
+pub mod Worth
+pub mod Paid
+pub mod Members
+pub mod Settles
+pub mod Entries
+pub mod Only
+pub mod Bound
+pub mod Others
+pub mod Counts
+pub mod Runs
+pub mod ExampleFloor

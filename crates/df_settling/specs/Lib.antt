@@ -1,0 +1,4 @@
+pub mod Settling
+pub mod Counts
+pub mod Trades
+pub mod Running
