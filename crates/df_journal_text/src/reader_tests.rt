@@ -4,11 +4,27 @@ use crate::name::append_unit;
 use crate::reply::append_reply;
 use crate::{LineFault, read_call_at, reply_at, unit_at};
 use df_value_text::Fault;
-use std::test::Fail;
+use std::alloc::Global;
+
+/// The end of what was read, if it stands so in front of the text; else a place that no text has.
+fn end_of(text: &[u8], again: &[u8], end: usize) -> usize {
+    if again.len() == end && text.starts_with(again) {
+        end
+    } else {
+        usize::MAX
+    }
+}
+
+/// Where the unit ends that stands in front of the text.
+fn unit_end(alloc: Global, text: &[u8]) -> Result<usize, Fault> {
+    let (unit, end) = unit_at(alloc, text, 0)?;
+    let mut again = Vec::new(alloc);
+    append_unit(&unit, &mut again)?;
+    Ok(end_of(text, again.as_slice(), end))
+}
 
 #[test]
-fn units_are_read_to_their_end(rt: HostRuntime) -> Result<(), Fail> {
-    let alloc = rt.alloc();
+fn units_are_read_to_their_end(rt: HostRuntime) {
     let rows: [(&[u8], Result<usize, Fault>); 16] = [
         (b"0", Ok(1)),
         (b"4294967295 get", Ok(10)),
@@ -27,23 +43,21 @@ fn units_are_read_to_their_end(rt: HostRuntime) -> Result<(), Fail> {
         (b"1/0.1{}", Err(Fault::Bad(3))),
         (b"1/4294967296{}", Err(Fault::Bad(11))),
     ];
-    for (text, expected) in rows {
-        match unit_at(alloc, text, 0) {
-            Ok((unit, end)) => {
-                let mut again = Vec::new(alloc);
-                append_unit(&unit, &mut again)?;
-                assert_eq!(rt; Ok(end), expected);
-                assert!(rt; again.len() == end && text.starts_with(again.as_slice()));
-            }
-            Err(fault) => assert_eq!(rt; Err(fault), expected),
-        }
+    for (text, end) in rows {
+        assert_eq!(rt; unit_end(rt.alloc(), text), end);
     }
-    Ok(())
+}
+
+/// Where the call ends that stands in front of the text.
+fn call_end(alloc: Global, text: &[u8]) -> Result<usize, LineFault> {
+    let (call, end) = read_call_at(alloc, text, 0)?;
+    let mut again = Vec::new(alloc);
+    append_call(&call, &mut again)?;
+    Ok(end_of(text, again.as_slice(), end))
 }
 
 #[test]
-fn calls_are_read_to_their_end(rt: HostRuntime) -> Result<(), Fail> {
-    let alloc = rt.alloc();
+fn calls_are_read_to_their_end(rt: HostRuntime) {
     let bad: Result<usize, LineFault> = Err(LineFault::Syntax);
     let rows: [(&[u8], Result<usize, LineFault>); 34] = [
         (b" create", Ok(7)),
@@ -84,24 +98,22 @@ fn calls_are_read_to_their_end(rt: HostRuntime) -> Result<(), Fail> {
             Err(LineFault::TooLarge),
         ),
     ];
-    for (text, expected) in rows {
-        match read_call_at(alloc, text, 0) {
-            Ok((call, end)) => {
-                let mut again = Vec::new(alloc);
-                append_call(&call, &mut again)?;
-                assert_eq!(rt; Ok(end), expected);
-                assert!(rt; again.len() == end && text.starts_with(again.as_slice()));
-            }
-            Err(fault) => assert_eq!(rt; Err(fault), expected),
-        }
+    for (text, end) in rows {
+        assert_eq!(rt; call_end(rt.alloc(), text), end);
     }
-    Ok(())
+}
+
+/// Where the reply ends that stands in front of the text.
+fn reply_end(alloc: Global, text: &[u8]) -> Result<usize, Fault> {
+    let (reply, end) = reply_at(alloc, text, 0)?;
+    let mut again = Vec::new(alloc);
+    append_reply(&reply, &mut again)?;
+    Ok(end_of(text, again.as_slice(), end))
 }
 
 #[test]
-fn replies_are_read_to_their_end(rt: HostRuntime) -> Result<(), Fail> {
-    let alloc = rt.alloc();
-    let rows: [&[u8]; 23] = [
+fn replies_are_read_to_their_end(rt: HostRuntime) {
+    let whole: [&[u8]; 23] = [
         b" ok",
         b" handle 0",
         b" tag #1.0",
@@ -126,14 +138,8 @@ fn replies_are_read_to_their_end(rt: HostRuntime) -> Result<(), Fail> {
         b" lacks #0-auth",
         b" cannot write {#0|} {|#1}",
     ];
-    for text in rows {
-        let Ok((reply, end)) = reply_at(alloc, text, 0) else {
-            assert!(rt; false);
-            continue;
-        };
-        let mut again = Vec::new(alloc);
-        append_reply(&reply, &mut again)?;
-        assert!(rt; end == text.len() && again.as_slice() == text);
+    for text in whole {
+        assert_eq!(rt; reply_end(rt.alloc(), text), Ok(text.len()));
     }
     let damaged: [&[u8]; 6] = [
         b"ok",
@@ -144,7 +150,6 @@ fn replies_are_read_to_their_end(rt: HostRuntime) -> Result<(), Fail> {
         b" Ok",
     ];
     for text in damaged {
-        assert!(rt; reply_at(alloc, text, 0).is_err());
+        assert!(rt; reply_end(rt.alloc(), text).is_err());
     }
-    Ok(())
 }

@@ -1,212 +1,183 @@
-//! A whole journal: its head, and an entry of each kind of effect and of reply.
+//! A whole journal: its head, and an entry of each kind of effect. What is written is read first,
+//! from text.
 
-use crate::{write_entry, write_event, write_head, write_noted, write_start, write_unit};
-use df_frozen::{Frozen, Name, Value};
-use df_label::{Label, NoMemory, Privilege, Privileges, Right, Tag, TagSet};
-use df_part::{Edit, Part, PartRef, Spot};
+use crate::name_reader::event_at;
+use crate::word_reader::{label_word, named_at, privileges_at};
+use crate::{
+    LineFault, read_call_line, read_part_line, read_shown_line, unit_at, write_entry, write_event,
+    write_head, write_noted, write_start, write_unit,
+};
+use df_label::Label;
+use df_part::{Edit, PartRef, Spot};
 use df_start::{RootStart, Start};
 use df_unit::{
-    Call, Commit, Effect, Entry, EventName, Given, Noted, PartRead, Parts, PartsRead, Path, Reply,
-    UnitName,
+    Call, Commit, Effect, Entry, EventName, Given, Noted, Parts, PartsRead, Reply, UnitName,
 };
+use df_value_text::Fault;
 use std::alloc::Global;
 use std::test::Fail;
 
-fn name(text: &str) -> Result<Name, Fail> {
-    Ok(Name::new(text)?)
-}
-
-fn tag(alloc: Global, number: u32) -> Result<Tag, NoMemory> {
-    Tag::new(alloc, &[], number)
-}
-
-/// One tag to read, none to add.
-fn secret(alloc: Global) -> Result<Label, NoMemory> {
-    Ok(Label {
-        s: TagSet::new(alloc).with(&tag(alloc, 0)?)?,
-        i: TagSet::new(alloc),
-    })
-}
-
-fn public(alloc: Global) -> Label {
-    Label {
-        s: TagSet::new(alloc),
-        i: TagSet::new(alloc),
-    }
-}
-
-fn five(alloc: Global) -> Result<Frozen, Fail> {
-    Ok(Value::Int(-5).freeze(alloc)?)
-}
-
-fn privilege(alloc: Global) -> Result<Privilege, NoMemory> {
-    Ok(Privilege {
-        tag: tag(alloc, 0)?,
-        right: Right::PlusAuth,
-    })
-}
-
-fn privileges(alloc: Global) -> Result<Privileges, NoMemory> {
-    let mut held = Privileges::new(alloc);
-    held.add(&privilege(alloc)?)?;
-    Ok(held)
-}
-
-fn root(number: u32) -> UnitName {
-    UnitName::Root(Path::root(number))
-}
-
-/// The instance of a unit that another made.
-fn instance(alloc: Global) -> Result<UnitName, Fail> {
-    Ok(UnitName::Managed {
-        owner: Path::new(Vec::from_array(alloc, [1, 2])?),
-        sub: 3,
-        s: secret(alloc)?.s,
-    })
-}
-
-fn event(unit: UnitName) -> EventName {
-    EventName { unit, number: 7 }
-}
-
-fn part(alloc: Global) -> Result<PartRef, Fail> {
-    Ok(PartRef::new(
-        alloc,
-        Part {
-            name: name("a")?,
-            label: secret(alloc)?,
-            value: five(alloc)?,
-            privileges: privileges(alloc)?,
-        },
-    )?)
-}
-
-fn spot(alloc: Global) -> Result<Spot, Fail> {
-    Ok(Spot {
-        name: name("b")?,
-        label: public(alloc),
-    })
-}
-
-/// A commit that deletes one spot and adds one part.
-fn commit(alloc: Global) -> Result<Commit, Fail> {
-    Ok(Commit {
-        event: event(root(0)),
-        edit: Edit::new(
-            Vec::from_array(alloc, [spot(alloc)?])?,
-            Vec::from_array(alloc, [part(alloc)?])?,
-        ),
-    })
-}
-
-fn given(alloc: Global) -> Result<Given, Fail> {
-    Ok(Given {
-        event: event(root(0)),
-        sub: 4,
-        parts: Parts::new(Vec::from_array(alloc, [part(alloc)?])?),
-    })
-}
-
-fn shown(alloc: Global) -> Result<PartsRead, Fail> {
-    let part = PartRead {
-        label: secret(alloc)?,
-        value: five(alloc)?,
-        privileges: privileges(alloc)?,
-    };
-    Ok(PartsRead::new(Vec::from_array(alloc, [part])?))
-}
-
-fn start(alloc: Global) -> Result<Start, Fail> {
-    let root = RootStart {
-        label: secret(alloc)?,
-        privileges: privileges(alloc)?,
-    };
-    Ok(Start::new(Vec::from_array(alloc, [root])?))
-}
-
-/// An entry of an instance, with its contamination.
-fn noted(alloc: Global, call: Call, reply: Reply, effect: Effect) -> Result<Noted, Fail> {
-    Ok(Noted {
-        entry: Entry::Done {
-            actor: instance(alloc)?,
-            call,
-            reply,
-            effect,
-        },
-        contamination: Some(secret(alloc)?),
-    })
-}
-
-#[test]
-fn names_and_starts_are_written(rt: HostRuntime) -> Result<(), Fail> {
-    let alloc = rt.alloc();
+/// A unit, an event and a start of one root, with a line feed behind each.
+fn names(alloc: Global) -> Result<Vec<u8>, Fault> {
     let mut text = Vec::new(alloc);
-    write_unit(&instance(alloc)?, &mut text)?;
+    write_unit(&unit_at(alloc, b"1.2/3{#0}", 0)?.0, &mut text)?;
     text.push(b'\n')?;
-    write_event(&event(root(0)), &mut text)?;
+    write_event(&event_at(alloc, b"0!7", 0)?.0, &mut text)?;
     text.push(b'\n')?;
-    write_start(&start(alloc)?, &mut text)?;
-    write_head(&start(alloc)?, &mut text)?;
-    assert_eq!(rt;
-        text.as_slice(),
-        b"1.2/3{#0}\n0!7\nunit 0 {#0|} #0+auth\ndefcon-journal 2\nunit 0 {#0|} #0+auth\nrun\n".as_slice()
-    );
-    Ok(())
+    Ok(text)
 }
 
-fn text_of(alloc: Global, entry: &Noted) -> Result<Vec<u8>, NoMemory> {
+fn start(alloc: Global) -> Result<Start, Fault> {
+    let (label, _) = label_word(alloc, b" {#0|}", 0)?;
+    let (privileges, _) = privileges_at(alloc, b" #0+auth", 0)?;
+    let mut roots = Vec::new(alloc);
+    roots.push(RootStart { label, privileges })?;
+    Ok(Start::new(roots))
+}
+
+fn head(alloc: Global) -> Result<Vec<u8>, Fault> {
     let mut text = Vec::new(alloc);
-    write_noted(entry, &mut text)?;
+    let start = start(alloc)?;
+    write_start(&start, &mut text)?;
+    write_head(&start, &mut text)?;
     Ok(text)
 }
 
 #[test]
-fn parts_read_are_written(rt: HostRuntime) -> Result<(), Fail> {
-    let alloc = rt.alloc();
-    let call = Call::ReadPart {
-        h: 1,
-        name: name("a")?,
-    };
-    let reply = Reply::Parts(shown(alloc)?);
-    let entry = noted(alloc, call, reply, Effect::Nothing)?;
+fn names_and_starts_are_written(rt: HostRuntime) -> Result<(), Fail> {
     assert_eq!(rt;
-        text_of(alloc, &entry)?.as_slice(),
+        names(rt.alloc())?.as_slice(),
+        b"1.2/3{#0}\n0!7\n".as_slice()
+    );
+    assert_eq!(rt;
+        head(rt.alloc())?.as_slice(),
+        b"unit 0 {#0|} #0+auth\ndefcon-journal 2\nunit 0 {#0|} #0+auth\nrun\n".as_slice()
+    );
+    Ok(())
+}
+
+fn event(alloc: Global) -> Result<EventName, Fault> {
+    let (event, _) = event_at(alloc, b"0!7", 0)?;
+    Ok(event)
+}
+
+fn parts(alloc: Global) -> Result<Vec<PartRef>, LineFault> {
+    let part = read_part_line(alloc, b"+ {#0|} a -5 #0+auth", b"+")?;
+    let mut parts = Vec::new(alloc);
+    parts.push(PartRef::new(alloc, part)?)?;
+    Ok(parts)
+}
+
+fn spots(alloc: Global) -> Result<Vec<Spot>, Fault> {
+    let ((label, name), _) = named_at(alloc, b" {|} b", 0)?;
+    let mut spots = Vec::new(alloc);
+    spots.push(Spot { name, label })?;
+    Ok(spots)
+}
+
+/// A commit that deletes one spot and adds one part.
+fn commit(alloc: Global) -> Result<Commit, LineFault> {
+    let edit = Edit::new(spots(alloc)?, parts(alloc)?);
+    let event = event(alloc)?;
+    Ok(Commit { event, edit })
+}
+
+fn given(alloc: Global) -> Result<Given, LineFault> {
+    let event = event(alloc)?;
+    let parts = parts(alloc)?;
+    Ok(Given {
+        event,
+        sub: 4,
+        parts: Parts::new(parts),
+    })
+}
+
+fn text_of(alloc: Global, noted: &Noted) -> Result<Vec<u8>, LineFault> {
+    let mut text = Vec::new(alloc);
+    write_noted(noted, &mut text)?;
+    Ok(text)
+}
+
+/// The contamination that is noted of each entry.
+fn label(alloc: Global) -> Result<Label, LineFault> {
+    let (label, _) = label_word(alloc, b" {#0|}", 0)?;
+    Ok(label)
+}
+
+/// An entry. Where one lives nothing may fail, since a way out that drops it is dear to prove.
+fn done((actor, call, reply): (UnitName, Call, Reply), effect: Effect, label: Label) -> Noted {
+    let entry = Entry::Done {
+        actor,
+        call,
+        reply,
+        effect,
+    };
+    Noted {
+        entry,
+        contamination: Some(label),
+    }
+}
+
+/// The reply of a read that shows one part.
+fn shown(alloc: Global) -> Result<Reply, LineFault> {
+    let mut parts = Vec::new(alloc);
+    parts.push(read_shown_line(alloc, b": {#0|} -5 #0+auth")?)?;
+    Ok(Reply::Parts(PartsRead::new(parts)))
+}
+
+fn read_text(alloc: Global) -> Result<Vec<u8>, LineFault> {
+    let label = label(alloc)?;
+    let reply = shown(alloc)?;
+    let (actor, call, _) = read_call_line(alloc, b"1.2/3{#0} read 1 a -> parts")?;
+    let noted = done((actor, call, reply), Effect::Nothing, label);
+    text_of(alloc, &noted)
+}
+
+fn commit_text(alloc: Global) -> Result<Vec<u8>, LineFault> {
+    let label = label(alloc)?;
+    let commit = commit(alloc)?;
+    let called = read_call_line(alloc, b"1.2/3{#0} publish 1 -> ok")?;
+    let noted = done(called, Effect::Commit(commit), label);
+    text_of(alloc, &noted)
+}
+
+fn given_text(alloc: Global) -> Result<Vec<u8>, LineFault> {
+    let label = label(alloc)?;
+    let given = given(alloc)?;
+    let called = read_call_line(alloc, b"1.2/3{#0} get -> event 0 4")?;
+    let noted = done(called, Effect::Given(given), label);
+    text_of(alloc, &noted)
+}
+
+fn entry_text(alloc: Global, entry: &Entry) -> Result<Vec<u8>, LineFault> {
+    let mut text = Vec::new(alloc);
+    write_entry(entry, &mut text)?;
+    Ok(text)
+}
+
+/// A commit of which no more is told.
+fn emitted_text(alloc: Global) -> Result<Vec<u8>, LineFault> {
+    let entry = Entry::Emitted(commit(alloc)?);
+    entry_text(alloc, &entry)
+}
+
+#[test]
+fn entries_are_written(rt: HostRuntime) -> Result<(), Fail> {
+    let alloc = rt.alloc();
+    assert_eq!(rt;
+        read_text(alloc)?.as_slice(),
         b"1.2/3{#0} read 1 a -> parts\n@ {#0|}\n: {#0|} -5 #0+auth\n".as_slice()
     );
-    Ok(())
-}
-
-#[test]
-fn a_commit_is_written(rt: HostRuntime) -> Result<(), Fail> {
-    let alloc = rt.alloc();
-    let effect = Effect::Commit(commit(alloc)?);
-    let entry = noted(alloc, Call::Publish { h: 1 }, Reply::Ok, effect)?;
     assert_eq!(rt;
-        text_of(alloc, &entry)?.as_slice(),
+        commit_text(alloc)?.as_slice(),
         b"1.2/3{#0} publish 1 -> ok\n@ {#0|}\n= 0!7\n- {|} b\n+ {#0|} a -5 #0+auth\n".as_slice()
     );
-    Ok(())
-}
-
-#[test]
-fn a_delivery_is_written(rt: HostRuntime) -> Result<(), Fail> {
-    let alloc = rt.alloc();
-    let effect = Effect::Given(given(alloc)?);
-    let entry = noted(alloc, Call::Get, Reply::Event { h: 0, sub: 4 }, effect)?;
     assert_eq!(rt;
-        text_of(alloc, &entry)?.as_slice(),
+        given_text(alloc)?.as_slice(),
         b"1.2/3{#0} get -> event 0 4\n@ {#0|}\n< 0!7\n. {#0|} a -5 #0+auth\n".as_slice()
     );
-    Ok(())
-}
-
-#[test]
-fn an_emitted_commit_is_written(rt: HostRuntime) -> Result<(), Fail> {
-    let alloc = rt.alloc();
-    let mut text = Vec::new(alloc);
-    write_entry(&Entry::Emitted(commit(alloc)?), &mut text)?;
     assert_eq!(rt;
-        text.as_slice(),
+        emitted_text(alloc)?.as_slice(),
         b"emitted 0!7\n- {|} b\n+ {#0|} a -5 #0+auth\n".as_slice()
     );
     Ok(())

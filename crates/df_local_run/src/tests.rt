@@ -4,7 +4,6 @@ use df_label::{Label, NoMemory, Privileges, TagSet};
 use df_local::Local;
 use df_unit::Call;
 use std::alloc::Global;
-use std::test::Fail;
 
 fn root(alloc: Global) -> Result<Local, NoMemory> {
     let label = Label {
@@ -14,19 +13,30 @@ fn root(alloc: Global) -> Result<Local, NoMemory> {
     Local::of_root(alloc, 4, label, Privileges::new(alloc))
 }
 
-fn run_of(alloc: Global, unit: &Local) -> Result<LocalRun, Fail> {
+/// Whether the run has made a call, of which its unit alone knows.
+fn is_apart(unit: &Local, run: &LocalRun) -> bool {
+    run.entries().len() == 1
+        && run.present().handles_used() == 1
+        && unit.same(run.base())
+        && !unit.same(run.present())
+}
+
+/// Whether the run is apart once it has made a call.
+fn calls_apart(unit: &Local, run: &mut LocalRun) -> bool {
+    run.call(Call::CreateEvent).is_ok() && is_apart(unit, run)
+}
+
+fn runs_apart(alloc: Global, unit: &Local) -> Result<bool, NoMemory> {
     let mut run = LocalRun::begin(alloc, unit)?;
-    if run.call(Call::CreateEvent).is_err() {
-        return Err(Fail::from("no call"));
-    }
-    Ok(run)
+    Ok(calls_apart(unit, &mut run))
+}
+
+fn is_made_apart(alloc: Global) -> Result<bool, NoMemory> {
+    let unit = root(alloc)?;
+    runs_apart(alloc, &unit)
 }
 
 #[test]
-fn a_run_is_made_apart(rt: HostRuntime) -> Result<(), Fail> {
-    let unit = root(rt.alloc())?;
-    let run = run_of(rt.alloc(), &unit)?;
-    assert!(rt; run.entries().len() == 1 && run.present().handles_used() == 1);
-    assert!(rt; unit.same(run.base()) && !unit.same(run.present()));
-    Ok(())
+fn a_run_is_made_apart(rt: HostRuntime) {
+    assert_eq!(rt; is_made_apart(rt.alloc()), Ok(true));
 }
