@@ -1,5 +1,6 @@
 //! Reading the names of units and events.
 ghost use Rattle.std.specs.Prelude.{◌≡◌, ◌≤◌, length, drop};
+ghost use Rattle.df_value_text.specs.ReadTag.{numbers_at};
 ghost use Rattle.df_value_text.specs.code.Answer.{Gives};
 ghost use Rattle.df_journal_text.specs.ReadCall.{braced_at};
 ghost use Rattle.df_journal_text.specs.ReadName.{event_at, instance_at, unit_at};
@@ -31,13 +32,25 @@ fn instance_at(alloc: Global, bytes: &[u8], at: usize) -> Result<((u32, TagSet),
     Ok(((sub, s), end))
 }
 
+/// The path at the place, and the place behind it. A path of one number takes no memory.
+fn path_at(alloc: Global, bytes: &[u8], at: usize) -> Result<(Path, usize), Fault>
+    requires { at ≤ length bytes.now }
+    ensures { Gives (λ p. p) bytes.now result (numbers_at (drop at bytes.now)) }
+{
+    let (first, place) = short_at(bytes, at)?;
+    if !byte_stands(bytes, place, b'.') {
+        return Ok((Path::root(first), place));
+    }
+    let (numbers, end) = numbers_at(alloc, bytes, at)?;
+    Ok((Path::new(numbers), end))
+}
+
 /// The unit at the place, and the place behind it.
 pub fn unit_at(alloc: Global, bytes: &[u8], at: usize) -> Result<(UnitName, usize), Fault>
     requires { at ≤ length bytes.now }
     ensures { Gives (λ u. u) bytes.now result (unit_at (drop at bytes.now)) }
 {
-    let (numbers, place) = numbers_at(alloc, bytes, at)?;
-    let owner = Path::new(numbers);
+    let (owner, place) = path_at(alloc, bytes, at)?;
     if !byte_stands(bytes, place, b'/') {
         return Ok((UnitName::Root(owner), place));
     }

@@ -12,6 +12,9 @@ use df_label::{Label, NoMemory};
 use df_start::Start;
 use df_unit::{Entry, EventName, Noted, UnitName};
 
+// Most entries have no more bytes.
+const COMMON_TEXT: usize = 256;
+
 /// Appends a unit's name.
 pub fn write_unit(unit: &UnitName, to: &mut Vec<u8>) -> Result<(), NoMemory>
     ensures ok { OnOk result (to.new.items ≡ to.old.items ++ unit_text unit.now) }
@@ -67,7 +70,7 @@ pub fn write_noting(
         (to.new.items ≡ to.old.items ++ entry_text contamination.now entry.now) }
     ensures err { OnErr result (to.new.items ≡ to.old.items) }
 {
-    let mut text = Vec::new(*to.allocator());
+    let mut text = Vec::with_capacity(*to.allocator(), COMMON_TEXT)?;
     append_entry(entry, contamination, &mut text)?;
     to.extend_from_slice(text.as_slice())?;
     Ok(())

@@ -6,6 +6,9 @@ ghost use Rattle.df_script_text.specs.code.Cut.{IsCutAtSpace, IsNextPiece, call_
 use df_label::NoMemory;
 use std::alloc::Global;
 
+// A call has no more pieces, but for `spawn`.
+const MOST_PIECES: usize = 5;
+
 /// The pieces of these bytes that lie before, between and behind those that equal `byte`.
 pub fn pieces(alloc: Global, bytes: &[u8], byte: u8) -> Result<Vec<&[u8]>, NoMemory>
     ensures { IfOk result (λ v. map (λ p. p.now) v.items ≡ slice_split (λ b. b == byte) bytes.now) }
@@ -36,7 +39,7 @@ fn next_piece(text: &[u8], spaces: usize) -> Option<(&[u8], &[u8])>
 fn cut_pieces(alloc: Global, text: &[u8], spaces: usize) -> Result<Vec<&[u8]>, NoMemory>
     ensures { IfOk result (λ v. map (λ p. p.now) v.items ≡ cut_pieces spaces text.now) }
 {
-    let mut pieces = Vec::new(alloc);
+    let mut pieces = Vec::with_capacity(alloc, MOST_PIECES)?;
     let mut rest = text;
     let mut left = spaces;
     'cuts: while let Some((piece, behind)) = next_piece(rest, left) {
