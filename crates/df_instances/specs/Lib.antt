@@ -1,0 +1,4 @@
+pub mod Chosen
+pub mod Marks
+pub mod Named
+pub mod code
