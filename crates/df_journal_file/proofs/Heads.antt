@@ -1,0 +1,143 @@
+-- The first bytes of what may stand from a place on, and texts that may.
+use Rattle.std.proofs.Common.{◌≡◌, ℕ, ◌+◌, Bool, true, false, eqb, pos, List, [], ◌∷◌, ◌++◌, length, codes, refl, sym, ap, subst, ◌∙◌, arith, lit<, lit≤, ◌⊎◌, inl, inr}
+use Rattle.std.specs.Char.{is_ascii_digit}
+use Rattle.std.specs.List.{flat_map}
+use Rattle.std.proofs.lemmas.List.Elements.{All-cons, All-nil}
+use Rattle.df_frozen.specs.Name.{is_name}
+use Rattle.df_frozen.specs.Plain.{Plain, int}
+use Rattle.df_label.specs.declared.label.Label.{Label}
+use Rattle.df_lines.specs.FirstBad.{Begins}
+use Rattle.df_part.specs.declared.edit.Spot.{Spot}
+use Rattle.df_part.specs.declared.part.Part.{Part}
+use Rattle.df_unit.specs.declared.name.EventName.{EventName}
+use Rattle.df_unit.specs.declared.name.UnitName.TheVariants.{Root}
+use Rattle.df_unit.specs.declared.parts.PartRead.{PartRead}
+use Rattle.df_unit.specs.declared.reply.Reply.{Reply}
+use Rattle.df_unit.specs.declared.reply.Reply.TheVariants as reply
+use Rattle.df_value_text.specs.Fits.{IsLabel, IsPrivilege, IsValue}
+use Rattle.df_value_text.specs.ReadTag.{begins_digit}
+use Rattle.df_journal_text.specs.Entry.{part_line, read_line, spot_line}
+use Rattle.df_journal_text.specs.Fits.{ArePrivileges, IsAnswer, IsEvent, IsPart, IsPartRead, IsSpot}
+use Rattle.df_journal_text.specs.ReadWords.{begins_pair}
+use Rattle.df_journal_file.specs.Below.{event_line, note_line}
+use Rattle.df_journal_file.specs.Journal.{EndsFile}
+use Rattle.df_journal_file.specs.code.Languages.{AddsFrom, BehindSome, CommitFrom, EditFrom, EffectFrom, EntriesFrom, GivenFrom, HandedFrom, Many, NoteFrom, ReadFrom, ShownFrom, Then}
+use Rattle.df_journal_file.proofs.Fronts.{and_false}
+use Rattle.df_journal_file.proofs.Opens.{AtHead, called_begins, digit_begins, none_left, opened, shows_or_not}
+
+-- ---- first bytes
+
+end_begins : (s : List ℕ) → EndsFile s → (m : ℕ) → begins_pair m 32 s ≡ false
+end_begins s (inl e) m = ap (begins_pair m 32) e
+end_begins s (inr e) m = ap (begins_pair m 32) e.1 ∙ and_false (eqb 45 m)
+
+open_begins : (has : Bool) (s : List ℕ) → EndsFile s ⊎ AtHead has s → (m : ℕ) → is_ascii_digit m ≡ false → begins_pair m 32 s ≡ false
+open_begins has s (inl e) m none = end_begins s e m
+open_begins has s (inr (inl d)) m none = (digit_begins m s (subst (λ (u : List ℕ). begins_digit u ≡ true) (sym d.4) (called_begins d.0 d.1 d.2)) none).1
+open_begins has s (inr (inr t)) m none = ap (begins_pair m 32) t.4 ∙ and_false (eqb 101 m)
+
+-- no mark stands in front of entries
+pub entries_begin : (has : Bool) (s : List ℕ) → EntriesFrom has s → (m : ℕ) → is_ascii_digit m ≡ false → begins_pair m 32 s ≡ false
+entries_begin has s t m none = open_begins has s (opened has s t) m none
+
+-- nor another than those of effects in front of an effect
+pub effect_begins : (has : Bool) (r : Reply) (s : List ℕ) → EffectFrom has r s → (m : ℕ) → is_ascii_digit m ≡ false → eqb 61 m ≡ false → eqb 60 m ≡ false → begins_pair m 32 s ≡ false
+effect_begins has r s (inl t) m none a b = entries_begin has s t m none
+effect_begins has r s (inr (inl t)) m none a b = ap (begins_pair m 32) t.4 ∙ rw a refl
+effect_begins has r s (inr (inr t)) m none a b = ap (begins_pair m 32) t.1.4 ∙ rw b refl
+
+-- nor a deletion in front of additions
+pub adds_begin : (has : Bool) (n : ℕ) (s : List ℕ) → AddsFrom has n s → begins_pair 45 32 s ≡ false
+adds_begin has n s t = none t.0 t.1 t.3 t.4
+  where
+    none : (xs : List Part) (rest : List ℕ) → BehindSome (EntriesFrom has) (n + length xs) rest → s ≡ flat_map (part_line (codes "+")) xs ++ rest → begins_pair 45 32 s ≡ false
+    none [] rest r e = ap (begins_pair 45 32) e ∙ entries_begin has rest r.1 45 refl
+    none (x ∷ xs) rest r e = ap (begins_pair 45 32) e
+
+-- ---- texts that may stand there
+
+no_label : Label
+no_label = record { s = []; i = [] }
+
+label_fits : IsLabel no_label
+unfolding no_label
+label_fits = ((tt, tt), (tt, tt))
+
+no_privileges : ArePrivileges []
+no_privileges = (All-nil IsPrivilege, tt)
+
+abbrev pub zero_value : Plain
+zero_value = int (pos 0)
+
+pub zero_fits : IsValue zero_value
+zero_fits = (lit< tt, record { nodes = lit≤ tt; bytes = lit≤ tt; flat = lit≤ tt })
+
+-- a part with this label and name
+abbrev pub part_with : Label → List ℕ → Part
+part_with label name = record { name = name; label = label; value = zero_value; privileges = [] }
+
+pub part_fits : (label : Label) (name : List ℕ) → IsLabel label → is_name name ≡ true → IsPart (part_with label name)
+part_fits label name f h = (h, f, zero_fits, no_privileges)
+
+abbrev pub read_with : Label → PartRead
+read_with label = record { label = label; value = zero_value; privileges = [] }
+
+pub read_fits : (label : Label) → IsLabel label → IsPartRead (read_with label)
+read_fits label f = (f, zero_fits, no_privileges)
+
+pub entries_some : (has : Bool) → Begins (EntriesFrom has) []
+entries_some has = ([], none_left has [] (inl refl))
+
+pub many_begins : {X : Type 0} (text : X → List ℕ) (Fits : X → Type 0) (Rest : ℕ → List ℕ → Type 0) (x : X) → Fits x → ((n : ℕ) → Rest (n + 1) []) → (n : ℕ) → Begins (Many text Fits Rest n) []
+many_begins text Fits Rest x f r n = (flat_map text (x ∷ []) ++ [], (x ∷ [], [], All-cons Fits x [] f (All-nil Fits), r n, refl))
+
+abbrev a_part : Part
+a_part = part_with no_label (codes "a")
+
+a_part_fits : IsPart a_part
+a_part_fits = part_fits no_label (codes "a") label_fits refl
+
+pub adds_some : (has : Bool) (n : ℕ) → Begins (AddsFrom has n) []
+adds_some has = many_begins (part_line (codes "+")) IsPart (BehindSome (EntriesFrom has)) a_part a_part_fits (λ n. (omega arith, none_left has [] (inl refl)))
+
+pub given_some : (has : Bool) (n : ℕ) → Begins (GivenFrom has n) []
+given_some has = many_begins (part_line (codes ".")) IsPart (BehindSome (EntriesFrom has)) a_part a_part_fits (λ n. (omega arith, none_left has [] (inl refl)))
+
+pub edit_some : (has : Bool) (n : ℕ) → Begins (EditFrom has n) []
+edit_some has n =
+    let spot : Spot = record { name = codes "a"; label = no_label } in
+    let rest : List ℕ = [] in
+    (flat_map spot_line (spot ∷ []) ++ rest, (spot ∷ [], rest, All-cons IsSpot spot [] (refl, label_fits) (All-nil IsSpot), ([], [], All-nil IsPart, (omega arith, none_left has [] (inl refl)), refl), refl))
+
+pub read_some : (has : Bool) (n : ℕ) → Begins (ReadFrom has n) []
+read_some has = many_begins read_line IsPartRead (BehindSome (EffectFrom has (reply.Parts []))) (read_with no_label) (read_fits no_label label_fits) (λ n. (omega arith, inl (none_left has [] (inl refl))))
+
+pub shown_some : (has : Bool) (bare : Reply) → IsAnswer bare → Begins (ShownFrom has bare) []
+shown_some has bare f =
+    elim (shows_or_not bare) [
+      | inl p ↦
+          let none : p.0 ≡ [] = (subst IsAnswer p.1 f).1 in
+          let r = read_some has 0 in
+          (r.0, inr (p.1 ∙ ap reply.Parts none, r.1))
+      | inr none ↦ ([], inl (none, inl (none_left has [] (inl refl))))
+    ]
+
+pub then_some : {X : Type 0} (text : X → List ℕ) (Fits : X → Type 0) (Rest : List ℕ → Type 0) (x : X) → Fits x → Begins Rest [] → Begins (Then text Fits Rest) []
+then_some text Fits Rest x f b = (text x ++ b.0, (x, b.0, f, b.1, refl))
+
+abbrev an_event : EventName
+an_event = record { unit = Root (0 ∷ []); number = 0 }
+
+pub commit_some : (has : Bool) (mark : List ℕ) → Begins (CommitFrom has mark) []
+commit_some has mark = then_some (event_line mark) IsEvent (EditFrom has 0) an_event ((lit< tt, tt), lit< tt) (edit_some has 0)
+
+pub handed_some : (has : Bool) → Begins (HandedFrom has) []
+handed_some has = then_some (event_line (codes "<")) IsEvent (GivenFrom has 0) an_event ((lit< tt, tt), lit< tt) (given_some has 0)
+
+pub note_some : (has : Bool) (bare : Reply) → IsAnswer bare → Begins (Then note_line IsLabel (ShownFrom has bare)) []
+note_some has bare f = then_some note_line IsLabel (ShownFrom has bare) no_label label_fits (shown_some has bare f)
+
+-- behind the line of a call that was answered `ok`
+pub ok_some : (has : Bool) → Begins (NoteFrom has reply.Ok) []
+ok_some true = let s = note_some true reply.Ok (tt, tt) in (s.0, inr (refl, (λ no. cc), s.1))
+ok_some false = let s = shown_some false reply.Ok (tt, tt) in (s.0, inl (inl refl, s.1))

@@ -1,0 +1,17 @@
+pub mod Wholes
+pub mod WordLines
+pub mod Apart
+pub mod Places
+pub mod Entries
+pub mod Fronts
+pub mod Ontos
+pub mod Feeds
+pub mod Runs
+pub mod Opens
+pub mod Heads
+pub mod Values
+pub mod Steps
+pub mod Roots
+pub mod Texts
+pub mod Loops
+pub mod Eithers

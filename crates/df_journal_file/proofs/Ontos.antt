@@ -1,0 +1,187 @@
+-- The first bad line behind other lines, and the first bad line where a line is to stand.
+use Rattle.std.proofs.Common.{◌≡◌, ℕ, ◌<◌, ◌≤◌, List, [], ◌∷◌, ◌++◌, length, drop, codes, decimal, refl, sym, ap, subst, ◌∙◌, arith, append_assoc, append-nil, length-append, inl, inr}
+use Rattle.std.specs.List.{All}
+use Rattle.std.proofs.lemmas.List.Elements.{All-append, All-cons, All-nil}
+use Rattle.df_lines.specs.FirstBad.{Begins, IsFirstBad}
+use Rattle.df_lines.specs.Lines.{EndsLine, IsLine, ended, lines_text}
+use Rattle.df_lines.specs.declared.fault.FileFault.{FileFault}
+use Rattle.df_lines.specs.declared.fault.FileFault.TheVariants as stop
+use Rattle.df_value_text.specs.Label.{label_text}
+use Rattle.df_journal_text.specs.Line.{word}
+use Rattle.df_journal_text.specs.Name.{unit_text}
+use Rattle.df_script_text.specs.code.Stops.{StopsAt}
+use Rattle.df_journal_file.specs.TooLarge.{IsLargeIn, IsValueFront}
+use Rattle.df_journal_file.specs.code.Places.{IsSpelled, StopsLine}
+use Rattle.df_journal_file.specs.code.Stops.{IsStop, Onto, StopsIn}
+use Rattle.df_journal_file.proofs.Fronts.{Alike, SameFirst, alike_line, alike_long, alike_same, first_alike, first_line, lines_join, not_open, same_line}
+
+-- what stands in front of a value has two bytes
+pub front_long : (front : List ℕ) → IsValueFront front → 1 < length front
+front_long front (inl c) =
+    omega (arith, ap length c.6, length-append (unit_text c.0) (word (codes "add") ++ (word (decimal c.1) ++ (word (label_text c.2.0) ++ word c.2.1))))
+front_long front (inr (inl s)) = omega (arith, ap length s.2)
+front_long front (inr (inr (inl p))) = omega (arith, ap length p.2)
+front_long front (inr (inr (inr p))) = omega (arith, ap length p.2)
+
+-- ---- behind lines
+
+module _ (IsText IsRest : List ℕ → Type 0) (bytes : List ℕ) (at place : ℕ) (front : List (List ℕ)) (lines : All IsLine front) (is : drop at bytes ≡ lines_text front ++ drop place bytes)
+    (from : (u : List ℕ) → Alike u (drop place bytes) → IsText (lines_text front ++ u) → IsRest u) (to : (u : List ℕ) → IsRest u → IsText (lines_text front ++ u)) where
+  -- what begins with the same lines and the bad one
+  alike_dead : (before : List (List ℕ)) (bad behind more rest : List ℕ) → drop place bytes ≡ lines_text before ++ (bad ++ behind) → behind ≡ 10 ∷ more → Alike (lines_text before ++ (bad ++ 10 ∷ rest)) (drop place bytes)
+  alike_dead before bad behind more rest e feed =
+      let t : drop place bytes ≡ (lines_text before ++ bad) ++ 10 ∷ more = e ∙ ap (λ (u : List ℕ). lines_text before ++ (bad ++ u)) feed ∙ sym (append_assoc (lines_text before) bad (10 ∷ more)) in
+      subst (λ (u : List ℕ). Alike u (drop place bytes)) (append_assoc (lines_text before) bad (10 ∷ rest))
+      (subst (λ (u : List ℕ). Alike ((lines_text before ++ bad) ++ 10 ∷ rest) u) (sym t) (alike_line (lines_text before ++ bad) rest more))
+
+  -- what begins with the same lines and the same front
+  alike_front : (before : List (List ℕ)) (fr rest behind more : List ℕ) → 1 < length fr → drop place bytes ≡ lines_text before ++ ((fr ++ rest) ++ behind) → Alike (lines_text before ++ (fr ++ more)) (drop place bytes)
+  alike_front before fr rest behind more long e =
+      let head : List ℕ = lines_text before ++ fr in
+      let t : drop place bytes ≡ head ++ (rest ++ behind) = e ∙ ap (λ (u : List ℕ). lines_text before ++ u) (append_assoc fr rest behind) ∙ sym (append_assoc (lines_text before) fr (rest ++ behind)) in
+      subst (λ (u : List ℕ). Alike u (drop place bytes)) (append_assoc (lines_text before) fr more)
+      (subst (λ (u : List ℕ). Alike (head ++ more) u) (sym t) (alike_long head more (rest ++ behind) (omega (arith, long, length-append (lines_text before) fr))))
+
+  last_line : (before : List (List ℕ)) (bad rest : List ℕ) → lines_text (before ++ bad ∷ []) ++ rest ≡ lines_text before ++ (bad ++ 10 ∷ rest)
+  last_line before bad rest =
+      sym (lines_join before (bad ∷ []) rest) ∙ ap (λ (u : List ℕ). lines_text before ++ u) (ap (λ (u : List ℕ). u ++ rest) (append-nil (ended bad)) ∙ append_assoc bad (10 ∷ []) rest)
+
+  first_behind : (before : List (List ℕ)) (bad : List ℕ) → IsFirstBad IsRest (drop place bytes) before bad → IsFirstBad IsText (drop at bytes) (front ++ before) bad
+  first_behind before bad f = record {
+    behind = f.behind;
+    parts = is ∙ ap (λ (u : List ℕ). lines_text front ++ u) f.parts ∙ lines_join front before (bad ++ f.behind);
+    lines = All-append IsLine front before lines f.lines;
+    line = f.line;
+    end = f.end;
+    viable = (f.viable.0, subst IsText (lines_join front before f.viable.0) (to (lines_text before ++ f.viable.0) f.viable.1));
+    dead = λ more feed b.
+        let whole : lines_text ((front ++ before) ++ bad ∷ []) ++ b.0 ≡ lines_text front ++ (lines_text (before ++ bad ∷ []) ++ b.0) =
+        ap (λ (ls : List (List ℕ)). lines_text ls ++ b.0) (append_assoc front before (bad ∷ [])) ∙ sym (lines_join front (before ++ bad ∷ []) b.0) in
+        let like : Alike (lines_text (before ++ bad ∷ []) ++ b.0) (drop place bytes) =
+        subst (λ (u : List ℕ). Alike u (drop place bytes)) (sym (last_line before bad b.0)) (alike_dead before bad f.behind more b.0 f.parts feed) in
+        f.dead more feed (b.0, from (lines_text (before ++ bad ∷ []) ++ b.0) like (subst IsText whole b.1));
+    none = λ r. f.none (from (drop place bytes) (alike_same (drop place bytes) (drop place bytes) refl) (subst IsText is r));
+  }
+
+  stop_behind : (here : ℕ) (before : List (List ℕ)) (bad : List ℕ) → IsStop IsRest bytes place here before bad → IsStop IsText bytes at here (front ++ before) bad
+  stop_behind here before bad s = record {
+    inside = s.inside;
+    parts = is ∙ ap (λ (u : List ℕ). lines_text front ++ u) s.parts ∙ lines_join front before (drop here bytes);
+    first = first_behind before bad s.first;
+  }
+
+  large_behind : (before : List (List ℕ)) (bad : List ℕ) → IsLargeIn IsRest before bad → IsLargeIn IsText (front ++ before) bad
+  large_behind before bad l = record {
+    front = l.front;
+    rest = l.rest;
+    parts = l.parts;
+    wanting = l.wanting;
+    large = l.large;
+    viable = (
+      l.viable.0,
+      subst IsText (ap (λ (u : List ℕ). lines_text front ++ u) (append_assoc (lines_text before) l.front l.viable.0) ∙ lines_join front before (l.front ++ l.viable.0) ∙ sym (append_assoc (lines_text (front ++ before)) l.front l.viable.0))
+          (to ((lines_text before ++ l.front) ++ l.viable.0) l.viable.1),
+    );
+  }
+
+  large_from : (before : List (List ℕ)) (bad behind : List ℕ) → drop place bytes ≡ lines_text before ++ (bad ++ behind) → IsLargeIn IsText (front ++ before) bad → IsLargeIn IsRest before bad
+  large_from before bad behind e l =
+      let more : List ℕ = l.viable.0 in
+      let t : drop place bytes ≡ lines_text before ++ ((l.front ++ l.rest) ++ behind) = e ∙ ap (λ (b : List ℕ). lines_text before ++ (b ++ behind)) l.parts in
+      let whole : (lines_text (front ++ before) ++ l.front) ++ more ≡ lines_text front ++ (lines_text before ++ (l.front ++ more)) =
+      append_assoc (lines_text (front ++ before)) l.front more ∙ sym (lines_join front before (l.front ++ more)) in
+      record {
+        front = l.front;
+        rest = l.rest;
+        parts = l.parts;
+        wanting = l.wanting;
+        large = l.large;
+        viable = (
+          more,
+          subst IsRest (sym (append_assoc (lines_text before) l.front more))
+              (from (lines_text before ++ (l.front ++ more)) (alike_front before l.front l.rest behind more (front_long l.front l.wanting) t) (subst IsText whole l.viable.1)),
+        );
+      }
+
+  pub onto : Onto IsText bytes at IsRest place
+  onto stop.NoMemory s = tt
+  onto (stop.Bad here) s = (front ++ s.0, s.1, stop_behind here s.0 s.1 s.2, λ l. s.3 (large_from s.0 s.1 s.2.first.behind s.2.first.parts l))
+  onto (stop.TooLarge here) s = (front ++ s.0, s.1, stop_behind here s.0 s.1 s.2, large_behind s.0 s.1 s.3)
+
+-- the same place
+pub onto_here : (IsText IsRest : List ℕ → Type 0) (bytes : List ℕ) (at : ℕ) → ((u : List ℕ) → Alike u (drop at bytes) → IsText u → IsRest u) → ((u : List ℕ) → IsRest u → IsText u) → Onto IsText bytes at IsRest at
+onto_here IsText IsRest bytes at from to = onto IsText IsRest bytes at at [] (All-nil IsLine) refl from to
+
+-- behind one line
+pub onto_line : (IsText IsRest : List ℕ → Type 0) (bytes : List ℕ) (at place : ℕ) (l : List ℕ) → IsLine l → drop at bytes ≡ ended l ++ drop place bytes → ((u : List ℕ) → IsText (ended l ++ u) → IsRest u) → ((u : List ℕ) → IsRest u → IsText (ended l ++ u))
+    → Onto IsText bytes at IsRest place
+onto_line IsText IsRest bytes at place l line is from to =
+    let one : (u : List ℕ) → ended l ++ u ≡ lines_text (l ∷ []) ++ u = λ u. ap (λ (v : List ℕ). v ++ u) (sym (append-nil (ended l))) in
+    onto IsText IsRest bytes at place (l ∷ []) (All-cons IsLine l [] line (All-nil IsLine)) (is ∙ one (drop place bytes))
+    (λ u like t. from u (subst IsText (sym (one u)) t)) (λ u r. subst IsText (one u) (to u r))
+
+-- ---- at a line
+
+module _ (IsText : List ℕ → Type 0) (Is : List ℕ → Type 0) (bytes : List ℕ) (at : ℕ) (inside : at ≤ length bytes) (some : Begins IsText [])
+    (goes : (u : List ℕ) → SameFirst u (drop at bytes) → IsText u → (l : List ℕ) × (rest : List ℕ) × IsLine l × Is l × (u ≡ l ++ 10 ∷ rest)) where
+  no_dead : (bad : List ℕ) (s : StopsAt Is (drop at bytes) bad) (more : List ℕ) → s.behind ≡ 10 ∷ more → (u : List ℕ) → ¬ IsText (bad ++ 10 ∷ u)
+  no_dead bad s more feed u t =
+      let g = goes (bad ++ 10 ∷ u) (inr (bad, u, more, s.line, refl, s.parts ∙ ap (λ (v : List ℕ). bad ++ v) feed)) t in
+      s.refused more feed (subst Is (sym (same_line bad g.0 u g.1 s.line g.2 g.4)) g.3)
+
+  no_text : (bad behind : List ℕ) → IsLine bad → EndsLine behind → ((more : List ℕ) → behind ≡ 10 ∷ more → ¬ Is bad) → drop at bytes ≡ bad ++ behind → ¬ IsText (drop at bytes)
+  no_text bad [] line end refused e t =
+      let g = goes (drop at bytes) (inl refl) t in
+      not_open bad g.0 g.1 line g.2 (sym e ∙ g.4)
+  no_text bad (b ∷ bs) line end refused e t =
+      let g = goes (drop at bytes) (inl refl) t in
+      let fed : drop at bytes ≡ bad ++ 10 ∷ bs = e ∙ ap (λ (c : ℕ). bad ++ c ∷ bs) end in
+      refused bs (ap (λ (c : ℕ). c ∷ bs) end) (subst Is (sym (same_line bad g.0 bs g.1 line g.2 (sym fed ∙ g.4))) g.3)
+
+  pub stop_here : (bad : List ℕ) → StopsAt Is (drop at bytes) bad → IsStop IsText bytes at at [] bad
+  stop_here bad s = record {
+    inside = inside;
+    parts = refl;
+    first = record {
+      behind = s.behind;
+      parts = s.parts;
+      lines = All-nil IsLine;
+      line = s.line;
+      end = s.end;
+      viable = some;
+      dead = λ more feed b. no_dead bad s more feed b.0 (subst IsText (ap (λ (u : List ℕ). u ++ b.0) (append-nil (ended bad)) ∙ append_assoc bad (10 ∷ []) b.0) b.1);
+      none = no_text bad s.behind s.line s.end s.refused s.parts;
+    };
+  }
+
+-- where the line of something is to stand
+module _ {X : Type 0} (text : X → List ℕ) (Fits : X → Type 0) (feeds : (x : X) → Fits x → (l : List ℕ) × IsLine l × (text x ≡ ended l)) (IsLarge : List ℕ → Type 0) (IsText : List ℕ → Type 0) (bytes : List ℕ) (at : ℕ) (inside : at ≤ length bytes) (some : Begins IsText [])
+    (goes : (u : List ℕ) → SameFirst u (drop at bytes) → IsText u → (x : X) × Fits x × ((rest : List ℕ) × (u ≡ text x ++ rest)))
+    (small : (bad behind : List ℕ) → drop at bytes ≡ bad ++ behind → IsLargeIn IsText [] bad → IsLarge bad) (large : (bad : List ℕ) → IsLarge bad → IsLargeIn IsText [] bad) where
+  spelled_first : (u : List ℕ) → SameFirst u (drop at bytes) → IsText u → (l : List ℕ) × (rest : List ℕ) × IsLine l × IsSpelled text Fits l × (u ≡ l ++ 10 ∷ rest)
+  spelled_first u like t =
+      let g = goes u like t in
+      let l = feeds g.0 g.1 in
+      (l.0, g.2.0, l.1, (g.0, g.1, sym l.2), g.2.1 ∙ ap (λ (v : List ℕ). v ++ g.2.0) l.2 ∙ append_assoc l.0 (10 ∷ []) g.2.0)
+
+  pub line_stop : (f : FileFault) → StopsLine text Fits IsLarge bytes at f → StopsIn IsText bytes at f
+  line_stop stop.NoMemory s = tt
+  line_stop (stop.Bad place) s =
+      subst (λ (p : ℕ). StopsIn IsText bytes at (stop.Bad p)) (sym s.0)
+      ([], s.1.0, stop_here IsText (IsSpelled text Fits) bytes at inside some spelled_first s.1.0 s.1.1, λ l. s.1.2 (small s.1.0 s.1.1.behind s.1.1.parts l))
+  line_stop (stop.TooLarge place) s =
+      subst (λ (p : ℕ). StopsIn IsText bytes at (stop.TooLarge p)) (sym s.0)
+      ([], s.1.0, stop_here IsText (IsSpelled text Fits) bytes at inside some spelled_first s.1.0 s.1.1, large s.1.0 s.1.2)
+
+-- where no text that begins alike may stand
+pub never_stop : (IsText : List ℕ → Type 0) (bytes : List ℕ) (at : ℕ) → at ≤ length bytes → Begins IsText [] → ((u : List ℕ) → Alike u (drop at bytes) → ¬ IsText u) → StopsIn IsText bytes at (stop.Bad at)
+never_stop IsText bytes at inside some never =
+    let f = first_line (drop at bytes) in
+    let at_line : StopsAt (λ _. ⊥) (drop at bytes) f.bad = record { behind = f.behind; parts = f.parts; line = f.line; end = f.end; refused = λ more feed h. h } in (
+      [],
+      f.bad,
+      stop_here IsText (λ _. ⊥) bytes at inside some (λ u same t. absurd (never u (first_alike u (drop at bytes) same) t)) f.bad at_line,
+      λ l.
+          let t : drop at bytes ≡ l.front ++ (l.rest ++ f.behind) = f.parts ∙ ap (λ (b : List ℕ). b ++ f.behind) l.parts ∙ append_assoc l.front l.rest f.behind in
+          never (l.front ++ l.viable.0) (subst (λ (u : List ℕ). Alike (l.front ++ l.viable.0) u) (sym t) (alike_long l.front l.viable.0 (l.rest ++ f.behind) (front_long l.front l.wanting))) l.viable.1,
+    )

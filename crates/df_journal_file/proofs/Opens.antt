@@ -1,0 +1,235 @@
+-- What stands at the head of entries, and entries of what stands there.
+use Rattle.std.proofs.Common.{◌≡◌, ℕ, ◌<◌, Bool, true, false, eqb, List, [], ◌∷◌, ◌++◌, length, Option, Some, None, codes, refl, sym, ap, subst, ◌∙◌, arith, append_assoc, ◌⊎◌, inl, inr}
+use Rattle.std.specs.Char.{is_ascii_digit}
+use Rattle.std.specs.List.{All, flat_map}
+use Rattle.std.proofs.lemmas.Bool.{eqb-true}
+use Rattle.std.proofs.lemmas.List.Elements.{All-cons, All-head, All-nil, All-tail}
+use Rattle.df_format.proofs.Laws.{told}
+use Rattle.df_label.specs.declared.label.Label.{Label}
+use Rattle.df_part.specs.declared.edit.Spot.{Spot}
+use Rattle.df_part.specs.declared.part.Part.{Part}
+use Rattle.df_unit.specs.declared.call.Call.{Call}
+use Rattle.df_unit.specs.declared.commit.Commit.{Commit}
+use Rattle.df_unit.specs.declared.commit.Given.{Given}
+use Rattle.df_unit.specs.declared.entry.Effect.{Effect}
+use Rattle.df_unit.specs.declared.entry.Effect.TheVariants as effect
+use Rattle.df_unit.specs.declared.entry.Entry.{Entry}
+use Rattle.df_unit.specs.declared.entry.Entry.TheVariants.{Done, Emitted}
+use Rattle.df_unit.specs.declared.entry.Noted.{Noted}
+use Rattle.df_unit.specs.declared.name.UnitName.{UnitName}
+use Rattle.df_unit.specs.declared.parts.PartRead.{PartRead}
+use Rattle.df_unit.specs.declared.reply.Reply.{Reply}
+use Rattle.df_unit.specs.declared.reply.Reply.TheVariants as reply
+use Rattle.df_value_text.specs.Fits.{IsLabel}
+use Rattle.df_value_text.specs.Number.{begins_with}
+use Rattle.df_value_text.specs.ReadTag.{begins_digit}
+use Rattle.df_journal_text.specs.Call.{call_words}
+use Rattle.df_journal_text.specs.Entry.{call_line, edit_text, effect_text, entry_text, note_text, noted_text, part_line, reads_text, spot_line}
+use Rattle.df_journal_text.specs.Fits.{IsAnswer, IsCalled, IsCommit, IsEdit, IsEffectOf, IsEntry, IsNoteOf, IsPartRead, IsReply}
+use Rattle.df_journal_text.specs.Line.{spaced}
+use Rattle.df_journal_text.specs.Name.{unit_text}
+use Rattle.df_journal_text.specs.ReadWords.{begins_pair}
+use Rattle.df_journal_text.specs.Reply.{reply_words}
+use Rattle.df_journal_text.proofs.JournalBacks.{more_first, unit_first}
+use Rattle.df_journal_file.specs.Below.{event_line}
+use Rattle.df_journal_file.specs.Journal.{ChangesSome, EditsSome, EndsFile, HasNote, ShowsSome}
+use Rattle.df_journal_file.specs.code.Entries.{IsNoteBy, IsShownBy, IsSomeCommit, IsSomeEffectOf, IsWholeBy, commit_lines}
+use Rattle.df_journal_file.specs.code.Languages.{CommitFrom, DoneFrom, EditFrom, EffectFrom, EntriesFrom, NoteFrom, ShownFrom, ShowsNone}
+use Rattle.df_journal_file.proofs.Entries.{alone, done_of, done_spelled, done_whole, no_note, some_note}
+
+-- ---- the first bytes
+
+digit_other : (c m : ℕ) → is_ascii_digit c ≡ true → is_ascii_digit m ≡ false → eqb c m ≡ false
+digit_other c m digit none =
+    elim (told (eqb c m)) [
+      | inl h ↦ absurd (let no : true ≡ false = sym digit ∙ ap is_ascii_digit (eqb-true c m h) ∙ none in cc)
+      | inr h ↦ h
+    ]
+
+pub digit_begins : (m : ℕ) (u : List ℕ) → begins_digit u ≡ true → is_ascii_digit m ≡ false → (begins_with m u ≡ false) × (begins_pair m 32 u ≡ false)
+digit_begins m [] digit none = absurd cc
+digit_begins m (c ∷ cs) digit none = let e = digit_other c m digit none in (e, rw e refl)
+
+-- a call's line begins with a digit
+pub called_begins : (c : UnitName × Call × Reply) (rest : List ℕ) → IsCalled c → begins_digit (call_line c.0 c.1 c.2 ++ rest) ≡ true
+called_begins c rest fits =
+    let words : List (List ℕ) = call_words c.1 ++ codes "->" ∷ reply_words c.2 in
+    more_first (call_line c.0 c.1 c.2) rest (more_first (unit_text c.0 ++ spaced words) (10 ∷ []) (more_first (unit_text c.0) (spaced words) (unit_first c.0 fits.0)))
+
+-- ---- replies
+
+pub shows_or_not : (r : Reply) → ((parts : List PartRead) × (r ≡ reply.Parts parts)) ⊎ ShowsNone r
+shows_or_not (reply.Parts parts) = inl (parts, refl)
+shows_or_not _ = inr (λ parts e. cc)
+
+-- the reply as its line tells it
+bare_for : (r : Reply) → IsReply r → ShowsSome r → (bare : Reply) × IsAnswer bare × IsShownBy bare r
+bare_for r f some =
+    elim (shows_or_not r) [
+      | inl p ↦ (reply.Parts [], (All-nil IsPartRead, refl), (f, some, inr (refl, (p.0, p.1))))
+      | inr none ↦ (r, (f, (alone r none).2), (f, some, inl refl))
+    ]
+
+-- what is noted of the reply is noted of its line's
+note_by : (bare r : Reply) (note : Option Label) → IsShownBy bare r → HasNote r note → ((label : Label) → note ≡ Some label → IsLabel label) → IsNoteBy true bare note
+note_by bare r (Some label) f n fits =
+    (fits label refl, elim f.2 [ inl same ↦ λ none. n (same ∙ none) | inr s ↦ λ none. let no : reply.Parts [] ≡ reply.NoSuchUnit = sym s.0 ∙ none in cc ])
+note_by bare r None f n fits =
+    elim f.2 [ inl same ↦ sym same ∙ n | inr s ↦ absurd (let no : reply.Parts s.1.0 ≡ reply.NoSuchUnit = sym s.1.1 ∙ n in cc) ]
+
+-- ---- from entries
+
+edit_from : (has : Bool) (edit : List Spot × List Part) (tail : List ℕ) → IsEdit edit → EditsSome edit → EntriesFrom has tail → EditFrom has 0 (edit_text edit ++ tail)
+edit_from has edit tail f some t = (
+  edit.0,
+  flat_map (part_line (codes "+")) edit.1 ++ tail,
+  f.0,
+  (edit.1, tail, f.1, (omega (arith, some), t), refl),
+  append_assoc (flat_map spot_line edit.0) (flat_map (part_line (codes "+")) edit.1) tail,
+)
+
+commit_from : (has : Bool) (mark : List ℕ) (commit : Commit) (tail : List ℕ) → IsCommit commit → EditsSome commit.edit → EntriesFrom has tail → CommitFrom has mark (commit_lines mark commit ++ tail)
+commit_from has mark commit tail f some t =
+    (commit.event, edit_text commit.edit ++ tail, f.0, edit_from has commit.edit tail f.1 some t, append_assoc (event_line mark commit.event) (edit_text commit.edit) tail)
+
+effect_from : (has : Bool) (r : Reply) (e : Effect) (tail : List ℕ) → IsEffectOf e r → ChangesSome e → EntriesFrom has tail → EffectFrom has r (effect_text e ++ tail)
+effect_from has r effect.Nothing tail f some t = inl t
+effect_from has r (effect.Commit commit) tail f some t = inr (inl (commit_from has (codes "=") commit tail f some t))
+effect_from has (reply.Event h sub) (effect.Given given) tail f some t =
+    let parts : List ℕ = flat_map (part_line (codes ".")) given.parts in
+    inr (inr ((h, sub, refl), (given.event, parts ++ tail, f.1, (given.parts, tail, f.2, (omega (arith, some), t), refl), append_assoc (event_line (codes "<") given.event) parts tail)))
+effect_from has _ (effect.Given given) tail f some t = absurd f
+
+-- which parts are shown makes no effect another
+pub effect_parts : (has : Bool) (ps qs : List PartRead) (s : List ℕ) → EffectFrom has (reply.Parts ps) s → EffectFrom has (reply.Parts qs) s
+effect_parts has ps qs s (inl t) = inl t
+effect_parts has ps qs s (inr (inl t)) = inr (inl t)
+effect_parts has ps qs s (inr (inr t)) = absurd (let no = t.0.2 in cc)
+
+shown_from : (has : Bool) (bare r : Reply) (rest : List ℕ) → IsAnswer bare → IsShownBy bare r → EffectFrom has r rest → ShownFrom has bare (reads_text r ++ rest)
+shown_from has bare r rest answer (f, some, inl same) t =
+    elim (shows_or_not r) [
+      | inl p ↦
+          absurd (let none : p.0 ≡ [] = (subst IsAnswer (sym same ∙ p.1) answer).1 in
+          let filled : 0 < length p.0 = subst ShowsSome p.1 some in omega (arith, filled, ap length none))
+      | inr none ↦
+          let empty = (alone r none).1 in
+          inl (subst ShowsNone same none, subst (λ (u : List ℕ). EffectFrom has bare (u ++ rest)) (sym empty) (subst (λ (q : Reply). EffectFrom has q rest) same t))
+    ]
+shown_from has bare r rest answer (f, some, inr (b, (parts, is))) t =
+    let filled : 0 < length parts = subst ShowsSome is some in
+    let fit : All IsPartRead parts = subst IsReply is f in
+    let behind : EffectFrom has (reply.Parts []) rest = effect_parts has parts [] rest (subst (λ (q : Reply). EffectFrom has q rest) is t) in
+    inr (b, (parts, rest, fit, (omega (arith, filled), behind), ap (λ (q : Reply). reads_text q ++ rest) is))
+
+note_from : (has : Bool) (bare : Reply) (note : Option Label) (rest : List ℕ) → IsNoteBy has bare note → ShownFrom has bare rest → NoteFrom has bare (note_text note ++ rest)
+note_from true bare (Some label) rest n t = inr (refl, n.1, (label, rest, n.0, t, refl))
+note_from true bare None rest n t = inl (inr n, t)
+note_from false bare (Some label) rest n t = absurd cc
+note_from false bare None rest n t = inl (inl refl, t)
+
+abbrev pub AtHead : Bool → List ℕ → Type 0
+AtHead has s = DoneFrom has s ⊎ CommitFrom has (codes "emitted") s
+
+unit_head : (has : Bool) (actor : UnitName) (call : Call) (r : Reply) (e : Effect) (note : Option Label) (tail : List ℕ) → IsEntry (Done actor call r e) → ShowsSome r → ChangesSome e → ((bare : Reply) → IsShownBy bare r → IsNoteBy has bare note) → EntriesFrom has tail
+    → DoneFrom has (entry_text note (Done actor call r e) ++ tail)
+unit_head has actor call r e note tail f shows changes notes t =
+    let bare = bare_for r f.2 shows in
+    let change : List ℕ = effect_text e ++ tail in
+    let shown : List ℕ = reads_text r ++ change in
+    let below : List ℕ = note_text note ++ shown in
+    let behind = note_from has bare.0 note shown (notes bare.0 bare.2) (shown_from has bare.0 r change bare.1 bare.2 (effect_from has r e tail f.3 changes t)) in (
+      (actor, call, bare.0),
+      below,
+      (f.0, f.1, bare.1),
+      behind,
+      sym (done_spelled actor call bare.0 r note e (call_line actor call bare.0 ++ below) below shown change tail refl refl refl refl bare.2),
+    )
+
+entry_head : (has : Bool) (entry : Entry) (note : Option Label) (tail : List ℕ) → IsWholeBy has (record { entry = entry; contamination = note }) → EntriesFrom has tail → AtHead has (entry_text note entry ++ tail)
+entry_head true (Done actor call r e) (Some label) tail w t =
+    inl (unit_head true actor call r e (Some label) tail w.0.0 w.1.0 w.1.1 (λ bare f. note_by bare r (Some label) f w.2 (λ l is. subst (λ (o : Option Label). IsNoteOf (Done actor call r e) o) is w.0.1)) t)
+entry_head true (Done actor call r e) None tail w t =
+    inl (unit_head true actor call r e None tail w.0.0 w.1.0 w.1.1 (λ bare f. note_by bare r None f w.2 (λ l is. absurd cc)) t)
+entry_head true (Emitted commit) (Some label) tail w t = absurd w.0.1
+entry_head true (Emitted commit) None tail w t = inr (commit_from true (codes "emitted") commit tail w.0.0 w.1 t)
+entry_head false (Done actor call r e) note tail w t = inl (unit_head false actor call r e note tail w.0.0 w.0.1.0 w.0.1.1 (λ bare f. w.1) t)
+entry_head false (Emitted commit) (Some label) tail w t = absurd (let no = w.1 in cc)
+entry_head false (Emitted commit) None tail w t = inr (commit_from false (codes "emitted") commit tail w.0.0 w.0.1 t)
+
+-- entries are none, or one stands at the head
+pub opened : (has : Bool) (s : List ℕ) → EntriesFrom has s → EndsFile s ⊎ AtHead has s
+opened has s t = cut t.0 t.1 t.2 t.3 t.4
+  where
+    cut : (noted : List Noted) (end : List ℕ) → All (IsWholeBy has) noted → EndsFile end → s ≡ flat_map noted_text noted ++ end → EndsFile s ⊎ AtHead has s
+    cut [] end f ends e = inl (subst EndsFile (sym e) ends)
+    cut (n ∷ ns) end f ends e =
+        let tail : List ℕ = flat_map noted_text ns ++ end in
+        let whole : s ≡ noted_text n ++ tail = e ∙ append_assoc (noted_text n) (flat_map noted_text ns) end in
+        inr (subst (AtHead has) (sym whole) (entry_head has n.entry n.contamination tail (All-head (IsWholeBy has) n ns f) (ns, end, All-tail (IsWholeBy has) n ns f, ends, refl)))
+
+-- ---- to entries
+
+-- what was split off a text
+abbrev pub Split : {X : Type 0} → (X → List ℕ) → (X → Type 0) → (X → List ℕ → Type 0) → List ℕ → Type 0
+Split {X} text Fits Rest s = (x : X) × (rest : List ℕ) × Fits x × Rest x rest × (s ≡ text x ++ rest)
+
+commit_to : (has : Bool) (mark s : List ℕ) → CommitFrom has mark s → Split (commit_lines mark) IsSomeCommit (λ _. EntriesFrom has) s
+commit_to has mark s t =
+    let spots = t.3.0 in
+    let parts = t.3.3.0 in
+    let tail = t.3.3.1 in
+    let deleted : List ℕ = flat_map spot_line spots in
+    let added : List ℕ = flat_map (part_line (codes "+")) parts in (
+      record { event = t.0; edit = (spots, parts) },
+      tail,
+      ((t.2, (t.3.2, t.3.3.2)), omega (arith, t.3.3.3.0)),
+      t.3.3.3.1,
+      t.4 ∙ ap (λ (u : List ℕ). event_line mark t.0 ++ u) (t.3.4 ∙ ap (λ (u : List ℕ). deleted ++ u) t.3.3.4 ∙ sym (append_assoc deleted added tail)) ∙ sym (append_assoc (event_line mark t.0) (deleted ++ added) tail),
+    )
+
+effect_to : (has : Bool) (r : Reply) (s : List ℕ) → EffectFrom has r s → Split effect_text (IsSomeEffectOf r) (λ _. EntriesFrom has) s
+effect_to has r s (inl t) = (effect.Nothing, s, (tt, tt), t, refl)
+effect_to has r s (inr (inl t)) = let c = commit_to has (codes "=") s t in (effect.Commit c.0, c.1, c.2, c.3, c.4)
+effect_to has r s (inr (inr ((h, sub, is), t))) =
+    let parts = t.3.0 in
+    let given : Given = record { event = t.0; sub = sub; parts = parts } in
+    let fits : IsSomeEffectOf (reply.Event h sub) (effect.Given given) = ((refl, t.2, t.3.2), omega (arith, t.3.3.0)) in
+    let text : List ℕ = flat_map (part_line (codes ".")) parts in
+    (effect.Given given, t.3.1, subst (λ (q : Reply). IsSomeEffectOf q (effect.Given given)) (sym is) fits, t.3.3.1, t.4 ∙ ap (λ (u : List ℕ). event_line (codes "<") t.0 ++ u) t.3.4 ∙ sym (append_assoc (event_line (codes "<") t.0) text t.3.1))
+
+shown_to : (has : Bool) (bare : Reply) (s : List ℕ) → IsAnswer bare → ShownFrom has bare s → Split reads_text (IsShownBy bare) (EffectFrom has) s
+shown_to has bare s f (inl (none, t)) =
+    let a = alone bare none in
+    (bare, s, (f.0, a.0, inl refl), t, ap (λ (u : List ℕ). u ++ s) (sym a.1))
+shown_to has bare s f (inr (b, m)) = (reply.Parts m.0, m.1, (m.2, omega (arith, m.3.0), inr (b, (m.0, refl))), effect_parts has [] m.0 m.1 m.3.1, m.4)
+
+note_to : (has : Bool) (bare : Reply) (s : List ℕ) → NoteFrom has bare s → Split note_text (IsNoteBy has bare) (λ _. ShownFrom has bare) s
+note_to has bare s (inl (none, t)) = (None, s, no_note has bare none, t, refl)
+note_to has bare s (inr (h, exists, t)) = (Some t.0, t.1, some_note has bare t.0 h exists t.2, t.3, t.4)
+
+-- one more entry
+pub cons_entry : (has : Bool) (n : Noted) (s tail : List ℕ) → IsWholeBy has n → EntriesFrom has tail → s ≡ noted_text n ++ tail → EntriesFrom has s
+cons_entry has n s tail w t e =
+    (n ∷ t.0, t.1, All-cons (IsWholeBy has) n t.0 w t.2, t.3, e ∙ ap (λ (u : List ℕ). noted_text n ++ u) t.4 ∙ sym (append_assoc (noted_text n) (flat_map noted_text t.0) t.1))
+
+pub done_to : (has : Bool) (s : List ℕ) → DoneFrom has s → EntriesFrom has s
+done_to has s d =
+    let c = d.0 in
+    let n = note_to has c.2 d.1 d.3 in
+    let m = shown_to has c.2 n.1 d.2.2 n.3 in
+    let e = effect_to has m.0 m.1 m.3 in
+    cons_entry has (done_of c.0 c.1 m.0 e.0 n.0) s e.1 (done_whole has c.0 c.1 c.2 m.0 n.0 e.0 d.2 n.2 m.2 e.2) e.3 (done_spelled c.0 c.1 c.2 m.0 n.0 e.0 s d.1 n.1 m.1 e.1 d.4 n.4 m.4 e.4 m.2)
+
+emitted_whole : (has : Bool) (commit : Commit) → IsSomeCommit commit → IsWholeBy has (record { entry = Emitted commit; contamination = None })
+emitted_whole true commit f = ((f.0, tt), f.1, refl)
+emitted_whole false commit f = ((f.0, f.1), refl)
+
+pub emitted_to : (has : Bool) (s : List ℕ) → CommitFrom has (codes "emitted") s → EntriesFrom has s
+emitted_to has s t =
+    let c = commit_to has (codes "emitted") s t in
+    cons_entry has (record { entry = Emitted c.0; contamination = None }) s c.1 (emitted_whole has c.0 c.2) c.3 c.4
+
+-- an end alone
+pub none_left : (has : Bool) (s : List ℕ) → EndsFile s → EntriesFrom has s
+none_left has s e = ([], s, All-nil (IsWholeBy has), e, refl)

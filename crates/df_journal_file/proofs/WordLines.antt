@@ -1,0 +1,81 @@
+-- The lines that have no value.
+use Rattle.std.proofs.Common.{◌≡◌, ℕ, List, [], ◌∷◌, ◌++◌, Ok, codes, decimal, refl, sym, ap, subst, ◌∙◌, append_assoc, append-nil, inl}
+use Rattle.df_format.specs.Reading.{Read, as_at, behind_at}
+use Rattle.df_label.specs.declared.label.Label.{Label}
+use Rattle.df_part.specs.declared.edit.Spot.{Spot}
+use Rattle.df_unit.specs.declared.name.EventName.{EventName}
+use Rattle.df_value_text.specs.Fits.{IsLabel}
+use Rattle.df_value_text.specs.Label.{label_text}
+use Rattle.df_value_text.specs.ReadLabel.{label_at}
+use Rattle.df_value_text.specs.ReadName.{name_at}
+use Rattle.df_journal_text.specs.Entry.{spot_line}
+use Rattle.df_journal_text.specs.Fits.{IsEvent, IsSpot}
+use Rattle.df_journal_text.specs.Line.{word}
+use Rattle.df_journal_text.specs.Name.{event_text, unit_text}
+use Rattle.df_journal_text.specs.ReadEntry.{deleted_at, spot_of}
+use Rattle.df_journal_text.specs.ReadName.{event_at, event_of}
+use Rattle.df_journal_text.specs.ReadWords.{word_at}
+use Rattle.df_journal_text.specs.code.Judging.{ended}
+use Rattle.df_journal_text.proofs.CallFounds.{named_finds}
+use Rattle.df_journal_text.proofs.Founds.{Finds, as_found, finds_behind, finds_then, finds_word, label_finds, short_finds, unit_finds}
+use Rattle.df_journal_text.proofs.NameBacks.{event_word}
+use Rattle.df_journal_text.proofs.StartBacks.{behind_back}
+use Rattle.df_journal_text.proofs.WordBacks.{label_word, name_word}
+use Rattle.df_journal_file.specs.Below.{event_line, note_line}
+use Rattle.df_journal_file.proofs.Wholes.{WholeLine}
+
+-- what is read is made of what another reads
+finds_as : {X Y : Type 0} {sx : X → List ℕ} {FX : X → Type 0} {read : List ℕ → Read ℕ X} (make : X → Y) (f : Finds sx FX read) (sy : Y → List ℕ) (FY : Y → Type 0) → ((x : X) → FX x → (sy (make x) ≡ sx x) × FY (make x)) → Finds sy FY (as_at make read)
+finds_as {X} {Y} {sx} {FX} {read} make f sy FY to = record {
+  found = λ bytes y rest e.
+      let a = as_found make read bytes y rest e in
+      let k = f.found bytes a.0 rest a.1 in
+      let t = to a.0 k.1 in
+      subst (λ (z : Y). (bytes ≡ sy z ++ rest) × FY z) a.2 (k.0 ∙ ap (λ (u : List ℕ). u ++ rest) (sym t.0), t.1);
+}
+
+-- a line of one word
+one_word : (mark text : List ℕ) → (mark ++ (word text ++ [])) ++ 10 ∷ [] ≡ ended (mark ++ word text)
+one_word mark text = ap (λ (u : List ℕ). (mark ++ u) ++ 10 ∷ []) (append-nil (word text))
+
+abbrev pub note_words : Label → List ℕ
+note_words label = (64 ∷ []) ++ word (label_text label)
+
+pub note_whole : WholeLine note_line note_words IsLabel (behind_at (64 ∷ []) (word_at label_at))
+note_whole = record {
+  found = (finds_behind (64 ∷ []) (finds_word label_finds)).found;
+  back = λ label fits. ap label_at (sym (append-nil (label_text label))) ∙ label_word.back label [] fits tt;
+  same = λ label. one_word (64 ∷ []) (label_text label);
+}
+
+event_finds : Finds event_text IsEvent event_at
+event_finds = finds_as event_of (finds_then unit_finds (finds_behind (33 ∷ []) short_finds)) event_text IsEvent (λ x f. (append_assoc (unit_text x.0) (codes "!") (decimal x.1), f))
+
+abbrev pub event_words : List ℕ → EventName → List ℕ
+event_words mark event = mark ++ word (event_text event)
+
+pub event_whole : (mark : List ℕ) → WholeLine (event_line mark) (event_words mark) IsEvent (behind_at mark (word_at event_at))
+event_whole mark = record {
+  found = (finds_behind mark (finds_word event_finds)).found;
+  back = λ event fits. behind_back mark (word_at event_at) (word (event_text event)) ∙ ap event_at (sym (append-nil (event_text event))) ∙ event_word.back event [] fits tt;
+  same = λ event. one_word mark (event_text event);
+}
+
+abbrev pub spot_words : Spot → List ℕ
+spot_words spot = (45 ∷ []) ++ (word (label_text spot.label) ++ word spot.name)
+
+spot_finds : Finds (λ (s : Spot). word (label_text s.label) ++ word s.name) IsSpot deleted_at
+spot_finds = finds_as spot_of named_finds (λ (s : Spot). word (label_text s.label) ++ word s.name) IsSpot (λ x f. (refl, (f.1, f.0)))
+
+spot_back : (spot : Spot) → IsSpot spot → deleted_at (word (label_text spot.label) ++ word spot.name) ≡ Ok (spot, [])
+spot_back spot f =
+    let e1 : label_at (label_text spot.label ++ word spot.name) ≡ Ok (spot.label, word spot.name) = label_word.back spot.label (word spot.name) f.1 (inl refl) in
+    let e2 : name_at spot.name ≡ Ok (spot.name, []) = ap name_at (sym (append-nil spot.name)) ∙ name_word.back spot.name [] f.0 tt in
+    rw (e1, e2) refl
+
+pub spot_whole : WholeLine spot_line spot_words IsSpot (behind_at (45 ∷ []) deleted_at)
+spot_whole = record {
+  found = (finds_behind (45 ∷ []) spot_finds).found;
+  back = spot_back;
+  same = λ spot. ap (λ (u : List ℕ). ((45 ∷ []) ++ (word (label_text spot.label) ++ u)) ++ 10 ∷ []) (append-nil (word spot.name));
+}

@@ -1,0 +1,31 @@
+use Rattle.df_journal_file.proofs.Entries.{emitted_read}
+use Rattle.std.proofs.Common.{inr, refl, sym, ◌∙◌}
+use Rattle.std.proofs.lemmas.Result.{err_from_is_err_and}
+use Rattle.df_journal_file.proofs.Steps.{emitted_onto}
+use Rattle.df_journal_file.proofs.entry.entry_at.Goals as goal
+
+pub returns-clause-read : goal.returns-clause-read
+returns-clause-read c = emitted_read c.args.bytes.now c.args.at c.in_ok-commit.end c.in_ok-commit.commit c.args.has_notes c.in_ok-commit.ensures.read
+
+pub returns-clause-onward : goal.returns-clause-onward
+returns-clause-onward c = c.in_ok-commit.ensures.onward
+
+pub returns-then-not-byte_stands-clause-read : goal.returns-then-not-byte_stands-clause-read
+returns-then-not-byte_stands-clause-read c = c.done_at.ensures.read
+
+pub returns-then-not-byte_stands-clause-onward : goal.returns-then-not-byte_stands-clause-onward
+returns-then-not-byte_stands-clause-onward c = c.done_at.ensures.onward
+
+pub returns-then-not-byte_stands-clause-onto : goal.returns-then-not-byte_stands-clause-onto
+returns-then-not-byte_stands-clause-onto c = c.done_at.ensures.onto
+
+pub returns-then-not-byte_stands-clause-stops : goal.returns-then-not-byte_stands-clause-stops
+returns-then-not-byte_stands-clause-stops c = λ none. c.done_at.ensures.stops (none, sym c.byte_stands.ensures ∙ c.if-not-byte_stands.true)
+
+pub returns-in_err-commit-clause-stops : goal.returns-in_err-commit-clause-stops
+returns-in_err-commit-clause-stops c = λ none.
+    let p = err_from_is_err_and c.from_residual.result c.from_residual.ensures.1 in
+    rw (p.1, p.2) (emitted_onto c.args.has_notes c.args.bytes.now c.args.at (sym c.byte_stands.ensures ∙ c.if-not-byte_stands.false) c.in_err-commit.field-0.0 (c.in_err-commit.ensures.stops c.args.has_notes (inr refl)))
+
+pub returns-clause-onto : goal.returns-clause-onto
+returns-clause-onto c = λ f s. emitted_onto c.args.has_notes c.args.bytes.now c.args.at (sym c.byte_stands.ensures ∙ c.if-not-byte_stands.false) f (c.in_ok-commit.ensures.onto c.args.has_notes (inr refl) f s)

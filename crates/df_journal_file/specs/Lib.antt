@@ -1,0 +1,5 @@
+pub mod Below
+pub mod Either
+pub mod Journal
+pub mod TooLarge
+pub mod code

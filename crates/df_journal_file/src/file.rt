@@ -1,0 +1,242 @@
+//! Whole journals.
+ghost use Rattle.std.specs.Prelude.{◌≡◌, ◌≤◌, ◌+◌, ◌++◌, ◌↔◌, List, ℕ, true, false, IfErr, IfOk, IsTrue, drop, length};
+ghost use Rattle.df_lines.specs.FirstBad.{IsFirstBad};
+ghost use Rattle.df_lines.specs.Refused.{IsRefused, NamesBadLine};
+ghost use Rattle.df_lines.specs.declared.refused.FileRefused.TheVariants as refused;
+ghost use Rattle.df_start.specs.declared.start.RootStart.{RootStart};
+ghost use Rattle.df_unit.specs.declared.entry.Entry.{Entry};
+ghost use Rattle.df_unit.specs.declared.entry.Noted.{Noted};
+ghost use Rattle.df_journal_text.specs.Entry.{noted_text};
+ghost use Rattle.df_journal_text.specs.Start.{journal_text};
+ghost use Rattle.df_journal_file.specs.Either.{IsEitherText, IsFirstOf, IsJournalOf, IsSecondOf};
+ghost use Rattle.df_journal_file.specs.Journal.{EndsFile, IsNotedJournal, IsNotedText, IsPlainJournal, IsPlainText, IsRead, IsWholeEntry, IsWholeNoted, plain_text};
+ghost use Rattle.df_journal_file.specs.TooLarge.{IsLargeIn};
+ghost use Rattle.df_journal_file.specs.code.Files.{AreBehindRoots, AreUpToEnd, IsEitherFirst, IsFirstAt, StopsFirst, first_of, plain_entry};
+ghost use Rattle.df_journal_file.specs.code.Languages.{EntriesFrom, HeadFrom};
+ghost use Rattle.df_journal_file.specs.code.Stops.{StopsIn};
+
+use crate::entry::entry_at;
+use df_lines::{FileFault, FileRefused, file_refused, line_at};
+use df_script_text::roots_at;
+use df_start::Start;
+use df_unit::{Entry, Noted};
+use std::alloc::Global;
+
+/// A journal in one of its versions.
+#[derive(Drop)]
+pub enum Journal {
+    First { start: Start, entries: Vec<Entry> },
+    Second { start: Start, noted: Vec<Noted> },
+}
+
+/// Whether the line is this one.
+fn is_line(line: &[u8], wanted: &[u8]) -> bool
+    ensures { IsTrue result ↔ line.now ≡ wanted.now }
+{
+    line == wanted
+}
+
+/// The place behind the first line, which is to be this.
+fn first_at(bytes: &[u8], first: &[u8]) -> Result<usize, FileFault>
+    ensures read { IfOk result (IsFirstAt first.now bytes.now) }
+    ensures stops { IfErr result (StopsFirst (λ line. line ≡ first.now) bytes.now) }
+{
+    let Some((line, next)) = line_at(bytes, 0) else {
+        return Err(FileFault::Bad(0));
+    };
+    if !is_line(line, first) {
+        return Err(FileFault::Bad(0));
+    }
+    Ok(next)
+}
+
+/// Whether the first line is that of the second version, and the place behind it.
+fn version_at(bytes: &[u8]) -> Result<(bool, usize), FileFault>
+    ensures read { IfOk result (λ r. IsFirstAt (first_of r.0) bytes.now r.1) }
+    ensures stops { IfErr result (StopsFirst IsEitherFirst bytes.now) }
+{
+    let Some((line, next)) = line_at(bytes, 0) else {
+        return Err(FileFault::Bad(0));
+    };
+    if line == b"defcon-journal 1".as_slice() {
+        return Ok((false, next));
+    }
+    if line != b"defcon-journal 2".as_slice() {
+        return Err(FileFault::Bad(0));
+    }
+    Ok((true, next))
+}
+
+/// Whether no further entry is to be read: no byte is left, or the line `---` stands there.
+fn is_end(bytes: &[u8], place: usize) -> bool
+    requires { place ≤ length bytes.now }
+    ensures { IsTrue result ↔ EndsFile (drop place bytes.now) }
+{
+    match line_at(bytes, place) {
+        Some((line, _)) => is_line(line, b"---"),
+        None => place == bytes.len(),
+    }
+}
+
+/// The entries from the place on.
+fn entries_at(alloc: Global, bytes: &[u8], at: usize) -> Result<Vec<Entry>, FileFault>
+    requires { at ≤ length bytes.now }
+    ensures read { IfOk result (λ v.
+        AreUpToEnd plain_entry IsWholeEntry (drop at bytes.now) v.items) }
+    ensures stops { IfErr result (StopsIn (EntriesFrom false) bytes.now at) }
+{
+    let mut entries = Vec::new(alloc);
+    let mut place = at;
+    'entries: while !is_end(bytes, place) {
+        let (noted, next) = entry_at(alloc, bytes, place, false)?;
+        entries.push(noted.entry)?;
+        place = next;
+    }
+    Ok(entries)
+}
+
+/// The noted entries from the place on.
+fn noted_at(alloc: Global, bytes: &[u8], at: usize) -> Result<Vec<Noted>, FileFault>
+    requires { at ≤ length bytes.now }
+    ensures read { IfOk result (λ v.
+        AreUpToEnd noted_text IsWholeNoted (drop at bytes.now) v.items) }
+    ensures stops { IfErr result (StopsIn (EntriesFrom true) bytes.now at) }
+{
+    let mut noted = Vec::new(alloc);
+    let mut place = at;
+    'entries: while !is_end(bytes, place) {
+        let (entry, next) = entry_at(alloc, bytes, place, true)?;
+        noted.push(entry)?;
+        place = next;
+    }
+    Ok(noted)
+}
+
+/// The roots and the entries behind the first line.
+fn plain_at(alloc: Global, bytes: &[u8], at: usize) -> Result<(Start, Vec<Entry>), FileFault>
+    requires { at ≤ length bytes.now }
+    ensures read { IfOk result (λ s.
+        AreBehindRoots plain_entry IsWholeEntry (drop at bytes.now) s.0 s.1.items) }
+    ensures stops { IfErr result (StopsIn (HeadFrom false 0) bytes.now at) }
+{
+    let (start, place) = roots_at(alloc, bytes, at)?;
+    let entries = entries_at(alloc, bytes, place)?;
+    Ok((start, entries))
+}
+
+/// The roots and the noted entries behind the first line.
+fn second_at(alloc: Global, bytes: &[u8], at: usize) -> Result<(Start, Vec<Noted>), FileFault>
+    requires { at ≤ length bytes.now }
+    ensures read { IfOk result (λ s.
+        AreBehindRoots noted_text IsWholeNoted (drop at bytes.now) s.0 s.1.items) }
+    ensures stops { IfErr result (StopsIn (HeadFrom true 0) bytes.now at) }
+{
+    let (start, place) = roots_at(alloc, bytes, at)?;
+    let noted = noted_at(alloc, bytes, place)?;
+    Ok((start, noted))
+}
+
+/// The journal in its first version that these bytes are.
+fn plain_whole(alloc: Global, bytes: &[u8]) -> Result<(Start, Vec<Entry>), FileFault>
+    ensures read { IfOk result (λ s. IsPlainJournal s.0 s.1.items
+        × ((end : List ℕ) × EndsFile end × (bytes.now ≡ plain_text s.0 s.1.items ++ end))) }
+    ensures stops { IfErr result (StopsIn IsPlainText bytes.now 0) }
+{
+    let at = first_at(bytes, b"defcon-journal 1")?;
+    let (start, entries) = plain_at(alloc, bytes, at)?;
+    Ok((start, entries))
+}
+
+/// The journal in its second version that these bytes are.
+fn second_whole(alloc: Global, bytes: &[u8]) -> Result<(Start, Vec<Noted>), FileFault>
+    ensures read { IfOk result (λ s. IsNotedJournal s.0 s.1.items
+        × ((end : List ℕ) × EndsFile end × (bytes.now ≡ journal_text s.0 s.1.items ++ end))) }
+    ensures stops { IfErr result (StopsIn IsNotedText bytes.now 0) }
+{
+    let at = first_at(bytes, b"defcon-journal 2")?;
+    let (start, noted) = second_at(alloc, bytes, at)?;
+    Ok((start, noted))
+}
+
+/// The journal in one of its versions that these bytes are.
+fn either_whole(alloc: Global, bytes: &[u8]) -> Result<Journal, FileFault>
+    ensures read { IfOk result (λ j. IsJournalOf j bytes.now) }
+    ensures stops { IfErr result (StopsIn IsEitherText bytes.now 0) }
+{
+    let (has_notes, at) = version_at(bytes)?;
+    if has_notes {
+        let (start, noted) = second_at(alloc, bytes, at)?;
+        return Ok(Journal::Second { start, noted });
+    }
+    let (start, entries) = plain_at(alloc, bytes, at)?;
+    Ok(Journal::First { start, entries })
+}
+
+/// Reads a journal in its first version.
+pub fn read_journal(alloc: Global, bytes: &[u8]) -> Result<(Start, Vec<Entry>), FileRefused>
+    ensures read { IfOk result (λ s. IsPlainJournal s.0 s.1.items
+        × ((end : List ℕ) × EndsFile end × (bytes.now ≡ plain_text s.0 s.1.items ++ end))) }
+    ensures only { (roots : List RootStart) (entries : List Entry) (end : List ℕ)
+        → IsPlainJournal roots entries → EndsFile end
+        → bytes.now ≡ plain_text roots entries ++ end
+        → IsRead (λ s. (s.0 ≡ roots) × (s.1.items ≡ entries)) result }
+    ensures refused { IfErr result (NamesBadLine IsPlainText (IsLargeIn IsPlainText) bytes.now) }
+    ensures syntax { (before : List (List ℕ)) (bad : List ℕ)
+        → IsFirstBad IsPlainText bytes.now before bad → ¬ IsLargeIn IsPlainText before bad
+        → IsRefused (refused.Syntax (length before + 1)) result }
+    ensures too_large { (before : List (List ℕ)) (bad : List ℕ)
+        → IsFirstBad IsPlainText bytes.now before bad → IsLargeIn IsPlainText before bad
+        → IsRefused (refused.TooLarge (length before + 1)) result }
+{
+    match plain_whole(alloc, bytes) {
+        Ok(journal) => Ok(journal),
+        Err(fault) => Err(file_refused(bytes, fault)),
+    }
+}
+
+/// Reads a journal in its second version, with what is noted of each entry.
+pub fn read_noted(alloc: Global, bytes: &[u8]) -> Result<(Start, Vec<Noted>), FileRefused>
+    ensures read { IfOk result (λ s. IsNotedJournal s.0 s.1.items
+        × ((end : List ℕ) × EndsFile end × (bytes.now ≡ journal_text s.0 s.1.items ++ end))) }
+    ensures only { (roots : List RootStart) (noted : List Noted) (end : List ℕ)
+        → IsNotedJournal roots noted → EndsFile end
+        → bytes.now ≡ journal_text roots noted ++ end
+        → IsRead (λ s. (s.0 ≡ roots) × (s.1.items ≡ noted)) result }
+    ensures refused { IfErr result (NamesBadLine IsNotedText (IsLargeIn IsNotedText) bytes.now) }
+    ensures syntax { (before : List (List ℕ)) (bad : List ℕ)
+        → IsFirstBad IsNotedText bytes.now before bad → ¬ IsLargeIn IsNotedText before bad
+        → IsRefused (refused.Syntax (length before + 1)) result }
+    ensures too_large { (before : List (List ℕ)) (bad : List ℕ)
+        → IsFirstBad IsNotedText bytes.now before bad → IsLargeIn IsNotedText before bad
+        → IsRefused (refused.TooLarge (length before + 1)) result }
+{
+    match second_whole(alloc, bytes) {
+        Ok(journal) => Ok(journal),
+        Err(fault) => Err(file_refused(bytes, fault)),
+    }
+}
+
+/// Reads a journal in the version that its first line names.
+pub fn read_either(alloc: Global, bytes: &[u8]) -> Result<Journal, FileRefused>
+    ensures read { IfOk result (λ j. IsJournalOf j bytes.now) }
+    ensures first { (roots : List RootStart) (entries : List Entry) (end : List ℕ)
+        → IsPlainJournal roots entries → EndsFile end
+        → bytes.now ≡ plain_text roots entries ++ end
+        → IsRead (IsFirstOf roots entries) result }
+    ensures second { (roots : List RootStart) (noted : List Noted) (end : List ℕ)
+        → IsNotedJournal roots noted → EndsFile end
+        → bytes.now ≡ journal_text roots noted ++ end
+        → IsRead (IsSecondOf roots noted) result }
+    ensures refused { IfErr result (NamesBadLine IsEitherText (IsLargeIn IsEitherText) bytes.now) }
+    ensures syntax { (before : List (List ℕ)) (bad : List ℕ)
+        → IsFirstBad IsEitherText bytes.now before bad → ¬ IsLargeIn IsEitherText before bad
+        → IsRefused (refused.Syntax (length before + 1)) result }
+    ensures too_large { (before : List (List ℕ)) (bad : List ℕ)
+        → IsFirstBad IsEitherText bytes.now before bad → IsLargeIn IsEitherText before bad
+        → IsRefused (refused.TooLarge (length before + 1)) result }
+{
+    match either_whole(alloc, bytes) {
+        Ok(journal) => Ok(journal),
+        Err(fault) => Err(file_refused(bytes, fault)),
+    }
+}

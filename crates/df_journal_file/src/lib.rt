@@ -1,0 +1,13 @@
+//! Whole journals: in either version they are read exactly, or refused at their first bad line.
+#![tactic(auto)]
+
+mod entry;
+mod file;
+mod marked;
+mod place;
+mod word_line;
+
+pub use file::{Journal, read_either, read_journal, read_noted};
+
+#[cfg(test)]
+mod tests;
