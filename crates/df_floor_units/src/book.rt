@@ -1,3 +1,5 @@
+//! The book of a floor: each order that rests is one that a message can have.
+
 ghost use Rattle.std.specs.Prelude.{◌≡◌, ◌↔◌, ◌≤ℤ◌, [], pos, IsTrue, IfOk, OnErr, OnOk};
 ghost use Rattle.df_book.specs.Submitting.{submitted};
 ghost use Rattle.df_floor_units.specs.code.Trades.{IsFloorOrder};

@@ -1,12 +1,14 @@
 //! Units that are driven by written lists of replies.
 
+ghost use Rattle.std.specs.Prelude.{◌≡◌, IfOk};
+
 use crate::{FloorBrain, Ticks};
 use df_book::Trade;
 use df_brain::{Brain, Last, Want};
-use df_frozen::{Frozen, Words};
-use df_label::{Label, Privileges, TagSet};
+use df_frozen::Words;
+use df_label::{Label, NoMemory, Privileges, TagSet};
 use df_messages::{
-    Match, Offer, Symbol, match_draft, offer_draft, tick_draft, trade_draft, who_draft,
+    Draft, Match, Offer, Symbol, match_draft, offer_draft, tick_draft, trade_draft, who_draft,
 };
 use df_ticks::{Tick, read_ticks};
 use df_unit::{Call, PartRead, PartsRead, Reply};
@@ -143,116 +145,145 @@ const REFUSED: [Row; 4] = [
     ("ok", 0, "wait", 0),
 ];
 
-fn words(alloc: Global, text: &str) -> Result<Words, Fail> {
-    Ok(Words::new(alloc, text)?)
+fn words(alloc: Global, text: &str) -> Result<Words, NoMemory>
+    ensures { IfOk result (λ w. w ≡ text.now) }
+{
+    match Words::new(alloc, text) {
+        Ok(words) => Ok(words),
+        Err(_) => Err(NoMemory),
+    }
 }
 
-fn trade(alloc: Global, buyer: u32) -> Result<Trade, Fail> {
-    Ok(Trade {
+/// Who traded: the seller is trader 1.
+fn who(alloc: Global, buyer: u32) -> Result<Draft, NoMemory> {
+    let trade = Trade {
         price: 1095,
         qty: 4,
         symbol: words(alloc, "AAA")?,
         buyer,
         seller: 1,
-    })
+    };
+    who_draft(alloc, &trade)
 }
 
-fn found(alloc: Global) -> Result<Match, Fail> {
-    Ok(Match {
-        first: Symbol::new(&Words::new(alloc, "AAA")?)?,
-        second: Symbol::new(&Words::new(alloc, "BBB")?)?,
+fn trade(alloc: Global) -> Result<Draft, NoMemory> {
+    let trade = Trade {
+        price: 1095,
+        qty: 4,
+        symbol: words(alloc, "AAA")?,
+        buyer: 1,
+        seller: 1,
+    };
+    trade_draft(alloc, 3, &trade)
+}
+
+fn symbol(alloc: Global) -> Result<Symbol, NoMemory> {
+    let words = words(alloc, "AAA")?;
+    Symbol::new(&words)
+}
+
+fn other_symbol(alloc: Global) -> Result<Symbol, NoMemory> {
+    let words = words(alloc, "BBB")?;
+    Symbol::new(&words)
+}
+
+fn found(alloc: Global) -> Result<Draft, NoMemory> {
+    let first = symbol(alloc)?;
+    let second = other_symbol(alloc)?;
+    let found = Match {
+        first,
+        second,
         first_price: 1100,
         second_price: 1000,
         side: 1,
-    })
+    };
+    match_draft(alloc, &found)
 }
 
 /// An order of a trader.
-fn offer(alloc: Global, sell: bool, trader: u32) -> Result<Offer, Fail> {
-    Ok(Offer {
+fn offer(alloc: Global, sell: bool, trader: u32) -> Result<Draft, NoMemory> {
+    let offer = Offer {
         id: 0,
         limit: if sell { 1095 } else { 1105 },
         qty: if sell { 10 } else { 4 },
         sell,
-        symbol: Symbol::new(&Words::new(alloc, "AAA")?)?,
+        symbol: symbol(alloc)?,
         trader: i64::from(trader),
-    })
+    };
+    offer_draft(alloc, &offer)
 }
 
-/// A tick of a symbol.
-fn quoted(alloc: Global, symbol: &str, price: u32) -> Result<Frozen, Fail> {
-    match symbol {
-        "BBB" => {
-            let tick = Tick {
-                symbol: Words::new(alloc, "BBB")?,
-                price: i64::from(price),
-            };
-            Ok(tick_draft(alloc, &tick)?.value)
-        }
-        "CCC" => {
-            let tick = Tick {
-                symbol: Words::new(alloc, "CCC")?,
-                price: i64::from(price),
-            };
-            Ok(tick_draft(alloc, &tick)?.value)
-        }
-        _ => {
-            let tick = Tick {
-                symbol: Words::new(alloc, "AAA")?,
-                price: i64::from(price),
-            };
-            Ok(tick_draft(alloc, &tick)?.value)
-        }
-    }
+fn tick(alloc: Global, price: u32) -> Result<Draft, NoMemory> {
+    let tick = Tick {
+        symbol: words(alloc, "AAA")?,
+        price: i64::from(price),
+    };
+    tick_draft(alloc, &tick)
 }
 
-/// The value that a read shows, by the word of its row.
-fn value(alloc: Global, word: &str, number: u32) -> Result<Frozen, Fail> {
+fn other_tick(alloc: Global, price: u32) -> Result<Draft, NoMemory> {
+    let tick = Tick {
+        symbol: words(alloc, "BBB")?,
+        price: i64::from(price),
+    };
+    tick_draft(alloc, &tick)
+}
+
+fn strange_tick(alloc: Global, price: u32) -> Result<Draft, NoMemory> {
+    let tick = Tick {
+        symbol: words(alloc, "CCC")?,
+        price: i64::from(price),
+    };
+    tick_draft(alloc, &tick)
+}
+
+/// The part that a read shows, by the word of its row.
+fn draft(alloc: Global, word: &str, number: u32) -> Result<Draft, NoMemory> {
     match word {
-        "same" => Ok(who_draft(alloc, &trade(alloc, 1)?)?.value),
-        "two" => Ok(who_draft(alloc, &trade(alloc, 0)?)?.value),
-        "sells" => Ok(offer_draft(alloc, &offer(alloc, true, number)?)?.value),
-        "buys" => Ok(offer_draft(alloc, &offer(alloc, false, number)?)?.value),
-        "match" => Ok(match_draft(alloc, &found(alloc)?)?.value),
-        "trade" => {
-            let trade = Trade {
-                price: 1095,
-                qty: 4,
-                symbol: Words::new(alloc, "AAA")?,
-                buyer: 1,
-                seller: 1,
-            };
-            Ok(trade_draft(alloc, 3, &trade)?.value)
-        }
-        _ => quoted(alloc, word, number),
+        "same" => who(alloc, 1),
+        "two" => who(alloc, 0),
+        "sells" => offer(alloc, true, number),
+        "buys" => offer(alloc, false, number),
+        "match" => found(alloc),
+        "trade" => trade(alloc),
+        "BBB" => other_tick(alloc, number),
+        "CCC" => strange_tick(alloc, number),
+        _ => tick(alloc, number),
     }
 }
 
-fn shown(alloc: Global, value: Frozen) -> Result<Reply, Fail> {
-    let part = PartRead {
+/// The part at a public label.
+fn read_of(alloc: Global, draft: Draft) -> PartRead {
+    PartRead {
         label: Label {
             s: TagSet::new(alloc),
             i: TagSet::new(alloc),
         },
-        value,
+        value: draft.value,
         privileges: Privileges::new(alloc),
-    };
-    Ok(Reply::Parts(PartsRead::new(vec![in alloc; part]?)))
+    }
 }
 
-fn last(alloc: Global, word: &str, number: u32) -> Result<Last, Fail> {
-    Ok(match word {
-        "start" => Last::Start,
-        "ok" => Last::Reply(Reply::Ok),
-        "handle" => Last::Reply(Reply::Handle(number)),
-        "sub" => Last::Reply(Reply::Sub(number)),
-        "event" => Last::Reply(Reply::Event { h: number, sub: 0 }),
-        "fill" => Last::Reply(Reply::Event { h: number, sub: 1 }),
-        "nothing" => Last::Reply(Reply::Nothing),
-        "no part" => Last::Reply(Reply::NoSuchPart),
-        "too many subs" => Last::Reply(Reply::TooManySubs),
-        _ => Last::Reply(shown(alloc, value(alloc, word, number)?)?),
-    })
+fn shown(alloc: Global, word: &str, number: u32) -> Result<Last, NoMemory> {
+    let draft = draft(alloc, word, number)?;
+    let mut parts = Vec::new(alloc);
+    parts.push(read_of(alloc, draft))?;
+    Ok(Last::Reply(Reply::Parts(PartsRead::new(parts))))
+}
+
+fn last(alloc: Global, word: &str, number: u32) -> Result<Last, NoMemory> {
+    match word {
+        "start" => Ok(Last::Start),
+        "ok" => Ok(Last::Reply(Reply::Ok)),
+        "handle" => Ok(Last::Reply(Reply::Handle(number))),
+        "sub" => Ok(Last::Reply(Reply::Sub(number))),
+        "event" => Ok(Last::Reply(Reply::Event { h: number, sub: 0 })),
+        "fill" => Ok(Last::Reply(Reply::Event { h: number, sub: 1 })),
+        "nothing" => Ok(Last::Reply(Reply::Nothing)),
+        "no part" => Ok(Last::Reply(Reply::NoSuchPart)),
+        "too many subs" => Ok(Last::Reply(Reply::TooManySubs)),
+        _ => shown(alloc, word, number),
+    }
 }
 
 fn spelled(want: &Want) -> (&'static str, u32) {
@@ -270,48 +301,119 @@ fn spelled(want: &Want) -> (&'static str, u32) {
     }
 }
 
+/// Whether the copy of a unit wants the same, and is then as the unit.
+fn is_copy<B: Brain>(copy: &mut B, last: &Last, brain: &B, want: &Want) -> Result<bool, NoMemory> {
+    let again = copy.next(last)?;
+    Ok(again.same(want) && copy.same(brain))
+}
+
+/// Whether the unit and its copy want what the row says.
+fn do_want<B: Brain>(
+    brain: &mut B,
+    copy: &mut B,
+    last: &Last,
+    row: &Row,
+) -> Result<bool, NoMemory> {
+    let want = brain.next(last)?;
+    if spelled(&want) != (row.2, row.3) {
+        return Ok(false);
+    }
+    is_copy(copy, last, brain, &want)
+}
+
+fn is_right_at<B: Brain>(brain: &mut B, last: &Last, row: &Row) -> Result<bool, NoMemory> {
+    let mut copy = brain.copy()?;
+    do_want(brain, &mut copy, last, row)
+}
+
+fn is_right<B: Brain>(alloc: Global, brain: &mut B, row: &Row) -> Result<bool, NoMemory> {
+    let last = last(alloc, row.0, row.1)?;
+    is_right_at(brain, &last, row)
+}
+
 /// In how many rows the unit, or a copy of it, wants otherwise.
-fn misses<B: Brain>(alloc: Global, mut brain: B, rows: &[Row]) -> Result<u64, Fail> {
+fn misses<B: Brain>(alloc: Global, brain: &mut B, rows: &[Row]) -> Result<u64, NoMemory> {
     let mut count = 0u64;
-    for (word, number, wanted, h) in rows {
-        let last = last(alloc, word, *number)?;
-        let mut copy = brain.copy()?;
-        let want = brain.next(&last)?;
-        let again = copy.next(&last)?;
-        if spelled(&want) != (*wanted, *h) || !again.same(&want) || !copy.same(&brain) {
+    for row in rows {
+        if !is_right(alloc, brain, row)? {
             count = count.saturating_add(1);
         }
     }
     Ok(count)
 }
 
+fn exchange(alloc: Global) -> Result<FloorBrain, Fail> {
+    let ticks = read_ticks(alloc, b"symbol,price\nAAA,1000\nBBB,1000\n")?;
+    let ticks = Ticks::new(alloc, ticks)?;
+    exchange_of(alloc, &ticks)
+}
+
+fn exchange_of(alloc: Global, ticks: &Ticks) -> Result<FloorBrain, Fail> {
+    Ok(FloorBrain::exchange(alloc, ticks)?)
+}
+
+fn broker(alloc: Global) -> FloorBrain {
+    FloorBrain::broker(alloc, 2)
+}
+
+fn regulator(alloc: Global) -> FloorBrain {
+    FloorBrain::regulator(alloc)
+}
+
+fn watcher(alloc: Global) -> Result<FloorBrain, Fail> {
+    let regulator = regulator(alloc);
+    instance_of(&regulator)
+}
+
+fn instance_of(regulator: &FloorBrain) -> Result<FloorBrain, Fail> {
+    Ok(regulator.instance(0)?)
+}
+
+fn trader(alloc: Global) -> FloorBrain {
+    FloorBrain::trader(alloc, 0, 10, 5, false)
+}
+
+/// A monitor with a window of two and a threshold of 50.
+fn monitor(alloc: Global) -> Result<FloorBrain, Fail> {
+    let first = symbol(alloc)?;
+    let second = other_symbol(alloc)?;
+    Ok(FloorBrain::monitor(alloc, first, second, 2, 50)?)
+}
+
+fn misses_of(alloc: Global, mut brain: FloorBrain, rows: &[Row]) -> Result<u64, NoMemory> {
+    misses(alloc, &mut brain, rows)
+}
+
 #[test]
 fn each_unit_follows_its_list(rt: HostRuntime) -> Result<(), Fail> {
     let alloc = rt.alloc();
-    let ticks = read_ticks(alloc, b"symbol,price\nAAA,1000\nBBB,1000\n")?;
-    let ticks = Ticks::new(alloc, ticks)?;
-    let exchange = FloorBrain::exchange(alloc, &ticks)?;
-    assert_eq!(rt; misses(alloc, exchange, EXCHANGE.as_slice())?, 0);
-    let broker = FloorBrain::broker(alloc, 2);
-    assert_eq!(rt; misses(alloc, broker, BROKER.as_slice())?, 0);
-    let regulator = FloorBrain::regulator(alloc);
-    let watcher = regulator.instance(0)?;
-    assert_eq!(rt; misses(alloc, regulator, REGULATOR.as_slice())?, 0);
-    assert_eq!(rt; misses(alloc, watcher, WATCHER.as_slice())?, 0);
-    let trader = FloorBrain::trader(alloc, 0, 10, 5, false);
-    assert_eq!(rt; misses(alloc, trader, TRADER.as_slice())?, 0);
+    assert_eq!(rt;
+        misses_of(alloc, exchange(alloc)?, EXCHANGE.as_slice()),
+        Ok(0)
+    );
+    assert_eq!(rt; misses_of(alloc, broker(alloc), BROKER.as_slice()), Ok(0));
+    assert_eq!(rt;
+        misses_of(alloc, regulator(alloc), REGULATOR.as_slice()),
+        Ok(0)
+    );
+    assert_eq!(rt;
+        misses_of(alloc, watcher(alloc)?, WATCHER.as_slice()),
+        Ok(0)
+    );
+    assert_eq!(rt; misses_of(alloc, trader(alloc), TRADER.as_slice()), Ok(0));
     Ok(())
-}
-
-fn monitor(alloc: Global) -> Result<FloorBrain, Fail> {
-    let found = found(alloc)?;
-    Ok(FloorBrain::monitor(alloc, found.first, found.second, 2, 50)?)
 }
 
 #[test]
 fn a_monitor_signals_by_the_worked_table(rt: HostRuntime) -> Result<(), Fail> {
     let alloc = rt.alloc();
-    assert_eq!(rt; misses(alloc, monitor(alloc)?, MONITOR.as_slice())?, 0);
-    assert_eq!(rt; misses(alloc, monitor(alloc)?, REFUSED.as_slice())?, 0);
+    assert_eq!(rt;
+        misses_of(alloc, monitor(alloc)?, MONITOR.as_slice()),
+        Ok(0)
+    );
+    assert_eq!(rt;
+        misses_of(alloc, monitor(alloc)?, REFUSED.as_slice()),
+        Ok(0)
+    );
     Ok(())
 }

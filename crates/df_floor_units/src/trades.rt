@@ -1,3 +1,5 @@
+//! Trades of a floor, each of which a message can have.
+
 ghost use Rattle.std.specs.Prelude.{◌≡◌, ◌↔◌, All, IsTrue, IfOk, IfSome, length, option_copied, slice_get};
 ghost use Rattle.df_floor_units.specs.code.Trades.{IsFloorTrade};
 
