@@ -74,15 +74,15 @@ unmarked rs (Root path) (Some k) ev m = refl
 unmarked rs (Managed o n t) None ev m = refl
 unmarked rs (Managed o n t) (Some k) ev m = refl
 
-pub agrees_first : (rs : Starts) → (ready : Option (ℕ × List Pair)) → Agrees rows (roots rs) [] (rows_from 0 rs) [] (record { enrolled = []; handed = []; ready = ready })
+pub agrees_first : (rs : Starts) → (ready : Option (ℕ × List Pair)) → Agrees rows (roots rs) [] (rows_from 0 rs) [] (record { enrolled = []; handed = []; ready = ready }) (record { kept = λ o n. None; told = λ event place. false })
 agrees_first rs ready = record {
   legal = tt;
   seats = seat_first rs;
   subscribed = λ n. none_at (place_of n (rows_from 0 rs));
-  marked = λ n ev m. unmarked rs n (place_of n (rows_from 0 rs)) ev m;
+  marked = λ path ev m. unmarked rs (Root path) (place_of (Root path) (rows_from 0 rs)) ev m;
   parts = λ ev. refl;
-  unmanaged = λ o n. refl;
-  no_instances = λ o n t. refl;
+  kept = λ o n. refl;
+  told = λ o n t ev. refl;
 }
 
 -- in the beginning nothing is staged

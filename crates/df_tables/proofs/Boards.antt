@@ -96,10 +96,10 @@ taken_calm (Effect.Commit k) l h = h
 taken_calm (Effect.Given d) l h = h
 
 -- the subscription is of one of so many rows
-abbrev IsOf : ℕ → Subscription (List Clause) → Type 0
+abbrev pub IsOf : ℕ → Subscription (List Clause) → Type 0
 IsOf n s = s.unit < n
 
-enrolled_more : (n : ℕ) (xs : List (Subscription (List Clause))) (k : ℕ) (made : Option (ℕ × List Clause)) → k < n → All (IsOf n) xs → All (IsOf n) (xs ++ enrols (Some k) made)
+pub enrolled_more : (n : ℕ) (xs : List (Subscription (List Clause))) (k : ℕ) (made : Option (ℕ × List Clause)) → k < n → All (IsOf n) xs → All (IsOf n) (xs ++ enrols (Some k) made)
 enrolled_more n xs k None within h = subst (All (IsOf n)) (sym (append-nil xs)) h
 enrolled_more n xs k (Some sub) within h = All-push (IsOf n) xs (record { unit = k; sub = sub.0; filter = sub.1 }) h within
 

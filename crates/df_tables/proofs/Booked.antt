@@ -1,21 +1,23 @@
 -- The tables tell of one more entry, once they are as the code makes them.
-use Rattle.std.proofs.Common.{◌≡◌, ℕ, zero, suc, ◌<◌, true, false, List, [], ◌∷◌, ◌++◌, get_or, length, map, Option, Some, None, refl, ap, sym, subst, ◌∙◌, arith}
+use Rattle.std.proofs.Common.{◌≡◌, ℕ, zero, suc, ◌<◌, ◌==◌, ◌&&◌, Bool, true, false, not, All, List, [], ◌∷◌, ◌++◌, get_or, length, map, Option, Some, None, refl, ap, sym, subst, ◌∙◌, arith}
+use Rattle.std.specs.Option.{option_or}
 use Rattle.std.proofs.lemmas.List.{append-nil}
 use Rattle.df_filter.specs.declared.clause.Clause.{Clause}
 use Rattle.df_index.specs.Due.{Pair}
 use Rattle.df_index.specs.declared.subscription.Subscription.{Subscription}
+use Rattle.df_label.specs.Tag.{maker_of, number_of}
 use Rattle.df_label.specs.declared.label.Label.{Label}
 use Rattle.df_label.specs.declared.privilege.Privilege.{Privilege}
 use Rattle.df_part.specs.declared.part.Part.{Part}
 use Rattle.df_rules.specs.Commits.{commit_in}
 use Rattle.df_rules.specs.Legal.{answer}
-use Rattle.df_rules.specs.Own.{own}
+use Rattle.df_rules.specs.Own.{born, fixed, fixed_by, own, own_plain}
 use Rattle.df_rules.specs.Rules.{Rules}
 use Rattle.df_rules.specs.Start.{rows, roots}
 use Rattle.df_rules.proofs.TakingRows.{row_taking_laws}
 use Rattle.df_unit.specs.Name.{same}
-use Rattle.df_unit.specs.OwnState.{OwnState}
-use Rattle.df_unit.specs.Rows.{subscribes}
+use Rattle.df_unit.specs.OwnState.{Fixed, OwnState}
+use Rattle.df_unit.specs.Rows.{is_nil, subscribes}
 use Rattle.df_unit.specs.declared.call.Call.{Call}
 use Rattle.df_unit.specs.declared.call.Call.TheVariants.{ChangeInOut, Instantiate, Subscribe}
 use Rattle.df_unit.specs.declared.commit.Commit.{Commit}
@@ -25,11 +27,12 @@ use Rattle.df_unit.specs.declared.entry.Entry.{Entry}
 use Rattle.df_unit.specs.declared.entry.Entry.TheVariants.{Done}
 use Rattle.df_unit.specs.declared.name.EventName.{EventName}
 use Rattle.df_unit.specs.declared.name.UnitName.{UnitName}
+use Rattle.df_unit.specs.declared.name.UnitName.TheVariants.{Managed, Root}
 use Rattle.df_unit.specs.declared.reply.Reply.{Reply}
 use Rattle.df_unit.specs.declared.reply.Reply.TheVariants.{Sub, Unit as Made}
 use Rattle.df_unit.proofs.SameFacts.{same_name-exact}
-use Rattle.df_tables.specs.Agree.{Agrees, FilterIndex, IsWhole, enrols, is_marked, subscribed_at}
-use Rattle.df_tables.specs.Board.{IsBooked, IsHandedBoard, IsKept, IsMovedBoard, IsOpenedBoard, IsRenewed, TellsOf, answer_from, answer_on}
+use Rattle.df_tables.specs.Agree.{Agrees, FilterIndex, IsSeat, IsWhole, ManagedState, enrols, is_marked, subscribed_at}
+use Rattle.df_tables.specs.Board.{IsBooked, IsHandedBoard, IsKept, IsMovedBoard, IsOpenedBoard, IsRenewed, TellsOf, answer_from, answer_on, managed_of}
 use Rattle.df_tables.specs.Events.{event_place}
 use Rattle.df_tables.specs.Hand.{IsAnsweredAt, IsNews, modify, news_at, with_news, with_state}
 use Rattle.df_tables.specs.Labels.{inputs}
@@ -38,14 +41,14 @@ use Rattle.df_tables.specs.Table.{find, moved_at, moved_row, place_of}
 use Rattle.df_tables.specs.declared.board.Board.{Board}
 use Rattle.df_tables.specs.declared.events.EventRow.{EventRow}
 use Rattle.df_tables.specs.declared.units.Unit.{Unit}
-use Rattle.df_tables.proofs.Boards.{modify-moved, whole_opened}
+use Rattle.df_tables.proofs.Boards.{enrolled_more, modify-moved, whole_opened}
 use Rattle.df_tables.proofs.Built.{childless_makes_none, served_makes_none}
 use Rattle.df_tables.proofs.Dispatch.{news_found}
 use Rattle.df_tables.proofs.Opened.{within}
-use Rattle.df_tables.proofs.Order.{names-map}
+use Rattle.df_tables.proofs.Order.{names-map, names-moved, same_length}
 use Rattle.df_tables.proofs.Places.{at_none, at_some}
 use Rattle.df_tables.proofs.Seats.{enrols_none, passes_at, place_of-names}
-use Rattle.df_tables.proofs.Steps.{agrees_commit, agrees_opened, agrees_plain, news_of}
+use Rattle.df_tables.proofs.Steps.{agrees_commit, agrees_opened, agrees_plain, born_by, fixes_none, makes_none, news_of, no_births, none_news, unrecorded_news}
 use Rattle.df_tables.proofs.Subscribing.{subscribes_made}
 use Rattle.df_tables.proofs.Tells.{answer_at, answer_none, none_at, row_at}
 
@@ -139,37 +142,37 @@ pub answered_at : (a : UnitName) (us : List Unit) (k : ℕ) (c : Call) (r : Repl
 answered_at a us k c r f h e d i = subst (λ (o : Option Unit). answer_from o c ≡ (r, f)) (at_some a us k d h).0 e
 
 -- what an index waits to book is told nowhere
-agrees_index : (R : Rules) (s : List OwnState) (past : List Entry) (us : List Unit) (evs : List EventRow) (x x' : FilterIndex) → x'.enrolled ≡ x.enrolled → x'.handed ≡ x.handed → Agrees R s past us evs x → Agrees R s past us evs x'
-agrees_index R s past us evs x x' e h agree = record {
+agrees_index : (R : Rules) (s : List OwnState) (past : List Entry) (us : List Unit) (evs : List EventRow) (x x' : FilterIndex) (m : ManagedState) → x'.enrolled ≡ x.enrolled → x'.handed ≡ x.handed → Agrees R s past us evs x m → Agrees R s past us evs x' m
+agrees_index R s past us evs x x' m e h agree = record {
   legal = agree.legal;
   seats = agree.seats;
   subscribed = λ n. ap (λ (l : List (Subscription (List Clause))). subscribed_at (place_of n us) l) e ∙ agree.subscribed n;
-  marked = λ n ev m. ap (λ (l : List (List Pair)). is_marked l (place_of n us) (event_place ev evs) m) h ∙ agree.marked n ev m;
+  marked = λ path ev k. ap (λ (l : List (List Pair)). is_marked l (place_of (Root path) us) (event_place ev evs) k) h ∙ agree.marked path ev k;
   parts = agree.parts;
-  unmanaged = agree.unmanaged;
-  no_instances = agree.no_instances;
+  kept = agree.kept;
+  told = agree.told;
 }
 
 pub kept_renewed : (old new : Board) → IsRenewed old new → IsKept old new
 kept_renewed old new same starts past tells =
-    subst (λ (us : List Unit). Agrees rows (roots starts) past us new.events new.index) (sym same.rows)
-    (subst (λ (evs : List EventRow). Agrees rows (roots starts) past old.rows.items evs new.index) (sym same.events)
-    (subst (λ (x : FilterIndex). Agrees rows (roots starts) past old.rows.items old.events x) (sym same.index) tells))
+    subst (λ (us : List Unit). Agrees rows (roots starts) past us new.events new.index (managed_of new)) (sym same.rows)
+    (subst (λ (evs : List EventRow). Agrees rows (roots starts) past old.rows.items evs new.index (managed_of new)) (sym same.events)
+    (subst (λ (x : FilterIndex). Agrees rows (roots starts) past old.rows.items old.events x (managed_of new)) (sym same.index) tells))
 
 pub kept_opened : (event : EventName) (old new : Board) → IsWhole old.rows.items old.events old.index → IsOpenedBoard event old new → IsKept old new
 kept_opened event old new whole o starts past tells =
-    subst (λ (us : List Unit). Agrees rows (roots starts) past us new.events new.index) (sym o.rows)
-    (agrees_index rows (roots starts) past old.rows.items new.events old.index new.index o.enrolled o.handed
-    (agrees_opened rows (roots starts) past old.rows.items old.events new.events old.index event o.opened whole.fresh tells))
+    subst (λ (us : List Unit). Agrees rows (roots starts) past us new.events new.index (managed_of new)) (sym o.rows)
+    (agrees_index rows (roots starts) past old.rows.items new.events old.index new.index (managed_of new) o.enrolled o.handed
+    (agrees_opened rows (roots starts) past old.rows.items old.events new.events old.index (managed_of new) event o.opened whole.fresh (λ e q h. refl) tells))
 
 module _ (starts : Starts) (past : List Entry) (b : Board) (tells : TellsOf starts past b) (a : UnitName) (q : ℕ) (place : place_of a b.rows.items ≡ Some q) (c : Call) (r : Reply) (f : Effect) (answered : IsAnsweredAt q c r f b.rows.items) where
   pub right : answer rows (roots starts) past a c ≡ (r, f)
-  right = let row = found a b.rows.items q place in sym (answer_at rows (roots starts) past b.rows.items b.events b.index tells a c row.0 row.1) ∙ row.2 c r f answered
+  right = let row = found a b.rows.items q place in sym (answer_at rows (roots starts) past b.rows.items b.events b.index (managed_of b) tells a c row.0 row.1) ∙ row.2 c r f answered
 
   makes : (st : OwnState) → own rows (roots starts) past a ≡ Some st → subscribes st c r ≡ made_by c r
   makes st owned =
       let row = found a b.rows.items q place in
-      let here = (row_at rows (roots starts) past b.rows.items b.events b.index tells a row.0 row.1).1 in
+      let here = (row_at rows (roots starts) past b.rows.items b.events b.index (managed_of b) tells a row.0 row.1).1 in
       let is : row.0.local.own ≡ st = cc in
       subst (λ (s : OwnState). subscribes s c r ≡ made_by c r) is (subscribes_made c r f row.0 (row.2 c r f answered))
 
@@ -178,8 +181,8 @@ pub answer_is : (starts : Starts) (past : List Entry) (b : Board) → TellsOf st
 answer_is starts past b tells a c = by (find a b.rows.items) refl
   where
     by : (o : Option Unit) → find a b.rows.items ≡ o → answer_from o c ≡ answer rows (roots starts) past a c
-    by None e = sym (answer_none rows (roots starts) past b.rows.items b.events b.index tells a c e)
-    by (Some u) e = answer_at rows (roots starts) past b.rows.items b.events b.index tells a c u e
+    by None e = sym (answer_none rows (roots starts) past b.rows.items b.events b.index (managed_of b) tells a c e)
+    by (Some u) e = answer_at rows (roots starts) past b.rows.items b.events b.index (managed_of b) tells a c u e
 
 -- an effect that is no commit has none
 pub plain_else : (f : Effect) → ((k : Commit) → f ≡ Effect.Commit k → ⊥) → commit_in f ≡ None
@@ -187,52 +190,86 @@ plain_else Effect.Nothing never = refl
 plain_else (Effect.Commit k) never = absurd (never k refl)
 plain_else (Effect.Given d) never = refl
 
+-- where there is no record, an entry that makes none leaves it so
+pub unrecorded : (starts : Starts) (past : List Entry) (b : Board) (a : UnitName) (c : Call) (r : Reply) (f : Effect) → IsServed c → (o : List ℕ) (n : ℕ) → (managed_of b).kept o n ≡ option_or ((managed_of b).kept o n) (fixed_by rows (Done a c r f) o n (own_plain rows (roots starts) past o))
+unrecorded starts past b a c r f served o n = sym (fixes_none rows (roots starts) c r (served_makes_none c r served) (same a (Root o)) n (own_plain rows (roots starts) past o))
+
+-- an entry that makes no unit has none made
+childless_births : (starts : Starts) (past : List Entry) (a : UnitName) (c : Call) (r : Reply) (f : Effect) → child_by c r ≡ None → commit_in f ≡ None → (n : UnitName) → own rows (roots starts) past n ≡ None → IsSeat n (born_by rows (roots starts) past (Done a c r f) n) [] None
+childless_births starts past a c r f childless quiet n none = subst (λ (o : Option OwnState). IsSeat n o [] None) (sym (no_births rows (roots starts) past a c r f (childless_makes_none c r childless) quiet n)) refl
+
+-- nor has a commit, where there is no record
+commit_births : (starts : Starts) (past : List Entry) (a : UnitName) (c : Call) (r : Reply) (k : Commit) → child_by c r ≡ None → (n : UnitName) → own rows (roots starts) past n ≡ None → ((o : List ℕ) (i : ℕ) → fixed rows (roots starts) past o i ≡ None) →
+    IsSeat n (born_by rows (roots starts) past (Done a c r (Effect.Commit k)) n) (news_of rows (roots starts) past n (Some k)) None
+commit_births starts past a c r k childless (Root path) none free =
+    subst (λ (o : Option OwnState). IsSeat (Root path) o (news_of rows (roots starts) past (Root path) (Some k)) None) (sym (makes_none rows (roots starts) c r (childless_makes_none c r childless) (same a (Root (maker_of path))) (number_of path) (own_plain rows (roots starts) past (maker_of path))))
+    (none_news rows (roots starts) past path (Some k) none)
+commit_births starts past a c r k childless (Managed o i t) none free =
+    subst (λ (fx : Option Fixed). IsSeat (Managed o i t) (born rows fx t past (Some k)) (news_of rows (roots starts) past (Managed o i t) (Some k)) None) (sym (free o i)) (unrecorded_news rows (roots starts) past o i t (Some k) (free o i))
+
+neither : (b : Bool) → (b && false) ≡ false
+neither true = refl
+neither false = refl
+
 -- after an entry without a commit
-pub booked_plain : (a : UnitName) (q : ℕ) (c : Call) (r : Reply) (f : Effect) (old new : Board) → place_of a old.rows.items ≡ Some q → IsServed c → child_by c r ≡ None → IsAnsweredAt q c r f old.rows.items → commit_in f ≡ None → IsMovedBoard q c r f (made_by c r) old new → IsBooked a c r f old new
-booked_plain a q c r f old new place served childless answered quiet moved starts past tells =
+pub booked_plain : (a : UnitName) (q : ℕ) (c : Call) (r : Reply) (f : Effect) (old new : Board) → place_of a old.rows.items ≡ Some q → IsServed c → child_by c r ≡ None → IsAnsweredAt q c r f old.rows.items → commit_in f ≡ None → IsWhole old.rows.items old.events old.index → IsMovedBoard q c r f (made_by c r) old new → IsBooked a c r f old new
+booked_plain a q c r f old new place served childless answered quiet whole moved starts past tells =
     let us = old.rows.items in
-    subst (λ (l : List Unit). Agrees rows (roots starts) (Done a c r f ∷ past) l new.events new.index) (sym (moved.rows ∙ modify-moved a us q (moved_row rows c r f) place))
-    (subst (λ (evs : List EventRow). Agrees rows (roots starts) (Done a c r f ∷ past) (moved_at a (moved_row rows c r f) us) evs new.index) (sym moved.events)
-    (agrees_plain rows (roots starts) (row_taking_laws starts) past us old.events old.index new.index a c r f (made_by c r) tells (served_makes_none c r served) (childless_makes_none c r childless) quiet
+    let all = roots starts in
+    let F = moved_row rows c r f in
+    subst (λ (l : List Unit). Agrees rows all (Done a c r f ∷ past) l new.events new.index (managed_of new)) (append-nil (moved_at a F us) ∙ sym (moved.rows ∙ modify-moved a us q F place))
+    (subst (λ (evs : List EventRow). Agrees rows all (Done a c r f ∷ past) (moved_at a F us ++ []) evs new.index (managed_of new)) (sym moved.events)
+    (agrees_plain rows all (row_taking_laws starts) past us [] old.events old.index new.index (managed_of old) (managed_of new) a c r f (made_by c r) tells quiet
     (right starts past old tells a q place c r f answered) (makes starts past old tells a q place c r f answered)
-    (moved.enrolled ∙ ap (λ (p : Option ℕ). old.index.enrolled ++ enrols p (made_by c r)) (sym place)) moved.handed))
+    (moved.enrolled ∙ ap (λ (p : Option ℕ). old.index.enrolled ++ enrols p (made_by c r)) (sym place)) moved.handed
+    (unrecorded starts past old a c r f served) (λ e p. refl)
+    (subst (λ (l : List (Subscription (List Clause))). All (λ (z : Subscription (List Clause)). z.unit < length us) l) (sym moved.enrolled) (enrolled_more (length us) old.index.enrolled q (made_by c r) (place_in a us q place) whole.enrolled))
+    whole.seated (λ e p h. refl) (childless_births starts past a c r f childless quiet)))
 
 -- after a call of who isn't there
-pub booked_none : (a : UnitName) (c : Call) (r : Reply) (f : Effect) (b : Board) → place_of a b.rows.items ≡ None → IsServed c → child_by c r ≡ None → (let p : Reply × Effect = (Reply.NoSuchUnit, Effect.Nothing) in p) ≡ (r, f) → IsBooked a c r f b b
-booked_none a c r f b none served childless is starts past tells =
+pub booked_none : (a : UnitName) (c : Call) (r : Reply) (f : Effect) (b : Board) → place_of a b.rows.items ≡ None → IsServed c → child_by c r ≡ None → IsWhole b.rows.items b.events b.index → (let p : Reply × Effect = (Reply.NoSuchUnit, Effect.Nothing) in p) ≡ (r, f) → IsBooked a c r f b b
+booked_none a c r f b none served childless whole is starts past tells =
     let us = b.rows.items in
+    let all = roots starts in
+    let F = moved_row rows c r f in
     let absent = at_none a us none in
     let plain : commit_in f ≡ None = sym (ap (λ (p : Reply × Effect). commit_in p.1) is) in
-    let answers : answer rows (roots starts) past a c ≡ (r, f) = answer_none rows (roots starts) past us b.events b.index tells a c absent.0 ∙ is in
-    let gone = none_at rows (roots starts) past us b.events b.index tells a absent.0 in
-    subst (λ (l : List Unit). Agrees rows (roots starts) (Done a c r f ∷ past) l b.events b.index) (sym (absent.1 (moved_row rows c r f)))
-    (agrees_plain rows (roots starts) (row_taking_laws starts) past us b.events b.index b.index a c r f None tells (served_makes_none c r served) (childless_makes_none c r childless) plain answers
+    let answers : answer rows all past a c ≡ (r, f) = answer_none rows all past us b.events b.index (managed_of b) tells a c absent.0 ∙ is in
+    let gone = none_at rows all past us b.events b.index (managed_of b) tells a absent.0 in
+    subst (λ (l : List Unit). Agrees rows all (Done a c r f ∷ past) l b.events b.index (managed_of b)) (append-nil (moved_at a F us) ∙ sym (absent.1 F))
+    (agrees_plain rows all (row_taking_laws starts) past us [] b.events b.index b.index (managed_of b) (managed_of b) a c r f None tells plain answers
     (λ st owned. absurd (let z : ⊥ = cc in z))
-    (sym (append-nil b.index.enrolled) ∙ ap (λ (l : List (Subscription (List Clause))). b.index.enrolled ++ l) (sym (enrols_none (place_of a us)))) refl)
+    (sym (append-nil b.index.enrolled) ∙ ap (λ (l : List (Subscription (List Clause))). b.index.enrolled ++ l) (sym (enrols_none (place_of a us)))) refl
+    (unrecorded starts past b a c r f served) (λ e p. refl) whole.enrolled whole.seated (λ e p h. refl) (childless_births starts past a c r f childless plain))
 
 -- after a commit
-pub booked_commit : (a : UnitName) (q : ℕ) (c : Call) (r : Reply) (f : Effect) (k : Commit) (old new : Board) → place_of a old.rows.items ≡ Some q → IsServed c → child_by c r ≡ None → IsAnsweredAt q c r f old.rows.items → f ≡ Effect.Commit k → IsWhole old.rows.items old.events old.index → IsHandedBoard q c r f k old new → IsBooked a c r f old new
-booked_commit a q c r f k old new place served childless answered is whole done starts past tells =
+pub booked_commit : (a : UnitName) (q : ℕ) (c : Call) (r : Reply) (f : Effect) (k : Commit) (old new : Board) → place_of a old.rows.items ≡ Some q → IsServed c → child_by c r ≡ None → IsAnsweredAt q c r f old.rows.items → f ≡ Effect.Commit k → IsWhole old.rows.items old.events old.index → IsWhole new.rows.items new.events new.index → IsHandedBoard q c r f k old new → IsBooked a c r f old new
+booked_commit a q c r f k old new place served childless answered is whole after_it done starts past tells =
     let s = roots starts in
     let opened = done.opened in
     let us = opened.rows.items in
+    let F = moved_row rows c r (Effect.Commit k) in
     let there = whole_opened k.event old opened done.opening whole in
     let agree = kept_opened k.event old opened whole done.opening starts past tells in
     let given : Unit → List Given = λ u. news_of rows s past u.local.unit (Some k) in
     let handed_to : List Unit = map (with_news given) us in
-    let news = news_found starts past us opened.events opened.index agree there.apart k done.ready.place done.ready.after done.ready.to (inputs us) done.made.place done.made.after refl done.made.ascending done.made.due in
+    let moved_to : List Unit = moved_at a F handed_to in
+    let record_free = λ (o : List ℕ) (n : ℕ). sym (agree.kept o n) in
+    let news = news_found starts past us opened.events opened.index (managed_of opened) agree (λ o n. refl) there.apart k done.ready.place done.ready.after done.ready.to (inputs us) done.made.place done.made.after refl done.made.ascending done.made.due in
     let here : place_of a us ≡ Some q = ap (place_of a) done.opening.rows ∙ place in
-    let also : place_of a handed_to ≡ Some q = place_of-names a us handed_to (names-map (with_news given) (λ u. refl) us) ∙ here in
+    let named = names-map (with_news given) (λ u. refl) us in
+    let also : place_of a handed_to ≡ Some q = place_of-names a us handed_to named ∙ here in
     let row = found a old.rows.items q place in
     let commits : IsAnswered c r (Effect.Commit k) row.0 = subst (λ (x : Effect). IsAnswered c r x row.0) is (row.2 c r f answered) in
-    let moved : new.rows.items ≡ moved_at a (moved_row rows c r (Effect.Commit k)) handed_to =
+    let moved : new.rows.items ≡ moved_to =
     done.rows given news
     ∙ ap (λ (x : Effect). modify q (with_state c r x) handed_to) is
-    ∙ modify_same (with_state c r (Effect.Commit k)) (moved_row rows c r (Effect.Commit k)) (λ u. refl) q handed_to
-    ∙ modify-moved a handed_to q (moved_row rows c r (Effect.Commit k)) also in
-    subst (λ (x : Effect). Agrees rows s (Done a c r x ∷ past) new.rows.items new.events new.index) (sym is)
-    (subst (λ (l : List Unit). Agrees rows s (Done a c r (Effect.Commit k) ∷ past) l new.events new.index) (sym moved)
-    (agrees_commit rows s (row_taking_laws starts) past us opened.events new.events opened.index new.index a c r k done.ready.place done.ready.after done.ready.to given agree (served_makes_none c r served) (childless_makes_none c r childless)
+    ∙ modify_same (with_state c r (Effect.Commit k)) F (λ u. refl) q handed_to
+    ∙ modify-moved a handed_to q F also in
+    let size : length new.rows.items ≡ length us = ap length moved ∙ same_length moved_to us (names-moved a F (λ u. refl) handed_to ∙ named) in
+    subst (λ (x : Effect). Agrees rows s (Done a c r x ∷ past) new.rows.items new.events new.index (managed_of new)) (sym is)
+    (subst (λ (l : List Unit). Agrees rows s (Done a c r (Effect.Commit k) ∷ past) l new.events new.index (managed_of new)) (append-nil moved_to ∙ sym moved)
+    (agrees_commit rows s (row_taking_laws starts) past us [] opened.events new.events opened.index new.index (managed_of opened) (managed_of new) a c r k done.ready.place done.ready.after done.ready.to (λ p. false) given agree (served_makes_none c r served)
     (right starts past old tells a q place c r f answered ∙ ap (λ (x : Effect). let p : Reply × Effect = (r, x) in p) is)
     (λ st owned. makes starts past old tells a q place c r f answered st owned ∙ commits_none c r k row.0 commits)
     (record {
@@ -243,8 +280,13 @@ booked_commit a q c r f k old new place served childless answered is whole done 
       enrolled = done.enrolled;
       booked = done.handed;
       gives = λ u. refl;
-      brought = brought (λ n. news_of rows s past n (Some k)) k.event done.ready.after done.ready.to us news;
-    })))
+      brought = λ path. brought (λ n. news_of rows s past n (Some k)) k.event done.ready.after done.ready.to us news (Root path);
+      kept = λ o n. refl;
+      told = λ e p. sym (neither (e == done.ready.place));
+      calls = λ o n t p h. sym (ap (λ (l : List Given). not (is_nil l)) (unrecorded_news rows s past o n t (Some k) (record_free o n)));
+    })
+    there.enrolled (λ e p h. after_it.seated e p (omega (arith, size, h))) (λ e p h. refl)
+    (λ n none. commit_births starts past a c r k childless n none (λ o i. record_free o i))))
 
 -- the call, the reply and the effect that make a child
 pub child_some : (c : Call) (r : Reply) (n : ℕ) (s : List (List ℕ)) (ps : List Privilege) → child_by c r ≡ Some (n, (s, ps)) → (c ≡ Instantiate s ps) × (r ≡ Reply.Unit n)

@@ -3,13 +3,16 @@ use Rattle.std.proofs.Common.{◌≡◌, ℕ, suc, ◌-◌, ◌==◌, Bool, true
 use Rattle.std.specs.Prelude.{is_none}
 use Rattle.std.specs.Option.{option_and_then}
 use Rattle.std.proofs.lemmas.Bool.{eqb-true}
+use Rattle.std.proofs.lemmas.List.{append-nil}
 use Rattle.std.proofs.Math.Seq.{take-append_seam}
 use Rattle.std.proofs.Math.Seq.{get_or-append_seam}
 use Rattle.df_label.specs.Tag.{maker_of, number_of}
+use Rattle.df_filter.specs.declared.clause.Clause.{Clause}
+use Rattle.df_index.specs.declared.subscription.Subscription.{Subscription}
 use Rattle.df_label.specs.declared.label.Label.{Label}
 use Rattle.df_label.specs.declared.privilege.Privilege.{Privilege}
 use Rattle.df_rules.specs.Deliveries.{deliveries}
-use Rattle.df_rules.specs.Own.{own, own_plain}
+use Rattle.df_rules.specs.Own.{fixed, own, own_plain}
 use Rattle.df_rules.specs.Start.{rows, roots}
 use Rattle.df_rules.proofs.TakingRows.{row_taking_laws}
 use Rattle.df_unit.specs.Beginnings.{child}
@@ -27,7 +30,7 @@ use Rattle.df_unit.specs.declared.reply.Reply.{Reply}
 use Rattle.df_unit.proofs.SameFacts.{same_name-exact, same_name_decides}
 use Rattle.df_tables.specs.Agree.{Agrees, FilterIndex, IsSeat, IsWhole}
 use Rattle.df_tables.specs.Births.{child_row, if_new}
-use Rattle.df_tables.specs.Board.{IsBooked, IsChildBoard}
+use Rattle.df_tables.specs.Board.{IsBooked, IsChildBoard, managed_of}
 use Rattle.df_tables.specs.Hand.{IsAnsweredAt, modify}
 use Rattle.df_tables.specs.Moves.{IsAnswered, child_by}
 use Rattle.df_tables.specs.Table.{find, moved_at, moved_row, place_of}
@@ -35,12 +38,11 @@ use Rattle.df_tables.specs.declared.board.Board.{Board}
 use Rattle.df_tables.specs.declared.events.EventRow.{EventRow}
 use Rattle.df_tables.specs.declared.units.Unit.{Unit}
 use Rattle.df_tables.proofs.Boards.{modify-moved}
-use Rattle.df_tables.proofs.Booked.{child_at, child_some, found, place_in, right}
-use Rattle.df_tables.proofs.Built.{served_makes_none}
+use Rattle.df_tables.proofs.Booked.{child_at, child_some, found, place_in, right, unrecorded}
 use Rattle.df_tables.proofs.Newborn.{modify-append}
 use Rattle.df_tables.proofs.Places.{at_some}
-use Rattle.df_tables.proofs.Seats.{present}
-use Rattle.df_tables.proofs.Steps.{agrees_born, born_by}
+use Rattle.df_tables.proofs.Seats.{enrols_none, present}
+use Rattle.df_tables.proofs.Steps.{agrees_plain, born_by, quiet_birth}
 use Rattle.df_tables.proofs.Tells.{row_at}
 
 -- a path is its maker's with its own number behind it
@@ -153,7 +155,9 @@ module _ (starts : List (Label × List Privilege)) (past : List Entry) (us : Lis
 
   pub births : (m : UnitName) → own rows (roots starts) past m ≡ None → IsSeat m (born_by rows (roots starts) past making m) [] (find m (if_new newborn us))
   births (Root path) none = born path none
-  births (Managed o k t) none = subst (λ (x : Option Unit). IsSeat (Managed o k t) None [] x) (sym (no_row (Managed o k t) refl)) refl
+  births (Managed o k t) none =
+      subst (λ (b : Option OwnState). IsSeat (Managed o k t) b [] (find (Managed o k t) (if_new newborn us))) (sym (quiet_birth rows (roots starts) past (fixed rows (roots starts) past o k) t))
+      (subst (λ (x : Option Unit). IsSeat (Managed o k t) None [] x) (sym (no_row (Managed o k t) refl)) refl)
 
 -- after an entry that makes a child
 booked_made : (a : UnitName) (q n : ℕ) (s : List (List ℕ)) (ps : List Privilege) (old new : Board) → place_of a old.rows.items ≡ Some q → IsAnsweredAt q (Instantiate s ps) (Reply.Unit n) Effect.Nothing old.rows.items → IsWhole old.rows.items old.events old.index → IsChildBoard q n s ps old new →
@@ -167,7 +171,7 @@ booked_made a q n s ps old new place answered whole made starts past tells =
     let F = moved_row rows c r f in
     let row = found a us q place in
     let u = row.0 in
-    let at = row_at rows all past us old.events old.index tells a u row.1 in
+    let at = row_at rows all past us old.events old.index (managed_of old) tells a u row.1 in
     let plain = plain_maker u s ps n (row.2 c r f answered) in
     let who : a ≡ Root plain.0 = sym at.0.unit ∙ plain.1 in
     let stands : get_or us q u ≡ u = (let e = (at_some a us q u place).0 in let g = row.1 in cc) in
@@ -178,11 +182,13 @@ booked_made a q n s ps old new place answered whole made starts past tells =
     ∙ ap (λ (m : UnitName). modify q F (us ++ if_new (child_row (record { unit = m; own = u.local.own }) n s ps) us)) plain.1
     ∙ modify-append F q us bs (place_in a us q place)
     ∙ ap (λ (l : List Unit). l ++ bs) (modify-moved a us q F place) in
-    subst (λ (l : List Unit). Agrees rows all (Done a c r f ∷ past) l new.events new.index) (sym is)
-    (subst (λ (evs : List EventRow). Agrees rows all (Done a c r f ∷ past) (moved_at a F us ++ bs) evs new.index) (sym made.events)
-    (subst (λ (x : FilterIndex). Agrees rows all (Done a c r f ∷ past) (moved_at a F us ++ bs) old.events x) (sym made.index)
-    (agrees_born rows all (row_taking_laws starts) past us bs old.events old.index a c r f tells (served_makes_none c r tt) refl
-    (right starts past old tells a q place c r f answered) (λ st owned. refl) whole.enrolled whole.seated
+    subst (λ (l : List Unit). Agrees rows all (Done a c r f ∷ past) l new.events new.index (managed_of new)) (sym is)
+    (subst (λ (evs : List EventRow). Agrees rows all (Done a c r f ∷ past) (moved_at a F us ++ bs) evs new.index (managed_of new)) (sym made.events)
+    (subst (λ (x : FilterIndex). Agrees rows all (Done a c r f ∷ past) (moved_at a F us ++ bs) old.events x (managed_of new)) (sym made.index)
+    (agrees_plain rows all (row_taking_laws starts) past us bs old.events old.index old.index (managed_of old) (managed_of new) a c r f None tells refl
+    (right starts past old tells a q place c r f answered) (λ st owned. refl)
+    (sym (append-nil old.index.enrolled) ∙ ap (λ (l : List (Subscription (List Clause))). old.index.enrolled ++ l) (sym (enrols_none (place_of a us)))) refl
+    (unrecorded starts past old a c r f tt) (λ e p. refl) whole.enrolled whole.seated (λ e p h. refl)
     (λ m none. subst (λ (x : UnitName). IsSeat m (born_by rows all past (Done x c r f) m) [] (find m bs)) (sym who)
     (births starts past us plain.0 u.local.own n s ps tells.seats (subst (λ (x : UnitName). own rows all past x ≡ Some u.local.own) who at.1) m none)))))
 

@@ -23,7 +23,7 @@ use Rattle.df_unit.specs.declared.commit.Commit.{Commit}
 use Rattle.df_unit.specs.declared.entry.Entry.{Entry}
 use Rattle.df_unit.specs.declared.name.UnitName.{UnitName}
 use Rattle.df_unit.specs.declared.name.UnitName.TheVariants.{Root, Managed}
-use Rattle.df_tables.specs.Agree.{Agrees, AreApart, FilterIndex, is_marked, subscribed_at}
+use Rattle.df_tables.specs.Agree.{Agrees, AreApart, FilterIndex, ManagedState, is_marked, subscribed_at}
 use Rattle.df_tables.specs.Events.{event_place}
 use Rattle.df_tables.specs.Hand.{IsNews, news_at}
 use Rattle.df_tables.specs.Labels.{inputs}
@@ -32,10 +32,10 @@ use Rattle.df_tables.specs.declared.events.EventRow.{EventRow}
 use Rattle.df_tables.specs.declared.units.Unit.{Unit}
 use Rattle.df_tables.proofs.Brings.{news_is}
 use Rattle.df_tables.proofs.Places.{at_some}
-use Rattle.df_tables.proofs.Steps.{news_of}
+use Rattle.df_tables.proofs.Steps.{news_of, unrecorded_own}
 use Rattle.df_tables.proofs.Tells.{row_at}
 
-module _ (starts : List (Label × List Privilege)) (past : List Entry) (us : List Unit) (evs : List EventRow) (x : FilterIndex) (agree : Agrees rows (roots starts) past us evs x) (apart : AreApart us) (k : Commit) (j : ℕ) (after : List Part) (ps : List Pair) (labels : List Label)
+module _ (starts : List (Label × List Privilege)) (past : List Entry) (us : List Unit) (evs : List EventRow) (x : FilterIndex) (m : ManagedState) (agree : Agrees rows (roots starts) past us evs x m) (free : (o : List ℕ) (n : ℕ) → m.kept o n ≡ None) (apart : AreApart us) (k : Commit) (j : ℕ) (after : List Part) (ps : List Pair) (labels : List Label)
     (there : event_place k.event evs ≡ Some j) (is : after ≡ apply k.edit (parts_of k.event evs)) (inputs_are : labels ≡ inputs us) (sorted : IsStrictlySortedBy pair_cmp ps) (due : (p : Pair) → Contains ps p ↔ IsReceiver matches labels x j after k.edit p) where
   -- what a plain unit is brought, by its row
   plain : (q : ℕ) (u : Unit) (path : List ℕ) → slice_get us q ≡ Some u → place_of (Root path) us ≡ Some q → own_plain rows (roots starts) past path ≡ Some u.local.own →
@@ -46,7 +46,7 @@ module _ (starts : List (Label × List Privilege)) (past : List Entry) (us : Lis
       let input = u.local.own.input in
       let parts : apply k.edit (contents past k.event) ≡ after = sym (is ∙ ap (apply k.edit) (agree.parts k.event)) in
       let label : slice_get labels q ≡ Some input = ap (λ (l : List Label). slice_get l q) inputs_are ∙ slice_get-map (λ (v : Unit). v.local.own.input) us q ∙ ap (option_map (λ (v : Unit). v.local.own.input)) at in
-      let marks = λ (n : ℕ). ap (λ (p : Option ℕ). is_marked x.handed p (Some j) n) (sym place) ∙ ap (λ (e : Option ℕ). is_marked x.handed (place_of (Root path) us) e n) (sym there) ∙ agree.marked (Root path) k.event n in
+      let marks = λ (n : ℕ). ap (λ (p : Option ℕ). is_marked x.handed p (Some j) n) (sym place) ∙ ap (λ (e : Option ℕ). is_marked x.handed (place_of (Root path) us) e n) (sym there) ∙ agree.marked path k.event n in
       let same = ap (λ (p : Option ℕ). subscribed_at p x.enrolled) (sym place) ∙ agree.subscribed (Root path) in
       ap (λ (o : Option OwnState). plain_news o subs ds past (Some k)) owned
       ∙ ap (λ (l : List Part). if is_nil (cut input k.edit.1) then [] else flat_map (λ sub. offer ds k.event (cut input l) sub) subs) parts
@@ -59,7 +59,7 @@ module _ (starts : List (Label × List Privilege)) (past : List Entry) (us : Lis
       let u = get_or us q d in
       let at : slice_get us q ≡ Some u = slice_get-get_or us q d within in
       let place : place_of u.local.unit us ≡ Some q = apart q d within in
-      let row = row_at rows (roots starts) past us evs x agree u.local.unit u (at_some u.local.unit us q d place).0 in
+      let row = row_at rows (roots starts) past us evs x m agree u.local.unit u (at_some u.local.unit us q d place).0 in
       by u at place row.1
     where
       by : (u : Unit) → slice_get us q ≡ Some u → place_of u.local.unit us ≡ Some q → own rows (roots starts) past u.local.unit ≡ Some u.local.own → news_of rows (roots starts) past u.local.unit (Some k) ≡ news_at k.event after u.local.own.input ps q
@@ -67,4 +67,4 @@ module _ (starts : List (Label × List Privilege)) (past : List Entry) (us : Lis
         where
           named : (n : UnitName) → slice_get us q ≡ Some u → place_of n us ≡ Some q → own rows (roots starts) past n ≡ Some u.local.own → news_of rows (roots starts) past n (Some k) ≡ news_at k.event after u.local.own.input ps q
           named (Root path) at place owned = plain q u path at place owned
-          named (Managed o n t) at place owned = absurd (let z : None ≡ Some u.local.own = sym (agree.no_instances o n t) ∙ owned in (let w : ⊥ = cc in w))
+          named (Managed o n t) at place owned = absurd (let z : None ≡ Some u.local.own = sym (unrecorded_own rows (roots starts) past o n t (sym (agree.kept o n) ∙ free o n)) ∙ owned in (let w : ⊥ = cc in w))

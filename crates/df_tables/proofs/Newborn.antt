@@ -14,7 +14,7 @@ use Rattle.df_label.specs.declared.label.Label.{Label}
 use Rattle.df_unit.specs.Name.{same}
 use Rattle.df_unit.specs.declared.name.UnitName.{UnitName}
 use Rattle.df_unit.proofs.SameFacts.{same_name-exact, same_name_decides}
-use Rattle.df_tables.specs.Agree.{AreApart, FilterIndex, IsWhole, is_marked, subscribed_at, subscriptions_at}
+use Rattle.df_tables.specs.Agree.{AreApart, FilterIndex, IsWhole, ManagedState, is_marked, is_told, subscribed_at, subscriptions_at}
 use Rattle.df_tables.specs.Births.{if_new}
 use Rattle.df_tables.specs.Board.{IsBoard, IsRollOf}
 use Rattle.df_tables.specs.Events.{place_by}
@@ -59,7 +59,7 @@ modify-append {X} f (suc k) (x ∷ xs) ys h = ap (λ (l : List X). x ∷ l) (mod
 
 -- who has no row has neither subscriptions nor marks
 
-abbrev IsOf : ℕ → Subscription (List Clause) → Type 0
+abbrev pub IsOf : ℕ → Subscription (List Clause) → Type 0
 IsOf m s = s.unit < m
 
 beyond : (m j : ℕ) (xs : List (Subscription (List Clause))) → All (IsOf m) xs → m ≤ j → subscriptions_at j xs ≡ []
@@ -85,6 +85,18 @@ marked_born m (Some k) q e handed sub none = refl
 marked_born m None None e handed sub none = refl
 marked_born m None (Some k) None handed sub none = refl
 marked_born m None (Some k) (Some i) handed sub none = none i (m + k, sub) (omega arith)
+
+-- and with what is told of instances
+pub told_born : (n : ℕ) (told : ℕ → ℕ → Bool) (e p q : Option ℕ) → ((event place : ℕ) → n ≤ place → told event place ≡ false) → is_told told e (option_or p (option_map (λ k. n + k) q)) ≡ is_told told e p
+told_born n told None p q none = refl
+told_born n told (Some e) (Some k) q none = refl
+told_born n told (Some e) None None none = refl
+told_born n told (Some e) None (Some k) none = none e (n + k) (omega arith)
+
+pub told_same : (m m' : ManagedState) → ((e q : ℕ) → m'.told e q ≡ m.told e q) → (e p : Option ℕ) → is_told m'.told e p ≡ is_told m.told e p
+told_same m m' same None p = refl
+told_same m m' same (Some e) None = refl
+told_same m m' same (Some e) (Some q) = same e q
 
 -- the tables fit each other with a row of who had none
 

@@ -1,5 +1,5 @@
 -- The tables after one more entry.
-use Rattle.std.proofs.Common.{◌≡◌, inl, inr, ℕ, ◌+◌, ◌≤◌, ◌<◌, ◌==◌, ◌&&◌, ◌||◌, List, [], ◌∷◌, ◌++◌, Option, Some, None, Bool, true, false, if◌then◌else◌, length, map, option_map, refl, ap, sym, subst, ◌∙◌, arith, All, eq-eqb}
+use Rattle.std.proofs.Common.{◌≡◌, inl, inr, ℕ, ◌+◌, ◌≤◌, ◌<◌, ◌==◌, ◌&&◌, ◌||◌, List, [], ◌∷◌, ◌++◌, Option, Some, None, Bool, true, false, not, if◌then◌else◌, length, map, option_map, refl, ap, sym, subst, ◌∙◌, arith, All, eq-eqb}
 use Rattle.std.specs.Prelude.{option_to_list}
 use Rattle.std.specs.Option.{option_and_then, option_or}
 use Rattle.std.proofs.lemmas.List.{append-nil}
@@ -11,37 +11,41 @@ use Rattle.df_index.specs.declared.subscription.Subscription.{Subscription}
 use Rattle.df_label.specs.Tag.{maker_of, number_of}
 use Rattle.df_label.specs.declared.label.Label.{Label}
 use Rattle.df_part.specs.Contents.{apply}
+use Rattle.df_part.specs.Part.{cut}
 use Rattle.df_part.specs.declared.part.Part.{Part}
-use Rattle.df_rules.specs.Commits.{commit_in, committed, contents}
-use Rattle.df_rules.specs.Deliveries.{plain_news, deliveries, deliveries_plain, was_handed}
+use Rattle.df_rules.specs.Commits.{commit_in, commit_of, committed, contents}
+use Rattle.df_rules.specs.Deliveries.{deliveries, deliveries_instance, deliveries_plain, instance_news, plain_news, was_handed}
 use Rattle.df_rules.specs.Laws.{TakingLaws}
 use Rattle.df_rules.specs.Legal.{answer, answer_of}
-use Rattle.df_rules.specs.Own.{own, own_plain, own_instance, fixed, made_by}
+use Rattle.df_rules.specs.Own.{born, fixed, fixed_by, is_given, made_by, own, own_instance, own_plain, stepped}
 use Rattle.df_rules.specs.Rules.{Rules}
 use Rattle.df_rules.specs.Subscriptions.{subscriptions}
 use Rattle.df_unit.specs.Name.{same, same_event}
-use Rattle.df_unit.specs.OwnState.{OwnState}
+use Rattle.df_unit.specs.Beginnings.{readable_at}
+use Rattle.df_unit.specs.OwnState.{Fixed, OwnState}
+use Rattle.df_unit.specs.Rows.{is_nil}
 use Rattle.df_unit.specs.declared.call.Call.{Call}
 use Rattle.df_unit.specs.declared.commit.Commit.{Commit}
 use Rattle.df_unit.specs.declared.commit.Given.{Given}
 use Rattle.df_unit.specs.declared.entry.Effect.{Effect}
 use Rattle.df_unit.specs.declared.entry.Entry.{Entry}
-use Rattle.df_unit.specs.declared.entry.Entry.TheVariants.{Done}
+use Rattle.df_unit.specs.declared.entry.Entry.TheVariants.{Done, Emitted}
 use Rattle.df_unit.specs.declared.name.EventName.{EventName}
 use Rattle.df_unit.specs.declared.name.UnitName.{UnitName}
 use Rattle.df_unit.specs.declared.name.UnitName.TheVariants.{Root, Managed}
 use Rattle.df_unit.specs.declared.reply.Reply.{Reply}
 use Rattle.df_unit.proofs.SameFacts.{same_name-exact, same_event_decides}
-use Rattle.df_tables.specs.Agree.{Agrees, FilterIndex, IsSeat, MakesNoManaged, MakesNoUnit, enrols, is_marked, subscribed_at, subscriptions_at}
+use Rattle.df_tables.specs.Agree.{Agrees, FilterIndex, IsSeat, MakesNoManaged, MakesNoUnit, ManagedState, enrols, is_marked, is_told, subscribed_at, subscriptions_at}
 use Rattle.df_tables.specs.Events.{IsOpened, event_place}
 use Rattle.df_tables.specs.Hand.{news_at, with_news}
 use Rattle.df_tables.specs.Table.{find, parts_of, place_of, moved_at, moved_row}
 use Rattle.df_tables.specs.declared.events.EventRow.{EventRow}
 use Rattle.df_tables.specs.declared.units.Unit.{Unit}
 use Rattle.df_tables.proofs.Finds.{find-map, find-moved}
-use Rattle.df_tables.proofs.Newborn.{find-append, marked_born, place_by-append, subscribed_born}
+use Rattle.df_tables.proofs.Newborn.{find-append, marked_born, place_by-append, subscribed_born, told_born, told_same}
 use Rattle.df_tables.proofs.Opened.{opened_parts, place_more}
 use Rattle.df_tables.proofs.Order.{names-map, names-moved, same_length}
+use Rattle.df_tables.proofs.Places.{at_none}
 use Rattle.df_tables.proofs.Rows.{row_plain, row_news, row_commit}
 use Rattle.df_tables.proofs.Seats.{absent, apart, enrols_none, handed_news, not_there, place_of-names, present, same_place, subscriptions_at-append}
 
@@ -57,15 +61,15 @@ after_entry R n b c r f o = if b then option_map (λ st. R.after n st c r f) o e
 abbrev subscribed_in : Rules → Bool → Call → Reply → Option OwnState → Option (ℕ × List Clause)
 subscribed_in R b c r o = if b then option_and_then (λ st. R.subscribes st c r) o else None
 
--- what a commit brings to a unit; instances aren't there
+-- what a commit brings to a unit
 unfoldable pub news_of : Rules → List OwnState → List Entry → UnitName → Option Commit → List Given
 news_of R s past (Root path) oc = plain_news (own_plain R s past path) (subscriptions R s past (Root path)) (deliveries_plain R s past path) past oc
-news_of R s past (Managed o n t) oc = []
+news_of R s past (Managed o n t) oc = instance_news (fixed R s past o n) n t (deliveries_instance R s past o n t) past oc
 
--- the state with which an entry makes a unit; instances aren't made
+-- the state with which an entry makes a unit
 abbrev pub born_by : Rules → List OwnState → List Entry → Entry → UnitName → Option OwnState
 born_by R s past e (Root path) = made_by R e path (own_plain R s past (maker_of path))
-born_by R s past e (Managed o n t) = None
+born_by R s past e (Managed o n t) = born R (fixed R s past o n) t past (commit_of e)
 
 -- a seat along equal parts
 seat_along : (n : UnitName) (o o' : Option OwnState) (ds ds' : List Given) (p p' : Option Unit) → o' ≡ o → ds' ≡ ds → p' ≡ p → IsSeat n o ds p → IsSeat n o' ds' p'
@@ -74,28 +78,26 @@ seat_along n o o' ds ds' p p' e f g seat =
     (subst (λ (x : List Given). IsSeat n o x p') (sym f) (subst (λ (x : Option Unit). IsSeat n o ds x) (sym g) seat))
 
 module _ (R : Rules) (s : List OwnState) where
-  makes_none : (c : Call) (r : Reply) → MakesNoUnit R c r → (b : Bool) (k : ℕ) (o : Option OwnState) → (if b then option_and_then (λ st. R.makes st k c r) o else None) ≡ None
-  makes_none c r none true k None = refl
-  makes_none c r none true k (Some st) = none st k
-  makes_none c r none false k o = refl
-
-  fixes_none : (c : Call) (r : Reply) → MakesNoManaged R c r → (b : Bool) (k : ℕ) (o : Option OwnState) → (if b then option_and_then (λ st. R.fixes st k c r) o else None) ≡ None
+  pub fixes_none : (c : Call) (r : Reply) → MakesNoManaged R c r → (b : Bool) (k : ℕ) (o : Option OwnState) → (if b then option_and_then (λ st. R.fixes st k c r) o else None) ≡ None
   fixes_none c r none true k None = refl
   fixes_none c r none true k (Some st) = none st k
   fixes_none c r none false k o = refl
 
+  pub makes_none : (c : Call) (r : Reply) → MakesNoUnit R c r → (b : Bool) (k : ℕ) (o : Option OwnState) → (if b then option_and_then (λ st. R.makes st k c r) o else None) ≡ None
+  makes_none c r none true k None = refl
+  makes_none c r none true k (Some st) = none st k
+  makes_none c r none false k o = refl
+
   -- the definitions at one more entry
 
-  own_step : (past : List Entry) (a : UnitName) (c : Call) (r : Reply) (f : Effect) → MakesNoUnit R c r → ((o : List ℕ) (k : ℕ) → fixed R s past o k ≡ None) → (n : UnitName) → own R s (Done a c r f ∷ past) n ≡ after_entry R n (same a n) c r f (own R s past n)
-  own_step past a c r f none h (Root path) =
-      ap (λ (x : Option OwnState). option_or (after_entry R (Root path) (same a (Root path)) c r f (own_plain R s past path)) x) (makes_none c r none (same a (Root (maker_of path))) (number_of path) (own_plain R s past (maker_of path)))
-      ∙ or_none (after_entry R (Root path) (same a (Root path)) c r f (own_plain R s past path))
-  own_step past a c r f none h (Managed o k t) = rw (h o k) (or_none _)
+  own_step : (past : List Entry) (a : UnitName) (c : Call) (r : Reply) (f : Effect) (n : UnitName) → own R s (Done a c r f ∷ past) n ≡ option_or (after_entry R n (same a n) c r f (own R s past n)) (born_by R s past (Done a c r f) n)
+  own_step past a c r f (Root path) = refl
+  own_step past a c r f (Managed o k t) = refl
 
-  deliveries_step : (past : List Entry) (a : UnitName) (c : Call) (r : Reply) (f : Effect) → ((o : List ℕ) (k : ℕ) → fixed R s past o k ≡ None) → (n : UnitName) → deliveries R s (Done a c r f ∷ past) n ≡ deliveries R s past n ++ news_of R s past n (commit_in f)
+  deliveries_step : (past : List Entry) (a : UnitName) (c : Call) (r : Reply) (f : Effect) (n : UnitName) → deliveries R s (Done a c r f ∷ past) n ≡ deliveries R s past n ++ news_of R s past n (commit_in f)
   unfolding news_of
-  deliveries_step past a c r f h (Root path) = refl
-  deliveries_step past a c r f h (Managed o k t) = rw (h o k)
+  deliveries_step past a c r f (Root path) = refl
+  deliveries_step past a c r f (Managed o k t) = refl
 
   no_news : (past : List Entry) (n : UnitName) → news_of R s past n None ≡ []
   unfolding news_of
@@ -104,27 +106,88 @@ module _ (R : Rules) (s : List OwnState) where
       by : (o : Option OwnState) → plain_news o (subscriptions R s past (Root path)) (deliveries_plain R s past path) past None ≡ []
       by None = refl
       by (Some st) = refl
-  no_news past (Managed o n t) = refl
-
-  unmanaged_step : (past : List Entry) (a : UnitName) (c : Call) (r : Reply) (f : Effect) → MakesNoManaged R c r → ((o : List ℕ) (k : ℕ) → fixed R s past o k ≡ None) → (o : List ℕ) (k : ℕ) → fixed R s (Done a c r f ∷ past) o k ≡ None
-  unmanaged_step past a c r f none h o k = rw (h o k) (fixes_none c r none (same a (Root o)) k (own_plain R s past o))
-
-  no_instances_step : (past : List Entry) (a : UnitName) (c : Call) (r : Reply) (f : Effect) → ((o : List ℕ) (k : ℕ) → fixed R s past o k ≡ None) → ((o : List ℕ) (k : ℕ) (t : List (List ℕ)) → own_instance R s past o k t ≡ None) →
-      (o : List ℕ) (k : ℕ) (t : List (List ℕ)) → own_instance R s (Done a c r f ∷ past) o k t ≡ None
-  no_instances_step past a c r f h g o k t = rw (h o k, g o k t) (by (same a (Managed o k t)))
+  no_news past (Managed o n t) = by (fixed R s past o n)
     where
-      by : (b : Bool) → option_or (if b then option_map (λ st. R.after (Managed o k t) st c r f) None else None) None ≡ (let x : Option OwnState = None in x)
-      by true = refl
-      by false = refl
+      by : (fx : Option Fixed) → instance_news fx n t (deliveries_instance R s past o n t) past None ≡ []
+      by None = refl
+      by (Some fx) = refl
 
-  -- who doesn't exist is brought nothing
-  none_news : (past : List Entry) (n : UnitName) (oc : Option Commit) → own R s past n ≡ None → news_of R s past n oc ≡ []
+  -- an entry that makes no subscription leaves all records
+  kept_step : (past : List Entry) (a : UnitName) (c : Call) (r : Reply) (f : Effect) → MakesNoManaged R c r → (o : List ℕ) (k : ℕ) → fixed R s (Done a c r f ∷ past) o k ≡ fixed R s past o k
+  kept_step past a c r f none o k = ap (option_or (fixed R s past o k)) (fixes_none c r none (same a (Root o)) k (own_plain R s past o)) ∙ or_none (fixed R s past o k)
+
+  -- an entry that makes no unit and commits nothing makes none
+  pub no_births : (past : List Entry) (a : UnitName) (c : Call) (r : Reply) (f : Effect) → MakesNoUnit R c r → commit_in f ≡ None → (n : UnitName) → born_by R s past (Done a c r f) n ≡ None
+  no_births past a c r f none quiet (Root path) = makes_none c r none (same a (Root (maker_of path))) (number_of path) (own_plain R s past (maker_of path))
+  no_births past a c r f none quiet (Managed o k t) = ap (born R (fixed R s past o k) t past) quiet ∙ by (fixed R s past o k)
+    where
+      by : (fx : Option Fixed) → born R fx t past None ≡ None
+      by None = refl
+      by (Some fx) = refl
+
+  -- who has no record has no instances, and they are brought nothing
+  pub unrecorded_news : (past : List Entry) (o : List ℕ) (n : ℕ) (t : List (List ℕ)) (oc : Option Commit) → fixed R s past o n ≡ None → news_of R s past (Managed o n t) oc ≡ []
   unfolding news_of
-  none_news past (Root path) oc e = ap (λ (o : Option OwnState). plain_news o (subscriptions R s past (Root path)) (deliveries_plain R s past path) past oc) e
-  none_news past (Managed o n t) oc e = refl
+  unrecorded_news past o n t oc none = ap (λ (fx : Option Fixed). instance_news fx n t (deliveries_instance R s past o n t) past oc) none
+
+  pub unrecorded_own : (past : List Entry) (o : List ℕ) (n : ℕ) (t : List (List ℕ)) → fixed R s past o n ≡ None → own_instance R s past o n t ≡ None
+  unrecorded_own [] o n t none = refl
+  unrecorded_own (e ∷ past) o n t none =
+      let before = first (fixed R s past o n) (fixed_by R e o n (own_plain R s past o)) none in
+      ap (λ (fx : Option Fixed). option_or (stepped R (Managed o n t) e (own_instance R s past o n t)) (born R fx t past (commit_of e))) before
+      ∙ or_none (stepped R (Managed o n t) e (own_instance R s past o n t))
+      ∙ ap (stepped R (Managed o n t) e) (unrecorded_own past o n t before)
+      ∙ nobody e
+    where
+      first : (fx fy : Option Fixed) → option_or fx fy ≡ None → fx ≡ None
+      first None fy h = refl
+      first (Some fx) fy h = absurd (let z : ⊥ = cc in z)
+
+      nobody : (e : Entry) → stepped R (Managed o n t) e None ≡ None
+      nobody (Done a c r f) = by (same a (Managed o n t))
+        where
+          by : (b : Bool) → (if b then option_map (λ st. R.after (Managed o n t) st c r f) None else None) ≡ (let x : Option OwnState = None in x)
+          by true = refl
+          by false = refl
+      nobody (Emitted k) = refl
+
+  -- without a commit no instance is born
+  pub quiet_birth : (past : List Entry) (fx : Option Fixed) (t : List (List ℕ)) → born R fx t past None ≡ None
+  quiet_birth past None t = refl
+  quiet_birth past (Some fx) t = refl
+
+  -- a plain unit that doesn't exist is brought nothing
+  pub none_news : (past : List Entry) (path : List ℕ) (oc : Option Commit) → own_plain R s past path ≡ None → news_of R s past (Root path) oc ≡ []
+  unfolding news_of
+  none_news past path oc e = ap (λ (o : Option OwnState). plain_news o (subscriptions R s past (Root path)) (deliveries_plain R s past path) past oc) e
+
+  -- what an instance is brought, if anything, is the event
+  instance_told : (past : List Entry) (o : List ℕ) (n : ℕ) (t : List (List ℕ)) (k : Commit) (ev : EventName) → was_handed (news_of R s past (Managed o n t) (Some k)) ev n ≡ (same_event k.event ev && not (is_nil (news_of R s past (Managed o n t) (Some k))))
+  unfolding news_of
+  instance_told past o n t k ev = by (fixed R s past o n)
+    where
+      ds : List Given
+      ds = deliveries_instance R s past o n t
+
+      nothing : (b : Bool) → false ≡ (b && false)
+      nothing true = refl
+      nothing false = refl
+
+      one : (b c : Bool) → c ≡ true → ((b && c) || false) ≡ (b && true)
+      one true true e = refl
+      one true false e = absurd (let z : ⊥ = cc in z)
+      one false c e = refl
+
+      go : (d : Given) (b : Bool) → d.event ≡ k.event → d.sub ≡ n → was_handed (if b then d ∷ [] else []) ev n ≡ (same_event k.event ev && not (is_nil (if b then d ∷ [] else [])))
+      go d true e f = ap (λ (z : EventName). (same_event z ev && (d.sub == n)) || false) e ∙ one (same_event k.event ev) (d.sub == n) (eq-eqb d.sub n f)
+      go d false e f = nothing (same_event k.event ev)
+
+      by : (fx : Option Fixed) → was_handed (instance_news fx n t ds past (Some k)) ev n ≡ (same_event k.event ev && not (is_nil (instance_news fx n t ds past (Some k))))
+      by None = nothing (same_event k.event ev)
+      by (Some fx) = go (record { event = k.event; sub = n; parts = cut (readable_at fx t) (apply k.edit (contents past k.event)) }) (is_given (Some fx) t past (Some k) && not (was_handed ds k.event n)) refl refl
 
 -- the commit that is made, its event's place, its parts after it, and its receivers
-pub record IsMade (R : Rules) (s : List OwnState) (past : List Entry) (us : List Unit) (evs evs' : List EventRow) (x x' : FilterIndex) (k : Commit) (j : ℕ) (after : List Part) (ps : List Pair) (given : Unit → List Given) : Type 0 where
+pub record IsMade (R : Rules) (s : List OwnState) (past : List Entry) (us bs : List Unit) (evs evs' : List EventRow) (x x' : FilterIndex) (m m' : ManagedState) (k : Commit) (j : ℕ) (after : List Part) (ps : List Pair) (called : ℕ → Bool) (given : Unit → List Given) : Type 0 where
   pub place : event_place k.event evs ≡ Some j
   pub applied : after ≡ apply k.edit (parts_of k.event evs)
   pub put : (e : EventName) → parts_of e evs' ≡ (if same_event k.event e then after else parts_of e evs)
@@ -132,7 +195,11 @@ pub record IsMade (R : Rules) (s : List OwnState) (past : List Entry) (us : List
   pub enrolled : x'.enrolled ≡ x.enrolled
   pub booked : (e : ℕ) (p : Pair) → index.was_handed x'.handed e p ≡ (index.was_handed x.handed e p || ((e == j) && has_pair ps p))
   pub gives : (u : Unit) → given u ≡ news_of R s past u.local.unit (Some k)
-  pub brought : (n : UnitName) (q : ℕ) → place_of n us ≡ Some q → (at : Label) × (news_of R s past n (Some k) ≡ news_at k.event after at ps q)
+  pub brought : (path : List ℕ) (q : ℕ) → place_of (Root path) us ≡ Some q → (at : Label) × (news_of R s past (Root path) (Some k) ≡ news_at k.event after at ps q)
+  -- the marks of instances
+  pub kept : (o : List ℕ) (n : ℕ) → m'.kept o n ≡ m.kept o n
+  pub told : (e q : ℕ) → m'.told e q ≡ (m.told e q || ((e == j) && called q))
+  pub calls : (o : List ℕ) (n : ℕ) (t : List (List ℕ)) (q : ℕ) → place_of (Managed o n t) (us ++ bs) ≡ Some q → called q ≡ not (is_nil (news_of R s past (Managed o n t) (Some k)))
 
 module _ (R : Rules) (s : List OwnState) (laws : TakingLaws R s) where
   -- seats after an entry that commits nothing
@@ -146,9 +213,9 @@ module _ (R : Rules) (s : List OwnState) (laws : TakingLaws R s) where
   seat_plain n true (Some st) ds (Some u) c r f h e seat = row_plain R s laws n st ds u c r f h (e refl) seat
 
   -- what is subscribed after an entry that makes this subscription, if any
-  subscribed_more : (past : List Entry) (us : List Unit) (evs : List EventRow) (x : FilterIndex) (a : UnitName) (c : Call) (r : Reply) (made : Option (ℕ × List Clause)) → Agrees R s past us evs x → ((st : OwnState) → own R s past a ≡ Some st → R.subscribes st c r ≡ made) → (n : UnitName) →
+  subscribed_more : (past : List Entry) (us : List Unit) (evs : List EventRow) (x : FilterIndex) (w : ManagedState) (a : UnitName) (c : Call) (r : Reply) (made : Option (ℕ × List Clause)) → Agrees R s past us evs x w → ((st : OwnState) → own R s past a ≡ Some st → R.subscribes st c r ≡ made) → (n : UnitName) →
       subscribed_at (place_of n us) (x.enrolled ++ enrols (place_of a us) made) ≡ subscriptions R s past n ++ option_to_list (subscribed_in R (same a n) c r (own R s past n))
-  subscribed_more past us evs x a c r made agree makes n = by (place_of n us) refl (same a n) refl
+  subscribed_more past us evs x w a c r made agree makes n = by (place_of n us) refl (same a n) refl
     where
       Goal : Option ℕ → Bool → Type 0
       Goal p b = subscribed_at p (x.enrolled ++ enrols (place_of a us) made) ≡ subscriptions R s past n ++ option_to_list (subscribed_in R b c r (own R s past n))
@@ -185,31 +252,6 @@ module _ (R : Rules) (s : List OwnState) (laws : TakingLaws R s) where
           ∙ ap (λ (l : List (ℕ × List Clause)). subscriptions_at k x.enrolled ++ l) (made_there k (place_of a us) made (λ j e. apart us a n j k e h g))
           ∙ ap (λ (l : List (ℕ × List Clause)). l ++ []) (sym (ap (λ (q : Option ℕ). subscribed_at q x.enrolled) h) ∙ agree.subscribed n)
 
-  pub agrees_plain : (past : List Entry) (us : List Unit) (evs : List EventRow) (x x' : FilterIndex) (a : UnitName) (c : Call) (r : Reply) (f : Effect) (made : Option (ℕ × List Clause)) → Agrees R s past us evs x → MakesNoManaged R c r → MakesNoUnit R c r → commit_in f ≡ None → answer R s past a c ≡ (r, f) →
-      ((st : OwnState) → own R s past a ≡ Some st → R.subscribes st c r ≡ made) → x'.enrolled ≡ x.enrolled ++ enrols (place_of a us) made → x'.handed ≡ x.handed → Agrees R s (Done a c r f ∷ past) (moved_at a (moved_row R c r f) us) evs x'
-  agrees_plain past us evs x x' a c r f made agree unfixed none quiet right makes enrolled handed =
-      let here : (n : UnitName) → place_of n (moved_at a (moved_row R c r f) us) ≡ place_of n us = λ n. place_of-names n us (moved_at a (moved_row R c r f) us) (names-moved a (moved_row R c r f) (λ u. refl) us) in
-      let delivered : (n : UnitName) → deliveries R s (Done a c r f ∷ past) n ≡ deliveries R s past n = λ n. deliveries_step R s past a c r f agree.unmanaged n ∙ ap (λ k. deliveries R s past n ++ news_of R s past n k) quiet ∙ ap (λ (l : List Given). deliveries R s past n ++ l) (no_news R s past n) ∙ append-nil (deliveries R s past n) in record {
-        legal = (agree.legal, right);
-        seats = λ n. seat_along n _ _ _ _ _ _
-            (own_step R s past a c r f none agree.unmanaged n)
-            (delivered n)
-            (find-moved a (moved_row R c r f) (λ u. refl) n us)
-            (seat_plain n (same a n) (own R s past n) (deliveries R s past n) (find n us) c r f quiet
-            (λ e. subst (λ (m : UnitName). answer R s past m c ≡ (r, f)) (same_name-exact a n e) right) (agree.seats n));
-        subscribed = λ n. ap (λ (p : Option ℕ). subscribed_at p x'.enrolled) (here n) ∙ ap (subscribed_at (place_of n us)) enrolled ∙ subscribed_more past us evs x a c r made agree makes n;
-        marked = λ n ev m. ap (λ (p : Option ℕ). is_marked x'.handed p (event_place ev evs) m) (here n) ∙ ap (λ (h : List (List Pair)). is_marked h (place_of n us) (event_place ev evs) m) handed ∙ agree.marked n ev m ∙ ap (λ (ds : List Given). was_handed ds ev m) (sym (delivered n));
-        parts = λ ev. agree.parts ev ∙ sym (ap (λ k. committed ev k (contents past ev)) quiet);
-        unmanaged = unmanaged_step R s past a c r f unfixed agree.unmanaged;
-        no_instances = no_instances_step R s past a c r f agree.unmanaged agree.no_instances;
-      }
-
-  -- an entry that makes units
-
-  own_born : (past : List Entry) (a : UnitName) (c : Call) (r : Reply) (f : Effect) → ((o : List ℕ) (k : ℕ) → fixed R s past o k ≡ None) → (n : UnitName) → own R s (Done a c r f ∷ past) n ≡ option_or (after_entry R n (same a n) c r f (own R s past n)) (born_by R s past (Done a c r f) n)
-  own_born past a c r f h (Root path) = refl
-  own_born past a c r f h (Managed o k t) = rw (h o k) refl
-
   -- a seat, and one that is new
   seat_or : (n : UnitName) (o o' : Option OwnState) (ds : List Given) (p p' : Option Unit) → IsSeat n o ds p → (o ≡ None → ds ≡ [] → IsSeat n o' ds p') → IsSeat n (option_or o o') ds (option_or p p')
   seat_or n None o' ds None p' seat more = more refl seat
@@ -222,39 +264,55 @@ module _ (R : Rules) (s : List OwnState) (laws : TakingLaws R s) where
   was_none n true c r f (Some st) e = absurd (let z : ⊥ = cc in z)
   was_none n false c r f (Some st) e = e
 
-  pub agrees_born : (past : List Entry) (us bs : List Unit) (evs : List EventRow) (x : FilterIndex) (a : UnitName) (c : Call) (r : Reply) (f : Effect) → Agrees R s past us evs x → MakesNoManaged R c r → commit_in f ≡ None → answer R s past a c ≡ (r, f) →
-      ((st : OwnState) → own R s past a ≡ Some st → R.subscribes st c r ≡ None) → All (λ s. s.unit < length us) x.enrolled → ((event : ℕ) (p : Pair) → length us ≤ p.0 → index.was_handed x.handed event p ≡ false) →
-      ((n : UnitName) → own R s past n ≡ None → IsSeat n (born_by R s past (Done a c r f) n) [] (find n bs)) → Agrees R s (Done a c r f ∷ past) (moved_at a (moved_row R c r f) us ++ bs) evs x
-  agrees_born past us bs evs x a c r f agree unfixed quiet right makes enrolled seated births =
-      let moved : List Unit = moved_at a (moved_row R c r f) us in
-      let names = names-moved a (moved_row R c r f) (λ u. refl) us in
-      let size : length moved ≡ length us = same_length moved us names in
-      let here : (n : UnitName) → place_of n (moved ++ bs) ≡ option_or (place_of n us) (option_map (λ k. length us + k) (place_of n bs)) = λ n.
+  -- the places of units, when others have come behind them
+  places_born : (a : UnitName) (g : Unit → Unit) → ((u : Unit) → (g u).local.unit ≡ u.local.unit) → (h : Unit → Unit) → ((u : Unit) → (h u).local.unit ≡ u.local.unit) → (us bs : List Unit) (n : UnitName) →
+      place_of n (moved_at a g (map h us) ++ bs) ≡ option_or (place_of n us) (option_map (λ k. length us + k) (place_of n bs))
+  places_born a g kept h still us bs n =
+      let moved : List Unit = moved_at a g (map h us) in
+      let names = names-moved a g kept (map h us) ∙ names-map h still us in
       place_by-append (λ (u : Unit). same u.local.unit n) moved bs
       ∙ ap (λ (p : Option ℕ). option_or p (option_map (λ k. length moved + k) (place_of n bs))) (place_of-names n us moved names)
-      ∙ ap (λ (m : ℕ). option_or (place_of n us) (option_map (λ k. m + k) (place_of n bs))) size in
-      let delivered : (n : UnitName) → deliveries R s (Done a c r f ∷ past) n ≡ deliveries R s past n = λ n. deliveries_step R s past a c r f agree.unmanaged n ∙ ap (λ k. deliveries R s past n ++ news_of R s past n k) quiet ∙ ap (λ (l : List Given). deliveries R s past n ++ l) (no_news R s past n) ∙ append-nil (deliveries R s past n) in record {
+      ∙ ap (λ (m : ℕ). option_or (place_of n us) (option_map (λ k. m + k) (place_of n bs))) (same_length moved us names)
+
+  map_same : (us : List Unit) → map (λ (u : Unit). u) us ≡ us
+  map_same [] = refl
+  map_same (u ∷ us) = ap (λ (l : List Unit). u ∷ l) (map_same us)
+
+  -- after an entry that commits nothing
+  pub agrees_plain : (past : List Entry) (us bs : List Unit) (evs : List EventRow) (x x' : FilterIndex) (m m' : ManagedState) (a : UnitName) (c : Call) (r : Reply) (f : Effect) (made : Option (ℕ × List Clause)) → Agrees R s past us evs x m → commit_in f ≡ None → answer R s past a c ≡ (r, f) →
+      ((st : OwnState) → own R s past a ≡ Some st → R.subscribes st c r ≡ made) → x'.enrolled ≡ x.enrolled ++ enrols (place_of a us) made → x'.handed ≡ x.handed → ((o : List ℕ) (n : ℕ) → m'.kept o n ≡ option_or (m.kept o n) (fixed_by R (Done a c r f) o n (own_plain R s past o))) → ((e q : ℕ) → m'.told e q ≡ m.told e q) →
+      All (λ s. s.unit < length us) x'.enrolled → ((event : ℕ) (p : Pair) → length us ≤ p.0 → index.was_handed x.handed event p ≡ false) → ((e q : ℕ) → length us ≤ q → m.told e q ≡ false) → ((n : UnitName) → own R s past n ≡ None → IsSeat n (born_by R s past (Done a c r f) n) [] (find n bs)) → Agrees R s (Done a c r f ∷ past) (moved_at a (moved_row R c r f) us ++ bs) evs x' m'
+  agrees_plain past us bs evs x x' m m' a c r f made agree quiet right makes enrolled handed kept told within seated placed births =
+      let moved : List Unit = moved_at a (moved_row R c r f) us in
+      let here : (n : UnitName) → place_of n (moved ++ bs) ≡ option_or (place_of n us) (option_map (λ k. length us + k) (place_of n bs)) = λ n.
+      ap (λ (l : List Unit). place_of n (moved_at a (moved_row R c r f) l ++ bs)) (sym (map_same us)) ∙ places_born a (moved_row R c r f) (λ u. refl) (λ u. u) (λ u. refl) us bs n in
+      let delivered : (n : UnitName) → deliveries R s (Done a c r f ∷ past) n ≡ deliveries R s past n = λ n. deliveries_step R s past a c r f n ∙ ap (λ k. deliveries R s past n ++ news_of R s past n k) quiet ∙ ap (λ (l : List Given). deliveries R s past n ++ l) (no_news R s past n) ∙ append-nil (deliveries R s past n) in record {
         legal = (agree.legal, right);
         seats = λ n. seat_along n _ _ _ _ _ _
-            (own_born past a c r f agree.unmanaged n)
+            (own_step R s past a c r f n)
             (delivered n)
             (find-append n moved bs ∙ ap (λ (p : Option Unit). option_or p (find n bs)) (find-moved a (moved_row R c r f) (λ u. refl) n us))
             (seat_or n _ _ _ _ _
             (seat_plain n (same a n) (own R s past n) (deliveries R s past n) (find n us) c r f quiet
-            (λ e. subst (λ (m : UnitName). answer R s past m c ≡ (r, f)) (same_name-exact a n e) right) (agree.seats n))
+            (λ e. subst (λ (w : UnitName). answer R s past w c ≡ (r, f)) (same_name-exact a n e) right) (agree.seats n))
             (λ e none. subst (λ (ds : List Given). IsSeat n (born_by R s past (Done a c r f) n) ds (find n bs)) (sym none) (births n (was_none n (same a n) c r f (own R s past n) e))));
         subscribed = λ n.
-            ap (λ (p : Option ℕ). subscribed_at p x.enrolled) (here n)
-            ∙ subscribed_born (length us) (place_of n us) (place_of n bs) x.enrolled enrolled
-            ∙ ap (subscribed_at (place_of n us)) (sym (append-nil x.enrolled) ∙ ap (λ (l : List (Subscription (List Clause))). x.enrolled ++ l) (sym (enrols_none (place_of a us))))
-            ∙ subscribed_more past us evs x a c r None agree makes n;
-        marked = λ n ev m.
-            ap (λ (p : Option ℕ). is_marked x.handed p (event_place ev evs) m) (here n)
-            ∙ marked_born (length us) (place_of n us) (place_of n bs) (event_place ev evs) x.handed m seated
-            ∙ agree.marked n ev m ∙ ap (λ (ds : List Given). was_handed ds ev m) (sym (delivered n));
+            ap (λ (p : Option ℕ). subscribed_at p x'.enrolled) (here n)
+            ∙ subscribed_born (length us) (place_of n us) (place_of n bs) x'.enrolled within
+            ∙ ap (subscribed_at (place_of n us)) enrolled ∙ subscribed_more past us evs x m a c r made agree makes n;
+        marked = λ path ev k.
+            ap (λ (p : Option ℕ). is_marked x'.handed p (event_place ev evs) k) (here (Root path))
+            ∙ ap (λ (h : List (List Pair)). is_marked h (option_or (place_of (Root path) us) (option_map (λ k. length us + k) (place_of (Root path) bs))) (event_place ev evs) k) handed
+            ∙ marked_born (length us) (place_of (Root path) us) (place_of (Root path) bs) (event_place ev evs) x.handed k seated
+            ∙ agree.marked path ev k ∙ ap (λ (ds : List Given). was_handed ds ev k) (sym (delivered (Root path)));
         parts = λ ev. agree.parts ev ∙ sym (ap (λ k. committed ev k (contents past ev)) quiet);
-        unmanaged = unmanaged_step R s past a c r f unfixed agree.unmanaged;
-        no_instances = no_instances_step R s past a c r f agree.unmanaged agree.no_instances;
+        kept = λ o n. kept o n ∙ ap (λ (fx : Option Fixed). option_or fx (fixed_by R (Done a c r f) o n (own_plain R s past o))) (agree.kept o n);
+        told = λ o n t ev.
+            let u : UnitName = Managed o n t in
+            ap (λ (p : Option ℕ). is_told m'.told (event_place ev evs) p) (here u)
+            ∙ told_same m m' told (event_place ev evs) (option_or (place_of u us) (option_map (λ k. length us + k) (place_of u bs)))
+            ∙ told_born (length us) m.told (event_place ev evs) (place_of u us) (place_of u bs) placed
+            ∙ agree.told o n t ev ∙ ap (λ (ds : List Given). was_handed ds ev n) (sym (delivered u));
       }
 
   -- seats after a commit
@@ -262,73 +320,158 @@ module _ (R : Rules) (s : List OwnState) (laws : TakingLaws R s) where
   abbrev handed_over : (Unit → List Given) → Bool → Call → Reply → Commit → Option Unit → Option Unit
   handed_over given b c r k p = if b then option_map (moved_row R c r (Effect.Commit k)) (option_map (with_news given) p) else option_map (with_news given) p
 
-  seat_commit : (given : Unit → List Given) (n : UnitName) (b : Bool) (o : Option OwnState) (ds news : List Given) (p : Option Unit) (c : Call) (r : Reply) (k : Commit) → (o ≡ None → news ≡ []) → (b ≡ true → answer_of R n o ds c ≡ (r, Effect.Commit k)) → ((u : Unit) → u.local.unit ≡ n → given u ≡ news) → IsSeat n o ds p →
-      IsSeat n (after_entry R n b c r (Effect.Commit k) o) (ds ++ news) (handed_over given b c r k p)
-  seat_commit given n true None ds news None c r k h e is seat = ap (λ (l : List Given). ds ++ l) (h refl) ∙ append-nil ds ∙ seat
-  seat_commit given n false None ds news None c r k h e is seat = ap (λ (l : List Given). ds ++ l) (h refl) ∙ append-nil ds ∙ seat
-  seat_commit given n b None ds news (Some u) c r k h e is seat = absurd seat
-  seat_commit given n b (Some st) ds news None c r k h e is seat = absurd seat
-  seat_commit given n true (Some st) ds news (Some u) c r k h e is seat = row_commit R s laws given n st ds news u c r k (e refl) (is u seat.unit) seat
-  seat_commit given n false (Some st) ds news (Some u) c r k h e is seat = row_news given n st ds news u (is u seat.unit) seat
+  seat_commit : (given : Unit → List Given) (n : UnitName) (b : Bool) (o born : Option OwnState) (ds news : List Given) (p q : Option Unit) (c : Call) (r : Reply) (k : Commit) → (b ≡ true → answer_of R n o ds c ≡ (r, Effect.Commit k)) → ((u : Unit) → u.local.unit ≡ n → given u ≡ news) → (o ≡ None → IsSeat n born news q) → IsSeat n o ds p →
+      IsSeat n (option_or (after_entry R n b c r (Effect.Commit k) o) born) (ds ++ news) (option_or (handed_over given b c r k p) q)
+  seat_commit given n true None born ds news None q c r k e is births seat = subst (λ (l : List Given). IsSeat n born (l ++ news) q) (sym seat) (births refl)
+  seat_commit given n false None born ds news None q c r k e is births seat = subst (λ (l : List Given). IsSeat n born (l ++ news) q) (sym seat) (births refl)
+  seat_commit given n b None born ds news (Some u) q c r k e is births seat = absurd seat
+  seat_commit given n b (Some st) born ds news None q c r k e is births seat = absurd seat
+  seat_commit given n true (Some st) born ds news (Some u) q c r k e is births seat = row_commit R s laws given n st ds news u c r k (e refl) (is u seat.unit) seat
+  seat_commit given n false (Some st) born ds news (Some u) q c r k e is births seat = row_news given n st ds news u (is u seat.unit) seat
 
-  -- marks after a commit
-  marked_commit : (past : List Entry) (us us' : List Unit) (evs evs' : List EventRow) (x x' : FilterIndex) (k : Commit) (j : ℕ) (after : List Part) (ps : List Pair) (given : Unit → List Given) → Agrees R s past us evs x → IsMade R s past us evs evs' x x' k j after ps given → ((n : UnitName) → place_of n us' ≡ place_of n us) →
-      (n : UnitName) (ev : EventName) (m : ℕ) → is_marked x'.handed (place_of n us') (event_place ev evs') m ≡ was_handed (deliveries R s past n ++ news_of R s past n (Some k)) ev m
-  marked_commit past us us' evs evs' x x' k j after ps given agree made here n ev m =
-      ap (λ (p : Option ℕ). is_marked x'.handed p (event_place ev evs') m) (here n)
-      ∙ ap (λ (e : Option ℕ). is_marked x'.handed (place_of n us) e m) (made.places ev)
-      ∙ by (place_of n us) refl (event_place ev evs) refl
-      ∙ sym (list_any-append (λ (d : Given). same_event d.event ev && (d.sub == m)) (deliveries R s past n) (news_of R s past n (Some k)))
-    where
-      before : Bool
-      before = was_handed (deliveries R s past n) ev m
+  or_false : (b : Bool) → (b || false) ≡ b
+  or_false true = refl
+  or_false false = refl
 
-      after_it : Bool
-      after_it = was_handed (news_of R s past n (Some k)) ev m
+  module _ (past : List Entry) (us bs : List Unit) (evs evs' : List EventRow) (x x' : FilterIndex) (m m' : ManagedState) (k : Commit) (j : ℕ) (after : List Part) (ps : List Pair) (called : ℕ → Bool) (given : Unit → List Given)
+      (agree : Agrees R s past us evs x m) (made : IsMade R s past us bs evs evs' x x' m m' k j after ps called given) where
+    -- marks of plain units after a commit
+    marked_commit : (path : List ℕ) (ev : EventName) (i : ℕ) → is_marked x'.handed (place_of (Root path) us) (event_place ev evs') i ≡ was_handed (deliveries R s past (Root path) ++ news_of R s past (Root path) (Some k)) ev i
+    marked_commit path ev i =
+        ap (λ (e : Option ℕ). is_marked x'.handed (place_of (Root path) us) e i) (made.places ev)
+        ∙ by (place_of (Root path) us) refl (event_place ev evs) refl
+        ∙ sym (list_any-append (λ (d : Given). same_event d.event ev && (d.sub == i)) (deliveries R s past (Root path)) (news_of R s past (Root path) (Some k)))
+      where
+        before : Bool
+        before = was_handed (deliveries R s past (Root path)) ev i
 
-      or_false : (b : Bool) → (b || false) ≡ b
-      or_false true = refl
-      or_false false = refl
+        after_it : Bool
+        after_it = was_handed (news_of R s past (Root path) (Some k)) ev i
 
-      by : (p : Option ℕ) → place_of n us ≡ p → (e : Option ℕ) → event_place ev evs ≡ e → is_marked x'.handed p e m ≡ (before || after_it)
-      by None h e g =
-          ap (λ (p : Option ℕ). is_marked x.handed p (event_place ev evs) m) (sym h) ∙ agree.marked n ev m
-          ∙ sym (or_false before) ∙ ap (λ (ds : List Given). before || was_handed ds ev m) (sym (none_news R s past n (Some k) (absent R s past us n agree.seats h)))
-      by (Some q) h None g =
-          let brought = made.brought n q h in
-          let old : false ≡ before = ap (λ (p : Option ℕ). is_marked x.handed p None m) (sym h) ∙ ap (λ (e : Option ℕ). is_marked x.handed (place_of n us) e m) (sym g) ∙ agree.marked n ev m in
-          let other : same_event k.event ev ≡ false = not_there evs k.event ev j made.place g in
-          old ∙ sym (or_false before) ∙ ap (λ (b : Bool). before || b)
-          (sym (ap (λ (ds : List Given). was_handed ds ev m) brought.1 ∙ handed_news k.event after brought.0 ps q ev m ∙ ap (λ (b : Bool). b && has_pair ps (q, m)) other))
-      by (Some q) h (Some i) g =
-          let brought = made.brought n q h in
-          let old : index.was_handed x.handed i (q, m) ≡ before = ap (λ (p : Option ℕ). is_marked x.handed p (Some i) m) (sym h) ∙ ap (λ (e : Option ℕ). is_marked x.handed (place_of n us) e m) (sym g) ∙ agree.marked n ev m in
-          made.booked i (q, m)
-          ∙ ap (λ (b : Bool). b || ((i == j) && has_pair ps (q, m))) old
-          ∙ ap (λ (b : Bool). before || (b && has_pair ps (q, m))) (same_place evs k.event ev j i made.place g)
-          ∙ ap (λ (b : Bool). before || b) (sym (ap (λ (ds : List Given). was_handed ds ev m) brought.1 ∙ handed_news k.event after brought.0 ps q ev m))
+        by : (p : Option ℕ) → place_of (Root path) us ≡ p → (e : Option ℕ) → event_place ev evs ≡ e → is_marked x'.handed p e i ≡ (before || after_it)
+        by None h e g =
+            ap (λ (p : Option ℕ). is_marked x.handed p (event_place ev evs) i) (sym h) ∙ agree.marked path ev i
+            ∙ sym (or_false before) ∙ ap (λ (ds : List Given). before || was_handed ds ev i) (sym (none_news R s past path (Some k) (absent R s past us (Root path) agree.seats h)))
+        by (Some q) h None g =
+            let brought = made.brought path q h in
+            let old : false ≡ before = ap (λ (p : Option ℕ). is_marked x.handed p None i) (sym h) ∙ ap (λ (e : Option ℕ). is_marked x.handed (place_of (Root path) us) e i) (sym g) ∙ agree.marked path ev i in
+            let other : same_event k.event ev ≡ false = not_there evs k.event ev j made.place g in
+            old ∙ sym (or_false before) ∙ ap (λ (b : Bool). before || b)
+            (sym (ap (λ (ds : List Given). was_handed ds ev i) brought.1 ∙ handed_news k.event after brought.0 ps q ev i ∙ ap (λ (b : Bool). b && has_pair ps (q, i)) other))
+        by (Some q) h (Some l) g =
+            let brought = made.brought path q h in
+            let old : index.was_handed x.handed l (q, i) ≡ before = ap (λ (p : Option ℕ). is_marked x.handed p (Some l) i) (sym h) ∙ ap (λ (e : Option ℕ). is_marked x.handed (place_of (Root path) us) e i) (sym g) ∙ agree.marked path ev i in
+            made.booked l (q, i)
+            ∙ ap (λ (b : Bool). b || ((l == j) && has_pair ps (q, i))) old
+            ∙ ap (λ (b : Bool). before || (b && has_pair ps (q, i))) (same_place evs k.event ev j l made.place g)
+            ∙ ap (λ (b : Bool). before || b) (sym (ap (λ (ds : List Given). was_handed ds ev i) brought.1 ∙ handed_news k.event after brought.0 ps q ev i))
 
-  pub agrees_commit : (past : List Entry) (us : List Unit) (evs evs' : List EventRow) (x x' : FilterIndex) (a : UnitName) (c : Call) (r : Reply) (k : Commit) (j : ℕ) (after : List Part) (ps : List Pair) (given : Unit → List Given) → Agrees R s past us evs x → MakesNoManaged R c r → MakesNoUnit R c r → answer R s past a c ≡ (r, Effect.Commit k) →
-      ((st : OwnState) → own R s past a ≡ Some st → R.subscribes st c r ≡ None) → IsMade R s past us evs evs' x x' k j after ps given → Agrees R s (Done a c r (Effect.Commit k) ∷ past) (moved_at a (moved_row R c r (Effect.Commit k)) (map (with_news given) us)) evs' x'
-  agrees_commit past us evs evs' x x' a c r k j after ps given agree unfixed none right makes made =
-      let us' = moved_at a (moved_row R c r (Effect.Commit k)) (map (with_news given) us) in
-      let here : (n : UnitName) → place_of n us' ≡ place_of n us = λ n. place_of-names n us us' (names-moved a (moved_row R c r (Effect.Commit k)) (λ u. refl) (map (with_news given) us) ∙ names-map (with_news given) (λ u. refl) us) in
+    -- what a seat without a row was handed
+    seat_none : (n : UnitName) (o : Option OwnState) (ds : List Given) → IsSeat n o ds None → ds ≡ []
+    seat_none n None ds seat = seat
+    seat_none n (Some st) ds seat = absurd seat
+
+    none_given : (n : UnitName) → place_of n us ≡ None → deliveries R s past n ≡ []
+    none_given n h = seat_none n (own R s past n) (deliveries R s past n) (subst (IsSeat n (own R s past n) (deliveries R s past n)) (at_none n us h).0 (agree.seats n))
+
+    module _ (born : UnitName → Option OwnState) (placed : (e q : ℕ) → length us ≤ q → m.told e q ≡ false) (births : (n : UnitName) → own R s past n ≡ None → IsSeat n (born n) (news_of R s past n (Some k)) (find n bs)) (o : List ℕ) (n : ℕ) (t : List (List ℕ)) (ev : EventName) where
+      abbrev who : UnitName
+      who = Managed o n t
+
+      abbrev before : Bool
+      before = was_handed (deliveries R s past who) ev n
+
+      abbrev after_it : Bool
+      after_it = was_handed (news_of R s past who (Some k)) ev n
+
+      place_is : place_of who (us ++ bs) ≡ option_or (place_of who us) (option_map (λ q. length us + q) (place_of who bs))
+      place_is = place_by-append (λ (u : Unit). same u.local.unit who) us bs
+
+      -- what was told of the place
+      told_before : (i q : ℕ) → place_of who (us ++ bs) ≡ Some q → event_place ev evs ≡ Some i → m.told i q ≡ before
+      told_before i q h g = by (place_of who us) refl (place_of who bs) refl (sym place_is ∙ h)
+        where
+          by : (p : Option ℕ) → place_of who us ≡ p → (b : Option ℕ) → place_of who bs ≡ b → option_or p (option_map (λ r. length us + r) b) ≡ Some q → m.told i q ≡ before
+          by (Some p) f b l e =
+              let z : p ≡ q = cc in
+              ap (m.told i) (sym z) ∙ sym (ap (λ (w : Option ℕ). is_told m.told (Some i) w) f) ∙ ap (λ (w : Option ℕ). is_told m.told w (place_of who us)) (sym g) ∙ agree.told o n t ev
+          by None f (Some b) l e =
+              let z : length us + b ≡ q = cc in
+              placed i q (omega (arith, z)) ∙ sym (ap (λ (ds : List Given). was_handed ds ev n) (none_given who f))
+          by None f None l e = absurd (let z : ⊥ = cc in z)
+
+      -- who has no place was and is brought nothing
+      untold : place_of who (us ++ bs) ≡ None → (before || after_it) ≡ false
+      untold h =
+          let none = by (place_of who us) (place_of who bs) (sym place_is ∙ h) in
+          let gone = absent R s past us who agree.seats none.0 in
+          let news : news_of R s past who (Some k) ≡ [] = seat_none who (born who) (news_of R s past who (Some k)) (subst (IsSeat who (born who) (news_of R s past who (Some k))) (at_none who bs none.1).0 (births who gone)) in
+          ap (λ (ds : List Given). was_handed ds ev n || after_it) (none_given who none.0) ∙ ap (λ (ds : List Given). was_handed ds ev n) news
+        where
+          by : (p b : Option ℕ) → option_or p (option_map (λ r. length us + r) b) ≡ None → (p ≡ None) × (b ≡ None)
+          by (Some p) b e = absurd (let z : ⊥ = cc in z)
+          by None (Some b) e = absurd (let z : ⊥ = cc in z)
+          by None None e = (refl, refl)
+
+      told_commit : is_told m'.told (event_place ev evs') (place_of who (us ++ bs)) ≡ was_handed (deliveries R s past who ++ news_of R s past who (Some k)) ev n
+      told_commit =
+          ap (λ (e : Option ℕ). is_told m'.told e (place_of who (us ++ bs))) (made.places ev)
+          ∙ by (place_of who (us ++ bs)) refl (event_place ev evs) refl
+          ∙ sym (list_any-append (λ (d : Given). same_event d.event ev && (d.sub == n)) (deliveries R s past who) (news_of R s past who (Some k)))
+        where
+          by : (p : Option ℕ) → place_of who (us ++ bs) ≡ p → (e : Option ℕ) → event_place ev evs ≡ e → is_told m'.told e p ≡ (before || after_it)
+          by None h None g = sym (untold h)
+          by None h (Some i) g = sym (untold h)
+          by (Some q) h None g =
+              let old : false ≡ before = ap (λ (e : Option ℕ). is_told m.told e (place_of who us)) (sym g) ∙ agree.told o n t ev in
+              let other : same_event k.event ev ≡ false = not_there evs k.event ev j made.place g in
+              old ∙ sym (or_false before) ∙ ap (λ (b : Bool). before || b)
+              (sym (instance_told R s past o n t k ev ∙ ap (λ (b : Bool). b && not (is_nil (news_of R s past who (Some k)))) other))
+          by (Some q) h (Some i) g =
+              made.told i q
+              ∙ ap (λ (b : Bool). b || ((i == j) && called q)) (told_before i q h g)
+              ∙ ap (λ (b : Bool). before || (b && called q)) (same_place evs k.event ev j i made.place g)
+              ∙ ap (λ (b : Bool). before || (same_event k.event ev && b)) (made.calls o n t q h)
+              ∙ ap (λ (b : Bool). before || b) (sym (instance_told R s past o n t k ev))
+
+  -- after a commit
+  pub agrees_commit : (past : List Entry) (us bs : List Unit) (evs evs' : List EventRow) (x x' : FilterIndex) (m m' : ManagedState) (a : UnitName) (c : Call) (r : Reply) (k : Commit) (j : ℕ) (after : List Part) (ps : List Pair) (called : ℕ → Bool) (given : Unit → List Given) → Agrees R s past us evs x m → MakesNoManaged R c r → answer R s past a c ≡ (r, Effect.Commit k) →
+      ((st : OwnState) → own R s past a ≡ Some st → R.subscribes st c r ≡ None) → IsMade R s past us bs evs evs' x x' m m' k j after ps called given →
+      All (λ s. s.unit < length us) x.enrolled → ((event : ℕ) (p : Pair) → length us ≤ p.0 → index.was_handed x'.handed event p ≡ false) → ((e q : ℕ) → length us ≤ q → m.told e q ≡ false) → ((n : UnitName) → own R s past n ≡ None → IsSeat n (born_by R s past (Done a c r (Effect.Commit k)) n) (news_of R s past n (Some k)) (find n bs)) →
+      Agrees R s (Done a c r (Effect.Commit k) ∷ past) (moved_at a (moved_row R c r (Effect.Commit k)) (map (with_news given) us) ++ bs) evs' x' m'
+  agrees_commit past us bs evs evs' x x' m m' a c r k j after ps called given agree unfixed right makes made within seated placed births =
+      let F = moved_row R c r (Effect.Commit k) in
+      let moved : List Unit = moved_at a F (map (with_news given) us) in
+      let entry = Done a c r (Effect.Commit k) in
+      let here : (n : UnitName) → place_of n (moved ++ bs) ≡ option_or (place_of n us) (option_map (λ q. length us + q) (place_of n bs)) = λ n. places_born a F (λ u. refl) (with_news given) (λ u. refl) us bs n in
       let is' : after ≡ apply k.edit (contents past k.event) = made.applied ∙ ap (apply k.edit) (agree.parts k.event) in record {
         legal = (agree.legal, right);
         seats = λ n. seat_along n _ _ _ _ _ _
-            (own_step R s past a c r (Effect.Commit k) none agree.unmanaged n)
-            (deliveries_step R s past a c r (Effect.Commit k) agree.unmanaged n)
-            (find-moved a (moved_row R c r (Effect.Commit k)) (λ u. refl) n _ ∙ ap (λ (p : Option Unit). if same a n then option_map (moved_row R c r (Effect.Commit k)) p else p) (find-map (with_news given) (λ u. refl) n us))
-            (seat_commit given n (same a n) (own R s past n) (deliveries R s past n) (news_of R s past n (Some k)) (find n us) c r k
-            (none_news R s past n (Some k))
-            (λ e. subst (λ (m : UnitName). answer R s past m c ≡ (r, Effect.Commit k)) (same_name-exact a n e) right)
-            (λ u e. made.gives u ∙ ap (λ (m : UnitName). news_of R s past m (Some k)) e)
-            (agree.seats n));
-        subscribed = λ n. ap (λ (p : Option ℕ). subscribed_at p x'.enrolled) (here n) ∙ ap (subscribed_at (place_of n us)) (made.enrolled ∙ sym (append-nil x.enrolled) ∙ ap (λ (l : List (Subscription (List Clause))). x.enrolled ++ l) (sym (enrols_none (place_of a us)))) ∙ subscribed_more past us evs x a c r None agree makes n;
-        marked = λ n ev m. marked_commit past us us' evs evs' x x' k j after ps given agree made here n ev m ∙ ap (λ (ds : List Given). was_handed ds ev m) (sym (deliveries_step R s past a c r (Effect.Commit k) agree.unmanaged n));
+            (own_step R s past a c r (Effect.Commit k) n)
+            (deliveries_step R s past a c r (Effect.Commit k) n)
+            (find-append n moved bs ∙ ap (λ (p : Option Unit). option_or p (find n bs)) (find-moved a F (λ u. refl) n _ ∙ ap (λ (p : Option Unit). if same a n then option_map F p else p) (find-map (with_news given) (λ u. refl) n us)))
+            (seat_commit given n (same a n) (own R s past n) (born_by R s past entry n) (deliveries R s past n) (news_of R s past n (Some k)) (find n us) (find n bs) c r k
+            (λ e. subst (λ (w : UnitName). answer R s past w c ≡ (r, Effect.Commit k)) (same_name-exact a n e) right)
+            (λ u e. made.gives u ∙ ap (λ (w : UnitName). news_of R s past w (Some k)) e)
+            (births n) (agree.seats n));
+        subscribed = λ n.
+            ap (λ (p : Option ℕ). subscribed_at p x'.enrolled) (here n)
+            ∙ ap (subscribed_at (option_or (place_of n us) (option_map (λ q. length us + q) (place_of n bs)))) made.enrolled
+            ∙ subscribed_born (length us) (place_of n us) (place_of n bs) x.enrolled within
+            ∙ ap (subscribed_at (place_of n us)) (sym (append-nil x.enrolled) ∙ ap (λ (l : List (Subscription (List Clause))). x.enrolled ++ l) (sym (enrols_none (place_of a us))))
+            ∙ subscribed_more past us evs x m a c r None agree makes n;
+        marked = λ path ev i.
+            ap (λ (p : Option ℕ). is_marked x'.handed p (event_place ev evs') i) (here (Root path))
+            ∙ marked_born (length us) (place_of (Root path) us) (place_of (Root path) bs) (event_place ev evs') x'.handed i seated
+            ∙ marked_commit past us bs evs evs' x x' m m' k j after ps called given agree made path ev i
+            ∙ ap (λ (ds : List Given). was_handed ds ev i) (sym (deliveries_step R s past a c r (Effect.Commit k) (Root path)));
         parts = λ ev. made.put ev ∙ by ev (same_event k.event ev) refl is';
-        unmanaged = unmanaged_step R s past a c r (Effect.Commit k) unfixed agree.unmanaged;
-        no_instances = no_instances_step R s past a c r (Effect.Commit k) agree.unmanaged agree.no_instances;
+        kept = λ o n. made.kept o n ∙ agree.kept o n ∙ sym (kept_step R s past a c r (Effect.Commit k) unfixed o n);
+        told = λ o n t ev.
+            let u : UnitName = Managed o n t in
+            ap (is_told m'.told (event_place ev evs')) (here u ∙ sym (place_by-append (λ (v : Unit). same v.local.unit u) us bs))
+            ∙ told_commit past us bs evs evs' x x' m m' k j after ps called given agree made (born_by R s past entry) placed births o n t ev
+            ∙ ap (λ (ds : List Given). was_handed ds ev n) (sym (deliveries_step R s past a c r (Effect.Commit k) u));
       }
     where
       by : (ev : EventName) (b : Bool) → same_event k.event ev ≡ b → after ≡ apply k.edit (contents past k.event) → (if b then after else parts_of ev evs) ≡ (if b then apply k.edit (contents past ev) else contents past ev)
@@ -336,17 +479,35 @@ module _ (R : Rules) (s : List OwnState) (laws : TakingLaws R s) where
       by ev false e is' = agree.parts ev
 
 -- a row without parts for an event that had none
-pub agrees_opened : (R : Rules) (s : List OwnState) (past : List Entry) (us : List Unit) (evs evs' : List EventRow) (x : FilterIndex) (event : EventName) → IsOpened event evs evs' → ((e : ℕ) (p : Pair) → length evs ≤ e → index.was_handed x.handed e p ≡ false) → Agrees R s past us evs x → Agrees R s past us evs' x
-agrees_opened R s past us evs evs' x event opened fresh agree = record {
+pub agrees_opened : (R : Rules) (s : List OwnState) (past : List Entry) (us : List Unit) (evs evs' : List EventRow) (x : FilterIndex) (m : ManagedState) (event : EventName) → IsOpened event evs evs' → ((e : ℕ) (p : Pair) → length evs ≤ e → index.was_handed x.handed e p ≡ false) → ((e q : ℕ) → length evs ≤ e → m.told e q ≡ false) → Agrees R s past us evs x m → Agrees R s past us evs' x m
+agrees_opened R s past us evs evs' x m event opened fresh untold agree = record {
   legal = agree.legal;
   seats = agree.seats;
   subscribed = agree.subscribed;
-  marked = λ n ev m. same n ev m opened ∙ agree.marked n ev m;
+  marked = λ path ev k. same (Root path) ev k opened ∙ agree.marked path ev k;
   parts = λ e. opened_parts event evs evs' opened e ∙ agree.parts e;
-  unmanaged = agree.unmanaged;
-  no_instances = agree.no_instances;
+  kept = agree.kept;
+  told = λ o n t ev. same_told (place_of (Managed o n t) us) ev opened ∙ agree.told o n t ev;
 }
   where
+    -- nothing is told of an event without a row
+    blank_told : (p : Option ℕ) → is_told m.told (Some (length evs)) p ≡ false
+    blank_told None = refl
+    blank_told (Some q) = untold (length evs) q (omega arith)
+
+    same_told : (p : Option ℕ) (ev : EventName) → IsOpened event evs evs' → is_told m.told (event_place ev evs') p ≡ is_told m.told (event_place ev evs) p
+    same_told p ev (inl e) = ap (λ (l : List EventRow). is_told m.told (event_place ev l) p) e
+    same_told p ev (inr e) =
+        ap (λ (l : List EventRow). is_told m.told (event_place ev l) p) e.1
+        ∙ ap (λ (q : Option ℕ). is_told m.told q p) (place_more event evs ev e.0)
+        ∙ by (same_event event ev) refl
+      where
+        by : (b : Bool) → same_event event ev ≡ b → is_told m.told (if b then Some (length evs) else event_place ev evs) p ≡ is_told m.told (event_place ev evs) p
+        by true f =
+            let gone : event_place ev evs ≡ None = subst (λ (z : EventName). event_place z evs ≡ None) ((same_event_decides event ev).0 f) e.0 in
+            blank_told p ∙ sym (ap (λ (q : Option ℕ). is_told m.told q p) gone)
+        by false f = refl
+
     blank_marked : (p : Option ℕ) (m : ℕ) → is_marked x.handed p (Some (length evs)) m ≡ false
     blank_marked None m = refl
     blank_marked (Some k) m = fresh (length evs) (k, m) (omega arith)

@@ -16,7 +16,7 @@ use Rattle.df_unit.specs.declared.entry.Effect.{Effect}
 use Rattle.df_unit.specs.declared.entry.Entry.{Entry}
 use Rattle.df_unit.specs.declared.name.UnitName.{UnitName}
 use Rattle.df_unit.specs.declared.reply.Reply.{Reply}
-use Rattle.df_tables.specs.Agree.{Agrees, FilterIndex, IsRow, IsSeat}
+use Rattle.df_tables.specs.Agree.{Agrees, FilterIndex, IsRow, IsSeat, ManagedState}
 use Rattle.df_local.specs.Locally.{row_answer}
 use Rattle.df_tables.specs.Board.{IsRollOf}
 use Rattle.df_tables.specs.Roll.{names_in}
@@ -26,7 +26,7 @@ use Rattle.df_tables.specs.declared.events.EventRow.{EventRow}
 use Rattle.df_tables.specs.declared.units.Unit.{Unit}
 use Rattle.df_tables.proofs.Finds.{place_some, seat_some}
 
-module _ (R : Rules) (s : List OwnState) (past : List Entry) (us : List Unit) (evs : List EventRow) (x : FilterIndex) (agree : Agrees R s past us evs x) (a : UnitName) where
+module _ (R : Rules) (s : List OwnState) (past : List Entry) (us : List Unit) (evs : List EventRow) (x : FilterIndex) (m : ManagedState) (agree : Agrees R s past us evs x m) (a : UnitName) where
   -- the unit's row is that of its own state
   pub row_at : (u : Unit) → find a us ≡ Some u → IsRow a u.local.own (deliveries R s past a) u × (own R s past a ≡ Some u.local.own)
   row_at u e = by (own R s past a) (subst (λ (p : Option Unit). IsSeat a (own R s past a) (deliveries R s past a) p) e (agree.seats a))

@@ -9,15 +9,16 @@ use Rattle.df_index.specs.declared.subscription.Subscription.{Subscription}
 use Rattle.df_rules.specs.Commits.{contents}
 use Rattle.df_rules.specs.Deliveries.{deliveries, was_handed}
 use Rattle.df_rules.specs.Legal.{Legal}
-use Rattle.df_rules.specs.Own.{own, own_instance, fixed}
+use Rattle.df_rules.specs.Own.{own, fixed}
 use Rattle.df_rules.specs.Rules.{Rules}
 use Rattle.df_rules.specs.Subscriptions.{subscriptions}
-use Rattle.df_unit.specs.OwnState.{OwnState}
+use Rattle.df_unit.specs.OwnState.{Fixed, OwnState}
 use Rattle.df_unit.specs.declared.call.Call.{Call}
 use Rattle.df_unit.specs.declared.commit.Given.{Given}
 use Rattle.df_unit.specs.declared.entry.Entry.{Entry}
 use Rattle.df_unit.specs.declared.name.EventName.{EventName}
 use Rattle.df_unit.specs.declared.name.UnitName.{UnitName}
+use Rattle.df_unit.specs.declared.name.UnitName.TheVariants.{Managed, Root}
 use Rattle.df_unit.specs.declared.reply.Reply.{Reply}
 use Rattle.df_tables.specs.Events.{event_place}
 use Rattle.df_tables.specs.Hand.{IsCalm}
@@ -67,22 +68,37 @@ is_marked handed None event n = false
 is_marked handed (Some k) None n = false
 is_marked handed (Some k) (Some event) n = index.was_handed handed event (k, n)
 
+-- what the tables tell of managed subscriptions, by owner and number, and to which instances an
+-- event was handed, both by their places
+pub record ManagedState : Type 0 where
+  pub kept : List ℕ → ℕ → Option Fixed
+  pub told : ℕ → ℕ → Bool
+
+-- whether the event at a place, if there is one, was handed to the instance at a place, if there is
+-- one
+abbrev pub is_told : (ℕ → ℕ → Bool) → Option ℕ → Option ℕ → Bool
+is_told told None place = false
+is_told told (Some event) None = false
+is_told told (Some event) (Some place) = told event place
+
 -- the journal is legal, each unit's row tells of its own state and its deliveries, the index of its
--- subscriptions and of what was handed to them, and each event's row of its parts
+-- subscriptions and of what was handed to plain units, the records of managed subscriptions, the
+-- marks of what was handed to instances, and each event's row of its parts
 pub record Agrees (R : Rules) (s : List OwnState) (past : List Entry) (units : List Unit)
-    (events : List EventRow) (x : FilterIndex) : Type 0 where
+    (events : List EventRow) (x : FilterIndex) (m : ManagedState) : Type 0 where
   pub legal : Legal R s past
   pub seats : (n : UnitName) →
       IsSeat n (own R s past n) (deliveries R s past n) (find n units)
   pub subscribed : (n : UnitName) →
       subscribed_at (place_of n units) x.enrolled ≡ subscriptions R s past n
-  pub marked : (n : UnitName) (event : EventName) (sub : ℕ) →
-      is_marked x.handed (place_of n units) (event_place event events) sub
-      ≡ was_handed (deliveries R s past n) event sub
+  pub marked : (path : List ℕ) (event : EventName) (sub : ℕ) →
+      is_marked x.handed (place_of (Root path) units) (event_place event events) sub
+      ≡ was_handed (deliveries R s past (Root path)) event sub
   pub parts : (event : EventName) → parts_of event events ≡ contents past event
-  -- no call so far made a managed subscription, so there is no instance
-  pub unmanaged : (o : List ℕ) (n : ℕ) → fixed R s past o n ≡ None
-  pub no_instances : (o : List ℕ) (n : ℕ) (t : List (List ℕ)) → own_instance R s past o n t ≡ None
+  pub kept : (o : List ℕ) (n : ℕ) → m.kept o n ≡ fixed R s past o n
+  pub told : (o : List ℕ) (n : ℕ) (t : List (List ℕ)) (event : EventName) →
+      is_told m.told (event_place event events) (place_of (Managed o n t) units)
+      ≡ was_handed (deliveries R s past (Managed o n t)) event n
 
 -- each row is the first of its unit
 abbrev pub AreApart : List Unit → Type 0

@@ -1,5 +1,5 @@
 -- When a board agrees with a journal.
-use Rattle.std.specs.Prelude.{◌≡◌, ◌↔◌, ℕ, ◌==◌, ◌&&◌, ◌||◌, if◌then◌else◌, List, ◌∷◌, ◌++◌, Option, Some, None, length, map, slice_index_or}
+use Rattle.std.specs.Prelude.{◌≡◌, ◌↔◌, ℕ, ◌==◌, ◌&&◌, ◌||◌, false, if◌then◌else◌, List, ◌∷◌, ◌++◌, Option, Some, None, length, map, slice_index_or}
 use Rattle.std.specs.List.{Contains}
 use Rattle.std.specs.List.Sorted.{IsStrictlySortedBy}
 use Rattle.df_filter.specs.declared.clause.Clause.{Clause}
@@ -22,7 +22,7 @@ use Rattle.df_unit.specs.declared.name.EventName.{EventName}
 use Rattle.df_part.specs.Contents.{apply}
 use Rattle.df_unit.specs.declared.name.UnitName.{UnitName}
 use Rattle.df_unit.specs.declared.reply.Reply.{Reply}
-use Rattle.df_tables.specs.Agree.{Agrees, IsWhole, enrols}
+use Rattle.df_tables.specs.Agree.{Agrees, IsWhole, ManagedState, enrols}
 use Rattle.df_tables.specs.Labels.{AreLabels, inputs}
 use Rattle.df_tables.specs.Events.{IsOpened, event_place}
 use Rattle.df_tables.specs.Hand.{IsNews, modify, with_news, with_state}
@@ -44,9 +44,13 @@ pub record IsBoard (b : Board) : Type 0 where
   pub roll : IsRollOf b.roll b.rows.items
   pub labels : AreLabels (inputs b.rows.items) b.labels.items b.stale
 
+-- what the board tells of managed subscriptions: as yet that there is none
+abbrev pub managed_of : Board → ManagedState
+managed_of b = record { kept = λ o n. None; told = λ event place. false }
+
 -- the tables tell of the journal of these roots
 abbrev pub TellsOf : List (Label × List Privilege) → List Entry → Board → Type 0
-TellsOf starts past b = Agrees rows (roots starts) past b.rows.items b.events b.index
+TellsOf starts past b = Agrees rows (roots starts) past b.rows.items b.events b.index (managed_of b)
 
 -- the answer of a row, if there is one
 abbrev pub answer_from : Option Unit → Call → Reply × Effect

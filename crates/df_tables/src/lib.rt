@@ -16,3 +16,6 @@ pub use events::{EventRow, Events};
 pub use line::Line;
 pub use roll::{Roll, Seat};
 pub use units::{Unit, first_unit};
+
+#[cfg(test)]
+mod tests;

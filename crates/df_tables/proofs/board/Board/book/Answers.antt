@@ -14,7 +14,7 @@ returns-in_default-clause-ok c =
     let us = c.args.self.now.rows.items in
     let none : place_of c.args.actor.now us ≡ None = sym (c.in_default.ensures ∙ c.requires.board.roll c.args.actor.now) in
     let none_said = subst (λ (o : Option Unit). answer_from o c.args.call.now ≡ (c.args.reply.now, c.args.effect.now)) (at_none c.args.actor.now us none).0 c.requires.right in
-    booked_none c.args.actor.now c.args.call.now c.args.reply.now c.args.effect.now c.args.self.now none c.requires.served (absent_childless c.args.call.now c.args.reply.now c.args.effect.now none_said) none_said
+    booked_none c.args.actor.now c.args.call.now c.args.reply.now c.args.effect.now c.args.self.now none c.requires.served (absent_childless c.args.call.now c.args.reply.now c.args.effect.now none_said) c.requires.board.whole none_said
 
 pub book_commit-requires-clause-right : goal.book_commit-requires-clause-right
 book_commit-requires-clause-right c =
@@ -34,7 +34,7 @@ returns-in-Commit-clause-ok c =
     let here : place_of c.args.actor.now us ≡ Some c.in-Some.place = sym (c.in-Some.ensures ∙ c.requires.board.roll c.args.actor.now) in
     on_ok_weaker c.book_commit.result
     (booked_commit c.args.actor.now c.in-Some.place c.args.call.now c.args.reply.now c.args.effect.now c.in-Commit.commit c.args.self.now c.book_commit.new.self here c.requires.served (sym c.in_default-child_by.ensures)
-    (answered_at c.args.actor.now us c.in-Some.place c.args.call.now c.args.reply.now c.args.effect.now here c.requires.right) c.in-Commit.is c.requires.board.whole)
+    (answered_at c.args.actor.now us c.in-Some.place c.args.call.now c.args.reply.now c.args.effect.now here c.requires.right) c.in-Commit.is c.requires.board.whole c.book_commit.ensures.board.whole)
     c.book_commit.ensures.ok
 
 pub returns-in-Commit-clause-kept : goal.returns-in-Commit-clause-kept
@@ -47,7 +47,7 @@ returns-in_default-effect-clause-ok c =
     let here : place_of c.args.actor.now us ≡ Some c.in-Some.place = sym (c.in-Some.ensures ∙ c.requires.board.roll c.args.actor.now) in
     on_ok_weaker c.book_plain.result
     (booked_plain c.args.actor.now c.in-Some.place c.args.call.now c.args.reply.now c.args.effect.now c.args.self.now c.book_plain.new.self here c.requires.served (sym c.in_default-child_by.ensures)
-    (answered_at c.args.actor.now us c.in-Some.place c.args.call.now c.args.reply.now c.args.effect.now here c.requires.right) (plain_else c.args.effect.now c.in_default-effect.not-Commit))
+    (answered_at c.args.actor.now us c.in-Some.place c.args.call.now c.args.reply.now c.args.effect.now here c.requires.right) (plain_else c.args.effect.now c.in_default-effect.not-Commit) c.requires.board.whole)
     c.book_plain.ensures.ok
 
 pub returns-in_default-effect-clause-kept : goal.returns-in_default-effect-clause-kept

@@ -1,10 +1,10 @@
-use Rattle.std.proofs.Common.{◌<◌, List, [], None, All, length, ap, sym, subst, ◌∙◌}
+use Rattle.std.proofs.Common.{◌<◌, List, [], None, false, All, length, ap, sym, subst, ◌∙◌}
 use Rattle.std.proofs.lemmas.List.Elements.{All-nil}
 use Rattle.df_filter.specs.declared.clause.Clause.{Clause}
 use Rattle.df_index.specs.IndexState.{was_handed}
 use Rattle.df_index.specs.declared.subscription.Subscription.{Subscription}
 use Rattle.df_rules.specs.Start.{rows, roots}
-use Rattle.df_tables.specs.Agree.{Agrees, FilterIndex}
+use Rattle.df_tables.specs.Agree.{Agrees, FilterIndex, ManagedState}
 use Rattle.df_tables.specs.Labels.{inputs}
 use Rattle.df_tables.specs.Table.{place_of, rows_from}
 use Rattle.df_tables.specs.declared.events.EventRow.{EventRow}
@@ -13,11 +13,14 @@ use Rattle.df_tables.proofs.Begin.{agrees_first}
 use Rattle.df_tables.proofs.Search.{ordered_apart}
 use Rattle.df_tables.proofs.board.Board.new.Goals as goal
 
+abbrev none_managed : ManagedState
+none_managed = record { kept = λ o n. None; told = λ event place. false }
+
 pub returns-clause-tells : goal.returns-clause-tells
 returns-clause-tells c starts is =
-    subst (λ (us : List Unit). Agrees rows (roots starts) [] us c.new.result c.new-2.result) (sym is)
-    (subst (λ (evs : List EventRow). Agrees rows (roots starts) [] (rows_from 0 starts) evs c.new-2.result) (sym c.new.ensures)
-    (subst (λ (x : FilterIndex). Agrees rows (roots starts) [] (rows_from 0 starts) [] x) (sym c.new-2.ensures) (agrees_first starts None)))
+    subst (λ (us : List Unit). Agrees rows (roots starts) [] us c.new.result c.new-2.result none_managed) (sym is)
+    (subst (λ (evs : List EventRow). Agrees rows (roots starts) [] (rows_from 0 starts) evs c.new-2.result none_managed) (sym c.new.ensures)
+    (subst (λ (x : FilterIndex). Agrees rows (roots starts) [] (rows_from 0 starts) [] x none_managed) (sym c.new-2.ensures) (agrees_first starts None)))
 
 pub returns-clause-board : goal.returns-clause-board
 returns-clause-board c =
