@@ -233,20 +233,32 @@ run
 : {|} 5
 ";
 
+/// The first bytes of `FIRST`.
+fn first_bytes(end: usize) -> &'static [u8] {
+    match FIRST.get(..end) {
+        Some(bytes) => bytes,
+        None => FIRST,
+    }
+}
+
 /// What is told of the first bytes of `FIRST`, of which these fronts are journals, each with so many
 /// entries.
 fn expected(end: usize, whole: &[(usize, usize)]) -> Result<usize, FileRefused> {
     match whole.iter().find(|front| front.0 == end) {
         Some(front) => Ok(front.1),
         None => Err(Syntax {
-            line: FIRST[..end].iter().filter(|byte| **byte == b'\n').count() as u64 + 1,
+            line: first_bytes(end)
+                .iter()
+                .filter(|byte| **byte == b'\n')
+                .count() as u64
+                + 1,
         }),
     }
 }
 
 /// How many entries a front of `FIRST` has, or why it isn't read.
 fn front(alloc: Global, end: usize) -> Result<usize, FileRefused> {
-    Ok(first(alloc, &FIRST[..end])?.1)
+    Ok(first(alloc, first_bytes(end))?.1)
 }
 
 #[test]
