@@ -189,7 +189,10 @@ fn ticks_are_generated(rt: HostRuntime) -> Result<(), Fail> {
     let words = words_of(alloc, &["gen", "7", "2"])?;
     let status = run_main(alloc, words.as_slice(), &mut shelf, &mut sink);
     assert_eq!(rt; status, Status::Done);
-    assert_eq!(rt; sink.bytes(), b"symbol,price\nBBB,10088\nBBB,10132\n");
+    assert_eq!(rt;
+        sink.bytes(),
+        b"symbol,price\nBBB,10088\nBBB,10132\n".as_slice()
+    );
     Ok(())
 }
 
