@@ -15,8 +15,8 @@ fn asked(alloc: Global, line: &str) -> Result<Option<Command>, AllocError> {
 #[test]
 fn words_ask_for_commands(rt: HostRuntime) -> Result<(), Fail> {
     let alloc = rt.alloc();
-    assert_eq!(asked(alloc, "steps a")?, Some(Command::Steps { file: 1 }));
-    assert_eq!(
+    assert_eq!(rt; asked(alloc, "steps a")?, Some(Command::Steps { file: 1 }));
+    assert_eq!(rt;
         asked(alloc, "lint --workers")?,
         Some(Command::Lint { script: 1 })
     );
@@ -24,7 +24,10 @@ fn words_ask_for_commands(rt: HostRuntime) -> Result<(), Fail> {
         key: u64::MAX,
         n: 100_000,
     };
-    assert_eq!(asked(alloc, "gen 18446744073709551615 100000")?, Some(last));
+    assert_eq!(rt;
+        asked(alloc, "gen 18446744073709551615 100000")?,
+        Some(last)
+    );
     Ok(())
 }
 
@@ -34,7 +37,7 @@ fn other_words_ask_for_nothing(rt: HostRuntime) -> Result<(), Fail> {
         "|steps|steps |steps a b|Steps a|gen 7|gen 7 0|gen 7 100001|gen 07 1|gen +7 1|gen 7 1 |\
         gen 18446744073709551616 1|gen  1|gen 7 01";
     for line in lines.split('|') {
-        assert!(asked(rt.alloc(), line)?.is_none());
+        assert!(rt; asked(rt.alloc(), line)?.is_none());
     }
     Ok(())
 }
