@@ -8,7 +8,6 @@ use Rattle.df_part.specs.declared.part.Part.{Part}
 use Rattle.df_part.specs.declared.edit.Spot.{Spot}
 use Rattle.df_unit.specs.declared.call.Call.{Call}
 use Rattle.df_unit.specs.declared.commit.Commit.{Commit}
-use Rattle.df_unit.specs.declared.commit.Given.{Given}
 use Rattle.df_value_text.specs.Fits.{IsLabel}
 use Rattle.df_unit.specs.declared.name.EventName.{EventName}
 use Rattle.df_unit.specs.declared.name.UnitName.{UnitName}
@@ -16,7 +15,6 @@ use Rattle.df_unit.specs.declared.parts.PartRead.{PartRead}
 use Rattle.df_unit.specs.declared.reply.Reply.{Reply}
 use Rattle.df_unit.specs.declared.reply.Reply.TheVariants as reply
 use Rattle.df_unit.specs.declared.entry.Effect.{Effect}
-use Rattle.df_unit.specs.declared.entry.Effect.TheVariants as effect
 use Rattle.df_unit.specs.declared.entry.Entry.TheVariants.{Done, Emitted}
 use Rattle.df_unit.specs.declared.entry.Noted.{Noted}
 use Rattle.df_journal_text.specs.Entry.{call_line, edit_text, effect_text, given_text, note_text, noted_text, part_line, read_line, reads_text, spot_line}
@@ -142,11 +140,6 @@ pub alone_read : (r : Reply) (bytes : List ℕ) (at : ℕ) → at ≤ length byt
 alone_read r bytes at inside f other =
     let a = alone r other in
     ((f.0, a.0, inl refl), omega arith, inside, ap (λ (u : List ℕ). u ++ drop at bytes) (sym a.1))
-
-pub given_effect : (r : Reply) (h sub : ℕ) (bytes : List ℕ) (at end : ℕ) (given : Given) → r ≡ reply.Event h sub → IsHere given_text (IsGivenFor sub) bytes at (given, end) → IsHere effect_text (IsSomeEffectOf r) bytes at (effect.Given given, end)
-given_effect r h sub bytes at end given is g =
-    subst (λ (q : Reply). IsHere effect_text (IsSomeEffectOf q) bytes at (effect.Given given, end)) (sym is)
-    (((g.0.0, g.0.1, g.0.2), g.0.3), g.1, g.2, g.3)
 
 -- what isn't empty has something
 pub is_some : (n : ℕ) → false ≡ (n == 0) → 0 < n

@@ -1,5 +1,5 @@
 -- Entries, one behind the other.
-use Rattle.std.proofs.Common.{◌≡◌, ℕ, ◌<◌, ◌≤◌, Bool, true, false, List, [], ◌∷◌, ◌++◌, length, length-append, length-drop, drop, Option, codes, eqb, refl, sym, ap, subst, ◌∙◌, arith, append-nil, inl, inr}
+use Rattle.std.proofs.Common.{◌≡◌, ℕ, ◌<◌, ◌≤◌, true, false, List, [], ◌∷◌, ◌++◌, length, length-append, length-drop, drop, Option, codes, eqb, refl, sym, ap, ◌∙◌, arith, append-nil, inl, inr}
 use Rattle.std.proofs.lemmas.List.{drop_all}
 use Rattle.std.proofs.lemmas.List.Elements.{All-cons, All-nil}
 use Rattle.df_lines.specs.Lines.{IsLine}
@@ -8,15 +8,11 @@ use Rattle.df_unit.specs.declared.entry.Noted.{Noted}
 use Rattle.df_journal_text.specs.Entry.{entry_text, noted_text}
 use Rattle.df_journal_file.specs.Journal.{EndsFile, IsWholeEntry, IsWholeNoted}
 use Rattle.df_journal_file.specs.code.Entries.{IsHere, IsWholeBy}
-use Rattle.df_journal_file.specs.code.Files.{AreReadTo, AreUpToEnd, plain_entry}
+use Rattle.df_journal_file.specs.code.Files.{AreReadTo, plain_entry}
 use Rattle.df_journal_file.specs.code.Languages.{EntriesFrom}
 use Rattle.df_journal_file.specs.code.Stops.{Onto}
 use Rattle.df_journal_file.proofs.Fronts.{not_open, same_line}
 use Rattle.df_journal_file.proofs.Places.{more_passed}
-
-pub none_read : {X : Type 0} (has : Bool) (text : X → List ℕ) (Fits : X → Type 0) (bytes : List ℕ) (at : ℕ) (xs : List X) → at ≤ length bytes → xs ≡ [] → AreReadTo has text Fits bytes at xs at
-none_read has text Fits bytes at xs inside is =
-    subst (λ (l : List _). AreReadTo has text Fits bytes at l at) (sym is) (record { passed = record { inside = inside; fit = All-nil Fits; parts = refl }; onto = λ f s. s })
 
 pub plain_more : (bytes : List ℕ) (at place : ℕ) (xs ys : List Entry) (noted : Noted) (next : ℕ) → AreReadTo false plain_entry IsWholeEntry bytes at xs place → IsHere noted_text (IsWholeBy false) bytes place (noted, next) → place < next
     → Onto (EntriesFrom false) bytes place (EntriesFrom false) next → ys ≡ xs ++ noted.entry ∷ [] → AreReadTo false plain_entry IsWholeEntry bytes at ys next
@@ -31,9 +27,6 @@ noted_more bytes at place xs ys noted next a h on o pushed = record {
   passed = more_passed noted_text IsWholeNoted (λ _. ⊥) bytes at place xs ys noted next a.passed (h.0, on, h.2, h.3) pushed;
   onto = λ f s. a.onto f (o f s);
 }
-
-pub up_to_end : {X : Type 0} (has : Bool) (text : X → List ℕ) (Fits : X → Type 0) (bytes : List ℕ) (at : ℕ) (xs : List X) (place : ℕ) → AreReadTo has text Fits bytes at xs place → EndsFile (drop place bytes) → AreUpToEnd text Fits (drop at bytes) xs
-up_to_end has text Fits bytes at xs place a ends = (a.passed.fit, (drop place bytes, ends, a.passed.parts))
 
 -- ---- an end
 
