@@ -7,7 +7,6 @@ pub mod Limits
 pub mod Name
 pub mod OwnState
 pub mod Rows
-pub mod Served
 pub mod UnitOrder
 pub mod UnitOrderLaws
 pub mod code
