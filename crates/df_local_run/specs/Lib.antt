@@ -1,2 +1,2 @@
+pub mod RunState
 pub mod Runs
-pub mod code

@@ -9,7 +9,7 @@ use Rattle.df_unit.specs.declared.entry.Entry.TheVariants.{Done, Emitted}
 use Rattle.df_unit.specs.declared.reply.Reply.{Reply}
 use Rattle.df_local.specs.Locally.{row_answer, with_own}
 use Rattle.df_local.specs.code.LocalState.{LocalState}
-use Rattle.df_local_run.specs.code.RunState.{RunState}
+use Rattle.df_local_run.specs.RunState.{RunState}
 
 -- the calls that concern no other unit
 abbrev pub is_local : Call → Bool

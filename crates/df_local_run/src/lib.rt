@@ -5,4 +5,4 @@ mod local_run;
 #[cfg(test)]
 mod tests;
 
-pub use local_run::{LocalRun, NotCalled, is_local};
+pub use local_run::{LocalRun, NotCalled, RunParts, is_local};

@@ -20,7 +20,7 @@ pub struct LocalRun {
 
 impl Model for LocalRun {
     ghost use Rattle.df_local_run.specs.Runs.{LeadTo};
-    ghost use Rattle.df_local_run.specs.code.RunState.{RunState, run_code};
+    ghost use Rattle.df_local_run.specs.RunState.{RunState, run_code};
 
     ghost Value = { RunState };
 
@@ -29,6 +29,15 @@ impl Model for LocalRun {
     ghost view = { λ r. record { base = r.base; present = r.present; entries = r.entries.items } };
 
     ghost invariant = { λ r. LeadTo r.entries.items r.base r.present };
+}
+
+/// What a run is made of.
+#[derive(Drop)]
+pub struct RunParts {
+    pub base: Local,
+    pub present: Local,
+    /// The oldest first.
+    pub entries: Vec<Entry>,
 }
 
 /// There is no memory for the call, which is given back.
@@ -95,6 +104,34 @@ impl LocalRun {
         ensures in_turn { LeadTo self.now.entries self.now.base self.now.present }
     {
         self.entries.as_slice()
+    }
+
+    /// The run's parts. Takes no memory.
+    pub fn into_parts(self) -> RunParts
+        ensures base { result.base ≡ self.base }
+        ensures present { result.present ≡ self.present }
+        ensures entries { result.entries.items ≡ self.entries }
+        ensures in_turn { LeadTo result.entries.items result.base result.present }
+    {
+        RunParts {
+            base: self.base,
+            present: self.present,
+            entries: self.entries,
+        }
+    }
+
+    /// The run of these parts. Takes no memory.
+    pub fn of_parts(parts: RunParts) -> LocalRun
+        requires { LeadTo parts.entries.items parts.base parts.present }
+        ensures base { result.base ≡ parts.base }
+        ensures present { result.present ≡ parts.present }
+        ensures entries { result.entries ≡ parts.entries.items }
+    {
+        LocalRun {
+            base: parts.base,
+            present: parts.present,
+            entries: parts.entries,
+        }
     }
 }
 

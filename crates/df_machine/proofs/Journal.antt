@@ -1,5 +1,6 @@
 -- The journal, seen newest first.
-use Rattle.std.proofs.Common.{◌≡◌, suc, ◌-◌, List, [], ◌∷◌, ◌++◌, length, reverse, slice_get, refl, ap, sym, ◌∙◌, arith, length-append}
+use Rattle.std.specs.Prelude.{Result, Ok, Err, IsOk, is_ok}
+use Rattle.std.proofs.Common.{◌≡◌, if◌then◌else◌, suc, ◌-◌, List, [], ◌∷◌, ◌++◌, length, reverse, slice_get, refl, ap, sym, ◌∙◌, arith, length-append}
 use Rattle.std.proofs.lemmas.List.{reverse-append, reverse-reverse}
 use Rattle.df_unit.specs.declared.call.Call.{Call}
 use Rattle.df_unit.specs.declared.entry.Effect.{Effect}
@@ -9,9 +10,21 @@ use Rattle.df_unit.specs.declared.name.UnitName.{UnitName}
 use Rattle.df_unit.specs.declared.reply.Reply.{Reply}
 
 -- a journal with one more entry at its end
+pub journal_grown : (j k l : List Entry) (e : Entry) → k ≡ j → l ≡ k ++ e ∷ [] → reverse l ≡ e ∷ reverse j
+journal_grown j k l e same more = ap reverse (more ∙ ap (λ (x : List Entry). x ++ e ∷ []) same) ∙ reverse-append j (e ∷ [])
+
+-- and with that of a call
 pub journal_more : (j k l : List Entry) (n a : UnitName) (c : Call) (r : Reply) (f : Effect) → k ≡ j → l ≡ k ++ Done n c r f ∷ [] → n ≡ a → reverse l ≡ Done a c r f ∷ reverse j
-journal_more j k l n a c r f e g h =
-    ap reverse (g ∙ ap (λ (x : List Entry). x ++ Done n c r f ∷ []) e ∙ ap (λ (m : UnitName). j ++ Done m c r f ∷ []) h) ∙ reverse-append j (Done a c r f ∷ [])
+journal_more j k l n a c r f e g h = journal_grown j k l (Done a c r f) e (g ∙ ap (λ (m : UnitName). k ++ Done m c r f ∷ []) h)
+
+-- a journal with these entries at its end
+pub journal_on : (j k l es : List Entry) → k ≡ j → l ≡ k ++ es → reverse l ≡ reverse es ++ reverse j
+journal_on j k l es e g = ap reverse (g ∙ ap (λ (x : List Entry). x ++ es) e) ∙ reverse-append j es
+
+-- what was appended, where there was room
+pub appended_ok : {A E : Type 0} (r : Result A E) (xs ys : List Entry) → IsOk r → (if is_ok r then xs else ys) ≡ xs
+appended_ok (Ok a) xs ys h = refl
+appended_ok (Err e) xs ys h = absurd (let z : ⊥ = cc in z)
 
 -- the last of a list is the first of it reversed
 pub last_reverse : (es : List Entry) → slice_get es (length es - 1) ≡ slice_get (reverse es) 0

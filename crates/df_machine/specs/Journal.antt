@@ -1,5 +1,5 @@
 -- What a machine's journal tells, and how it grows.
-use Rattle.std.specs.Prelude.{◌≡◌, Bool, false, not, List, ◌∷◌, Option, Some, None, map}
+use Rattle.std.specs.Prelude.{◌≡◌, ℕ, Bool, false, not, List, ◌∷◌, Option, Some, None, length, map}
 use Rattle.std.specs.Option.{option_map}
 use Rattle.df_label.specs.Ascending.{IsAscending, contains_by}
 use Rattle.df_local.specs.code.LocalState.{LocalState}
@@ -53,6 +53,16 @@ is_due (Some st) ds = not (is_nil (left st ds))
 abbrev pub has_delivery_in : State → UnitName → Bool
 has_delivery_in core name =
     is_due (own rows (firsts core.0) core.1 name) (deliveries rows (firsts core.0) core.1 name)
+
+-- how many of these deliveries are left to a unit with this own state, if it exists
+abbrev pub number_left : Option OwnState → List Given → ℕ
+number_left None ds = 0
+number_left (Some st) ds = length (left st ds)
+
+-- how many deliveries are left to a unit; none where it doesn't exist
+abbrev pub left_in : State → UnitName → ℕ
+left_in core name =
+    number_left (own rows (firsts core.0) core.1 name) (deliveries rows (firsts core.0) core.1 name)
 
 -- the names of the units that exist, in the order of units
 pub record IsRoll (core : State) (names : List UnitName) : Type 0 where

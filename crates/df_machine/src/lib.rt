@@ -2,8 +2,9 @@
 #![tactic(auto)]
 
 mod machine;
+mod taking;
 
-pub use machine::{Core, NotStepped};
+pub use machine::{BookCause, Core, NotBooked, NotEmitted, NotStepped};
 
 #[cfg(test)]
 mod tests;

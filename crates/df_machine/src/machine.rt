@@ -1,16 +1,19 @@
-ghost use Rattle.std.specs.Prelude.{◌≡◌, ◌^◌, ◌<◌, ◌∷◌, [], length, IfErr, IfOk, List, None, OnErr, OnOk, map, option_copied, reverse, slice_get, vec_len, vec_capacity};
+ghost use Rattle.std.specs.Prelude.{◌≡◌, ◌^◌, ◌<◌, ◌∷◌, [], length, false, IfErr, IfOk, IfSome, IsSome, List, MatchBool, None, OnErr, OnOk, map, option_copied, reverse, slice_get, vec_len, vec_capacity};
 ghost use Rattle.df_start.specs.Begun.{begun};
-ghost use Rattle.df_tables.specs.Moves.{IsServed};
 ghost use Rattle.df_tables.specs.Table.{rows_from};
-ghost use Rattle.df_unit.specs.declared.entry.Entry.TheVariants.{Done};
+ghost use Rattle.df_unit.specs.declared.entry.Entry.TheVariants.{Done, Emitted};
 ghost use Rattle.df_unit.specs.declared.name.UnitName.{UnitName};
-ghost use Rattle.df_machine.specs.Journal.{IsLegal, IsRoll, answer_in, appended, has_delivery_in, local_of};
+ghost use Rattle.df_local_run.specs.Runs.{is_local};
+ghost use Rattle.df_machine.specs.Booking.{IsCurrent, IsRefused, booked, reply_booked, with_run};
+ghost use Rattle.df_machine.specs.Journal.{IsLegal, IsRoll, answer_in, appended, has_delivery_in, left_in, local_of};
 
+use crate::taking::{make_room, take_in};
 use df_label::NoMemory;
 use df_local::{Answer, Local};
+use df_local_run::{LocalRun, RunParts};
 use df_start::{RootStart, Start};
 use df_tables::{Board, Unit, first_unit};
-use df_unit::{Call, Effect, Entry, Reply, UnitName};
+use df_unit::{Call, Commit, Effect, Entry, Reply, UnitName};
 use std::alloc::Global;
 use std::marker::Model;
 
@@ -45,6 +48,28 @@ impl Model for Core {
 #[derive(Drop)]
 pub struct NotStepped {
     pub call: Call,
+}
+
+/// A commit that was not appended, for want of memory. Nothing has changed.
+#[derive(Drop)]
+pub struct NotEmitted {
+    pub commit: Commit,
+}
+
+/// Why a run was not booked.
+#[derive(Clone, Copy, Debug, PartialEq, Eq)]
+pub enum BookCause {
+    /// The unit's own state is not the one from which the run began.
+    Stale,
+    NoMemory,
+}
+
+/// A run that was not booked, with the shared call that was to follow it. Nothing has changed.
+#[derive(Drop)]
+pub struct NotBooked {
+    pub run: LocalRun,
+    pub shared: Option<Call>,
+    pub cause: BookCause,
 }
 
 /// The rows of the roots as they begin, root 0 first.
@@ -137,6 +162,16 @@ impl Core {
         }
     }
 
+    /// The number of deliveries that are left to a unit, 0 where it doesn't exist.
+    pub fn left(&self, name: &UnitName) -> usize
+        ensures { result ≡ left_in self.now name.now }
+    {
+        match self.board.unit(name) {
+            Some(unit) => unit.line.len(),
+            None => 0,
+        }
+    }
+
     /// The unit at a place, from 0, among those that exist, in the order of units.
     pub fn unit_at(&self, k: usize) -> Option<&UnitName>
         ensures place { (names : List UnitName) → IsRoll self.now names →
@@ -148,22 +183,20 @@ impl Core {
 
     /// What the rules answer to a call.
     fn answer(&self, actor: &UnitName, call: &Call) -> Result<Answer, NoMemory>
-        requires { IsServed call.now }
         ensures { IfOk result (λ a. (a.reply, a.effect) ≡ answer_in self.now actor.now call.now) }
     {
         self.board.answer(actor, call)
     }
 
     /// Appends the entry of a call.
-    fn book(
+    fn append(
         &mut self,
         actor: &UnitName,
         call: Call,
         reply: Reply,
         effect: Effect,
     ) -> Result<Reply, NotStepped>
-        requires served { IsServed call }
-        requires right { answer_in self.old actor.now call ≡ (reply, effect) }
+        requires { answer_in self.old actor.now call ≡ (reply, effect) }
         ensures ok { OnOk result (self.new ≡ (
           self.old.0,
           Done actor.now call reply effect ∷ self.old.1,
@@ -190,7 +223,6 @@ impl Core {
     /// Makes a call for a unit: appends one entry, with the answer that the rules give, and answers
     /// its reply.
     pub fn step(&mut self, actor: &UnitName, call: Call) -> Result<Reply, NotStepped>
-        requires { IsServed call }
         ensures entry { OnOk result (self.new ≡ appended actor.now call self.old) }
         ensures reply { IfOk result (λ r. r ≡ (answer_in self.old actor.now call).0) }
         ensures unchanged { OnErr result (self.new ≡ self.old) }
@@ -200,6 +232,136 @@ impl Core {
             return Err(NotStepped { call });
         };
         let Answer { reply, effect } = answer;
-        self.book(actor, call, reply, effect)
+        self.append(actor, call, reply, effect)
+    }
+
+    /// Appends the entries of a run, and then that of the unit's shared call, if there is one, at
+    /// once, and answers the shared call's reply. Stale where the unit's own state is not the one
+    /// from which the run began.
+    pub fn book(&mut self, run: LocalRun, shared: Option<Call>) -> Result<Option<Reply>, NotBooked>
+        requires shared { IfSome shared (λ c. is_local c ≡ false) }
+        requires exists { IsSome (local_of self.old run.base.unit) }
+        ensures entries { OnOk result (self.new ≡ booked run shared self.old) }
+        ensures reply { IfOk result (λ r. r ≡ reply_booked run shared self.old) }
+        ensures current { OnOk result (IsCurrent run self.old) }
+        ensures refused { IfErr result (λ e. IsRefused e.cause run self.old) }
+        ensures unchanged { OnErr result (self.new ≡ self.old) }
+        ensures back { IfErr result (λ e. e.run ≡ run) }
+        ensures call_back { IfErr result (λ e. e.shared ≡ shared) }
+    {
+        if !self.is_current(&run) {
+            let cause = BookCause::Stale;
+            return Err(NotBooked { run, shared, cause });
+        }
+        match shared {
+            Some(call) => self.book_call(run, call),
+            None => self.book_run(run),
+        }
+    }
+
+    /// Appends the entries of a run.
+    fn book_run(&mut self, run: LocalRun) -> Result<Option<Reply>, NotBooked>
+        requires { IsCurrent run self.old }
+        ensures entries { OnOk result (self.new ≡ with_run run self.old) }
+        ensures reply { IfOk result (λ r. r ≡ None) }
+        ensures cause { IfErr result (λ e. e.cause ≡ BookCause.NoMemory) }
+        ensures unchanged { OnErr result (self.new ≡ self.old) }
+        ensures back { IfErr result (λ e. e.run ≡ run) }
+        ensures call_back { IfErr result (λ e. e.shared ≡ None) }
+    {
+        let Ok(()) = self.journal.reserve(run.entries().len()) else {
+            let cause = BookCause::NoMemory;
+            return Err(NotBooked {
+                run,
+                shared: None,
+                cause,
+            });
+        };
+        let RunParts {
+            base,
+            present,
+            mut entries,
+        } = run.into_parts();
+        drop(base);
+        drop(self.board.swap(present));
+        let _done = self.journal.append(&mut entries);
+        Ok(None)
+    }
+
+    /// Appends the entries of a run, and then that of a call of its unit.
+    fn book_call(&mut self, run: LocalRun, call: Call) -> Result<Option<Reply>, NotBooked>
+        requires { IsCurrent run self.old }
+        ensures entries { OnOk result (self.new
+            ≡ appended run.base.unit call (with_run run self.old)) }
+        ensures reply { IfOk result (λ r.
+            r ≡ Some (answer_in (with_run run self.old) run.base.unit call).0) }
+        ensures cause { IfErr result (λ e. e.cause ≡ BookCause.NoMemory) }
+        ensures unchanged { OnErr result (self.new ≡ self.old) }
+        ensures back { IfErr result (λ e. e.run ≡ run) }
+        ensures call_back { IfErr result (λ e. e.shared ≡ Some call) }
+    {
+        let cause = BookCause::NoMemory;
+        let Ok(actor) = make_room(&mut self.journal, &run) else {
+            return Err(NotBooked {
+                run,
+                shared: Some(call),
+                cause,
+            });
+        };
+        let RunParts {
+            base,
+            present,
+            mut entries,
+        } = run.into_parts();
+        let before = self.board.swap(present);
+        let Ok(taken) = take_in(&mut self.board, &actor, &call) else {
+            let present = self.board.swap(before);
+            let run = LocalRun::of_parts(RunParts {
+                base,
+                present,
+                entries,
+            });
+            return Err(NotBooked {
+                run,
+                shared: Some(call),
+                cause,
+            });
+        };
+        drop(base);
+        drop(before);
+        let _done = self.journal.append(&mut entries);
+        self.journal.push_reserved(Entry::Done {
+            actor,
+            call,
+            reply: taken.reply,
+            effect: taken.effect,
+        });
+        Ok(Some(taken.kept))
+    }
+
+    /// Whether the unit's own state is the one from which the run began.
+    fn is_current(&self, run: &LocalRun) -> bool
+        ensures { MatchBool result (IsCurrent run.now self.now) (¬ IsCurrent run.now self.now) }
+    {
+        match self.local(run.base().name()) {
+            Some(local) => local.same(run.base()),
+            None => false,
+        }
+    }
+
+    /// Appends an emitted entry: a commit of which a purge tells no more than this.
+    pub fn emitted(&mut self, commit: Commit) -> Result<(), NotEmitted>
+        ensures entry { OnOk result (self.new ≡ (self.old.0, Emitted commit ∷ self.old.1)) }
+        ensures unchanged { OnErr result (self.new ≡ self.old) }
+        ensures back { IfErr result (λ e. e.commit ≡ commit) }
+    {
+        let Ok(()) = self.journal.reserve(1) else {
+            return Err(NotEmitted { commit });
+        };
+        let Ok(()) = self.board.emit(&commit) else {
+            return Err(NotEmitted { commit });
+        };
+        self.journal.push_reserved(Entry::Emitted(commit));
+        Ok(())
     }
 }

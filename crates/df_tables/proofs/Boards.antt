@@ -18,7 +18,7 @@ use Rattle.df_unit.specs.declared.name.EventName.{EventName}
 use Rattle.df_unit.specs.declared.name.UnitName.{UnitName}
 use Rattle.df_unit.specs.declared.reply.Reply.{Reply}
 use Rattle.df_tables.specs.Agree.{AreApart, FilterIndex, IsWhole, enrols}
-use Rattle.df_tables.specs.Board.{IsBoard, IsHandedBoard, IsMovedBoard, IsOpenedBoard, IsReady, IsRenewed}
+use Rattle.df_tables.specs.Board.{IsBoard, IsMovedBoard, IsOpenedBoard, IsReady}
 use Rattle.df_tables.specs.Events.{IsOpened, blank}
 use Rattle.df_tables.specs.Hand.{IsCalm, IsNews, modify, news_at, with_news, with_state}
 use Rattle.df_tables.specs.Labels.{AreLabels, inputs}
@@ -26,14 +26,13 @@ use Rattle.df_tables.specs.Line.{LineState}
 use Rattle.df_tables.specs.Moves.{is_in_out}
 use Rattle.df_tables.specs.Table.{moved_at, moved_row, names_of, place_of, taken}
 use Rattle.df_tables.specs.declared.board.Board.{Board}
-use Rattle.df_tables.specs.declared.board.Ready.{Ready}
+use Rattle.df_tables.specs.declared.commits.Ready.{Ready}
 use Rattle.df_tables.specs.declared.events.EventRow.{EventRow}
 use Rattle.df_tables.specs.declared.units.Unit.{Unit}
 use Rattle.df_tables.proofs.Each.{at_modify, length-modify, set_modify}
 use Rattle.df_tables.proofs.Handed.{at_map}
 use Rattle.df_tables.proofs.Inputs.{after_keeps}
-use Rattle.df_tables.proofs.Opened.{place_within}
-use Rattle.df_tables.proofs.Order.{apart_like, names-map, roll_like}
+use Rattle.df_tables.proofs.Order.{apart_like, names-map, roll_like, same_length}
 use Rattle.df_tables.proofs.Places.{at_some}
 
 pub names-modify : (f : Unit → Unit) → ((u : Unit) → (f u).local.unit ≡ u.local.unit) → (k : ℕ) (us : List Unit) → names_of (modify k f us) ≡ names_of us
@@ -46,21 +45,25 @@ pub modify-moved : (a : UnitName) (us : List Unit) (k : ℕ) (f : Unit → Unit)
 modify-moved a [] k f h = refl
 modify-moved a (u ∷ us) k f h = sym (set_modify k f u (u ∷ us)) ∙ (at_some a (u ∷ us) k u h).1 f
 
-pub whole_modified : (us : List Unit) (evs : List EventRow) (x : FilterIndex) (k : ℕ) (f : Unit → Unit) → ((u : Unit) → (f u).local.unit ≡ u.local.unit) → ((u : Unit) → IsCalm u → IsCalm (f u)) → IsWhole us evs x → IsWhole (modify k f us) evs x
-whole_modified us evs x k f named still whole = record {
-  apart = apart_like us (modify k f us) (names-modify f named k us) whole.apart;
-  calm = λ i d within.
-      let e = length-modify k f us in
-      let j : i < length us = omega (arith, e, within) in
-      subst IsCalm (sym (at_modify k f us i d j)) (by (k == i) (get_or us i d) (whole.calm i d j));
-  enrolled = λ i d within. let e = length-modify k f us in let h = whole.enrolled i d within in omega (arith, e, h);
-  fresh = whole.fresh;
-  seated = λ e p h. whole.seated e p (let n = length-modify k f us in omega (arith, n, h));
-}
+-- nor is anything staged then
+calm-modify : (f : Unit → Unit) → ((u : Unit) → IsCalm u → IsCalm (f u)) → (k : ℕ) (us : List Unit) → All IsCalm us → All IsCalm (modify k f us)
+calm-modify f still k us calm i d within =
+    let e = length-modify k f us in
+    let j : i < length us = omega (arith, e, within) in
+    subst IsCalm (sym (at_modify k f us i d j)) (by (k == i) (get_or us i d) (calm i d j))
   where
     by : (b : Bool) (u : Unit) → IsCalm u → IsCalm (if b then f u else u)
     by true u h = still u h
     by false u h = h
+
+pub whole_modified : (us : List Unit) (evs : List EventRow) (x : FilterIndex) (k : ℕ) (f : Unit → Unit) → ((u : Unit) → (f u).local.unit ≡ u.local.unit) → ((u : Unit) → IsCalm u → IsCalm (f u)) → IsWhole us evs x → IsWhole (modify k f us) evs x
+whole_modified us evs x k f named still whole = record {
+  apart = apart_like us (modify k f us) (names-modify f named k us) whole.apart;
+  calm = calm-modify f still k us whole.calm;
+  enrolled = λ i d within. let e = length-modify k f us in let h = whole.enrolled i d within in omega (arith, e, h);
+  fresh = whole.fresh;
+  seated = λ e p h. whole.seated e p (let n = length-modify k f us in omega (arith, n, h));
+}
 
 pub inputs-modify : (f : Unit → Unit) (k : ℕ) (us : List Unit) → ((d : Unit) → k < length us → (f (get_or us k d)).local.own.input ≡ (get_or us k d).local.own.input) → inputs (modify k f us) ≡ inputs us
 inputs-modify f k [] same = refl
@@ -79,16 +82,6 @@ labels_stale f k us within = (let e = length-modify k f us in let g = length-map
 pub inputs-map : (f : Unit → Unit) → ((u : Unit) → (f u).local.own.input ≡ u.local.own.input) → (us : List Unit) → inputs (map f us) ≡ inputs us
 inputs-map f same [] = refl
 inputs-map f same (u ∷ us) = let first = same u in let rest = inputs-map f same us in cc
-
--- a board whose rows, events and index are those of another
-pub board_renewed : (old new : Board) → IsBoard old → IsRenewed old new → AreLabels (inputs new.rows.items) new.labels.items new.stale → IsBoard new
-board_renewed old new board same labels = record {
-  whole = subst (λ (us : List Unit). IsWhole us new.events new.index) (sym same.rows)
-      (subst (λ (evs : List EventRow). IsWhole old.rows.items evs new.index) (sym same.events)
-      (subst (λ (x : FilterIndex). IsWhole old.rows.items old.events x) (sym same.index) board.whole));
-  roll = roll_like old.roll new.roll old.rows.items new.rows.items same.roll (ap names_of same.rows) board.roll;
-  labels = labels;
-}
 
 taken_calm : (f : Effect) (l : LineState) → l.staged ≡ [] → (taken f l).staged ≡ []
 taken_calm Effect.Nothing l h = h
@@ -119,7 +112,8 @@ whole_moved k c r f made old new within moved whole =
     subst (λ (l : List Unit). IsWhole l new.events new.index) (sym moved.rows)
     (subst (λ (evs : List EventRow). IsWhole (modify k (moved_row rows c r f) us) evs new.index) (sym moved.events) more)
 
-opened_longer : (event : EventName) (old new : List EventRow) → IsOpened event old new → length old ≤ length new
+-- events that were opened are no fewer
+pub opened_longer : (event : EventName) (old new : List EventRow) → IsOpened event old new → length old ≤ length new
 opened_longer event old new (inl e) = let n : length new ≡ length old = ap length e in omega (arith, n)
 opened_longer event old new (inr e) = let n : length new ≡ length old + 1 = ap length e.1 ∙ length-append old (blank event ∷ []) in omega (arith, n)
 
@@ -152,6 +146,19 @@ none_far (q ∷ qs) m p all far = by (q.0 == p.0) refl (none_far qs m p (All-tai
         absurd (omega (arith, near, same, far))
     by false e rest = rest
 
+-- so it is marked as handed nothing, where it was before
+pub far_unbooked : (ps : List Pair) (m j : ℕ) (handed handed' : List (List Pair)) → All (λ (p : Pair). p.0 < m) ps → ((e : ℕ) (p : Pair) → index.was_handed handed' e p ≡ (index.was_handed handed e p || ((e == j) && has_pair ps p))) → ((e : ℕ) (p : Pair) → m ≤ p.0 → index.was_handed handed e p ≡ false) →
+    (e : ℕ) (p : Pair) → m ≤ p.0 → index.was_handed handed' e p ≡ false
+far_unbooked ps m j handed handed' within booked before e p far =
+    booked e p
+    ∙ ap (λ (b : Bool). b || ((e == j) && has_pair ps p)) (before e p far)
+    ∙ ap (λ (b : Bool). (e == j) && b) (none_far ps m p within far)
+    ∙ neither (e == j)
+  where
+    neither : (b : Bool) → (b && false) ≡ false
+    neither true = refl
+    neither false = refl
+
 -- what is handed to each row, by its unit's place
 abbrev news_by : EventName → List Part → List Pair → Unit → Option ℕ → List Given
 news_by event after ps u None = []
@@ -160,10 +167,6 @@ news_by event after ps u (Some k) = news_at event after u.local.own.input ps k
 own_news : (event : EventName) (after : List Part) (ps : List Pair) (us : List Unit) → AreApart us → IsNews (λ u. news_by event after ps u (place_of u.local.unit us)) event after ps us
 own_news event after ps us apart q d within = ap (news_by event after ps (get_or us q d)) (apart q d within)
 
-neither : (b : Bool) → (b && false) ≡ false
-neither true = refl
-neither false = refl
-
 less_apart : (e j : ℕ) → j < e → (e == j) ≡ false
 less_apart e j h = by (e == j) refl
   where
@@ -171,44 +174,83 @@ less_apart e j h = by (e == j) refl
     by false g = refl
     by true g = let same = eqb-true e j g in absurd (omega (arith, h, same))
 
--- the tables fit each other after a commit
-pub board_handed : (k : ℕ) (c : Call) (r : Reply) (f : Effect) (commit : Commit) (old new : Board) → IsBoard old → (done : IsHandedBoard k c r f commit old new) → is_in_out c ≡ false → AreLabels (inputs old.rows.items) new.labels.items new.stale → IsBoard new
-board_handed k c r f commit old new board done quiet labels =
-    let opened = done.opened in
-    let us = opened.rows.items in
-    let event = commit.event in
-    let after = done.ready.after in
-    let ps = done.ready.to in
-    let before = whole_opened event old opened done.opening board.whole in
+-- the tables fit each other where the rows are of the same units, who read at the same labels, and nothing is staged
+pub board_steady : (old new : Board) → IsBoard old → names_of new.rows.items ≡ names_of old.rows.items → All IsCalm new.rows.items → inputs new.rows.items ≡ inputs old.rows.items → new.roll.seats ≡ old.roll.seats → new.events ≡ old.events → new.index ≡ old.index → new.labels.items ≡ old.labels.items → new.stale ≡ old.stale →
+    IsBoard new
+board_steady old new board named calm reads roll events indexed labels stale =
+    let us = old.rows.items in
+    let vs = new.rows.items in
+    let size : length vs ≡ length us = same_length vs us named in
+    let whole : IsWhole vs old.events old.index = record {
+      apart = apart_like us vs named board.whole.apart;
+      calm = calm;
+      enrolled = λ i d within. let h = board.whole.enrolled i d within in omega (arith, size, h);
+      fresh = board.whole.fresh;
+      seated = λ e p h. board.whole.seated e p (omega (arith, size, h));
+    } in record {
+      whole = subst (λ (evs : List EventRow). IsWhole vs evs new.index) (sym events) (subst (λ (x : FilterIndex). IsWhole vs old.events x) (sym indexed) whole);
+      roll = roll_like old.roll.seats new.roll.seats us vs roll named board.roll;
+      labels = subst (λ (now : List Label). AreLabels now new.labels.items new.stale) (sym reads)
+          (subst (λ (ls : List Label). AreLabels (inputs us) ls new.stale) (sym labels) (subst (AreLabels (inputs us) old.labels.items) (sym stale) board.labels));
+    }
+
+-- a change of rows that keeps their units and the labels at which they read, and stages nothing
+pub record IsSteady (g : List Unit → List Unit) : Type 0 where
+  pub named : (us : List Unit) → names_of (g us) ≡ names_of us
+  pub calm : (us : List Unit) → All IsCalm us → All IsCalm (g us)
+  pub reads : (us : List Unit) → inputs (g us) ≡ inputs us
+
+-- so is none
+pub steady_same : IsSteady (λ us. us)
+steady_same = record {
+  named = λ us. refl;
+  calm = λ us h. h;
+  reads = λ us. refl;
+}
+
+-- so is that of an entry which changes no label
+pub steady_state : (k : ℕ) (c : Call) (r : Reply) (f : Effect) → is_in_out c ≡ false → IsSteady (modify k (with_state c r f))
+steady_state k c r f quiet = record {
+  named = names-modify (with_state c r f) (λ u. refl) k;
+  calm = calm-modify (with_state c r f) (λ u h. h) k;
+  reads = λ us. inputs-modify (with_state c r f) k us (λ d i. let u = get_or us k d in after_keeps u.local.unit u.local.own c r f quiet);
+}
+
+-- where receivers were handed their news
+pub board_handed : (g : List Unit → List Unit) (event : EventName) (after : List Part) (ps : List Pair) (old new : Board) → IsSteady g → IsBoard old → ((given : Unit → List Given) → IsNews given event after ps old.rows.items → new.rows.items ≡ g (map (with_news given) old.rows.items)) →
+    new.roll.seats ≡ old.roll.seats → new.events ≡ old.events → new.index ≡ old.index → new.labels.items ≡ old.labels.items → new.stale ≡ old.stale → IsBoard new
+board_handed g event after ps old new steady board rows =
+    let us = old.rows.items in
     let given : Unit → List Given = λ u. news_by event after ps u (place_of u.local.unit us) in
     let handed_to : List Unit = map (with_news given) us in
-    let is : new.rows.items ≡ modify k (with_state c r f) handed_to = done.rows given (own_news event after ps us before.apart) in
-    let there = place_within event opened.events done.ready.place done.made.place in
-    let mapped : IsWhole handed_to new.events new.index = record {
-      apart = apart_like us handed_to (names-map (with_news given) (λ u. refl) us) before.apart;
-      calm = λ i d within.
-          let e = length-map us (with_news given) in
-          let j : i < length us = omega (arith, e, within) in
-          subst IsCalm (sym (at_map (with_news given) us i d d j)) (before.calm i d j);
-      enrolled = subst (λ (n : ℕ). All (IsOf n) new.index.enrolled) (sym (length-map us (with_news given)))
-          (subst (All (IsOf (length us))) (sym done.enrolled) before.enrolled);
+    let is : new.rows.items ≡ g handed_to = rows given (own_news event after ps us board.whole.apart) in
+    let calm : All IsCalm handed_to = λ i d within.
+    let e = length-map us (with_news given) in
+    let j : i < length us = omega (arith, e, within) in
+    subst IsCalm (sym (at_map (with_news given) us i d d j)) (board.whole.calm i d j) in
+    board_steady old new board
+    (ap names_of is ∙ steady.named handed_to ∙ names-map (with_news given) (λ u. refl) us)
+    (subst (All IsCalm) (sym is) (steady.calm handed_to calm))
+    (ap inputs is ∙ steady.reads handed_to ∙ inputs-map (with_news given) (λ u. refl) us)
+
+-- and where an event is booked for receivers who have rows
+pub board_booked : (old new : Board) (ps : List Pair) (j : ℕ) → IsBoard old → All (λ (p : Pair). p.0 < length old.rows.items) ps → j < length old.events → new.rows.items ≡ old.rows.items → new.roll.seats ≡ old.roll.seats → new.labels.items ≡ old.labels.items → new.stale ≡ old.stale → new.index.enrolled ≡ old.index.enrolled →
+    ((e : ℕ) (p : Pair) → index.was_handed new.index.handed e p ≡ (index.was_handed old.index.handed e p || ((e == j) && has_pair ps p))) → length new.events ≡ length old.events → IsBoard new
+board_booked old new ps j board within there rows roll labels stale enrolled handed size =
+    let us = old.rows.items in
+    let whole : IsWhole us new.events new.index = record {
+      apart = board.whole.apart;
+      calm = board.whole.calm;
+      enrolled = subst (All (IsOf (length us))) (sym enrolled) board.whole.enrolled;
       fresh = λ e p h.
-          let long : length opened.events ≤ e = (let n = done.size in omega (arith, n, h)) in
-          done.handed e p
-          ∙ ap (λ (b : Bool). b || ((e == done.ready.place) && has_pair ps p)) (before.fresh e p long)
-          ∙ ap (λ (b : Bool). b && has_pair ps p) (less_apart e done.ready.place (omega (arith, there, long)));
-      seated = λ e p h.
-          let n = length-map us (with_news given) in
-          let far : length us ≤ p.0 = omega (arith, n, h) in
-          done.handed e p
-          ∙ ap (λ (b : Bool). b || ((e == done.ready.place) && has_pair ps p)) (before.seated e p far)
-          ∙ ap (λ (b : Bool). (e == done.ready.place) && b) (none_far ps (length us) p (receivers_within commit opened done.ready before done.made) far)
-          ∙ neither (e == done.ready.place);
+          let long : length old.events ≤ e = omega (arith, size, h) in
+          handed e p
+          ∙ ap (λ (b : Bool). b || ((e == j) && has_pair ps p)) (board.whole.fresh e p long)
+          ∙ ap (λ (b : Bool). b && has_pair ps p) (less_apart e j (omega (arith, there, long)));
+      seated = far_unbooked ps (length us) j old.index.handed new.index.handed within handed board.whole.seated;
     } in record {
-      whole = subst (λ (l : List Unit). IsWhole l new.events new.index) (sym is) (whole_modified handed_to new.events new.index k (with_state c r f) (λ u. refl) (λ u h. h) mapped);
-      roll = roll_like old.roll new.roll old.rows.items new.rows.items (done.roll ∙ done.opening.roll)
-          (ap names_of is ∙ names-modify (with_state c r f) (λ u. refl) k handed_to ∙ names-map (with_news given) (λ u. refl) us ∙ ap names_of done.opening.rows) board.roll;
-      labels = subst (λ (l : List Label). AreLabels l new.labels.items new.stale)
-          (sym (ap inputs is ∙ inputs-modify (with_state c r f) k handed_to (λ d i. let u = get_or handed_to k d in after_keeps u.local.unit u.local.own c r f quiet) ∙ inputs-map (with_news given) (λ u. refl) us ∙ ap inputs done.opening.rows))
-          labels;
+      whole = subst (λ (l : List Unit). IsWhole l new.events new.index) (sym rows) whole;
+      roll = roll_like old.roll.seats new.roll.seats us new.rows.items roll (ap names_of rows) board.roll;
+      labels = subst (λ (l : List Unit). AreLabels (inputs l) new.labels.items new.stale) (sym rows)
+          (subst (λ (ls : List Label). AreLabels (inputs us) ls new.stale) (sym labels) (subst (AreLabels (inputs us) old.labels.items) (sym stale) board.labels));
     }

@@ -1,25 +1,27 @@
 -- The tables tell of one more entry, once they are as the code makes them.
-use Rattle.std.proofs.Common.{◌≡◌, ℕ, zero, suc, ◌<◌, ◌==◌, ◌&&◌, Bool, true, false, not, All, List, [], ◌∷◌, ◌++◌, get_or, length, map, Option, Some, None, refl, ap, sym, subst, ◌∙◌, arith}
+use Rattle.std.proofs.Common.{◌≡◌, ℕ, zero, suc, ◌≤◌, ◌<◌, Bool, false, All, List, [], ◌∷◌, ◌++◌, get_or, length, Option, Some, None, refl, ap, sym, subst, ◌∙◌, arith}
 use Rattle.std.specs.Option.{option_or}
 use Rattle.std.proofs.lemmas.List.{append-nil}
 use Rattle.df_filter.specs.declared.clause.Clause.{Clause}
 use Rattle.df_index.specs.Due.{Pair}
 use Rattle.df_index.specs.declared.subscription.Subscription.{Subscription}
-use Rattle.df_label.specs.Tag.{maker_of, number_of}
+use Rattle.df_instances.specs.Marks as marks
+use Rattle.df_instances.specs.Named.{AreNumbered, kept_in}
+use Rattle.df_instances.specs.declared.subscription.ManagedSubscription.{ManagedSubscription}
 use Rattle.df_label.specs.declared.label.Label.{Label}
 use Rattle.df_label.specs.declared.privilege.Privilege.{Privilege}
 use Rattle.df_part.specs.declared.part.Part.{Part}
 use Rattle.df_rules.specs.Commits.{commit_in}
 use Rattle.df_rules.specs.Legal.{answer}
-use Rattle.df_rules.specs.Own.{born, fixed, fixed_by, own, own_plain}
+use Rattle.df_rules.specs.Own.{fixed_by, own, own_plain}
 use Rattle.df_rules.specs.Rules.{Rules}
 use Rattle.df_rules.specs.Start.{rows, roots}
 use Rattle.df_rules.proofs.TakingRows.{row_taking_laws}
 use Rattle.df_unit.specs.Name.{same}
-use Rattle.df_unit.specs.OwnState.{Fixed, OwnState}
-use Rattle.df_unit.specs.Rows.{is_nil, subscribes}
+use Rattle.df_unit.specs.OwnState.{OwnState}
+use Rattle.df_unit.specs.Rows.{subscribes}
 use Rattle.df_unit.specs.declared.call.Call.{Call}
-use Rattle.df_unit.specs.declared.call.Call.TheVariants.{ChangeInOut, Instantiate, Subscribe}
+use Rattle.df_unit.specs.declared.call.Call.TheVariants.{ChangeInOut, Instantiate, Subscribe, SubscribeManaged}
 use Rattle.df_unit.specs.declared.commit.Commit.{Commit}
 use Rattle.df_unit.specs.declared.commit.Given.{Given}
 use Rattle.df_unit.specs.declared.entry.Effect.{Effect}
@@ -27,28 +29,26 @@ use Rattle.df_unit.specs.declared.entry.Entry.{Entry}
 use Rattle.df_unit.specs.declared.entry.Entry.TheVariants.{Done}
 use Rattle.df_unit.specs.declared.name.EventName.{EventName}
 use Rattle.df_unit.specs.declared.name.UnitName.{UnitName}
-use Rattle.df_unit.specs.declared.name.UnitName.TheVariants.{Managed, Root}
+use Rattle.df_unit.specs.declared.name.UnitName.TheVariants.{Root}
 use Rattle.df_unit.specs.declared.reply.Reply.{Reply}
 use Rattle.df_unit.specs.declared.reply.Reply.TheVariants.{Sub, Unit as Made}
 use Rattle.df_unit.proofs.SameFacts.{same_name-exact}
-use Rattle.df_tables.specs.Agree.{Agrees, FilterIndex, IsSeat, IsWhole, ManagedState, enrols, is_marked, subscribed_at}
-use Rattle.df_tables.specs.Board.{IsBooked, IsHandedBoard, IsKept, IsMovedBoard, IsOpenedBoard, IsRenewed, TellsOf, answer_from, answer_on, managed_of}
+use Rattle.df_tables.specs.Agree.{Agrees, AreWithin, FilterIndex, IsSeat, IsWhole, ManagedState, enrols, is_marked, subscribed_at}
+use Rattle.df_tables.specs.Board.{IsBooked, IsKept, IsMovedBoard, IsOpenedBoard, IsRenewed, TellsOf, answer_from, answer_on, managed_by, managed_of}
 use Rattle.df_tables.specs.Events.{event_place}
-use Rattle.df_tables.specs.Hand.{IsAnsweredAt, IsNews, modify, news_at, with_news, with_state}
-use Rattle.df_tables.specs.Labels.{inputs}
-use Rattle.df_tables.specs.Moves.{IsAnswered, IsServed, child_by, is_in_out, made_by}
+use Rattle.df_tables.specs.Hand.{IsAnsweredAt, IsNews, modify, news_at}
+use Rattle.df_tables.specs.Moves.{IsAnswered, child_by, is_in_out, made_by, managed_sub_by}
 use Rattle.df_tables.specs.Table.{find, moved_at, moved_row, place_of}
 use Rattle.df_tables.specs.declared.board.Board.{Board}
 use Rattle.df_tables.specs.declared.events.EventRow.{EventRow}
 use Rattle.df_tables.specs.declared.units.Unit.{Unit}
-use Rattle.df_tables.proofs.Boards.{enrolled_more, modify-moved, whole_opened}
-use Rattle.df_tables.proofs.Built.{childless_makes_none, served_makes_none}
-use Rattle.df_tables.proofs.Dispatch.{news_found}
+use Rattle.df_tables.proofs.Boards.{enrolled_more, modify-moved, opened_longer}
+use Rattle.df_tables.proofs.Built.{childless_makes_none, unmanaged_makes_none}
+use Rattle.df_tables.proofs.Each.{length-modify}
 use Rattle.df_tables.proofs.Opened.{within}
-use Rattle.df_tables.proofs.Order.{names-map, names-moved, same_length}
 use Rattle.df_tables.proofs.Places.{at_none, at_some}
-use Rattle.df_tables.proofs.Seats.{enrols_none, passes_at, place_of-names}
-use Rattle.df_tables.proofs.Steps.{agrees_commit, agrees_opened, agrees_plain, born_by, fixes_none, makes_none, news_of, no_births, none_news, unrecorded_news}
+use Rattle.df_tables.proofs.Seats.{enrols_none, passes_at}
+use Rattle.df_tables.proofs.Steps.{agrees_opened, agrees_plain, born_by, fixes_none, no_births}
 use Rattle.df_tables.proofs.Subscribing.{subscribes_made}
 use Rattle.df_tables.proofs.Tells.{answer_at, answer_none, none_at, row_at}
 
@@ -72,14 +72,14 @@ brought g event after ps (u ∷ us) news n q h =
     let is : v.local.unit ≡ n = same_name-exact v.local.unit n (passes_at (λ (w : Unit). same w.local.unit n) (u ∷ us) q u h) in
     (v.local.own.input, subst (λ (m : UnitName). g m ≡ news_at event after v.local.own.input ps q) is (news q u (place_in n (u ∷ us) q h)))
 
-modify_same : (f g : Unit → Unit) → ((u : Unit) → f u ≡ g u) → (k : ℕ) (us : List Unit) → modify k f us ≡ modify k g us
+pub modify_same : (f g : Unit → Unit) → ((u : Unit) → f u ≡ g u) → (k : ℕ) (us : List Unit) → modify k f us ≡ modify k g us
 modify_same f g e k [] = refl
 modify_same f g e zero (u ∷ us) = ap (λ (v : Unit). v ∷ us) (e u)
 modify_same f g e (suc k) (u ∷ us) = ap (λ (vs : List Unit). u ∷ vs) (modify_same f g e k us)
 
 -- a commit is the effect of no call that subscribes or changes the label at which its unit reads
 
-commits_none : (c : Call) (r : Reply) (k : Commit) (u : Unit) → IsAnswered c r (Effect.Commit k) u → made_by c r ≡ None
+pub commits_none : (c : Call) (r : Reply) (k : Commit) (u : Unit) → IsAnswered c r (Effect.Commit k) u → made_by c r ≡ None
 commits_none (Subscribe filter) r k u h = absurd (let e : Effect.Nothing ≡ Effect.Commit k = ap (λ (p : Reply × Effect). p.1) h in (let z : ⊥ = cc in z))
 commits_none _ r k u h = refl
 
@@ -91,10 +91,6 @@ commits_quiet _ r k u h = refl
 pub commit_quiet : (us : List Unit) (q : ℕ) (c : Call) (r : Reply) (f : Effect) (k : Commit) → q < length us → f ≡ Effect.Commit k → IsAnsweredAt q c r f us → is_in_out c ≡ false
 commit_quiet [] q c r f k i is answered = absurd (omega (arith, i))
 commit_quiet (u ∷ us) q c r f k i is answered = commits_quiet c r k (get_or (u ∷ us) q u) (subst (λ (x : Effect). IsAnswered c r x (get_or (u ∷ us) q u)) is (answered u i))
-
-pub in_out_makes_none : (c : Call) (r : Reply) → is_in_out c ≡ true → made_by c r ≡ None
-in_out_makes_none (Subscribe filter) r h = absurd (let z : ⊥ = cc in z)
-in_out_makes_none _ r h = refl
 
 abbrev inside : Option (ℕ × List Clause) → ℕ × List Clause
 inside None = (0, [])
@@ -153,26 +149,53 @@ agrees_index R s past us evs x x' m e h agree = record {
   told = agree.told;
 }
 
+-- a board with the same managed subscriptions and marks tells the same of them
+pub same_managed : (old new : Board) → new.managed ≡ old.managed → new.marks.handed ≡ old.marks.handed → managed_of new ≡ managed_of old
+same_managed old new e f = ap (λ (l : List ManagedSubscription). managed_by l new.marks.handed) e ∙ ap (managed_by old.managed) f
+
+-- where there are more rows, no more is told of who has none
+pub within_more : (us vs : List Unit) (evs fvs : List EventRow) (told told' : ℕ → ℕ → Bool) → ((e q : ℕ) → told' e q ≡ told e q) → length us ≤ length vs → length evs ≤ length fvs → AreWithin us evs told → AreWithin vs fvs told'
+within_more us vs evs fvs told told' same more later within = record {
+  fresh = λ e q h. same e q ∙ within.fresh e q (omega (arith, later, h));
+  seated = λ e q h. same e q ∙ within.seated e q (omega (arith, more, h));
+}
+
+-- the tables tell what they told, where at most rows and events are more
+pub told_more : (starts : Starts) (past now : List Entry) (old new : Board) → new.managed ≡ old.managed → new.marks.handed ≡ old.marks.handed → length old.rows.items ≤ length new.rows.items → length old.events ≤ length new.events → TellsOf starts past old →
+    Agrees rows (roots starts) now new.rows.items new.events new.index (managed_of new) → TellsOf starts now new
+told_more starts past now old new e f more later tells agrees = record {
+  agrees = agrees;
+  numbered = subst AreNumbered (sym e) tells.numbered;
+  within = within_more old.rows.items new.rows.items old.events new.events (managed_of old).told (managed_of new).told (λ i q. ap (λ (h : List (List ℕ)). marks.was_handed h i q) f) more later tells.within;
+}
+
+pub no_fewer : {X : Type 0} (xs ys : List X) → ys ≡ xs → length xs ≤ length ys
+no_fewer {X} xs ys e = let n : length ys ≡ length xs = ap (λ (l : List X). length l) e in omega (arith, n)
+
 pub kept_renewed : (old new : Board) → IsRenewed old new → IsKept old new
 kept_renewed old new same starts past tells =
-    subst (λ (us : List Unit). Agrees rows (roots starts) past us new.events new.index (managed_of new)) (sym same.rows)
+    told_more starts past past old new same.managed same.told (no_fewer old.rows.items new.rows.items same.rows) (no_fewer old.events new.events same.events) tells
+    (subst (λ (us : List Unit). Agrees rows (roots starts) past us new.events new.index (managed_of new)) (sym same.rows)
     (subst (λ (evs : List EventRow). Agrees rows (roots starts) past old.rows.items evs new.index (managed_of new)) (sym same.events)
-    (subst (λ (x : FilterIndex). Agrees rows (roots starts) past old.rows.items old.events x (managed_of new)) (sym same.index) tells))
+    (subst (λ (x : FilterIndex). Agrees rows (roots starts) past old.rows.items old.events x (managed_of new)) (sym same.index)
+    (subst (λ (m : ManagedState). Agrees rows (roots starts) past old.rows.items old.events old.index m) (sym (same_managed old new same.managed same.told)) tells.agrees))))
 
 pub kept_opened : (event : EventName) (old new : Board) → IsWhole old.rows.items old.events old.index → IsOpenedBoard event old new → IsKept old new
 kept_opened event old new whole o starts past tells =
-    subst (λ (us : List Unit). Agrees rows (roots starts) past us new.events new.index (managed_of new)) (sym o.rows)
+    told_more starts past past old new o.managed o.told (no_fewer old.rows.items new.rows.items o.rows) (opened_longer event old.events new.events o.opened) tells
+    (subst (λ (us : List Unit). Agrees rows (roots starts) past us new.events new.index (managed_of new)) (sym o.rows)
     (agrees_index rows (roots starts) past old.rows.items new.events old.index new.index (managed_of new) o.enrolled o.handed
-    (agrees_opened rows (roots starts) past old.rows.items old.events new.events old.index (managed_of new) event o.opened whole.fresh (λ e q h. refl) tells))
+    (subst (λ (m : ManagedState). Agrees rows (roots starts) past old.rows.items new.events old.index m) (sym (same_managed old new o.managed o.told))
+    (agrees_opened rows (roots starts) past old.rows.items old.events new.events old.index (managed_of old) event o.opened whole.fresh tells.within.fresh tells.agrees))))
 
 module _ (starts : Starts) (past : List Entry) (b : Board) (tells : TellsOf starts past b) (a : UnitName) (q : ℕ) (place : place_of a b.rows.items ≡ Some q) (c : Call) (r : Reply) (f : Effect) (answered : IsAnsweredAt q c r f b.rows.items) where
   pub right : answer rows (roots starts) past a c ≡ (r, f)
-  right = let row = found a b.rows.items q place in sym (answer_at rows (roots starts) past b.rows.items b.events b.index (managed_of b) tells a c row.0 row.1) ∙ row.2 c r f answered
+  right = let row = found a b.rows.items q place in sym (answer_at rows (roots starts) past b.rows.items b.events b.index (managed_of b) tells.agrees a c row.0 row.1) ∙ row.2 c r f answered
 
-  makes : (st : OwnState) → own rows (roots starts) past a ≡ Some st → subscribes st c r ≡ made_by c r
+  pub makes : (st : OwnState) → own rows (roots starts) past a ≡ Some st → subscribes st c r ≡ made_by c r
   makes st owned =
       let row = found a b.rows.items q place in
-      let here = (row_at rows (roots starts) past b.rows.items b.events b.index (managed_of b) tells a row.0 row.1).1 in
+      let here = (row_at rows (roots starts) past b.rows.items b.events b.index (managed_of b) tells.agrees a row.0 row.1).1 in
       let is : row.0.local.own ≡ st = cc in
       subst (λ (s : OwnState). subscribes s c r ≡ made_by c r) is (subscribes_made c r f row.0 (row.2 c r f answered))
 
@@ -181,8 +204,8 @@ pub answer_is : (starts : Starts) (past : List Entry) (b : Board) → TellsOf st
 answer_is starts past b tells a c = by (find a b.rows.items) refl
   where
     by : (o : Option Unit) → find a b.rows.items ≡ o → answer_from o c ≡ answer rows (roots starts) past a c
-    by None e = sym (answer_none rows (roots starts) past b.rows.items b.events b.index (managed_of b) tells a c e)
-    by (Some u) e = answer_at rows (roots starts) past b.rows.items b.events b.index (managed_of b) tells a c u e
+    by None e = sym (answer_none rows (roots starts) past b.rows.items b.events b.index (managed_of b) tells.agrees a c e)
+    by (Some u) e = answer_at rows (roots starts) past b.rows.items b.events b.index (managed_of b) tells.agrees a c u e
 
 -- an effect that is no commit has none
 pub plain_else : (f : Effect) → ((k : Commit) → f ≡ Effect.Commit k → ⊥) → commit_in f ≡ None
@@ -190,103 +213,54 @@ plain_else Effect.Nothing never = refl
 plain_else (Effect.Commit k) never = absurd (never k refl)
 plain_else (Effect.Given d) never = refl
 
--- where there is no record, an entry that makes none leaves it so
-pub unrecorded : (starts : Starts) (past : List Entry) (b : Board) (a : UnitName) (c : Call) (r : Reply) (f : Effect) → IsServed c → (o : List ℕ) (n : ℕ) → (managed_of b).kept o n ≡ option_or ((managed_of b).kept o n) (fixed_by rows (Done a c r f) o n (own_plain rows (roots starts) past o))
-unrecorded starts past b a c r f served o n = sym (fixes_none rows (roots starts) c r (served_makes_none c r served) (same a (Root o)) n (own_plain rows (roots starts) past o))
+or_none : {A : Type 0} (o : Option A) → option_or o None ≡ o
+or_none None = refl
+or_none (Some x) = refl
+
+-- an entry that makes no record leaves all of them
+pub unrecorded : (starts : Starts) (past : List Entry) (old new : Board) → new.managed ≡ old.managed → (a : UnitName) (c : Call) (r : Reply) (f : Effect) → managed_sub_by c r ≡ None → (o : List ℕ) (n : ℕ) → (managed_of new).kept o n ≡ option_or ((managed_of old).kept o n) (fixed_by rows (Done a c r f) o n (own_plain rows (roots starts) past o))
+unrecorded starts past old new e a c r f unmanaged o n =
+    ap (λ (l : List ManagedSubscription). kept_in l o n) e
+    ∙ sym (or_none (kept_in old.managed o n))
+    ∙ ap (option_or (kept_in old.managed o n)) (sym (fixes_none rows (roots starts) c r (unmanaged_makes_none c r unmanaged) (same a (Root o)) n (own_plain rows (roots starts) past o)))
 
 -- an entry that makes no unit has none made
-childless_births : (starts : Starts) (past : List Entry) (a : UnitName) (c : Call) (r : Reply) (f : Effect) → child_by c r ≡ None → commit_in f ≡ None → (n : UnitName) → own rows (roots starts) past n ≡ None → IsSeat n (born_by rows (roots starts) past (Done a c r f) n) [] None
+pub childless_births : (starts : Starts) (past : List Entry) (a : UnitName) (c : Call) (r : Reply) (f : Effect) → child_by c r ≡ None → commit_in f ≡ None → (n : UnitName) → own rows (roots starts) past n ≡ None → IsSeat n (born_by rows (roots starts) past (Done a c r f) n) [] None
 childless_births starts past a c r f childless quiet n none = subst (λ (o : Option OwnState). IsSeat n o [] None) (sym (no_births rows (roots starts) past a c r f (childless_makes_none c r childless) quiet n)) refl
 
--- nor has a commit, where there is no record
-commit_births : (starts : Starts) (past : List Entry) (a : UnitName) (c : Call) (r : Reply) (k : Commit) → child_by c r ≡ None → (n : UnitName) → own rows (roots starts) past n ≡ None → ((o : List ℕ) (i : ℕ) → fixed rows (roots starts) past o i ≡ None) →
-    IsSeat n (born_by rows (roots starts) past (Done a c r (Effect.Commit k)) n) (news_of rows (roots starts) past n (Some k)) None
-commit_births starts past a c r k childless (Root path) none free =
-    subst (λ (o : Option OwnState). IsSeat (Root path) o (news_of rows (roots starts) past (Root path) (Some k)) None) (sym (makes_none rows (roots starts) c r (childless_makes_none c r childless) (same a (Root (maker_of path))) (number_of path) (own_plain rows (roots starts) past (maker_of path))))
-    (none_news rows (roots starts) past path (Some k) none)
-commit_births starts past a c r k childless (Managed o i t) none free =
-    subst (λ (fx : Option Fixed). IsSeat (Managed o i t) (born rows fx t past (Some k)) (news_of rows (roots starts) past (Managed o i t) (Some k)) None) (sym (free o i)) (unrecorded_news rows (roots starts) past o i t (Some k) (free o i))
-
-neither : (b : Bool) → (b && false) ≡ false
-neither true = refl
-neither false = refl
-
 -- after an entry without a commit
-pub booked_plain : (a : UnitName) (q : ℕ) (c : Call) (r : Reply) (f : Effect) (old new : Board) → place_of a old.rows.items ≡ Some q → IsServed c → child_by c r ≡ None → IsAnsweredAt q c r f old.rows.items → commit_in f ≡ None → IsWhole old.rows.items old.events old.index → IsMovedBoard q c r f (made_by c r) old new → IsBooked a c r f old new
-booked_plain a q c r f old new place served childless answered quiet whole moved starts past tells =
+pub booked_plain : (a : UnitName) (q : ℕ) (c : Call) (r : Reply) (f : Effect) (old new : Board) → place_of a old.rows.items ≡ Some q → managed_sub_by c r ≡ None → child_by c r ≡ None → IsAnsweredAt q c r f old.rows.items → commit_in f ≡ None → IsWhole old.rows.items old.events old.index → IsMovedBoard q c r f (made_by c r) old new → new.managed ≡ old.managed → IsBooked a c r f old new
+booked_plain a q c r f old new place unmanaged childless answered quiet whole moved same starts past tells =
     let us = old.rows.items in
     let all = roots starts in
     let F = moved_row rows c r f in
-    subst (λ (l : List Unit). Agrees rows all (Done a c r f ∷ past) l new.events new.index (managed_of new)) (append-nil (moved_at a F us) ∙ sym (moved.rows ∙ modify-moved a us q F place))
+    let size : length new.rows.items ≡ length us = ap length moved.rows ∙ length-modify q F us in
+    told_more starts past (Done a c r f ∷ past) old new same moved.told (omega (arith, size)) (no_fewer old.events new.events moved.events) tells
+    (subst (λ (l : List Unit). Agrees rows all (Done a c r f ∷ past) l new.events new.index (managed_of new)) (append-nil (moved_at a F us) ∙ sym (moved.rows ∙ modify-moved a us q F place))
     (subst (λ (evs : List EventRow). Agrees rows all (Done a c r f ∷ past) (moved_at a F us ++ []) evs new.index (managed_of new)) (sym moved.events)
-    (agrees_plain rows all (row_taking_laws starts) past us [] old.events old.index new.index (managed_of old) (managed_of new) a c r f (made_by c r) tells quiet
+    (agrees_plain rows all (row_taking_laws starts) past us [] old.events old.index new.index (managed_of old) (managed_of new) a c r f (made_by c r) tells.agrees quiet
     (right starts past old tells a q place c r f answered) (makes starts past old tells a q place c r f answered)
     (moved.enrolled ∙ ap (λ (p : Option ℕ). old.index.enrolled ++ enrols p (made_by c r)) (sym place)) moved.handed
-    (unrecorded starts past old a c r f served) (λ e p. refl)
+    (unrecorded starts past old new same a c r f unmanaged) (λ e p. ap (λ (h : List (List ℕ)). marks.was_handed h e p) moved.told)
     (subst (λ (l : List (Subscription (List Clause))). All (λ (z : Subscription (List Clause)). z.unit < length us) l) (sym moved.enrolled) (enrolled_more (length us) old.index.enrolled q (made_by c r) (place_in a us q place) whole.enrolled))
-    whole.seated (λ e p h. refl) (childless_births starts past a c r f childless quiet)))
+    whole.seated tells.within.seated (childless_births starts past a c r f childless quiet))))
 
 -- after a call of who isn't there
-pub booked_none : (a : UnitName) (c : Call) (r : Reply) (f : Effect) (b : Board) → place_of a b.rows.items ≡ None → IsServed c → child_by c r ≡ None → IsWhole b.rows.items b.events b.index → (let p : Reply × Effect = (Reply.NoSuchUnit, Effect.Nothing) in p) ≡ (r, f) → IsBooked a c r f b b
-booked_none a c r f b none served childless whole is starts past tells =
+pub booked_none : (a : UnitName) (c : Call) (r : Reply) (f : Effect) (b : Board) → place_of a b.rows.items ≡ None → managed_sub_by c r ≡ None → child_by c r ≡ None → IsWhole b.rows.items b.events b.index → (let p : Reply × Effect = (Reply.NoSuchUnit, Effect.Nothing) in p) ≡ (r, f) → IsBooked a c r f b b
+booked_none a c r f b none unmanaged childless whole is starts past tells =
     let us = b.rows.items in
     let all = roots starts in
     let F = moved_row rows c r f in
     let absent = at_none a us none in
     let plain : commit_in f ≡ None = sym (ap (λ (p : Reply × Effect). commit_in p.1) is) in
-    let answers : answer rows all past a c ≡ (r, f) = answer_none rows all past us b.events b.index (managed_of b) tells a c absent.0 ∙ is in
-    let gone = none_at rows all past us b.events b.index (managed_of b) tells a absent.0 in
-    subst (λ (l : List Unit). Agrees rows all (Done a c r f ∷ past) l b.events b.index (managed_of b)) (append-nil (moved_at a F us) ∙ sym (absent.1 F))
-    (agrees_plain rows all (row_taking_laws starts) past us [] b.events b.index b.index (managed_of b) (managed_of b) a c r f None tells plain answers
+    let answers : answer rows all past a c ≡ (r, f) = answer_none rows all past us b.events b.index (managed_of b) tells.agrees a c absent.0 ∙ is in
+    let gone = none_at rows all past us b.events b.index (managed_of b) tells.agrees a absent.0 in
+    told_more starts past (Done a c r f ∷ past) b b refl refl (no_fewer us us refl) (no_fewer b.events b.events refl) tells
+    (subst (λ (l : List Unit). Agrees rows all (Done a c r f ∷ past) l b.events b.index (managed_of b)) (append-nil (moved_at a F us) ∙ sym (absent.1 F))
+    (agrees_plain rows all (row_taking_laws starts) past us [] b.events b.index b.index (managed_of b) (managed_of b) a c r f None tells.agrees plain answers
     (λ st owned. absurd (let z : ⊥ = cc in z))
     (sym (append-nil b.index.enrolled) ∙ ap (λ (l : List (Subscription (List Clause))). b.index.enrolled ++ l) (sym (enrols_none (place_of a us)))) refl
-    (unrecorded starts past b a c r f served) (λ e p. refl) whole.enrolled whole.seated (λ e p h. refl) (childless_births starts past a c r f childless plain))
-
--- after a commit
-pub booked_commit : (a : UnitName) (q : ℕ) (c : Call) (r : Reply) (f : Effect) (k : Commit) (old new : Board) → place_of a old.rows.items ≡ Some q → IsServed c → child_by c r ≡ None → IsAnsweredAt q c r f old.rows.items → f ≡ Effect.Commit k → IsWhole old.rows.items old.events old.index → IsWhole new.rows.items new.events new.index → IsHandedBoard q c r f k old new → IsBooked a c r f old new
-booked_commit a q c r f k old new place served childless answered is whole after_it done starts past tells =
-    let s = roots starts in
-    let opened = done.opened in
-    let us = opened.rows.items in
-    let F = moved_row rows c r (Effect.Commit k) in
-    let there = whole_opened k.event old opened done.opening whole in
-    let agree = kept_opened k.event old opened whole done.opening starts past tells in
-    let given : Unit → List Given = λ u. news_of rows s past u.local.unit (Some k) in
-    let handed_to : List Unit = map (with_news given) us in
-    let moved_to : List Unit = moved_at a F handed_to in
-    let record_free = λ (o : List ℕ) (n : ℕ). sym (agree.kept o n) in
-    let news = news_found starts past us opened.events opened.index (managed_of opened) agree (λ o n. refl) there.apart k done.ready.place done.ready.after done.ready.to (inputs us) done.made.place done.made.after refl done.made.ascending done.made.due in
-    let here : place_of a us ≡ Some q = ap (place_of a) done.opening.rows ∙ place in
-    let named = names-map (with_news given) (λ u. refl) us in
-    let also : place_of a handed_to ≡ Some q = place_of-names a us handed_to named ∙ here in
-    let row = found a old.rows.items q place in
-    let commits : IsAnswered c r (Effect.Commit k) row.0 = subst (λ (x : Effect). IsAnswered c r x row.0) is (row.2 c r f answered) in
-    let moved : new.rows.items ≡ moved_to =
-    done.rows given news
-    ∙ ap (λ (x : Effect). modify q (with_state c r x) handed_to) is
-    ∙ modify_same (with_state c r (Effect.Commit k)) F (λ u. refl) q handed_to
-    ∙ modify-moved a handed_to q F also in
-    let size : length new.rows.items ≡ length us = ap length moved ∙ same_length moved_to us (names-moved a F (λ u. refl) handed_to ∙ named) in
-    subst (λ (x : Effect). Agrees rows s (Done a c r x ∷ past) new.rows.items new.events new.index (managed_of new)) (sym is)
-    (subst (λ (l : List Unit). Agrees rows s (Done a c r (Effect.Commit k) ∷ past) l new.events new.index (managed_of new)) (append-nil moved_to ∙ sym moved)
-    (agrees_commit rows s (row_taking_laws starts) past us [] opened.events new.events opened.index new.index (managed_of opened) (managed_of new) a c r k done.ready.place done.ready.after done.ready.to (λ p. false) given agree (served_makes_none c r served)
-    (right starts past old tells a q place c r f answered ∙ ap (λ (x : Effect). let p : Reply × Effect = (r, x) in p) is)
-    (λ st owned. makes starts past old tells a q place c r f answered st owned ∙ commits_none c r k row.0 commits)
-    (record {
-      place = done.made.place;
-      applied = done.made.after;
-      put = done.parts;
-      places = done.places;
-      enrolled = done.enrolled;
-      booked = done.handed;
-      gives = λ u. refl;
-      brought = λ path. brought (λ n. news_of rows s past n (Some k)) k.event done.ready.after done.ready.to us news (Root path);
-      kept = λ o n. refl;
-      told = λ e p. sym (neither (e == done.ready.place));
-      calls = λ o n t p h. sym (ap (λ (l : List Given). not (is_nil l)) (unrecorded_news rows s past o n t (Some k) (record_free o n)));
-    })
-    there.enrolled (λ e p h. after_it.seated e p (omega (arith, size, h))) (λ e p h. refl)
-    (λ n none. commit_births starts past a c r k childless n none (λ o i. record_free o i))))
+    (unrecorded starts past b b refl a c r f unmanaged) (λ e p. refl) whole.enrolled whole.seated tells.within.seated (childless_births starts past a c r f childless plain)))
 
 -- the call, the reply and the effect that make a child
 pub child_some : (c : Call) (r : Reply) (n : ℕ) (s : List (List ℕ)) (ps : List Privilege) → child_by c r ≡ Some (n, (s, ps)) → (c ≡ Instantiate s ps) × (r ≡ Reply.Unit n)
@@ -306,7 +280,15 @@ child_at us q c r f n s ps e answered d i =
     let still : Effect.Nothing ≡ f = ap (λ (p : Reply × Effect). p.1) here in
     subst (λ (x : Effect). IsAnswered (Instantiate s ps) (Reply.Unit n) x u) (sym still) here
 
--- who isn't there makes no child
+-- who isn't there makes no managed subscription
+pub absent_unmanaged : (c : Call) (r : Reply) (f : Effect) → (let p : Reply × Effect = (Reply.NoSuchUnit, Effect.Nothing) in p) ≡ (r, f) → managed_sub_by c r ≡ None
+absent_unmanaged c r f e = ap (managed_sub_by c) (sym (ap (λ (p : Reply × Effect). p.0) e)) ∙ none c
+  where
+    none : (c : Call) → managed_sub_by c Reply.NoSuchUnit ≡ None
+    none (SubscribeManaged filter) = refl
+    none _ = refl
+
+-- nor any child
 pub absent_childless : (c : Call) (r : Reply) (f : Effect) → (let p : Reply × Effect = (Reply.NoSuchUnit, Effect.Nothing) in p) ≡ (r, f) → child_by c r ≡ None
 absent_childless c r f e = ap (child_by c) (sym (ap (λ (p : Reply × Effect). p.0) e)) ∙ none c
   where

@@ -4,13 +4,14 @@ use Rattle.df_rules.specs.Start.{rows}
 use Rattle.df_unit.specs.declared.call.Call.{Call}
 use Rattle.df_unit.specs.declared.call.Call.TheVariants.{Instantiate, SubscribeManaged}
 use Rattle.df_unit.specs.declared.reply.Reply.{Reply}
-use Rattle.df_unit.specs.declared.reply.Reply.TheVariants.{Unit}
+use Rattle.df_unit.specs.declared.reply.Reply.TheVariants.{Sub, Unit}
 use Rattle.df_tables.specs.Agree.{MakesNoManaged, MakesNoUnit}
-use Rattle.df_tables.specs.Moves.{IsServed, child_by}
+use Rattle.df_tables.specs.Moves.{child_by, managed_sub_by}
 
-pub served_makes_none : (c : Call) (r : Reply) → IsServed c → MakesNoManaged rows c r
-served_makes_none (SubscribeManaged filter) r served = absurd served
-served_makes_none _ r served = λ st n. refl
+pub unmanaged_makes_none : (c : Call) (r : Reply) → managed_sub_by c r ≡ None → MakesNoManaged rows c r
+unmanaged_makes_none (SubscribeManaged filter) (Sub n) e = absurd (let z : ⊥ = cc in z)
+unmanaged_makes_none (SubscribeManaged filter) _ e = λ st n. refl
+unmanaged_makes_none _ r e = λ st n. refl
 
 pub childless_makes_none : (c : Call) (r : Reply) → child_by c r ≡ None → MakesNoUnit rows c r
 childless_makes_none (Instantiate s privileges) (Unit n) e = absurd (let z : ⊥ = cc in z)

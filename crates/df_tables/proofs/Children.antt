@@ -1,11 +1,12 @@
 -- An entry that makes a child: the tables tell of it, once they have its row.
-use Rattle.std.proofs.Common.{◌≡◌, ℕ, suc, ◌-◌, ◌==◌, Bool, true, false, if◌then◌else◌, List, [], ◌∷◌, ◌++◌, get_or, length, take, Option, Some, None, refl, ap, sym, subst, ◌∙◌, arith, eq-eqb, length-append}
+use Rattle.std.proofs.Common.{◌≡◌, ℕ, suc, ◌-◌, ◌≤◌, ◌==◌, Bool, true, false, if◌then◌else◌, List, [], ◌∷◌, ◌++◌, get_or, length, take, Option, Some, None, refl, ap, sym, subst, ◌∙◌, arith, eq-eqb, length-append}
 use Rattle.std.specs.Prelude.{is_none}
 use Rattle.std.specs.Option.{option_and_then}
 use Rattle.std.proofs.lemmas.Bool.{eqb-true}
 use Rattle.std.proofs.lemmas.List.{append-nil}
 use Rattle.std.proofs.Math.Seq.{take-append_seam}
 use Rattle.std.proofs.Math.Seq.{get_or-append_seam}
+use Rattle.df_instances.specs.Marks as marks
 use Rattle.df_label.specs.Tag.{maker_of, number_of}
 use Rattle.df_filter.specs.declared.clause.Clause.{Clause}
 use Rattle.df_index.specs.declared.subscription.Subscription.{Subscription}
@@ -38,8 +39,9 @@ use Rattle.df_tables.specs.declared.board.Board.{Board}
 use Rattle.df_tables.specs.declared.events.EventRow.{EventRow}
 use Rattle.df_tables.specs.declared.units.Unit.{Unit}
 use Rattle.df_tables.proofs.Boards.{modify-moved}
-use Rattle.df_tables.proofs.Booked.{child_at, child_some, found, place_in, right, unrecorded}
+use Rattle.df_tables.proofs.Booked.{child_at, child_some, found, no_fewer, place_in, right, told_more, unrecorded}
 use Rattle.df_tables.proofs.Newborn.{modify-append}
+use Rattle.df_tables.proofs.Order.{names-moved, same_length}
 use Rattle.df_tables.proofs.Places.{at_some}
 use Rattle.df_tables.proofs.Seats.{enrols_none, present}
 use Rattle.df_tables.proofs.Steps.{agrees_plain, born_by, quiet_birth}
@@ -171,7 +173,7 @@ booked_made a q n s ps old new place answered whole made starts past tells =
     let F = moved_row rows c r f in
     let row = found a us q place in
     let u = row.0 in
-    let at = row_at rows all past us old.events old.index (managed_of old) tells a u row.1 in
+    let at = row_at rows all past us old.events old.index (managed_of old) tells.agrees a u row.1 in
     let plain = plain_maker u s ps n (row.2 c r f answered) in
     let who : a ≡ Root plain.0 = sym at.0.unit ∙ plain.1 in
     let stands : get_or us q u ≡ u = (let e = (at_some a us q u place).0 in let g = row.1 in cc) in
@@ -182,15 +184,19 @@ booked_made a q n s ps old new place answered whole made starts past tells =
     ∙ ap (λ (m : UnitName). modify q F (us ++ if_new (child_row (record { unit = m; own = u.local.own }) n s ps) us)) plain.1
     ∙ modify-append F q us bs (place_in a us q place)
     ∙ ap (λ (l : List Unit). l ++ bs) (modify-moved a us q F place) in
-    subst (λ (l : List Unit). Agrees rows all (Done a c r f ∷ past) l new.events new.index (managed_of new)) (sym is)
+    let more = length-append (moved_at a F us) bs in
+    let size = same_length (moved_at a F us) us (names-moved a F (λ u. refl) us) in
+    let longer : length us ≤ length new.rows.items = (let n : length new.rows.items ≡ length (moved_at a F us ++ bs) = ap (λ (l : List Unit). length l) is in omega (arith, n, more, size)) in
+    told_more starts past (Done a c r f ∷ past) old new made.managed made.told longer (no_fewer old.events new.events made.events) tells
+    (subst (λ (l : List Unit). Agrees rows all (Done a c r f ∷ past) l new.events new.index (managed_of new)) (sym is)
     (subst (λ (evs : List EventRow). Agrees rows all (Done a c r f ∷ past) (moved_at a F us ++ bs) evs new.index (managed_of new)) (sym made.events)
     (subst (λ (x : FilterIndex). Agrees rows all (Done a c r f ∷ past) (moved_at a F us ++ bs) old.events x (managed_of new)) (sym made.index)
-    (agrees_plain rows all (row_taking_laws starts) past us bs old.events old.index old.index (managed_of old) (managed_of new) a c r f None tells refl
+    (agrees_plain rows all (row_taking_laws starts) past us bs old.events old.index old.index (managed_of old) (managed_of new) a c r f None tells.agrees refl
     (right starts past old tells a q place c r f answered) (λ st owned. refl)
     (sym (append-nil old.index.enrolled) ∙ ap (λ (l : List (Subscription (List Clause))). old.index.enrolled ++ l) (sym (enrols_none (place_of a us)))) refl
-    (unrecorded starts past old a c r f tt) (λ e p. refl) whole.enrolled whole.seated (λ e p h. refl)
+    (unrecorded starts past old new made.managed a c r f refl) (λ e p. ap (λ (h : List (List ℕ)). marks.was_handed h e p) made.told) whole.enrolled whole.seated tells.within.seated
     (λ m none. subst (λ (x : UnitName). IsSeat m (born_by rows all past (Done x c r f) m) [] (find m bs)) (sym who)
-    (births starts past us plain.0 u.local.own n s ps tells.seats (subst (λ (x : UnitName). own rows all past x ≡ Some u.local.own) who at.1) m none)))))
+    (births starts past us plain.0 u.local.own n s ps tells.agrees.seats (subst (λ (x : UnitName). own rows all past x ≡ Some u.local.own) who at.1) m none))))))
 
 pub booked_child : (a : UnitName) (q : ℕ) (c : Call) (r : Reply) (f : Effect) (n : ℕ) (s : List (List ℕ)) (ps : List Privilege) (old new : Board) → place_of a old.rows.items ≡ Some q → child_by c r ≡ Some (n, (s, ps)) → IsAnsweredAt q c r f old.rows.items → IsWhole old.rows.items old.events old.index →
     IsChildBoard q n s ps old new → IsBooked a c r f old new

@@ -1,8 +1,8 @@
 -- The receivers that the index finds are those to whom the definitions hand the event.
-use Rattle.std.proofs.Common.{◌≡◌, ◌↔◌, ℕ, List, [], if◌then◌else◌, get_or, slice_get, Option, Some, None, option_map, ap, sym, ◌∙◌}
+use Rattle.std.proofs.Common.{◌≡◌, ◌↔◌, ℕ, List, [], if◌then◌else◌, slice_get, Option, Some, option_map, ap, sym, ◌∙◌}
 use Rattle.std.specs.List.{Contains, flat_map}
 use Rattle.std.specs.List.Sorted.{IsStrictlySortedBy}
-use Rattle.std.proofs.lemmas.Option.{slice_get-get_or, slice_get-map}
+use Rattle.std.proofs.lemmas.Option.{slice_get-map}
 use Rattle.df_index.specs.Due.{Pair, pair_cmp}
 use Rattle.df_index.specs.IndexState.{IsReceiver, handed_at}
 use Rattle.df_label.specs.declared.label.Label.{Label}
@@ -13,7 +13,7 @@ use Rattle.df_part.specs.declared.part.Part.{Part}
 use Rattle.df_rules.specs.Choices.{matches}
 use Rattle.df_rules.specs.Commits.{contents}
 use Rattle.df_rules.specs.Deliveries.{deliveries_plain, offer, plain_news}
-use Rattle.df_rules.specs.Own.{own, own_plain}
+use Rattle.df_rules.specs.Own.{own_plain}
 use Rattle.df_rules.specs.Start.{rows, roots}
 use Rattle.df_rules.specs.Subscriptions.{subscriptions}
 use Rattle.df_rules.proofs.Numbers.{numbers_ascend}
@@ -21,24 +21,20 @@ use Rattle.df_unit.specs.OwnState.{OwnState}
 use Rattle.df_unit.specs.Rows.{is_nil}
 use Rattle.df_unit.specs.declared.commit.Commit.{Commit}
 use Rattle.df_unit.specs.declared.entry.Entry.{Entry}
-use Rattle.df_unit.specs.declared.name.UnitName.{UnitName}
-use Rattle.df_unit.specs.declared.name.UnitName.TheVariants.{Root, Managed}
+use Rattle.df_unit.specs.declared.name.UnitName.TheVariants.{Root}
 use Rattle.df_tables.specs.Agree.{Agrees, AreApart, FilterIndex, ManagedState, is_marked, subscribed_at}
 use Rattle.df_tables.specs.Events.{event_place}
-use Rattle.df_tables.specs.Hand.{IsNews, news_at}
+use Rattle.df_tables.specs.Hand.{news_at}
 use Rattle.df_tables.specs.Labels.{inputs}
 use Rattle.df_tables.specs.Table.{parts_of, place_of}
 use Rattle.df_tables.specs.declared.events.EventRow.{EventRow}
 use Rattle.df_tables.specs.declared.units.Unit.{Unit}
 use Rattle.df_tables.proofs.Brings.{news_is}
-use Rattle.df_tables.proofs.Places.{at_some}
-use Rattle.df_tables.proofs.Steps.{news_of, unrecorded_own}
-use Rattle.df_tables.proofs.Tells.{row_at}
 
-module _ (starts : List (Label × List Privilege)) (past : List Entry) (us : List Unit) (evs : List EventRow) (x : FilterIndex) (m : ManagedState) (agree : Agrees rows (roots starts) past us evs x m) (free : (o : List ℕ) (n : ℕ) → m.kept o n ≡ None) (apart : AreApart us) (k : Commit) (j : ℕ) (after : List Part) (ps : List Pair) (labels : List Label)
+module _ (starts : List (Label × List Privilege)) (past : List Entry) (us : List Unit) (evs : List EventRow) (x : FilterIndex) (m : ManagedState) (agree : Agrees rows (roots starts) past us evs x m) (apart : AreApart us) (k : Commit) (j : ℕ) (after : List Part) (ps : List Pair) (labels : List Label)
     (there : event_place k.event evs ≡ Some j) (is : after ≡ apply k.edit (parts_of k.event evs)) (inputs_are : labels ≡ inputs us) (sorted : IsStrictlySortedBy pair_cmp ps) (due : (p : Pair) → Contains ps p ↔ IsReceiver matches labels x j after k.edit p) where
   -- what a plain unit is brought, by its row
-  plain : (q : ℕ) (u : Unit) (path : List ℕ) → slice_get us q ≡ Some u → place_of (Root path) us ≡ Some q → own_plain rows (roots starts) past path ≡ Some u.local.own →
+  pub plain : (q : ℕ) (u : Unit) (path : List ℕ) → slice_get us q ≡ Some u → place_of (Root path) us ≡ Some q → own_plain rows (roots starts) past path ≡ Some u.local.own →
       plain_news (own_plain rows (roots starts) past path) (subscriptions rows (roots starts) past (Root path)) (deliveries_plain rows (roots starts) past path) past (Some k) ≡ news_at k.event after u.local.own.input ps q
   plain q u path at place owned =
       let subs = subscriptions rows (roots starts) past (Root path) in
@@ -51,20 +47,3 @@ module _ (starts : List (Label × List Privilege)) (past : List Entry) (us : Lis
       ap (λ (o : Option OwnState). plain_news o subs ds past (Some k)) owned
       ∙ ap (λ (l : List Part). if is_nil (cut input k.edit.1) then [] else flat_map (λ sub. offer ds k.event (cut input l) sub) subs) parts
       ∙ news_is input ds k.event after k.edit q x.enrolled (handed_at x.handed j) labels ps label marks due subs same (numbers_ascend (roots starts) past (Root path)) sorted
-
-  -- and what any unit is brought
-  pub news_found : IsNews (λ u. news_of rows (roots starts) past u.local.unit (Some k)) k.event after ps us
-  unfolding news_of
-  news_found q d within =
-      let u = get_or us q d in
-      let at : slice_get us q ≡ Some u = slice_get-get_or us q d within in
-      let place : place_of u.local.unit us ≡ Some q = apart q d within in
-      let row = row_at rows (roots starts) past us evs x m agree u.local.unit u (at_some u.local.unit us q d place).0 in
-      by u at place row.1
-    where
-      by : (u : Unit) → slice_get us q ≡ Some u → place_of u.local.unit us ≡ Some q → own rows (roots starts) past u.local.unit ≡ Some u.local.own → news_of rows (roots starts) past u.local.unit (Some k) ≡ news_at k.event after u.local.own.input ps q
-      by u at place owned = named u.local.unit at place owned
-        where
-          named : (n : UnitName) → slice_get us q ≡ Some u → place_of n us ≡ Some q → own rows (roots starts) past n ≡ Some u.local.own → news_of rows (roots starts) past n (Some k) ≡ news_at k.event after u.local.own.input ps q
-          named (Root path) at place owned = plain q u path at place owned
-          named (Managed o n t) at place owned = absurd (let z : None ≡ Some u.local.own = sym (unrecorded_own rows (roots starts) past o n t (sym (agree.kept o n) ∙ free o n)) ∙ owned in (let w : ⊥ = cc in w))

@@ -88,6 +88,19 @@ handed ev after ps us q g news calm is =
         ∙ ap (λ (v : Unit). if q == k then moved_by g v else v) (sym (at_map (with_news news) us k d d i))
         ∙ sym (at_modify q (moved_by g) (map (with_news news) us) k d (omega (arith, c, i)))
 
+-- and where no own state changed
+pub handed_out : (ev : EventName) (after : List Part) (ps : List Pair) (us : List Unit) (news : Unit → List Given) → All IsCalm us → IsNews news ev after ps us →
+    each settled_row ps (each (staged_row ev after) ps us) ≡ map (with_news news) us
+handed_out ev after ps us news calm is =
+    ap (each settled_row ps) (sym (still 0 (each (staged_row ev after) ps us)))
+    ∙ handed ev after ps us 0 (λ l. l) news calm is
+    ∙ still 0 (map (with_news news) us)
+  where
+    still : (q : ℕ) (us : List Unit) → modify q (moved_by (λ l. l)) us ≡ us
+    still q [] = refl
+    still zero (u ∷ us) = refl
+    still (suc q) (u ∷ us) = ap (λ (l : List Unit). u ∷ l) (still q us)
+
 quiet_both : (ps : List Pair) (k : ℕ) (u v : Unit) → u.local ≡ v.local → u.line.left ≡ v.line.left → (pairs_of k ps ≡ [] → u ≡ v) → turned quiet_row ps k u ≡ turned quiet_row ps k v
 quiet_both [] k u v n l h = h refl
 quiet_both (p ∷ ps) k u v n l h = by (p.0 == k) h (quiet_both ps k (quiet_row p u) (quiet_row p v) n l (λ _. same)) (λ i. quiet_both ps k u v n l i)

@@ -10,6 +10,7 @@ pub mod Handed
 pub mod Rows
 pub mod Seats
 pub mod Steps
+pub mod CommitSteps
 pub mod Tells
 pub mod Brought
 pub mod Brings
@@ -21,5 +22,16 @@ pub mod Subscribing
 pub mod Begin
 pub mod Built
 pub mod Booked
-pub mod Offspring
 pub mod Children
+pub mod Called
+pub mod Both
+pub mod Counted
+pub mod Enrolling
+pub mod Fresh
+pub mod Marked
+pub mod Calls
+pub mod Instances
+pub mod Committed
+pub mod HandedOver
+pub mod Alike
+pub mod Swapped

@@ -20,7 +20,7 @@ module _ (k : ℕ) (c : Call) (r : Reply) (f : Effect) (made : Option (ℕ × Li
   with_labels : (ls : List Label) (p : Option ℕ) → new.labels.items ≡ ls → new.stale ≡ p → AreLabels (inputs new.rows.items) ls p → IsBoard new
   with_labels ls p labels stale are = record {
     whole = whole_moved k c r f made old new within moved board.whole;
-    roll = roll_like old.roll new.roll old.rows.items new.rows.items moved.roll
+    roll = roll_like old.roll.seats new.roll.seats old.rows.items new.rows.items moved.roll
         (ap names_of moved.rows ∙ names-modify (moved_row rows c r f) (λ u. refl) k old.rows.items) board.roll;
     labels = subst (λ (l : List Label). AreLabels (inputs new.rows.items) l new.stale) (sym labels)
         (subst (λ (q : Option ℕ). AreLabels (inputs new.rows.items) ls q) (sym stale) are);

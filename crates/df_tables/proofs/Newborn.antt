@@ -185,7 +185,7 @@ labels_born us u ls stale are = subst (λ (now : List Label). AreLabels now (ls 
 
 -- a board whose roll has seated a unit
 module _ (old new : Board) (u : Unit) (board : IsBoard old) (calm : IsCalm u)
-    (seated : (n : UnitName) → seat_of n new.roll ≡ option_or (seat_of n old.roll) (if same u.local.unit n then Some (length old.rows.items) else None))
+    (seated : (n : UnitName) → seat_of n new.roll.seats ≡ option_or (seat_of n old.roll.seats) (if same u.local.unit n then Some (length old.rows.items) else None))
     (events : new.events ≡ old.events) (indexed : new.index ≡ old.index) (stale : new.stale ≡ old.stale) where
   abbrev us : List Unit
   us = old.rows.items
@@ -196,11 +196,11 @@ module _ (old new : Board) (u : Unit) (board : IsBoard old) (calm : IsCalm u)
       (subst (λ (evs : List EventRow). IsWhole vs evs new.index) (sym events)
       (subst (λ (x : FilterIndex). IsWhole vs old.events x) (sym indexed) whole))
 
-  roll_of : (vs : List Unit) → us ++ if_new u us ≡ vs → new.rows.items ≡ vs → IsRollOf new.roll new.rows.items
-  roll_of vs is rows = subst (IsRollOf new.roll) (is ∙ sym rows) (roll_born old.roll new.roll us u board.roll seated)
+  roll_of : (vs : List Unit) → us ++ if_new u us ≡ vs → new.rows.items ≡ vs → IsRollOf new.roll.seats new.rows.items
+  roll_of vs is rows = subst (IsRollOf new.roll.seats) (is ∙ sym rows) (roll_born old.roll.seats new.roll.seats us u board.roll seated)
 
   -- that had a seat
-  pub board_had : is_none (seat_of u.local.unit old.roll) ≡ false → new.rows.items ≡ us → new.labels.items ≡ old.labels.items → IsBoard new
+  pub board_had : is_none (seat_of u.local.unit old.roll.seats) ≡ false → new.rows.items ≡ us → new.labels.items ≡ old.labels.items → IsBoard new
   board_had had rows labels =
       let none : us ++ if_new u us ≡ us = ap (λ (b : Bool). us ++ (if b then u ∷ [] else [])) (ap is_none (sym (board.roll u.local.unit)) ∙ had) ∙ append-nil us in record {
         whole = whole_of us board.whole rows;
@@ -210,7 +210,7 @@ module _ (old new : Board) (u : Unit) (board : IsBoard old) (calm : IsCalm u)
       }
 
   -- that had none
-  pub board_new : is_none (seat_of u.local.unit old.roll) ≡ true → new.rows.items ≡ us ++ u ∷ [] → new.labels.items ≡ old.labels.items ++ u.local.own.input ∷ [] → IsBoard new
+  pub board_new : is_none (seat_of u.local.unit old.roll.seats) ≡ true → new.rows.items ≡ us ++ u ∷ [] → new.labels.items ≡ old.labels.items ++ u.local.own.input ∷ [] → IsBoard new
   board_new new_one rows labels =
       let one : us ++ if_new u us ≡ us ++ u ∷ [] = ap (λ (b : Bool). us ++ (if b then u ∷ [] else [])) (ap is_none (sym (board.roll u.local.unit)) ∙ new_one) in record {
         whole = whole_of (us ++ u ∷ []) (subst (λ (l : List Unit). IsWhole l old.events old.index) one (whole_born us old.events old.index u calm board.whole)) rows;

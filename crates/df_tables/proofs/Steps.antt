@@ -3,21 +3,17 @@ use Rattle.std.proofs.Common.{◌≡◌, inl, inr, ℕ, ◌+◌, ◌≤◌, ◌<
 use Rattle.std.specs.Prelude.{option_to_list}
 use Rattle.std.specs.Option.{option_and_then, option_or}
 use Rattle.std.proofs.lemmas.List.{append-nil}
-use Rattle.std.proofs.lemmas.List.Folds.{list_any-append}
 use Rattle.df_filter.specs.declared.clause.Clause.{Clause}
-use Rattle.df_index.specs.Due.{Pair, has_pair}
+use Rattle.df_index.specs.Due.{Pair}
 use Rattle.df_index.specs.IndexState as index
-use Rattle.df_index.specs.declared.subscription.Subscription.{Subscription}
 use Rattle.df_label.specs.Tag.{maker_of, number_of}
-use Rattle.df_label.specs.declared.label.Label.{Label}
 use Rattle.df_part.specs.Contents.{apply}
 use Rattle.df_part.specs.Part.{cut}
-use Rattle.df_part.specs.declared.part.Part.{Part}
 use Rattle.df_rules.specs.Commits.{commit_in, commit_of, committed, contents}
 use Rattle.df_rules.specs.Deliveries.{deliveries, deliveries_instance, deliveries_plain, instance_news, plain_news, was_handed}
 use Rattle.df_rules.specs.Laws.{TakingLaws}
 use Rattle.df_rules.specs.Legal.{answer, answer_of}
-use Rattle.df_rules.specs.Own.{born, fixed, fixed_by, is_given, made_by, own, own_instance, own_plain, stepped}
+use Rattle.df_rules.specs.Own.{born, fixed, fixed_by, is_given, made_by, own, own_plain, stepped}
 use Rattle.df_rules.specs.Rules.{Rules}
 use Rattle.df_rules.specs.Subscriptions.{subscriptions}
 use Rattle.df_unit.specs.Name.{same, same_event}
@@ -29,7 +25,7 @@ use Rattle.df_unit.specs.declared.commit.Commit.{Commit}
 use Rattle.df_unit.specs.declared.commit.Given.{Given}
 use Rattle.df_unit.specs.declared.entry.Effect.{Effect}
 use Rattle.df_unit.specs.declared.entry.Entry.{Entry}
-use Rattle.df_unit.specs.declared.entry.Entry.TheVariants.{Done, Emitted}
+use Rattle.df_unit.specs.declared.entry.Entry.TheVariants.{Done}
 use Rattle.df_unit.specs.declared.name.EventName.{EventName}
 use Rattle.df_unit.specs.declared.name.UnitName.{UnitName}
 use Rattle.df_unit.specs.declared.name.UnitName.TheVariants.{Root, Managed}
@@ -37,24 +33,22 @@ use Rattle.df_unit.specs.declared.reply.Reply.{Reply}
 use Rattle.df_unit.proofs.SameFacts.{same_name-exact, same_event_decides}
 use Rattle.df_tables.specs.Agree.{Agrees, FilterIndex, IsSeat, MakesNoManaged, MakesNoUnit, ManagedState, enrols, is_marked, is_told, subscribed_at, subscriptions_at}
 use Rattle.df_tables.specs.Events.{IsOpened, event_place}
-use Rattle.df_tables.specs.Hand.{news_at, with_news}
-use Rattle.df_tables.specs.Table.{find, parts_of, place_of, moved_at, moved_row}
+use Rattle.df_tables.specs.Table.{find, names_of, place_of, moved_at, moved_row}
 use Rattle.df_tables.specs.declared.events.EventRow.{EventRow}
 use Rattle.df_tables.specs.declared.units.Unit.{Unit}
-use Rattle.df_tables.proofs.Finds.{find-map, find-moved}
+use Rattle.df_tables.proofs.Finds.{find-moved}
 use Rattle.df_tables.proofs.Newborn.{find-append, marked_born, place_by-append, subscribed_born, told_born, told_same}
 use Rattle.df_tables.proofs.Opened.{opened_parts, place_more}
 use Rattle.df_tables.proofs.Order.{names-map, names-moved, same_length}
-use Rattle.df_tables.proofs.Places.{at_none}
-use Rattle.df_tables.proofs.Rows.{row_plain, row_news, row_commit}
-use Rattle.df_tables.proofs.Seats.{absent, apart, enrols_none, handed_news, not_there, place_of-names, present, same_place, subscriptions_at-append}
+use Rattle.df_tables.proofs.Rows.{row_plain}
+use Rattle.df_tables.proofs.Seats.{absent, apart, place_of-names, present, subscriptions_at-append}
 
-or_none : {A : Type 0} (o : Option A) → option_or o None ≡ o
+pub or_none : {A : Type 0} (o : Option A) → option_or o None ≡ o
 or_none None = refl
 or_none (Some x) = refl
 
 -- the state of a unit after an entry of the unit a, or of another
-abbrev after_entry : Rules → UnitName → Bool → Call → Reply → Effect → Option OwnState → Option OwnState
+abbrev pub after_entry : Rules → UnitName → Bool → Call → Reply → Effect → Option OwnState → Option OwnState
 after_entry R n b c r f o = if b then option_map (λ st. R.after n st c r f) o else o
 
 -- the subscription that the entry makes
@@ -72,7 +66,7 @@ born_by R s past e (Root path) = made_by R e path (own_plain R s past (maker_of 
 born_by R s past e (Managed o n t) = born R (fixed R s past o n) t past (commit_of e)
 
 -- a seat along equal parts
-seat_along : (n : UnitName) (o o' : Option OwnState) (ds ds' : List Given) (p p' : Option Unit) → o' ≡ o → ds' ≡ ds → p' ≡ p → IsSeat n o ds p → IsSeat n o' ds' p'
+pub seat_along : (n : UnitName) (o o' : Option OwnState) (ds ds' : List Given) (p p' : Option Unit) → o' ≡ o → ds' ≡ ds → p' ≡ p → IsSeat n o ds p → IsSeat n o' ds' p'
 seat_along n o o' ds ds' p p' e f g seat =
     subst (λ (x : Option OwnState). IsSeat n x ds' p') (sym e)
     (subst (λ (x : List Given). IsSeat n o x p') (sym f) (subst (λ (x : Option Unit). IsSeat n o ds x) (sym g) seat))
@@ -89,6 +83,15 @@ module _ (R : Rules) (s : List OwnState) where
   makes_none c r none false k o = refl
 
   -- the definitions at one more entry
+
+  pub own_at : (past : List Entry) (e : Entry) (n : UnitName) → own R s (e ∷ past) n ≡ option_or (stepped R n e (own R s past n)) (born_by R s past e n)
+  own_at past e (Root path) = refl
+  own_at past e (Managed o k t) = refl
+
+  pub delivered_at : (past : List Entry) (e : Entry) (n : UnitName) → deliveries R s (e ∷ past) n ≡ deliveries R s past n ++ news_of R s past n (commit_of e)
+  unfolding news_of
+  delivered_at past e (Root path) = refl
+  delivered_at past e (Managed o k t) = refl
 
   own_step : (past : List Entry) (a : UnitName) (c : Call) (r : Reply) (f : Effect) (n : UnitName) → own R s (Done a c r f ∷ past) n ≡ option_or (after_entry R n (same a n) c r f (own R s past n)) (born_by R s past (Done a c r f) n)
   own_step past a c r f (Root path) = refl
@@ -125,32 +128,6 @@ module _ (R : Rules) (s : List OwnState) where
       by None = refl
       by (Some fx) = refl
 
-  -- who has no record has no instances, and they are brought nothing
-  pub unrecorded_news : (past : List Entry) (o : List ℕ) (n : ℕ) (t : List (List ℕ)) (oc : Option Commit) → fixed R s past o n ≡ None → news_of R s past (Managed o n t) oc ≡ []
-  unfolding news_of
-  unrecorded_news past o n t oc none = ap (λ (fx : Option Fixed). instance_news fx n t (deliveries_instance R s past o n t) past oc) none
-
-  pub unrecorded_own : (past : List Entry) (o : List ℕ) (n : ℕ) (t : List (List ℕ)) → fixed R s past o n ≡ None → own_instance R s past o n t ≡ None
-  unrecorded_own [] o n t none = refl
-  unrecorded_own (e ∷ past) o n t none =
-      let before = first (fixed R s past o n) (fixed_by R e o n (own_plain R s past o)) none in
-      ap (λ (fx : Option Fixed). option_or (stepped R (Managed o n t) e (own_instance R s past o n t)) (born R fx t past (commit_of e))) before
-      ∙ or_none (stepped R (Managed o n t) e (own_instance R s past o n t))
-      ∙ ap (stepped R (Managed o n t) e) (unrecorded_own past o n t before)
-      ∙ nobody e
-    where
-      first : (fx fy : Option Fixed) → option_or fx fy ≡ None → fx ≡ None
-      first None fy h = refl
-      first (Some fx) fy h = absurd (let z : ⊥ = cc in z)
-
-      nobody : (e : Entry) → stepped R (Managed o n t) e None ≡ None
-      nobody (Done a c r f) = by (same a (Managed o n t))
-        where
-          by : (b : Bool) → (if b then option_map (λ st. R.after (Managed o n t) st c r f) None else None) ≡ (let x : Option OwnState = None in x)
-          by true = refl
-          by false = refl
-      nobody (Emitted k) = refl
-
   -- without a commit no instance is born
   pub quiet_birth : (past : List Entry) (fx : Option Fixed) (t : List (List ℕ)) → born R fx t past None ≡ None
   quiet_birth past None t = refl
@@ -162,7 +139,7 @@ module _ (R : Rules) (s : List OwnState) where
   none_news past path oc e = ap (λ (o : Option OwnState). plain_news o (subscriptions R s past (Root path)) (deliveries_plain R s past path) past oc) e
 
   -- what an instance is brought, if anything, is the event
-  instance_told : (past : List Entry) (o : List ℕ) (n : ℕ) (t : List (List ℕ)) (k : Commit) (ev : EventName) → was_handed (news_of R s past (Managed o n t) (Some k)) ev n ≡ (same_event k.event ev && not (is_nil (news_of R s past (Managed o n t) (Some k))))
+  pub instance_told : (past : List Entry) (o : List ℕ) (n : ℕ) (t : List (List ℕ)) (k : Commit) (ev : EventName) → was_handed (news_of R s past (Managed o n t) (Some k)) ev n ≡ (same_event k.event ev && not (is_nil (news_of R s past (Managed o n t) (Some k))))
   unfolding news_of
   instance_told past o n t k ev = by (fixed R s past o n)
     where
@@ -186,20 +163,12 @@ module _ (R : Rules) (s : List OwnState) where
       by None = nothing (same_event k.event ev)
       by (Some fx) = go (record { event = k.event; sub = n; parts = cut (readable_at fx t) (apply k.edit (contents past k.event)) }) (is_given (Some fx) t past (Some k) && not (was_handed ds k.event n)) refl refl
 
--- the commit that is made, its event's place, its parts after it, and its receivers
-pub record IsMade (R : Rules) (s : List OwnState) (past : List Entry) (us bs : List Unit) (evs evs' : List EventRow) (x x' : FilterIndex) (m m' : ManagedState) (k : Commit) (j : ℕ) (after : List Part) (ps : List Pair) (called : ℕ → Bool) (given : Unit → List Given) : Type 0 where
-  pub place : event_place k.event evs ≡ Some j
-  pub applied : after ≡ apply k.edit (parts_of k.event evs)
-  pub put : (e : EventName) → parts_of e evs' ≡ (if same_event k.event e then after else parts_of e evs)
-  pub places : (e : EventName) → event_place e evs' ≡ event_place e evs
-  pub enrolled : x'.enrolled ≡ x.enrolled
-  pub booked : (e : ℕ) (p : Pair) → index.was_handed x'.handed e p ≡ (index.was_handed x.handed e p || ((e == j) && has_pair ps p))
-  pub gives : (u : Unit) → given u ≡ news_of R s past u.local.unit (Some k)
-  pub brought : (path : List ℕ) (q : ℕ) → place_of (Root path) us ≡ Some q → (at : Label) × (news_of R s past (Root path) (Some k) ≡ news_at k.event after at ps q)
-  -- the marks of instances
-  pub kept : (o : List ℕ) (n : ℕ) → m'.kept o n ≡ m.kept o n
-  pub told : (e q : ℕ) → m'.told e q ≡ (m.told e q || ((e == j) && called q))
-  pub calls : (o : List ℕ) (n : ℕ) (t : List (List ℕ)) (q : ℕ) → place_of (Managed o n t) (us ++ bs) ≡ Some q → called q ≡ not (is_nil (news_of R s past (Managed o n t) (Some k)))
+-- the places of units, when others have come behind them
+pub places_behind : (us bs moved : List Unit) → names_of moved ≡ names_of us → (n : UnitName) → place_of n (moved ++ bs) ≡ option_or (place_of n us) (option_map (λ k. length us + k) (place_of n bs))
+places_behind us bs moved names n =
+    place_by-append (λ (u : Unit). same u.local.unit n) moved bs
+    ∙ ap (λ (p : Option ℕ). option_or p (option_map (λ k. length moved + k) (place_of n bs))) (place_of-names n us moved names)
+    ∙ ap (λ (m : ℕ). option_or (place_of n us) (option_map (λ k. m + k) (place_of n bs))) (same_length moved us names)
 
 module _ (R : Rules) (s : List OwnState) (laws : TakingLaws R s) where
   -- seats after an entry that commits nothing
@@ -264,15 +233,11 @@ module _ (R : Rules) (s : List OwnState) (laws : TakingLaws R s) where
   was_none n true c r f (Some st) e = absurd (let z : ⊥ = cc in z)
   was_none n false c r f (Some st) e = e
 
-  -- the places of units, when others have come behind them
+  -- and when rows have changed too
   places_born : (a : UnitName) (g : Unit → Unit) → ((u : Unit) → (g u).local.unit ≡ u.local.unit) → (h : Unit → Unit) → ((u : Unit) → (h u).local.unit ≡ u.local.unit) → (us bs : List Unit) (n : UnitName) →
       place_of n (moved_at a g (map h us) ++ bs) ≡ option_or (place_of n us) (option_map (λ k. length us + k) (place_of n bs))
   places_born a g kept h still us bs n =
-      let moved : List Unit = moved_at a g (map h us) in
-      let names = names-moved a g kept (map h us) ∙ names-map h still us in
-      place_by-append (λ (u : Unit). same u.local.unit n) moved bs
-      ∙ ap (λ (p : Option ℕ). option_or p (option_map (λ k. length moved + k) (place_of n bs))) (place_of-names n us moved names)
-      ∙ ap (λ (m : ℕ). option_or (place_of n us) (option_map (λ k. m + k) (place_of n bs))) (same_length moved us names)
+      places_behind us bs (moved_at a g (map h us)) (names-moved a g kept (map h us) ∙ names-map h still us) n
 
   map_same : (us : List Unit) → map (λ (u : Unit). u) us ≡ us
   map_same [] = refl
@@ -314,169 +279,6 @@ module _ (R : Rules) (s : List OwnState) (laws : TakingLaws R s) where
             ∙ told_born (length us) m.told (event_place ev evs) (place_of u us) (place_of u bs) placed
             ∙ agree.told o n t ev ∙ ap (λ (ds : List Given). was_handed ds ev n) (sym (delivered u));
       }
-
-  -- seats after a commit
-
-  abbrev handed_over : (Unit → List Given) → Bool → Call → Reply → Commit → Option Unit → Option Unit
-  handed_over given b c r k p = if b then option_map (moved_row R c r (Effect.Commit k)) (option_map (with_news given) p) else option_map (with_news given) p
-
-  seat_commit : (given : Unit → List Given) (n : UnitName) (b : Bool) (o born : Option OwnState) (ds news : List Given) (p q : Option Unit) (c : Call) (r : Reply) (k : Commit) → (b ≡ true → answer_of R n o ds c ≡ (r, Effect.Commit k)) → ((u : Unit) → u.local.unit ≡ n → given u ≡ news) → (o ≡ None → IsSeat n born news q) → IsSeat n o ds p →
-      IsSeat n (option_or (after_entry R n b c r (Effect.Commit k) o) born) (ds ++ news) (option_or (handed_over given b c r k p) q)
-  seat_commit given n true None born ds news None q c r k e is births seat = subst (λ (l : List Given). IsSeat n born (l ++ news) q) (sym seat) (births refl)
-  seat_commit given n false None born ds news None q c r k e is births seat = subst (λ (l : List Given). IsSeat n born (l ++ news) q) (sym seat) (births refl)
-  seat_commit given n b None born ds news (Some u) q c r k e is births seat = absurd seat
-  seat_commit given n b (Some st) born ds news None q c r k e is births seat = absurd seat
-  seat_commit given n true (Some st) born ds news (Some u) q c r k e is births seat = row_commit R s laws given n st ds news u c r k (e refl) (is u seat.unit) seat
-  seat_commit given n false (Some st) born ds news (Some u) q c r k e is births seat = row_news given n st ds news u (is u seat.unit) seat
-
-  or_false : (b : Bool) → (b || false) ≡ b
-  or_false true = refl
-  or_false false = refl
-
-  module _ (past : List Entry) (us bs : List Unit) (evs evs' : List EventRow) (x x' : FilterIndex) (m m' : ManagedState) (k : Commit) (j : ℕ) (after : List Part) (ps : List Pair) (called : ℕ → Bool) (given : Unit → List Given)
-      (agree : Agrees R s past us evs x m) (made : IsMade R s past us bs evs evs' x x' m m' k j after ps called given) where
-    -- marks of plain units after a commit
-    marked_commit : (path : List ℕ) (ev : EventName) (i : ℕ) → is_marked x'.handed (place_of (Root path) us) (event_place ev evs') i ≡ was_handed (deliveries R s past (Root path) ++ news_of R s past (Root path) (Some k)) ev i
-    marked_commit path ev i =
-        ap (λ (e : Option ℕ). is_marked x'.handed (place_of (Root path) us) e i) (made.places ev)
-        ∙ by (place_of (Root path) us) refl (event_place ev evs) refl
-        ∙ sym (list_any-append (λ (d : Given). same_event d.event ev && (d.sub == i)) (deliveries R s past (Root path)) (news_of R s past (Root path) (Some k)))
-      where
-        before : Bool
-        before = was_handed (deliveries R s past (Root path)) ev i
-
-        after_it : Bool
-        after_it = was_handed (news_of R s past (Root path) (Some k)) ev i
-
-        by : (p : Option ℕ) → place_of (Root path) us ≡ p → (e : Option ℕ) → event_place ev evs ≡ e → is_marked x'.handed p e i ≡ (before || after_it)
-        by None h e g =
-            ap (λ (p : Option ℕ). is_marked x.handed p (event_place ev evs) i) (sym h) ∙ agree.marked path ev i
-            ∙ sym (or_false before) ∙ ap (λ (ds : List Given). before || was_handed ds ev i) (sym (none_news R s past path (Some k) (absent R s past us (Root path) agree.seats h)))
-        by (Some q) h None g =
-            let brought = made.brought path q h in
-            let old : false ≡ before = ap (λ (p : Option ℕ). is_marked x.handed p None i) (sym h) ∙ ap (λ (e : Option ℕ). is_marked x.handed (place_of (Root path) us) e i) (sym g) ∙ agree.marked path ev i in
-            let other : same_event k.event ev ≡ false = not_there evs k.event ev j made.place g in
-            old ∙ sym (or_false before) ∙ ap (λ (b : Bool). before || b)
-            (sym (ap (λ (ds : List Given). was_handed ds ev i) brought.1 ∙ handed_news k.event after brought.0 ps q ev i ∙ ap (λ (b : Bool). b && has_pair ps (q, i)) other))
-        by (Some q) h (Some l) g =
-            let brought = made.brought path q h in
-            let old : index.was_handed x.handed l (q, i) ≡ before = ap (λ (p : Option ℕ). is_marked x.handed p (Some l) i) (sym h) ∙ ap (λ (e : Option ℕ). is_marked x.handed (place_of (Root path) us) e i) (sym g) ∙ agree.marked path ev i in
-            made.booked l (q, i)
-            ∙ ap (λ (b : Bool). b || ((l == j) && has_pair ps (q, i))) old
-            ∙ ap (λ (b : Bool). before || (b && has_pair ps (q, i))) (same_place evs k.event ev j l made.place g)
-            ∙ ap (λ (b : Bool). before || b) (sym (ap (λ (ds : List Given). was_handed ds ev i) brought.1 ∙ handed_news k.event after brought.0 ps q ev i))
-
-    -- what a seat without a row was handed
-    seat_none : (n : UnitName) (o : Option OwnState) (ds : List Given) → IsSeat n o ds None → ds ≡ []
-    seat_none n None ds seat = seat
-    seat_none n (Some st) ds seat = absurd seat
-
-    none_given : (n : UnitName) → place_of n us ≡ None → deliveries R s past n ≡ []
-    none_given n h = seat_none n (own R s past n) (deliveries R s past n) (subst (IsSeat n (own R s past n) (deliveries R s past n)) (at_none n us h).0 (agree.seats n))
-
-    module _ (born : UnitName → Option OwnState) (placed : (e q : ℕ) → length us ≤ q → m.told e q ≡ false) (births : (n : UnitName) → own R s past n ≡ None → IsSeat n (born n) (news_of R s past n (Some k)) (find n bs)) (o : List ℕ) (n : ℕ) (t : List (List ℕ)) (ev : EventName) where
-      abbrev who : UnitName
-      who = Managed o n t
-
-      abbrev before : Bool
-      before = was_handed (deliveries R s past who) ev n
-
-      abbrev after_it : Bool
-      after_it = was_handed (news_of R s past who (Some k)) ev n
-
-      place_is : place_of who (us ++ bs) ≡ option_or (place_of who us) (option_map (λ q. length us + q) (place_of who bs))
-      place_is = place_by-append (λ (u : Unit). same u.local.unit who) us bs
-
-      -- what was told of the place
-      told_before : (i q : ℕ) → place_of who (us ++ bs) ≡ Some q → event_place ev evs ≡ Some i → m.told i q ≡ before
-      told_before i q h g = by (place_of who us) refl (place_of who bs) refl (sym place_is ∙ h)
-        where
-          by : (p : Option ℕ) → place_of who us ≡ p → (b : Option ℕ) → place_of who bs ≡ b → option_or p (option_map (λ r. length us + r) b) ≡ Some q → m.told i q ≡ before
-          by (Some p) f b l e =
-              let z : p ≡ q = cc in
-              ap (m.told i) (sym z) ∙ sym (ap (λ (w : Option ℕ). is_told m.told (Some i) w) f) ∙ ap (λ (w : Option ℕ). is_told m.told w (place_of who us)) (sym g) ∙ agree.told o n t ev
-          by None f (Some b) l e =
-              let z : length us + b ≡ q = cc in
-              placed i q (omega (arith, z)) ∙ sym (ap (λ (ds : List Given). was_handed ds ev n) (none_given who f))
-          by None f None l e = absurd (let z : ⊥ = cc in z)
-
-      -- who has no place was and is brought nothing
-      untold : place_of who (us ++ bs) ≡ None → (before || after_it) ≡ false
-      untold h =
-          let none = by (place_of who us) (place_of who bs) (sym place_is ∙ h) in
-          let gone = absent R s past us who agree.seats none.0 in
-          let news : news_of R s past who (Some k) ≡ [] = seat_none who (born who) (news_of R s past who (Some k)) (subst (IsSeat who (born who) (news_of R s past who (Some k))) (at_none who bs none.1).0 (births who gone)) in
-          ap (λ (ds : List Given). was_handed ds ev n || after_it) (none_given who none.0) ∙ ap (λ (ds : List Given). was_handed ds ev n) news
-        where
-          by : (p b : Option ℕ) → option_or p (option_map (λ r. length us + r) b) ≡ None → (p ≡ None) × (b ≡ None)
-          by (Some p) b e = absurd (let z : ⊥ = cc in z)
-          by None (Some b) e = absurd (let z : ⊥ = cc in z)
-          by None None e = (refl, refl)
-
-      told_commit : is_told m'.told (event_place ev evs') (place_of who (us ++ bs)) ≡ was_handed (deliveries R s past who ++ news_of R s past who (Some k)) ev n
-      told_commit =
-          ap (λ (e : Option ℕ). is_told m'.told e (place_of who (us ++ bs))) (made.places ev)
-          ∙ by (place_of who (us ++ bs)) refl (event_place ev evs) refl
-          ∙ sym (list_any-append (λ (d : Given). same_event d.event ev && (d.sub == n)) (deliveries R s past who) (news_of R s past who (Some k)))
-        where
-          by : (p : Option ℕ) → place_of who (us ++ bs) ≡ p → (e : Option ℕ) → event_place ev evs ≡ e → is_told m'.told e p ≡ (before || after_it)
-          by None h None g = sym (untold h)
-          by None h (Some i) g = sym (untold h)
-          by (Some q) h None g =
-              let old : false ≡ before = ap (λ (e : Option ℕ). is_told m.told e (place_of who us)) (sym g) ∙ agree.told o n t ev in
-              let other : same_event k.event ev ≡ false = not_there evs k.event ev j made.place g in
-              old ∙ sym (or_false before) ∙ ap (λ (b : Bool). before || b)
-              (sym (instance_told R s past o n t k ev ∙ ap (λ (b : Bool). b && not (is_nil (news_of R s past who (Some k)))) other))
-          by (Some q) h (Some i) g =
-              made.told i q
-              ∙ ap (λ (b : Bool). b || ((i == j) && called q)) (told_before i q h g)
-              ∙ ap (λ (b : Bool). before || (b && called q)) (same_place evs k.event ev j i made.place g)
-              ∙ ap (λ (b : Bool). before || (same_event k.event ev && b)) (made.calls o n t q h)
-              ∙ ap (λ (b : Bool). before || b) (sym (instance_told R s past o n t k ev))
-
-  -- after a commit
-  pub agrees_commit : (past : List Entry) (us bs : List Unit) (evs evs' : List EventRow) (x x' : FilterIndex) (m m' : ManagedState) (a : UnitName) (c : Call) (r : Reply) (k : Commit) (j : ℕ) (after : List Part) (ps : List Pair) (called : ℕ → Bool) (given : Unit → List Given) → Agrees R s past us evs x m → MakesNoManaged R c r → answer R s past a c ≡ (r, Effect.Commit k) →
-      ((st : OwnState) → own R s past a ≡ Some st → R.subscribes st c r ≡ None) → IsMade R s past us bs evs evs' x x' m m' k j after ps called given →
-      All (λ s. s.unit < length us) x.enrolled → ((event : ℕ) (p : Pair) → length us ≤ p.0 → index.was_handed x'.handed event p ≡ false) → ((e q : ℕ) → length us ≤ q → m.told e q ≡ false) → ((n : UnitName) → own R s past n ≡ None → IsSeat n (born_by R s past (Done a c r (Effect.Commit k)) n) (news_of R s past n (Some k)) (find n bs)) →
-      Agrees R s (Done a c r (Effect.Commit k) ∷ past) (moved_at a (moved_row R c r (Effect.Commit k)) (map (with_news given) us) ++ bs) evs' x' m'
-  agrees_commit past us bs evs evs' x x' m m' a c r k j after ps called given agree unfixed right makes made within seated placed births =
-      let F = moved_row R c r (Effect.Commit k) in
-      let moved : List Unit = moved_at a F (map (with_news given) us) in
-      let entry = Done a c r (Effect.Commit k) in
-      let here : (n : UnitName) → place_of n (moved ++ bs) ≡ option_or (place_of n us) (option_map (λ q. length us + q) (place_of n bs)) = λ n. places_born a F (λ u. refl) (with_news given) (λ u. refl) us bs n in
-      let is' : after ≡ apply k.edit (contents past k.event) = made.applied ∙ ap (apply k.edit) (agree.parts k.event) in record {
-        legal = (agree.legal, right);
-        seats = λ n. seat_along n _ _ _ _ _ _
-            (own_step R s past a c r (Effect.Commit k) n)
-            (deliveries_step R s past a c r (Effect.Commit k) n)
-            (find-append n moved bs ∙ ap (λ (p : Option Unit). option_or p (find n bs)) (find-moved a F (λ u. refl) n _ ∙ ap (λ (p : Option Unit). if same a n then option_map F p else p) (find-map (with_news given) (λ u. refl) n us)))
-            (seat_commit given n (same a n) (own R s past n) (born_by R s past entry n) (deliveries R s past n) (news_of R s past n (Some k)) (find n us) (find n bs) c r k
-            (λ e. subst (λ (w : UnitName). answer R s past w c ≡ (r, Effect.Commit k)) (same_name-exact a n e) right)
-            (λ u e. made.gives u ∙ ap (λ (w : UnitName). news_of R s past w (Some k)) e)
-            (births n) (agree.seats n));
-        subscribed = λ n.
-            ap (λ (p : Option ℕ). subscribed_at p x'.enrolled) (here n)
-            ∙ ap (subscribed_at (option_or (place_of n us) (option_map (λ q. length us + q) (place_of n bs)))) made.enrolled
-            ∙ subscribed_born (length us) (place_of n us) (place_of n bs) x.enrolled within
-            ∙ ap (subscribed_at (place_of n us)) (sym (append-nil x.enrolled) ∙ ap (λ (l : List (Subscription (List Clause))). x.enrolled ++ l) (sym (enrols_none (place_of a us))))
-            ∙ subscribed_more past us evs x m a c r None agree makes n;
-        marked = λ path ev i.
-            ap (λ (p : Option ℕ). is_marked x'.handed p (event_place ev evs') i) (here (Root path))
-            ∙ marked_born (length us) (place_of (Root path) us) (place_of (Root path) bs) (event_place ev evs') x'.handed i seated
-            ∙ marked_commit past us bs evs evs' x x' m m' k j after ps called given agree made path ev i
-            ∙ ap (λ (ds : List Given). was_handed ds ev i) (sym (deliveries_step R s past a c r (Effect.Commit k) (Root path)));
-        parts = λ ev. made.put ev ∙ by ev (same_event k.event ev) refl is';
-        kept = λ o n. made.kept o n ∙ agree.kept o n ∙ sym (kept_step R s past a c r (Effect.Commit k) unfixed o n);
-        told = λ o n t ev.
-            let u : UnitName = Managed o n t in
-            ap (is_told m'.told (event_place ev evs')) (here u ∙ sym (place_by-append (λ (v : Unit). same v.local.unit u) us bs))
-            ∙ told_commit past us bs evs evs' x x' m m' k j after ps called given agree made (born_by R s past entry) placed births o n t ev
-            ∙ ap (λ (ds : List Given). was_handed ds ev n) (sym (deliveries_step R s past a c r (Effect.Commit k) u));
-      }
-    where
-      by : (ev : EventName) (b : Bool) → same_event k.event ev ≡ b → after ≡ apply k.edit (contents past k.event) → (if b then after else parts_of ev evs) ≡ (if b then apply k.edit (contents past ev) else contents past ev)
-      by ev true e is' = is' ∙ ap (λ (x : EventName). apply k.edit (contents past x)) ((same_event_decides k.event ev).0 e)
-      by ev false e is' = agree.parts ev
 
 -- a row without parts for an event that had none
 pub agrees_opened : (R : Rules) (s : List OwnState) (past : List Entry) (us : List Unit) (evs evs' : List EventRow) (x : FilterIndex) (m : ManagedState) (event : EventName) → IsOpened event evs evs' → ((e : ℕ) (p : Pair) → length evs ≤ e → index.was_handed x.handed e p ≡ false) → ((e q : ℕ) → length evs ≤ e → m.told e q ≡ false) → Agrees R s past us evs x m → Agrees R s past us evs' x m

@@ -1,8 +1,6 @@
 -- What the tables tell of units and of answers.
-use Rattle.std.proofs.Common.{◌≡◌, List, [], ◌∷◌, Option, Some, None, is_some, refl, ap, sym, subst, ◌∙◌}
-use Rattle.std.specs.Prelude.{option_to_list, slice_get}
+use Rattle.std.proofs.Common.{◌≡◌, List, Option, Some, None, is_some, refl, ap, sym, subst, ◌∙◌}
 use Rattle.df_label.specs.Ascending.{contains_by}
-use Rattle.df_local.specs.code.LocalState.{LocalState}
 use Rattle.df_rules.specs.Deliveries.{deliveries}
 use Rattle.df_rules.specs.Legal.{answer, answer_of}
 use Rattle.df_rules.specs.Own.{exists, own}
@@ -10,14 +8,12 @@ use Rattle.df_rules.specs.Rules.{Rules}
 use Rattle.df_unit.specs.OwnState.{OwnState}
 use Rattle.df_unit.specs.UnitOrder.{unit_cmp}
 use Rattle.df_unit.specs.declared.call.Call.{Call}
-use Rattle.df_unit.specs.declared.call.Call.TheVariants.{Get}
 use Rattle.df_unit.specs.declared.commit.Given.{Given}
 use Rattle.df_unit.specs.declared.entry.Effect.{Effect}
 use Rattle.df_unit.specs.declared.entry.Entry.{Entry}
 use Rattle.df_unit.specs.declared.name.UnitName.{UnitName}
 use Rattle.df_unit.specs.declared.reply.Reply.{Reply}
 use Rattle.df_tables.specs.Agree.{Agrees, FilterIndex, IsRow, IsSeat, ManagedState}
-use Rattle.df_local.specs.Locally.{row_answer}
 use Rattle.df_tables.specs.Board.{IsRollOf}
 use Rattle.df_tables.specs.Roll.{names_in}
 use Rattle.df_tables.specs.Table.{find}
@@ -63,9 +59,3 @@ module _ (R : Rules) (s : List OwnState) (past : List Entry) (us : List Unit) (e
       ap (λ (n : UnitName). R.answer n u.local.own u.line.left c) row.0.unit
       ∙ ap (λ (ds : List Given). R.answer a u.local.own ds c) row.0.left
       ∙ ap (λ (o : Option OwnState). answer_of R a o (deliveries R s past a) c) (sym row.1)
-
--- of the deliveries that are left an answer looks at the first only
-pub first_answers : (l : LocalState) (ds : List Given) (c : Call) → row_answer l (option_to_list (slice_get ds 0)) c ≡ row_answer l ds c
-first_answers l [] Get = refl
-first_answers l (d ∷ ds) Get = refl
-first_answers l ds _ = refl

@@ -116,6 +116,12 @@ pub record IsWhole (units : List Unit) (events : List EventRow) (x : FilterIndex
   pub seated : (event : ℕ) (p : Pair) → length units ≤ p.0 →
       index.was_handed x.handed event p ≡ false
 
+-- no event without a row is told as handed to an instance, nor any event to who has no row
+pub record AreWithin (units : List Unit) (events : List EventRow) (told : ℕ → ℕ → Bool)
+    : Type 0 where
+  pub fresh : (event place : ℕ) → length events ≤ event → told event place ≡ false
+  pub seated : (event place : ℕ) → length units ≤ place → told event place ≡ false
+
 -- a call with this reply makes no managed subscription
 abbrev pub MakesNoManaged : Rules → Call → Reply → Type 0
 MakesNoManaged R c r = (st : OwnState) (n : ℕ) → R.fixes st n c r ≡ None

@@ -1,11 +1,14 @@
 -- When a board agrees with a journal.
-use Rattle.std.specs.Prelude.{◌≡◌, ◌↔◌, ℕ, ◌==◌, ◌&&◌, ◌||◌, false, if◌then◌else◌, List, ◌∷◌, ◌++◌, Option, Some, None, length, map, slice_index_or}
+use Rattle.std.specs.Prelude.{◌≡◌, ◌↔◌, ℕ, ◌+◌, ◌≤◌, ◌==◌, ◌&&◌, ◌||◌, if◌then◌else◌, List, ◌∷◌, ◌++◌, Option, Some, None, length, map, slice_index_or, vec_capacity, vec_len}
 use Rattle.std.specs.List.{Contains}
 use Rattle.std.specs.List.Sorted.{IsStrictlySortedBy}
 use Rattle.df_filter.specs.declared.clause.Clause.{Clause}
 use Rattle.df_index.specs.Due.{Pair, has_pair, pair_cmp}
 use Rattle.df_index.specs.Filter.{matches}
 use Rattle.df_index.specs.IndexState.{IsReceiver, was_handed}
+use Rattle.df_instances.specs.Marks as marks
+use Rattle.df_instances.specs.Named.{AreNumbered, kept_in}
+use Rattle.df_instances.specs.declared.subscription.ManagedSubscription.{ManagedSubscription}
 use Rattle.df_local.specs.Locally.{row_answer}
 use Rattle.df_rules.specs.Start.{rows, roots}
 use Rattle.df_label.specs.declared.label.Label.{Label}
@@ -14,7 +17,7 @@ use Rattle.df_unit.specs.declared.call.Call.{Call}
 use Rattle.df_unit.specs.declared.call.Call.TheVariants.{Instantiate}
 use Rattle.df_unit.specs.declared.entry.Effect.{Effect}
 use Rattle.df_unit.specs.declared.entry.Entry.{Entry}
-use Rattle.df_unit.specs.declared.entry.Entry.TheVariants.{Done}
+use Rattle.df_unit.specs.declared.entry.Entry.TheVariants.{Done, Emitted}
 use Rattle.df_unit.specs.Name.{same_event}
 use Rattle.df_unit.specs.declared.commit.Commit.{Commit}
 use Rattle.df_unit.specs.declared.commit.Given.{Given}
@@ -22,16 +25,17 @@ use Rattle.df_unit.specs.declared.name.EventName.{EventName}
 use Rattle.df_part.specs.Contents.{apply}
 use Rattle.df_unit.specs.declared.name.UnitName.{UnitName}
 use Rattle.df_unit.specs.declared.reply.Reply.{Reply}
-use Rattle.df_tables.specs.Agree.{Agrees, IsWhole, ManagedState, enrols}
+use Rattle.df_tables.specs.Agree.{Agrees, AreWithin, IsWhole, ManagedState, enrols}
 use Rattle.df_tables.specs.Labels.{AreLabels, inputs}
 use Rattle.df_tables.specs.Events.{IsOpened, event_place}
-use Rattle.df_tables.specs.Hand.{IsNews, modify, with_news, with_state}
-use Rattle.df_tables.specs.Births.{child_row, if_new}
+use Rattle.df_tables.specs.Hand.{IsNews, modify, with_news}
+use Rattle.df_tables.specs.Births.{all_new, child_row, if_new, rows_in}
+use Rattle.df_tables.specs.Calls.{AreCalled, places_by}
 use Rattle.df_tables.specs.Roll.{seat_of}
 use Rattle.df_tables.specs.Table.{find, moved_row, parts_of, place_of}
 use Rattle.df_tables.specs.declared.roll.Seat.{Seat}
 use Rattle.df_tables.specs.declared.board.Board.{Board}
-use Rattle.df_tables.specs.declared.board.Ready.{Ready}
+use Rattle.df_tables.specs.declared.commits.Ready.{Ready}
 use Rattle.df_tables.specs.declared.units.Unit.{Unit}
 
 -- the roll has the place of each unit's row
@@ -41,16 +45,33 @@ IsRollOf roll us = (n : UnitName) → seat_of n roll ≡ place_of n us
 -- the tables fit each other
 pub record IsBoard (b : Board) : Type 0 where
   pub whole : IsWhole b.rows.items b.events b.index
-  pub roll : IsRollOf b.roll b.rows.items
+  pub roll : IsRollOf b.roll.seats b.rows.items
   pub labels : AreLabels (inputs b.rows.items) b.labels.items b.stale
 
--- what the board tells of managed subscriptions: as yet that there is none
-abbrev pub managed_of : Board → ManagedState
-managed_of b = record { kept = λ o n. None; told = λ event place. false }
+-- there is room for so many more rows
+pub record HasRoom (n : ℕ) (b : Board) : Type 0 where
+  pub rows : vec_len b.rows + n ≤ vec_capacity b.rows
+  pub labels : vec_len b.labels + n ≤ vec_capacity b.labels
+  pub seats : n ≤ b.roll.room
 
--- the tables tell of the journal of these roots
-abbrev pub TellsOf : List (Label × List Privilege) → List Entry → Board → Type 0
-TellsOf starts past b = Agrees rows (roots starts) past b.rows.items b.events b.index (managed_of b)
+-- what managed subscriptions and the marks of instances tell
+abbrev pub managed_by : List ManagedSubscription → List (List ℕ) → ManagedState
+managed_by managed handed = record {
+  kept = λ o n. kept_in managed o n;
+  told = λ event place. marks.was_handed handed event place;
+}
+
+-- what the board tells of managed subscriptions
+abbrev pub managed_of : Board → ManagedState
+managed_of b = managed_by b.managed b.marks.handed
+
+-- the tables tell of the journal of these roots, no owner gave one number to two managed
+-- subscriptions, and no event without a row is marked, nor any event for who has no row
+pub record TellsOf (starts : List (Label × List Privilege)) (past : List Entry) (b : Board)
+    : Type 0 where
+  pub agrees : Agrees rows (roots starts) past b.rows.items b.events b.index (managed_of b)
+  pub numbered : AreNumbered b.managed
+  pub within : AreWithin b.rows.items b.events (managed_of b).told
 
 -- the answer of a row, if there is one
 abbrev pub answer_from : Option Unit → Call → Reply × Effect
@@ -66,6 +87,11 @@ abbrev pub IsBooked : UnitName → Call → Reply → Effect → Board → Board
 IsBooked a c r f old new = (starts : List (Label × List Privilege)) (past : List Entry) →
     TellsOf starts past old → TellsOf starts (Done a c r f ∷ past) new
 
+-- what the tables told they tell with one more entry, an emitted commit
+abbrev pub IsEmitted : Commit → Board → Board → Type 0
+IsEmitted commit old new = (starts : List (Label × List Privilege)) (past : List Entry) →
+    TellsOf starts past old → TellsOf starts (Emitted commit ∷ past) new
+
 -- what the tables told they tell
 abbrev pub IsKept : Board → Board → Type 0
 IsKept old new = (starts : List (Label × List Privilege)) (past : List Entry) →
@@ -74,13 +100,15 @@ IsKept old new = (starts : List (Label × List Privilege)) (past : List Entry) �
 -- the rows and the subscriptions stay, and at most a row of the event is new, without parts
 pub record IsOpenedBoard (event : EventName) (old new : Board) : Type 0 where
   pub rows : new.rows.items ≡ old.rows.items
-  pub roll : new.roll ≡ old.roll
+  pub roll : new.roll.seats ≡ old.roll.seats
   pub enrolled : new.index.enrolled ≡ old.index.enrolled
   pub handed : new.index.handed ≡ old.index.handed
+  pub managed : new.managed ≡ old.managed
+  pub told : new.marks.handed ≡ old.marks.handed
   pub opened : IsOpened event old.events new.events
 
--- the event has this place, its parts after the commit are these, and it waits to be handed to
--- just those to whom it is to be handed
+-- the event has this place, its parts after the commit are these, it waits to be handed to just
+-- those to whom it is to be handed, and there is room for those who come to exist by it
 pub record IsReady (c : Commit) (b : Board) (ready : Ready) : Type 0 where
   pub place : event_place c.event b.events ≡ Some ready.place
   pub after : ready.after ≡ apply c.edit (parts_of c.event b.events)
@@ -88,29 +116,50 @@ pub record IsReady (c : Commit) (b : Board) (ready : Ready) : Type 0 where
   pub due : (p : Pair) → Contains ready.to p
       ↔ IsReceiver matches (inputs b.rows.items) b.index ready.place ready.after c.edit p
   pub waits : b.index.ready ≡ Some (ready.place, ready.to)
+  pub called : AreCalled b.rows.items b.managed b.marks.handed c ready.place ready.after
+      ready.called
+  pub receivers : ready.receivers.items ≡ ready.to ++ ready.called.pairs.items
+  pub marked : b.marks.ready ≡ Some (
+    ready.place,
+    places_by (length b.rows.items) ready.called.pairs.items (rows_in ready.called.born.items),
+  )
+  pub room : HasRoom (vec_len ready.called.born) b
 
 -- at most the labels are others
 pub record IsRenewed (old new : Board) : Type 0 where
   pub rows : new.rows.items ≡ old.rows.items
-  pub roll : new.roll ≡ old.roll
+  pub roll : new.roll.seats ≡ old.roll.seats
   pub events : new.events ≡ old.events
   pub index : new.index ≡ old.index
+  pub managed : new.managed ≡ old.managed
+  pub told : new.marks.handed ≡ old.marks.handed
 
 -- the row at a place is moved as its unit's call does, and the subscription that is made, if any,
 -- is enrolled
 pub record IsMovedBoard (k : ℕ) (c : Call) (r : Reply) (f : Effect)
     (made : Option (ℕ × List Clause)) (old new : Board) : Type 0 where
   pub rows : new.rows.items ≡ modify k (moved_row rows c r f) old.rows.items
-  pub roll : new.roll ≡ old.roll
+  pub roll : new.roll.seats ≡ old.roll.seats
   pub events : new.events ≡ old.events
   pub enrolled : new.index.enrolled ≡ old.index.enrolled ++ enrols (Some k) made
   pub handed : new.index.handed ≡ old.index.handed
+  pub told : new.marks.handed ≡ old.marks.handed
 
 -- the row of a unit is new, unless it had one
 pub record IsBornBoard (born : Unit) (old new : Board) : Type 0 where
   pub rows : new.rows.items ≡ old.rows.items ++ if_new born old.rows.items
   pub events : new.events ≡ old.events
   pub index : new.index ≡ old.index
+  pub managed : new.managed ≡ old.managed
+  pub told : new.marks.handed ≡ old.marks.handed
+
+-- the rows of these are new, each unless its unit had one
+pub record AreBorn (born : List Unit) (old new : Board) : Type 0 where
+  pub rows : new.rows.items ≡ all_new born old.rows.items
+  pub events : new.events ≡ old.events
+  pub index : new.index ≡ old.index
+  pub managed : new.managed ≡ old.managed
+  pub told : new.marks.handed ≡ old.marks.handed
 
 -- the row of the unit at a place has counted a child, whose row is new, unless it had one
 pub record IsChildBoard (k number : ℕ) (s : List (List ℕ)) (privileges : List Privilege)
@@ -121,19 +170,40 @@ pub record IsChildBoard (k number : ℕ) (s : List (List ℕ)) (privileges : Lis
       privileges) old.rows.items)
   pub events : new.events ≡ old.events
   pub index : new.index ≡ old.index
+  pub managed : new.managed ≡ old.managed
+  pub told : new.marks.handed ≡ old.marks.handed
 
--- the commit of the unit at a place is handed to its receivers and no other row, is marked so, and
--- its event has the parts after it
-pub record IsHandedBoard (k : ℕ) (c : Call) (r : Reply) (f : Effect) (commit : Commit)
-    (old new : Board) : Type 0 where
+-- a commit that was handed to all that have a row is marked so, its event has the parts after it,
+-- and those who come to exist by it have their rows
+pub record IsClosed (ready : Ready) (old new : Board) : Type 0 where
+  pub rows : new.rows.items ≡ all_new (rows_in ready.called.born.items) old.rows.items
+  pub managed : new.managed ≡ old.managed
+  pub told : (e q : ℕ) → marks.was_handed new.marks.handed e q
+      ≡ (marks.was_handed old.marks.handed e q || marks.is_ready old.marks.ready e q)
+  pub enrolled : new.index.enrolled ≡ old.index.enrolled
+  pub handed : (e : ℕ) (p : Pair) → was_handed new.index.handed e p
+      ≡ (was_handed old.index.handed e p || ((e == ready.place) && has_pair ready.to p))
+  pub size : length new.events ≡ length old.events
+  pub places : (e : EventName) → event_place e new.events ≡ event_place e old.events
+  pub parts : (event : EventName) → event_place event old.events ≡ Some ready.place →
+      (e : EventName) → parts_of e new.events
+      ≡ (if same_event event e then ready.after else parts_of e old.events)
+
+-- a commit that changes the rows so is handed to its receivers and no other row, is marked so, its
+-- event has the parts after it, and those who come to exist by it have their rows
+pub record IsHandedBoard (g : List Unit → List Unit) (commit : Commit) (old new : Board)
+    : Type 0 where
   pub opened : Board
   pub ready : Ready
   pub opening : IsOpenedBoard commit.event old opened
   pub made : IsReady commit opened ready
   pub rows : (given : Unit → List Given) →
-      IsNews given commit.event ready.after ready.to opened.rows.items →
-      new.rows.items ≡ modify k (with_state c r f) (map (with_news given) opened.rows.items)
-  pub roll : new.roll ≡ opened.roll
+      IsNews given commit.event ready.after ready.receivers.items opened.rows.items →
+      new.rows.items ≡ all_new (rows_in ready.called.born.items)
+      (g (map (with_news given) opened.rows.items))
+  pub managed : new.managed ≡ opened.managed
+  pub told : (e q : ℕ) → marks.was_handed new.marks.handed e q
+      ≡ (marks.was_handed opened.marks.handed e q || marks.is_ready opened.marks.ready e q)
   pub enrolled : new.index.enrolled ≡ opened.index.enrolled
   pub handed : (e : ℕ) (p : Pair) → was_handed new.index.handed e p
       ≡ (was_handed opened.index.handed e p || ((e == ready.place) && has_pair ready.to p))

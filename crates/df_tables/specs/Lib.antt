@@ -1,5 +1,6 @@
 pub mod Agree
 pub mod Births
+pub mod Calls
 pub mod Board
 pub mod Events
 pub mod Hand
@@ -7,4 +8,5 @@ pub mod Labels
 pub mod Line
 pub mod Moves
 pub mod Roll
+pub mod Runs
 pub mod Table

@@ -1,5 +1,5 @@
 -- What the tables need of an entry before they move.
-use Rattle.std.specs.Prelude.{◌≡◌, ℕ, Bool, true, false, List, Option, Some, None, ⊤}
+use Rattle.std.specs.Prelude.{◌≡◌, ℕ, Bool, true, false, List, Option, Some, None}
 use Rattle.df_filter.specs.declared.clause.Clause.{Clause}
 use Rattle.df_label.specs.declared.privilege.Privilege.{Privilege}
 use Rattle.df_local.specs.Locally.{row_answer}
@@ -30,7 +30,7 @@ abbrev pub child_by : Call → Reply → Option (ℕ × (List (List ℕ) × List
 child_by (Instantiate s privileges) (Made n) = Some (n, (s, privileges))
 child_by _ _ = None
 
--- a call that the tables take in by now
-abbrev pub IsServed : Call → Type 0
-IsServed (SubscribeManaged filter) = ⊥
-IsServed _ = ⊤
+-- the managed subscription, a number and a filter, that a call with this reply makes
+abbrev pub managed_sub_by : Call → Reply → Option (ℕ × List Clause)
+managed_sub_by (SubscribeManaged filter) (Sub n) = Some (n, filter)
+managed_sub_by _ _ = None

@@ -4,6 +4,11 @@ use Rattle.df_unit.specs.Name.{same}
 use Rattle.df_unit.specs.declared.name.UnitName.{UnitName}
 use Rattle.df_tables.specs.declared.roll.Seat.{Seat}
 
+-- the seats, and for how many more there is room
+pub record RollState : Type 0 where
+  pub seats : List Seat
+  pub room : ℕ
+
 -- the units that have a seat
 abbrev pub names_in : List Seat → List UnitName
 names_in seats = map (λ s. s.unit) seats

@@ -1,16 +1,17 @@
 //! The rows of units that come to exist.
 
-ghost use Rattle.std.specs.Prelude.{◌≡◌, ◌<◌, [], IfOk, OnOk, OnErr, length, vec_capacity, vec_len};
+ghost use Rattle.std.specs.Prelude.{◌≡◌, ◌+◌, ◌<◌, ◌≤◌, [], IfOk, OnOk, length, vec_capacity, vec_len};
 ghost use Rattle.df_rules.specs.Start.{rows};
 ghost use Rattle.df_unit.specs.Rows.{reply};
 ghost use Rattle.df_unit.specs.declared.call.Call.TheVariants.{Instantiate};
 ghost use Rattle.df_unit.specs.declared.entry.Effect.{Effect};
 ghost use Rattle.df_unit.specs.declared.reply.Reply.{Reply};
-ghost use Rattle.df_tables.specs.Births.{IsOfChild, child_row};
+ghost use Rattle.df_tables.specs.Births.{IsOfChild, beside_of, child_row};
 ghost use Rattle.df_tables.specs.Hand.{IsAnsweredAt, modify};
 ghost use Rattle.df_tables.specs.Table.{moved_row};
 
 use crate::line::Line;
+use crate::roll::Roll;
 use crate::units::Unit;
 use df_label::{Label, NoMemory, Privileges, TagSet};
 use df_local::Local;
@@ -64,24 +65,39 @@ pub struct Beside {
     pub name: UnitName,
 }
 
-/// Makes room for one more row and its label, and ready what it needs beside it.
-pub fn make_room(
-    rows: &mut Vec<Unit>,
-    labels: &mut Vec<Label>,
-    born: &Unit,
-) -> Result<Beside, NoMemory>
-    ensures beside { IfOk result (λ b.
-        b ≡ record { label = born.now.local.own.input; name = born.now.local.unit }) }
-    ensures room { OnOk result (vec_len rows.new < vec_capacity rows.new) }
-    ensures label_room { OnOk result (vec_len labels.new < vec_capacity labels.new) }
-    ensures rows { rows.new.items ≡ rows.old.items }
-    ensures labels { labels.new.items ≡ labels.old.items }
+/// A row that is about to come, with what it needs beside it.
+#[derive(Drop)]
+pub struct Newborn {
+    pub row: Unit,
+    pub beside: Beside,
+}
+
+/// What a row needs beside it.
+pub fn beside_of(born: &Unit) -> Result<Beside, NoMemory>
+    ensures { IfOk result (λ b. b ≡ beside_of born.now) }
 {
-    rows.reserve(1)?;
-    labels.reserve(1)?;
     let label = born.local.input().copy()?;
     let name = born.local.name().copy()?;
     Ok(Beside { label, name })
+}
+
+/// Makes room for so many more rows, with their labels and seats.
+pub fn make_room(
+    rows: &mut Vec<Unit>,
+    labels: &mut Vec<Label>,
+    roll: &mut Roll,
+    n: usize,
+) -> Result<(), NoMemory>
+    ensures room { OnOk result (vec_len rows.new + n ≤ vec_capacity rows.new) }
+    ensures label_room { OnOk result (vec_len labels.new + n ≤ vec_capacity labels.new) }
+    ensures seat_room { OnOk result (n ≤ roll.new.room) }
+    ensures rows { rows.new.items ≡ rows.old.items }
+    ensures labels { labels.new.items ≡ labels.old.items }
+    ensures seats { roll.new.seats ≡ roll.old.seats }
+{
+    rows.reserve(n)?;
+    labels.reserve(n)?;
+    roll.reserve(n)
 }
 
 /// Counts a child in the own state of the unit at a place. Takes no memory.

@@ -1,44 +1,38 @@
 //! The tables of the machine in one: the units, the events, and the index of subscriptions.
 
-ghost use Rattle.std.specs.Prelude.{◌≡◌, ◌↔◌, ◌<◌, [], false, List, None, Some, IfOk, OnErr, OnOk, length, option_copied, slice_get};
-ghost use Rattle.std.specs.List.{All, Contains};
+ghost use Rattle.std.specs.Prelude.{◌≡◌, ℕ, ◌+◌, ◌<◌, [], false, List, None, IfOk, OnErr, OnOk, length, option_copied, slice_get, vec_len};
+ghost use Rattle.std.specs.List.{All};
 ghost use Rattle.std.specs.Option.{option_map};
-ghost use Rattle.std.specs.List.Sorted.{IsStrictlySortedBy};
-ghost use Rattle.df_index.specs.Due.{Pair, pair_cmp};
-ghost use Rattle.df_index.specs.Filter.{matches};
-ghost use Rattle.df_index.specs.IndexState.{IsReceiver};
 ghost use Rattle.df_label.specs.declared.label.Label.{Label};
 ghost use Rattle.df_label.specs.declared.privilege.Privilege.{Privilege};
-ghost use Rattle.df_part.specs.Contents.{apply};
 ghost use Rattle.df_rules.specs.Commits.{commit_in};
-ghost use Rattle.df_unit.specs.declared.call.Call.TheVariants.{Instantiate, Subscribe};
+ghost use Rattle.df_unit.specs.declared.call.Call.TheVariants.{Instantiate, Subscribe, SubscribeManaged};
 ghost use Rattle.df_unit.specs.declared.entry.Effect.{Effect};
 ghost use Rattle.df_unit.specs.declared.reply.Reply.{Reply};
 ghost use Rattle.df_unit.specs.declared.reply.Reply.TheVariants.{Sub};
 ghost use Rattle.df_unit.specs.UnitOrder.{unit_cmp};
 ghost use Rattle.df_label.specs.Ascending.{IsAscending};
 ghost use Rattle.df_tables.specs.Roll.{names_in};
-ghost use Rattle.df_tables.specs.Board.{IsBoard, IsBooked, IsBornBoard, IsChildBoard, IsHandedBoard, IsKept, IsMovedBoard, IsOpenedBoard, IsReady, IsRenewed, TellsOf, answer_on};
+ghost use Rattle.df_tables.specs.Births.{IsEnrolled, IsNewborn, beside_of, rows_in};
+ghost use Rattle.df_tables.specs.Board.{AreBorn, HasRoom, IsBoard, IsBooked, IsBornBoard, IsChildBoard, IsKept, IsMovedBoard, IsRenewed, TellsOf, answer_on};
 ghost use Rattle.df_tables.specs.Hand.{IsAnsweredAt, IsCalm};
 ghost use Rattle.df_tables.specs.Labels.{AreLabels, inputs};
-ghost use Rattle.df_tables.specs.Moves.{IsServed, child_by, is_in_out, made_by};
+ghost use Rattle.df_tables.specs.Moves.{child_by, is_in_out, made_by, managed_sub_by};
 ghost use Rattle.df_tables.specs.Table.{IsInOrder, find, rows_from};
 
-use crate::births::{child_of, count_child, make_room};
+use crate::births::{Beside, Newborn, beside_of, child_of, count_child, make_room};
 use crate::events::Events;
-use crate::handing::{News, hand_over};
+use crate::managing::subscribe_managed;
 use crate::moves::{move_at, subscribe};
 use crate::roll::Roll;
 use crate::units::{Unit, labels_of, refresh};
 use df_filter::Filter;
-use df_index::{Index, Receivers, Steps};
+use df_index::Index;
+use df_instances::{Managed, Marks};
 use df_label::{Label, NoMemory, Privileges, TagSet};
 use df_local::Answer;
-use df_part::{Contents, Edit};
-use df_unit::{Call, Commit, Effect, Reply, UnitName};
+use df_unit::{Call, Effect, Reply, UnitName};
 use std::alloc::Global;
-use std::marker::Brand;
-use std::sync::ledger::{Blank, Ledger};
 
 /// Units, events, and the index of subscriptions, in which units and events are named by their
 /// places here.
@@ -50,39 +44,9 @@ pub struct Board {
     pub(crate) stale: Option<usize>,
     pub(crate) events: Events,
     pub(crate) index: Index<Filter>,
-    alloc: Global,
-}
-
-/// The place of a commit's event, its parts after the commit, and to whom it is to be handed.
-#[derive(Drop)]
-pub(crate) struct Ready {
-    pub place: usize,
-    pub after: Contents,
-    pub to: Receivers,
-}
-
-/// To whom a commit is to be handed.
-fn receivers<L: Ledger>(
-    index: &mut Index<Filter>,
-    labels: &[Label],
-    event: usize,
-    after: &Contents,
-    edit: &Edit,
-    blank: Blank,
-) -> Result<Receivers, NoMemory>
-    requires name { blank.name ≡ L.name }
-    requires parts { blank.parts ≡ L.parts }
-    requires some { 0 < L.parts }
-    requires enrolled { All (λ s. s.unit < length labels.now) index.old.enrolled }
-    ensures ascending { IfOk result (λ to. IsStrictlySortedBy pair_cmp to) }
-    ensures due { IfOk result (λ to. (p : Pair) → Contains to p
-        ↔ IsReceiver matches labels.now index.old event after.now edit.now p) }
-    ensures ready { IfOk result (λ to. index.new
-        ≡ record index.old { ready = Some (event, to) }) }
-    ensures unchanged { OnErr result (index.new ≡ index.old) }
-{
-    let mut steps = Steps::<L>::new(blank);
-    index.receivers(labels, event, after, edit, &mut steps)
+    pub(crate) managed: Managed,
+    pub(crate) marks: Marks,
+    pub(crate) alloc: Global,
 }
 
 /// Whether the call is one that changes the label at which its unit reads.
@@ -115,13 +79,15 @@ fn child_by<'a>(call: &'a Call, reply: &Reply) -> Option<(u32, &'a TagSet, &'a P
     }
 }
 
-/// The parts after an edit.
-fn applied(contents: &Contents, edit: &Edit) -> Result<Contents, NoMemory>
-    ensures { IfOk result (λ c. c ≡ apply edit.now contents.now) }
+/// The managed subscription that a call with this reply makes.
+fn managed_sub_by<'a>(call: &'a Call, reply: &Reply) -> Option<(u32, &'a Filter)>
+    ensures { option_map (λ made. (made.0, made.1.now)) result
+        ≡ managed_sub_by call.now reply.now }
 {
-    let mut after = contents.copy()?;
-    after.apply(edit)?;
-    Ok(after)
+    match (call, reply) {
+        (Call::SubscribeManaged { filter }, Reply::Sub(number)) => Some((*number, filter)),
+        _ => None,
+    }
 }
 
 impl Board {
@@ -142,6 +108,8 @@ impl Board {
             stale: None,
             events: Events::new(alloc),
             index: Index::new(alloc),
+            managed: Managed::new(alloc),
+            marks: Marks::new(alloc),
             alloc,
         })
     }
@@ -159,8 +127,8 @@ impl Board {
 
     /// The unit at a place in the order of units.
     pub fn name_at(&self, place: usize) -> Option<&UnitName>
-        ensures name { option_copied result ≡ slice_get (names_in self.now.roll) place }
-        ensures ascending { IsAscending unit_cmp (names_in self.now.roll) }
+        ensures name { option_copied result ≡ slice_get (names_in self.now.roll.seats) place }
+        ensures ascending { IsAscending unit_cmp (names_in self.now.roll.seats) }
     {
         self.roll.unit_at(place)
     }
@@ -194,6 +162,7 @@ impl Board {
         ensures board { IsBoard self.new }
         ensures ok { OnOk result (IsMovedBoard place call.now reply.now effect.now None
             self.old self.new) }
+        ensures managed { self.new.managed ≡ self.old.managed }
         ensures same { OnErr result (IsRenewed self.old self.new) }
     {
         self.refresh()?;
@@ -218,6 +187,7 @@ impl Board {
         ensures board { IsBoard self.new }
         ensures ok { OnOk result (IsMovedBoard place call.now reply.now effect.now None
             self.old self.new) }
+        ensures managed { self.new.managed ≡ self.old.managed }
         ensures same { OnErr result (IsRenewed self.old self.new) }
     {
         move_at(self.rows.as_mut_slice(), place, call, reply, effect)?;
@@ -234,10 +204,30 @@ impl Board {
         ensures board { IsBoard self.new }
         ensures ok { OnOk result (IsMovedBoard place (Subscribe filter.now) (Sub number)
             Effect.Nothing (Some (number, filter.now)) self.old self.new) }
+        ensures managed { self.new.managed ≡ self.old.managed }
         ensures same { OnErr result (IsRenewed self.old self.new) }
     {
         let rows = self.rows.as_mut_slice();
         subscribe(rows, &mut self.index, place, filter, number)?;
+        Ok(())
+    }
+
+    /// Enrols the managed subscription that the unit at a place makes. Where memory is wanting,
+    /// nothing is another.
+    fn enrol_managed(&mut self, place: usize, filter: &Filter, number: u32) -> Result<(), NoMemory>
+        requires board { IsBoard self.old }
+        requires within { place < length self.old.rows.items }
+        requires right { IsAnsweredAt place (SubscribeManaged filter.now) (Sub number)
+            Effect.Nothing self.old.rows.items }
+        ensures board { IsBoard self.new }
+        ensures ok { OnOk result (IsMovedBoard place (SubscribeManaged filter.now) (Sub number)
+            Effect.Nothing None self.old self.new) }
+        ensures enrolled { OnOk result (IsEnrolled place filter.now number self.old.rows.items
+            self.old.managed self.new.managed) }
+        ensures same { OnErr result (IsRenewed self.old self.new) }
+    {
+        let rows = self.rows.as_mut_slice();
+        subscribe_managed(rows, &mut self.managed, place, filter, number)?;
         Ok(())
     }
 
@@ -256,6 +246,7 @@ impl Board {
         ensures board { IsBoard self.new }
         ensures ok { OnOk result (IsMovedBoard place call.now reply.now effect.now
             (made_by call.now reply.now) self.old self.new) }
+        ensures managed { self.new.managed ≡ self.old.managed }
         ensures same { OnErr result (IsRenewed self.old self.new) }
     {
         if is_in_out(call) {
@@ -267,6 +258,35 @@ impl Board {
         }
     }
 
+    /// Makes room for so many more rows. No row is another.
+    pub(crate) fn make_room(&mut self, n: usize) -> Result<(), NoMemory>
+        requires board { IsBoard self.old }
+        ensures board { IsBoard self.new }
+        ensures room { OnOk result (HasRoom n self.new) }
+        ensures same { IsRenewed self.old self.new }
+        ensures labels { self.new.labels.items ≡ self.old.labels.items }
+    {
+        make_room(&mut self.rows, &mut self.labels, &mut self.roll, n)
+    }
+
+    /// Gives a unit its row, unless it has one. There is room for it. Takes no memory.
+    fn bear_in_room(&mut self, born: Unit, beside: Beside)
+        requires board { IsBoard self.old }
+        requires calm { IsCalm born }
+        requires beside { beside ≡ beside_of born }
+        requires room { HasRoom 1 self.old }
+        ensures board { IsBoard self.new }
+        ensures born { IsBornBoard born self.old self.new }
+        ensures room { (n : ℕ) → HasRoom (n + 1) self.old → HasRoom n self.new }
+    {
+        let place = self.rows.len();
+        if !self.roll.seat(beside.name, place) {
+            return;
+        }
+        self.labels.push_reserved(beside.label);
+        self.rows.push_reserved(born);
+    }
+
     /// Gives a unit its row, unless it has one. Where memory is wanting, nothing is another.
     fn bear(&mut self, born: Unit) -> Result<(), NoMemory>
         requires board { IsBoard self.old }
@@ -275,14 +295,25 @@ impl Board {
         ensures ok { OnOk result (IsBornBoard born self.old self.new) }
         ensures same { OnErr result (IsRenewed self.old self.new) }
     {
-        let beside = make_room(&mut self.rows, &mut self.labels, &born)?;
-        let place = self.rows.len();
-        if !self.roll.seat(beside.name, place)? {
-            return Ok(());
-        }
-        self.labels.push_reserved(beside.label);
-        self.rows.push_reserved(born);
+        let beside = beside_of(&born)?;
+        self.make_room(1)?;
+        self.bear_in_room(born, beside);
         Ok(())
+    }
+
+    /// Gives each of these its row, unless its unit has one. There is room for all. Takes no
+    /// memory.
+    pub(crate) fn bear_all(&mut self, born: Vec<Newborn>)
+        requires board { IsBoard self.old }
+        requires newborn { All IsNewborn born.items }
+        requires room { HasRoom (vec_len born) self.old }
+        ensures board { IsBoard self.new }
+        ensures born { AreBorn (rows_in born.items) self.old self.new }
+    {
+        'births: for one in born {
+            let Newborn { row, beside } = one;
+            self.bear_in_room(row, beside);
+        }
     }
 
     /// Makes the child of the unit at a place, unless it is there. Where memory is wanting,
@@ -310,7 +341,7 @@ impl Board {
     }
 
     /// All labels are those of now.
-    fn refresh(&mut self) -> Result<(), NoMemory>
+    pub(crate) fn refresh(&mut self) -> Result<(), NoMemory>
         requires { AreLabels (inputs self.old.rows.items) self.old.labels.items self.old.stale }
         ensures labels { AreLabels (inputs self.new.rows.items) self.new.labels.items
             self.new.stale }
@@ -320,54 +351,6 @@ impl Board {
         let rows = self.rows.as_slice();
         refresh(rows, &mut self.labels, self.stale)?;
         self.stale = None;
-        Ok(())
-    }
-
-    /// Makes all ready to hand a commit over.
-    fn open(&mut self, commit: &Commit) -> Result<Ready, NoMemory>
-        requires { IsBoard self.old }
-        ensures board { IsBoard self.new }
-        ensures ready { IfOk result (λ r. IsReady commit.now self.new r) }
-        ensures opened { IsOpenedBoard commit.now.event self.old self.new }
-    {
-        let place = self.events.open(&commit.event)?;
-        self.refresh()?;
-        let after = applied(self.events.contents(place), &commit.edit)?;
-        let labels = self.labels.as_slice();
-        let edit = &commit.edit;
-        let index = &mut self.index;
-        let to = receivers::<Brand>(index, labels, place, &after, edit, Blank::new(1))?;
-        Ok(Ready { place, after, to })
-    }
-
-    /// Takes in an entry with a commit of the unit at a place.
-    fn book_commit(
-        &mut self,
-        place: usize,
-        call: &Call,
-        reply: &Reply,
-        effect: &Effect,
-        commit: &Commit,
-    ) -> Result<(), NoMemory>
-        requires board { IsBoard self.old }
-        requires within { place < length self.old.rows.items }
-        requires commit { effect.now ≡ Effect.Commit commit.now }
-        requires right { IsAnsweredAt place call.now reply.now effect.now self.old.rows.items }
-        ensures board { IsBoard self.new }
-        ensures ok { OnOk result (IsHandedBoard place call.now reply.now effect.now commit.now
-            self.old self.new) }
-        ensures opened { OnErr result (IsOpenedBoard commit.now.event self.old self.new) }
-    {
-        let ready = self.open(commit)?;
-        let news = News {
-            event: &commit.event,
-            after: &ready.after,
-            receivers: ready.to.as_slice(),
-        };
-        let rows = self.rows.as_mut_slice();
-        hand_over(self.alloc, rows, place, call, reply, effect, &news)?;
-        self.index.book(ready.place, &ready.to);
-        self.events.set(ready.place, ready.after);
         Ok(())
     }
 
@@ -381,7 +364,6 @@ impl Board {
         effect: &Effect,
     ) -> Result<(), NoMemory>
         requires board { IsBoard self.old }
-        requires served { IsServed call.now }
         requires right { answer_on self.old actor.now call.now ≡ (reply.now, effect.now) }
         ensures board { IsBoard self.new }
         ensures ok { OnOk result (IsBooked actor.now call.now reply.now effect.now
@@ -393,6 +375,9 @@ impl Board {
         };
         if let Some((number, s, privileges)) = child_by(call, reply) {
             return self.make_child(place, number, s, privileges);
+        }
+        if let Some((number, filter)) = managed_sub_by(call, reply) {
+            return self.enrol_managed(place, filter, number);
         }
         match effect {
             Effect::Commit(commit) => self.book_commit(place, call, reply, effect, commit),

@@ -33,7 +33,7 @@ fn seen_at(alloc: Global, at: &Label, contents: &Contents) -> Result<Parts, NoMe
 }
 
 /// The delivery of an event to a receiver who reads at a label.
-fn given_to(
+pub(crate) fn given_to(
     alloc: Global,
     event: &EventName,
     after: &Contents,
@@ -162,6 +162,23 @@ pub(crate) fn hand_over(
         return Err(NoMemory);
     };
     let Ok(()) = take_commit(units, place, call, reply, effect) else {
+        quiet(units, news.receivers);
+        return Err(NoMemory);
+    };
+    settle(units, news.receivers);
+    Ok(())
+}
+
+/// Hands an event to its receivers. Where memory is wanting, the table is as before.
+pub(crate) fn hand_out(alloc: Global, units: &mut [Unit], news: &News<'_>) -> Result<(), NoMemory>
+    requires receivers { All (λ p. p.0 < length units.old) news.now.receivers.now }
+    requires calm { All IsCalm units.old }
+    ensures ok { (given : Unit → List Given) → IsNews given news.now.event.now
+        news.now.after.now news.now.receivers.now units.old →
+        OnOk result (units.new ≡ map (with_news given) units.old) }
+    ensures unchanged { OnErr result (units.new ≡ units.old) }
+{
+    let Ok(()) = stage(alloc, units, news.receivers, news.event, news.after) else {
         quiet(units, news.receivers);
         return Err(NoMemory);
     };

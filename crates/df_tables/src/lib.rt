@@ -4,11 +4,15 @@
 
 mod births;
 mod board;
+mod calling;
+mod commits;
 mod events;
 mod handing;
 mod line;
+mod managing;
 mod moves;
 mod roll;
+mod runs;
 mod units;
 
 pub use board::Board;

@@ -1,7 +1,7 @@
 //! What a unit is to be handed. Deliveries are staged first, with all the memory that they need,
 //! and settled later without any.
 
-ghost use Rattle.std.specs.Prelude.{◌≡◌, [], OnOk, OnErr, slice_get, drop, option_copied};
+ghost use Rattle.std.specs.Prelude.{◌≡◌, [], OnOk, OnErr, length, slice_get, drop, option_copied};
 ghost use Rattle.df_unit.specs.Rows.{is_nil};
 ghost use Rattle.df_tables.specs.Line.{quiet, settled, staged_more};
 
@@ -55,6 +55,13 @@ impl Line {
         ensures { result ≡ is_nil self.now.left }
     {
         self.left.is_empty()
+    }
+
+    /// How many deliveries are left.
+    pub fn len(&self) -> usize
+        ensures { result ≡ length self.now.left }
+    {
+        self.left.len()
     }
 
     /// Takes the first delivery that is left.

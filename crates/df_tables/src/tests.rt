@@ -1,7 +1,6 @@
 //! A unit that is handed what it asks for.
 ghost use Rattle.std.specs.Prelude.{IfOk};
 ghost use Rattle.df_tables.specs.Board.{IsBoard};
-ghost use Rattle.df_tables.specs.Moves.{IsServed};
 
 use crate::{Board, first_unit};
 use df_filter::{Clause, Filter, Test};
@@ -29,9 +28,7 @@ fn one_unit(alloc: Global) -> Result<Board, Fail>
 }
 
 // The call that asks for events with a price.
-fn subscribe(alloc: Global) -> Result<Call, Fail>
-    ensures { IfOk result (λ call. IsServed call) }
-{
+fn subscribe(alloc: Global) -> Result<Call, Fail> {
     let mut clauses = Vec::new(alloc);
     clauses.push(Clause {
         name: Name::new("price")?,
@@ -42,9 +39,7 @@ fn subscribe(alloc: Global) -> Result<Call, Fail>
 }
 
 // The call that adds a part of this name to the first draft.
-fn add(alloc: Global, name: &str) -> Result<Call, Fail>
-    ensures { IfOk result (λ call. IsServed call) }
-{
+fn add(alloc: Global, name: &str) -> Result<Call, Fail> {
     Ok(Call::AddPart {
         h: 0,
         label: label(alloc),
@@ -54,8 +49,7 @@ fn add(alloc: Global, name: &str) -> Result<Call, Fail>
 }
 
 fn make(board: &mut Board, actor: &UnitName, call: Call) -> Result<(), Fail>
-    requires board { IsBoard board.old }
-    requires served { IsServed call }
+    requires { IsBoard board.old }
     ensures { IsBoard board.new }
 {
     let answer = board.answer(actor, &call)?;

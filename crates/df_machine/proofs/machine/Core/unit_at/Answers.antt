@@ -15,4 +15,4 @@ returns-clause-place c names roll =
 pub returns-clause-roll : goal.returns-clause-roll
 returns-clause-roll c =
     subst (λ (v : State). (names : List UnitName) × IsRoll v names) c.self.view_is
-    (names_in c.self.inside.board.roll, roll_of c.self.inside.start (reverse c.self.inside.journal.items) c.self.inside.board c.self.invariant.0 c.self.invariant.1 c.name_at.ensures.ascending)
+    (names_in c.self.inside.board.roll.seats, roll_of c.self.inside.start (reverse c.self.inside.journal.items) c.self.inside.board c.self.invariant.0 c.self.invariant.1 c.name_at.ensures.ascending)

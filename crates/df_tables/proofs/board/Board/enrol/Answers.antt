@@ -19,6 +19,7 @@ returns-clause-ok c = record {
   events = refl;
   enrolled = c.in_ok-subscribe.ensures.enrolled;
   handed = c.subscribe.ensures.handed;
+  told = refl;
 }
 
 pub returns-clause-board : goal.returns-clause-board

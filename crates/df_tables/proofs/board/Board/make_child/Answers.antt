@@ -26,5 +26,6 @@ returns-clause-board c =
       events = refl;
       enrolled = sym (append-nil born.index.enrolled);
       handed = refl;
+      told = refl;
     })
     refl refl refl

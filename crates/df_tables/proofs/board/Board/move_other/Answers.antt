@@ -16,6 +16,7 @@ returns-clause-ok c = record {
   events = refl;
   enrolled = sym (append-nil c.args.self.now.index.enrolled);
   handed = refl;
+  told = refl;
 }
 
 pub returns-clause-board : goal.returns-clause-board

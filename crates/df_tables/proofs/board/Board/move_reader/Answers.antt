@@ -19,6 +19,7 @@ returns-clause-ok c =
       events = same.events;
       enrolled = ap (λ (x : FilterIndex). x.enrolled) same.index ∙ sym (append-nil c.args.self.now.index.enrolled);
       handed = ap (λ (x : FilterIndex). x.handed) same.index;
+      told = same.told;
     }
 
 pub returns-clause-board : goal.returns-clause-board

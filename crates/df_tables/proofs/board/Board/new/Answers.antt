@@ -1,10 +1,15 @@
-use Rattle.std.proofs.Common.{◌<◌, List, [], None, false, All, length, ap, sym, subst, ◌∙◌}
+use Rattle.std.proofs.Common.{◌≡◌, ◌<◌, ℕ, List, [], None, false, All, length, refl, ap, sym, subst, ◌∙◌}
 use Rattle.std.proofs.lemmas.List.Elements.{All-nil}
 use Rattle.df_filter.specs.declared.clause.Clause.{Clause}
 use Rattle.df_index.specs.IndexState.{was_handed}
 use Rattle.df_index.specs.declared.subscription.Subscription.{Subscription}
+use Rattle.df_instances.specs.Marks as marks
+use Rattle.df_instances.specs.Marks.{MarksState}
+use Rattle.df_instances.specs.Named.{AreNumbered}
+use Rattle.df_instances.specs.declared.subscription.ManagedSubscription.{ManagedSubscription}
 use Rattle.df_rules.specs.Start.{rows, roots}
-use Rattle.df_tables.specs.Agree.{Agrees, FilterIndex, ManagedState}
+use Rattle.df_tables.specs.Agree.{Agrees, FilterIndex}
+use Rattle.df_tables.specs.Board.{managed_by}
 use Rattle.df_tables.specs.Labels.{inputs}
 use Rattle.df_tables.specs.Table.{place_of, rows_from}
 use Rattle.df_tables.specs.declared.events.EventRow.{EventRow}
@@ -13,14 +18,27 @@ use Rattle.df_tables.proofs.Begin.{agrees_first}
 use Rattle.df_tables.proofs.Search.{ordered_apart}
 use Rattle.df_tables.proofs.board.Board.new.Goals as goal
 
-abbrev none_managed : ManagedState
-none_managed = record { kept = λ o n. None; told = λ event place. false }
+nobody : (e q : ℕ) → marks.was_handed [] e q ≡ false
+nobody e q = refl
+
+none_numbered : AreNumbered []
+none_numbered j k m w here there owner sub = absurd (let z : ⊥ = cc in z)
 
 pub returns-clause-tells : goal.returns-clause-tells
 returns-clause-tells c starts is =
-    subst (λ (us : List Unit). Agrees rows (roots starts) [] us c.new.result c.new-2.result none_managed) (sym is)
-    (subst (λ (evs : List EventRow). Agrees rows (roots starts) [] (rows_from 0 starts) evs c.new-2.result none_managed) (sym c.new.ensures)
-    (subst (λ (x : FilterIndex). Agrees rows (roots starts) [] (rows_from 0 starts) [] x none_managed) (sym c.new-2.ensures) (agrees_first starts None)))
+    let empty : c.new-4.result.handed ≡ [] = ap (λ (m : MarksState). m.handed) c.new-4.ensures in record {
+      agrees =
+          subst (λ (us : List Unit). Agrees rows (roots starts) [] us c.new.result c.new-2.result (managed_by c.new-3.result c.new-4.result.handed)) (sym is)
+          (subst (λ (evs : List EventRow). Agrees rows (roots starts) [] (rows_from 0 starts) evs c.new-2.result (managed_by c.new-3.result c.new-4.result.handed)) (sym c.new.ensures)
+          (subst (λ (x : FilterIndex). Agrees rows (roots starts) [] (rows_from 0 starts) [] x (managed_by c.new-3.result c.new-4.result.handed)) (sym c.new-2.ensures)
+          (subst (λ (l : List ManagedSubscription). Agrees rows (roots starts) [] (rows_from 0 starts) [] (record { enrolled = []; handed = []; ready = None }) (managed_by l c.new-4.result.handed)) (sym c.new-3.ensures)
+          (subst (λ (h : List (List ℕ)). Agrees rows (roots starts) [] (rows_from 0 starts) [] (record { enrolled = []; handed = []; ready = None }) (managed_by [] h)) (sym empty) (agrees_first starts None)))));
+      numbered = subst AreNumbered (sym c.new-3.ensures) none_numbered;
+      within = record {
+        fresh = λ e q h. ap (λ (l : List (List ℕ)). marks.was_handed l e q) empty ∙ nobody e q;
+        seated = λ e q h. ap (λ (l : List (List ℕ)). marks.was_handed l e q) empty ∙ nobody e q;
+      };
+    }
 
 pub returns-clause-board : goal.returns-clause-board
 returns-clause-board c =

@@ -5,11 +5,11 @@ use Rattle.df_tables.specs.Board.{TellsOf}
 use Rattle.df_tables.proofs.Booked.{answer_is}
 use Rattle.df_machine.specs.declared.machine.Copies.{Copies}
 use Rattle.df_machine.proofs.Journal.{journal_more}
-use Rattle.df_machine.proofs.machine.Core.book.Goals as goal
+use Rattle.df_machine.proofs.machine.Core.append.Goals as goal
 
 pub book-requires-clause-right : goal.book-requires-clause-right
 book-requires-clause-right c =
-    let right = rw (← c.self.view_is) at c.requires.right in
+    let right = rw (← c.self.view_is) at c.requires in
     answer_is (map begun c.self.inside.start) (reverse c.self.inside.journal.items) c.self.inside.board c.self.invariant.1 c.args.actor.now c.args.call ∙ right
 
 pub invariant_of-self : goal.invariant_of-self

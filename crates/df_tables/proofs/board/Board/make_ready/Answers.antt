@@ -1,0 +1,43 @@
+use Rattle.std.proofs.Common.{◌≡◌, ◌++◌, ℕ, List, Some, length, ap, sym, subst, ◌∙◌}
+use Rattle.std.specs.Prelude.{◌↔◌}
+use Rattle.std.specs.List.{Contains}
+use Rattle.df_index.specs.Due.{Pair}
+use Rattle.df_index.specs.Filter.{matches}
+use Rattle.df_index.specs.IndexState.{IsReceiver}
+use Rattle.df_instances.specs.declared.subscription.ManagedSubscription.{ManagedSubscription}
+use Rattle.df_label.specs.declared.label.Label.{Label}
+use Rattle.df_part.specs.Contents.{apply}
+use Rattle.df_tables.specs.Agree.{FilterIndex}
+use Rattle.df_tables.specs.Births.{rows_in}
+use Rattle.df_tables.specs.Calls.{AreCalled, places_by}
+use Rattle.df_tables.specs.Events.{event_place}
+use Rattle.df_tables.specs.Labels.{inputs}
+use Rattle.df_tables.specs.Table.{parts_of}
+use Rattle.df_tables.specs.declared.events.EventRow.{EventRow}
+use Rattle.df_tables.specs.declared.units.Unit.{Unit}
+use Rattle.df_tables.proofs.board.Board.make_ready.Goals as goal
+
+pub returns-clause-ready : goal.returns-clause-ready
+returns-clause-ready c =
+    let commit = c.args.commit.now in
+    let mid = c.make_places.new.self in
+    let same = c.make_places.ensures.same in
+    let made = c.in_ok-make_places.ensures in
+    let after = c.args.after in
+    let place = c.args.place in
+    let called = c.args.called in
+    let to = c.in_ok-to.to in
+    let fresh : mid.labels.items ≡ inputs mid.rows.items = c.make_places.ensures.labels ∙ c.requires.fresh ∙ ap inputs (sym same.rows) in record {
+      place = ap (event_place commit.event) same.events ∙ c.requires.place;
+      after = c.requires.after ∙ ap (λ (evs : List EventRow). apply commit.edit (parts_of commit.event evs)) (sym same.events);
+      ascending = c.in_ok-to.ensures.ascending;
+      due = λ p. subst (λ (x : FilterIndex). Contains to p ↔ IsReceiver matches (inputs mid.rows.items) x place after commit.edit p) (sym c.in_ok-to.ensures.ready)
+          (subst (λ (ls : List Label). Contains to p ↔ IsReceiver matches ls mid.index place after commit.edit p) (c.as_slice-labels.ensures.value ∙ fresh) (c.in_ok-to.ensures.due p));
+      waits = ap (λ (x : FilterIndex). x.ready) c.in_ok-to.ensures.ready;
+      called = subst (λ (us : List Unit). AreCalled us mid.managed mid.marks.handed commit place after called) (sym same.rows)
+          (subst (λ (m : List ManagedSubscription). AreCalled c.args.self.now.rows.items m mid.marks.handed commit place after called) (sym same.managed)
+          (subst (λ (h : List (List ℕ)). AreCalled c.args.self.now.rows.items c.args.self.now.managed h commit place after called) (sym same.told) c.requires.called));
+      receivers = c.in_ok-receivers.ensures ∙ ap (λ (ps : List Pair). ps ++ c.as_slice-2.result.now) c.as_slice.ensures ∙ ap (λ (ps : List Pair). to ++ ps) c.as_slice-2.ensures.value;
+      marked = made.marked ∙ ap (λ (us : List Unit). Some (place, places_by (length us) called.pairs.items (rows_in called.born.items))) (sym same.rows);
+      room = record { rows = made.room.rows; labels = made.room.labels; seats = made.room.seats };
+    }

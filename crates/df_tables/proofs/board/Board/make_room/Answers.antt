@@ -1,0 +1,19 @@
+use Rattle.std.proofs.Common.{List, subst, sym}
+use Rattle.df_label.specs.declared.label.Label.{Label}
+use Rattle.df_tables.specs.Agree.{IsWhole}
+use Rattle.df_tables.specs.Board.{IsRollOf}
+use Rattle.df_tables.specs.Labels.{AreLabels, inputs}
+use Rattle.df_tables.specs.declared.roll.Seat.{Seat}
+use Rattle.df_tables.specs.declared.units.Unit.{Unit}
+use Rattle.df_tables.proofs.board.Board.make_room.Goals as goal
+
+pub returns-clause-board : goal.returns-clause-board
+returns-clause-board c =
+    let old = c.args.self.now in
+    let is = c.make_room.ensures in record {
+      whole = subst (λ (us : List Unit). IsWhole us old.events old.index) (sym is.rows) c.requires.board.whole;
+      roll = subst (λ (ss : List Seat). IsRollOf ss c.make_room.new.rows.items) (sym is.seats)
+          (subst (λ (us : List Unit). IsRollOf old.roll.seats us) (sym is.rows) c.requires.board.roll);
+      labels = subst (λ (us : List Unit). AreLabels (inputs us) c.make_room.new.labels.items old.stale) (sym is.rows)
+          (subst (λ (ls : List Label). AreLabels (inputs old.rows.items) ls old.stale) (sym is.labels) c.requires.board.labels);
+    }

@@ -1,0 +1,9 @@
+use Rattle.std.proofs.Common.{All, sym, subst}
+use Rattle.std.proofs.lemmas.List.Elements.{All-push}
+use Rattle.df_tables.specs.Births.{IsNewborn}
+use Rattle.df_tables.proofs.calling.add_row.Goals as goal
+
+pub returns-clause-newborn : goal.returns-clause-newborn
+returns-clause-newborn c =
+    subst (All IsNewborn) (sym c.in_ok-push.ensures.items)
+    (All-push IsNewborn c.args.to.now.items (record { row = c.args.row; beside = c.in_ok-beside.beside }) c.requires.newborn (record { beside = c.in_ok-beside.ensures; calm = c.requires.calm }))

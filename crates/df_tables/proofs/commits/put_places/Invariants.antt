@@ -1,0 +1,10 @@
+use Rattle.std.proofs.Common.{◌≡◌, ◌+◌, ◌++◌, drop}
+use Rattle.df_tables.specs.Births.{rows_in}
+use Rattle.df_tables.specs.Calls.{places_from}
+use Rattle.df_tables.proofs.commits.put_places.Given as goal
+
+abbrev pub invariant-loop : goal.invariant-loop
+invariant-loop l = record {
+  place : l.place ≡ l.rows + l.index;
+  places : l.to.items ++ places_from l.place (rows_in (drop l.index l.born)) ≡ l.fn.to.items ++ places_from l.rows (rows_in l.born);
+}

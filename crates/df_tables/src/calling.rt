@@ -1,0 +1,147 @@
+//! The instances to which a commit is handed.
+
+ghost use Rattle.std.specs.Prelude.{◌≡◌, ◌<◌, [], ◌∷◌, ◌++◌, true, length, slice_get, IfOk, OnOk};
+ghost use Rattle.std.specs.List.{All};
+ghost use Rattle.df_label.specs.TagSet.{is_subset};
+ghost use Rattle.df_instances.specs.Chosen.{HasBase};
+ghost use Rattle.df_local.specs.Births.{IsAccounted, record_of};
+ghost use Rattle.df_managed.specs.Contaminations.{EndsWith};
+ghost use Rattle.df_unit.specs.Beginnings.{readable_at};
+ghost use Rattle.df_unit.specs.declared.name.UnitName.TheVariants.{Managed as InstanceOf};
+ghost use Rattle.df_tables.specs.Births.{IsNewborn, instance_row, rows_in};
+ghost use Rattle.df_tables.specs.Board.{IsBoard};
+ghost use Rattle.df_tables.specs.Calls.{AreCalled, birth_of, pair_of};
+ghost use Rattle.df_tables.specs.Hand.{IsCalm, given_to};
+
+use crate::births::{Newborn, beside_of};
+use crate::board::Board;
+use crate::handing::given_to;
+use crate::line::Line;
+use crate::units::Unit;
+use df_instances::{Instance, ManagedSubscription};
+use df_label::{NoMemory, TagSet};
+use df_local::Local;
+use df_part::Contents;
+use df_unit::{Commit, EventName, UnitName};
+use std::alloc::Global;
+
+/// The instances to which a commit is handed.
+#[derive(Drop)]
+pub(crate) struct Called {
+    /// Those that have a row, each by its place and the number of its subscription.
+    pub pairs: Vec<(usize, u32)>,
+    /// The rows of those that have none, ready to come.
+    pub born: Vec<Newborn>,
+}
+
+/// The name of the instance of contamination `s` of a subscription.
+pub(crate) fn name_of(subscription: &ManagedSubscription, s: &TagSet) -> Result<UnitName, NoMemory>
+    ensures { IfOk result (λ name.
+        name ≡ InstanceOf subscription.now.owner subscription.now.sub s.now) }
+{
+    let owner = subscription.owner.copy()?;
+    let s = s.copy()?;
+    Ok(UnitName::Managed {
+        owner,
+        sub: subscription.sub,
+        s,
+    })
+}
+
+/// The row of the instance of contamination `s` of a subscription, with an event as its first
+/// delivery.
+pub(crate) fn born(
+    alloc: Global,
+    subscription: &ManagedSubscription,
+    s: &TagSet,
+    event: &EventName,
+    after: &Contents,
+) -> Result<Unit, NoMemory>
+    requires owned { 0 < length subscription.now.owner }
+    requires accounted { IsAccounted (record_of subscription.now.fixed) }
+    requires base { is_subset subscription.now.fixed.base s.now ≡ true }
+    ensures { IfOk result (λ u. u ≡ instance_row subscription.now.owner subscription.now.sub
+        (record_of subscription.now.fixed) s.now (given_to event.now after.now
+        (readable_at (record_of subscription.now.fixed) s.now) (0, subscription.now.sub))) }
+{
+    let (owner, sub) = (subscription.owner.as_slice(), subscription.sub);
+    let local = Local::of_instance(alloc, owner, sub, &subscription.fixed, s)?;
+    let given = given_to(alloc, event, after, local.input(), (0, sub))?;
+    let mut line = Line::new(alloc);
+    line.stage(given)?;
+    line.settle();
+    Ok(Unit { local, line })
+}
+
+/// Adds a row that is about to come.
+fn add_row(to: &mut Vec<Newborn>, row: Unit) -> Result<(), NoMemory>
+    requires calm { IsCalm row }
+    requires newborn { All IsNewborn to.old.items }
+    ensures rows { OnOk result (rows_in to.new.items ≡ rows_in to.old.items ++ row ∷ []) }
+    ensures newborn { OnOk result (All IsNewborn to.new.items) }
+{
+    let beside = beside_of(&row)?;
+    to.push(Newborn { row, beside })?;
+    Ok(())
+}
+
+impl Board {
+    /// Calls an instance, which is handed the event unless it was before.
+    fn call_one(
+        &self,
+        event: usize,
+        commit: &Commit,
+        after: &Contents,
+        instance: &Instance,
+        called: &mut Called,
+    ) -> Result<(), NoMemory>
+        requires board { IsBoard self.now }
+        requires based { HasBase self.now.managed instance.now }
+        requires newborn { All IsNewborn called.old.born.items }
+        ensures newborn { OnOk result (All IsNewborn called.new.born.items) }
+        ensures pairs { OnOk result (called.new.pairs.items ≡ called.old.pairs.items
+            ++ pair_of self.now.rows.items self.now.marks.handed event
+            (slice_get self.now.managed instance.now.place) instance.now.s) }
+        ensures born { OnOk result (rows_in called.new.born.items ≡ rows_in called.old.born.items
+            ++ birth_of self.now.rows.items commit.now.event after.now
+            (slice_get self.now.managed instance.now.place) instance.now.s) }
+    {
+        let subscription = self.managed.get(instance.place);
+        let name = name_of(subscription, &instance.s)?;
+        match self.roll.place(&name) {
+            None => {
+                let row = born(self.alloc, subscription, &instance.s, &commit.event, after)?;
+                add_row(&mut called.born, row)?;
+            }
+            Some(place) => {
+                if !self.marks.was_handed(event, place) {
+                    called.pairs.push((place, subscription.sub))?;
+                }
+            }
+        }
+        Ok(())
+    }
+
+    /// The instances to which a commit is handed, by the place of its event and the parts after it.
+    pub(crate) fn called(
+        &self,
+        event: usize,
+        commit: &Commit,
+        after: &Contents,
+    ) -> Result<Called, NoMemory>
+        requires board { IsBoard self.now }
+        requires added { EndsWith commit.now.edit.1 after.now }
+        ensures { IfOk result (AreCalled self.now.rows.items self.now.managed
+            self.now.marks.handed commit.now event after.now) }
+    {
+        let instances = self.managed.chosen(after, &commit.edit)?;
+        let mut called = Called {
+            pairs: Vec::new(self.alloc),
+            born: Vec::new(self.alloc),
+        };
+        for instance in instances.as_slice() {
+            self.call_one(event, commit, after, instance, &mut called)?;
+        }
+        Ok(called)
+    }
+}

@@ -1,0 +1,297 @@
+//! A commit in the tables: to whom it is to be handed, and what it leaves.
+
+ghost use Rattle.std.specs.Prelude.{◌≡◌, ◌↔◌, ◌<◌, ◌≤◌, ◌+◌, ◌^◌, ◌++◌, Some, IfOk, OnErr, OnOk, length, map, vec_len};
+ghost use Rattle.std.specs.List.{All, Contains};
+ghost use Rattle.std.specs.List.Sorted.{IsStrictlySortedBy};
+ghost use Rattle.df_index.specs.Due.{Pair, pair_cmp};
+ghost use Rattle.df_index.specs.Filter.{matches};
+ghost use Rattle.df_index.specs.IndexState.{IsReceiver};
+ghost use Rattle.df_part.specs.Contents.{apply};
+ghost use Rattle.df_unit.specs.declared.entry.Effect.{Effect};
+ghost use Rattle.df_tables.specs.Births.{IsNewborn, rows_in};
+ghost use Rattle.df_tables.specs.Board.{HasRoom, IsBoard, IsClosed, IsEmitted, IsHandedBoard, IsKept, IsOpenedBoard, IsReady, IsRenewed};
+ghost use Rattle.df_tables.specs.Calls.{AreCalled, places_by, places_from};
+ghost use Rattle.df_tables.specs.Events.{event_place};
+ghost use Rattle.df_tables.specs.Hand.{IsAnsweredAt, modify, with_state};
+ghost use Rattle.df_tables.specs.Labels.{inputs};
+ghost use Rattle.df_tables.specs.Table.{parts_of};
+
+use crate::births::Newborn;
+use crate::board::Board;
+use crate::calling::Called;
+use crate::handing::{News, hand_out, hand_over};
+use df_filter::Filter;
+use df_index::{Index, Receivers, Steps};
+use df_label::{Label, NoMemory};
+use df_part::{Contents, Edit};
+use df_unit::{Call, Commit, Effect, EventName, Reply};
+use std::alloc::Global;
+use std::marker::Brand;
+use std::sync::ledger::{Blank, Ledger};
+
+/// A commit, made ready to be handed over.
+#[derive(Drop)]
+pub(crate) struct Ready {
+    /// The place of its event.
+    pub place: usize,
+    /// The parts of its event after it.
+    pub after: Contents,
+    /// The plain units to whom it is to be handed.
+    pub to: Receivers,
+    /// The instances to which it is to be handed.
+    pub called: Called,
+    /// All of them that have a row.
+    pub receivers: Vec<(usize, u32)>,
+}
+
+/// The plain units to whom a commit is to be handed.
+fn receivers<L: Ledger>(
+    index: &mut Index<Filter>,
+    labels: &[Label],
+    event: usize,
+    after: &Contents,
+    edit: &Edit,
+    blank: Blank,
+) -> Result<Receivers, NoMemory>
+    requires name { blank.name ≡ L.name }
+    requires parts { blank.parts ≡ L.parts }
+    requires some { 0 < L.parts }
+    requires enrolled { All (λ s. s.unit < length labels.now) index.old.enrolled }
+    ensures ascending { IfOk result (λ to. IsStrictlySortedBy pair_cmp to) }
+    ensures due { IfOk result (λ to. (p : Pair) → Contains to p
+        ↔ IsReceiver matches labels.now index.old event after.now edit.now p) }
+    ensures ready { IfOk result (λ to. index.new
+        ≡ record index.old { ready = Some (event, to) }) }
+    ensures unchanged { OnErr result (index.new ≡ index.old) }
+{
+    let mut steps = Steps::<L>::new(blank);
+    index.receivers(labels, event, after, edit, &mut steps)
+}
+
+/// The parts after an edit.
+fn applied(contents: &Contents, edit: &Edit) -> Result<Contents, NoMemory>
+    ensures { IfOk result (λ c. c ≡ apply edit.now contents.now) }
+{
+    let mut after = contents.copy()?;
+    after.apply(edit)?;
+    Ok(after)
+}
+
+/// Receivers of both kinds, one after another.
+fn both(
+    alloc: Global,
+    plain: &[(usize, u32)],
+    called: &[(usize, u32)],
+) -> Result<Vec<(usize, u32)>, NoMemory>
+    ensures { IfOk result (λ v. v.items ≡ plain.now ++ called.now) }
+{
+    let mut all = Vec::from_slice(alloc, plain)?;
+    all.extend_from_slice(called)?;
+    Ok(all)
+}
+
+/// The places of instances that have a row.
+fn places_of(alloc: Global, pairs: &[(usize, u32)]) -> Result<Vec<usize>, NoMemory>
+    ensures { IfOk result (λ v. v.items ≡ map (λ p. p.0) pairs.now) }
+{
+    let mut places = Vec::new(alloc);
+    for pair in pairs {
+        places.push(pair.0)?;
+    }
+    Ok(places)
+}
+
+/// The places of the instances to which a commit is to be handed, where there are so many rows.
+fn places(alloc: Global, rows: usize, called: &Called) -> Result<Vec<usize>, NoMemory>
+    requires { rows + vec_len called.now.born < 2 ^ 64 }
+    ensures { IfOk result (λ v. v.items
+        ≡ places_by rows called.now.pairs.items (rows_in called.now.born.items)) }
+{
+    let mut places = places_of(alloc, called.pairs.as_slice())?;
+    put_places(rows, called.born.as_slice(), &mut places)?;
+    Ok(places)
+}
+
+/// Appends the places that rows have behind so many others.
+fn put_places(rows: usize, born: &[Newborn], to: &mut Vec<usize>) -> Result<(), NoMemory>
+    requires { rows + length born.now < 2 ^ 64 }
+    ensures { OnOk result (to.new.items ≡ to.old.items ++ places_from rows (rows_in born.now)) }
+{
+    let mut place = rows;
+    for _ in born {
+        to.push(place)?;
+        place += 1;
+    }
+    Ok(())
+}
+
+impl Board {
+    /// Opens an event, and all labels are those of now.
+    fn open_event(&mut self, event: &EventName) -> Result<usize, NoMemory>
+        requires { IsBoard self.old }
+        ensures board { IsBoard self.new }
+        ensures place { IfOk result (λ k. event_place event.now self.new.events ≡ Some k) }
+        ensures fresh { OnOk result (self.new.labels.items ≡ inputs self.new.rows.items) }
+        ensures opened { IsOpenedBoard event.now self.old self.new }
+    {
+        let place = self.events.open(event)?;
+        self.refresh()?;
+        Ok(place)
+    }
+
+    /// Makes ready to mark the event at a place as handed to instances, with room for the rows of
+    /// those that have none.
+    fn make_places(&mut self, place: usize, called: &Called) -> Result<(), NoMemory>
+        requires { IsBoard self.old }
+        ensures board { IsBoard self.new }
+        ensures same { IsRenewed self.old self.new }
+        ensures labels { self.new.labels.items ≡ self.old.labels.items }
+        ensures room { OnOk result (HasRoom (vec_len called.now.born) self.new) }
+        ensures marked { OnOk result (self.new.marks.ready ≡ Some (
+          place,
+          places_by
+              (length self.old.rows.items) called.now.pairs.items
+              (rows_in called.now.born.items),
+        )) }
+    {
+        self.make_room(called.born.len())?;
+        let places = places(self.alloc, self.rows.len(), called)?;
+        self.marks.ready(place, places.as_slice())?;
+        Ok(())
+    }
+
+    /// Makes ready what is to be handed, whose event has this place, these parts after the commit
+    /// and these instances.
+    fn make_ready(
+        &mut self,
+        commit: &Commit,
+        place: usize,
+        after: Contents,
+        called: Called,
+    ) -> Result<Ready, NoMemory>
+        requires board { IsBoard self.old }
+        requires fresh { self.old.labels.items ≡ inputs self.old.rows.items }
+        requires place { event_place commit.now.event self.old.events ≡ Some place }
+        requires after { after ≡ apply commit.now.edit
+            (parts_of commit.now.event self.old.events) }
+        requires called { AreCalled self.old.rows.items self.old.managed
+            self.old.marks.handed commit.now place after called }
+        ensures board { IsBoard self.new }
+        ensures ready { IfOk result (λ r. IsReady commit.now self.new r) }
+        ensures opened { IsOpenedBoard commit.now.event self.old self.new }
+    {
+        self.make_places(place, &called)?;
+        let labels = self.labels.as_slice();
+        let edit = &commit.edit;
+        let index = &mut self.index;
+        let to = receivers::<Brand>(index, labels, place, &after, edit, Blank::new(1))?;
+        let receivers = both(self.alloc, to.as_slice(), called.pairs.as_slice())?;
+        Ok(Ready {
+            place,
+            after,
+            to,
+            called,
+            receivers,
+        })
+    }
+
+    /// Makes all ready to hand a commit over.
+    pub(crate) fn open(&mut self, commit: &Commit) -> Result<Ready, NoMemory>
+        requires { IsBoard self.old }
+        ensures board { IsBoard self.new }
+        ensures ready { IfOk result (λ r. IsReady commit.now self.new r) }
+        ensures opened { IsOpenedBoard commit.now.event self.old self.new }
+    {
+        let place = self.open_event(&commit.event)?;
+        let after = applied(self.events.contents(place), &commit.edit)?;
+        let called = self.called(place, commit, &after)?;
+        self.make_ready(commit, place, after, called)
+    }
+
+    /// Books a commit that was handed to all that have a row: its marks, the parts of its event,
+    /// and the rows of those who come to exist. Takes no memory.
+    pub(crate) fn close(&mut self, ready: Ready)
+        requires board { IsBoard self.old }
+        requires within { All (λ p. p.0 < length self.old.rows.items) ready.to }
+        requires place { ready.place < length self.old.events }
+        requires waits { self.old.index.ready ≡ Some (ready.place, ready.to) }
+        requires room { HasRoom (vec_len ready.called.born) self.old }
+        requires newborn { All IsNewborn ready.called.born.items }
+        ensures board { IsBoard self.new }
+        ensures closed { IsClosed ready self.old self.new }
+    {
+        let Ready {
+            place,
+            after,
+            to,
+            called,
+            receivers: _,
+        } = ready;
+        let Called { pairs: _, born } = called;
+        self.index.book(place, &to);
+        self.marks.book();
+        self.events.set(place, after);
+        self.bear_all(born);
+    }
+
+    /// Takes in an entry with a commit of the unit at a place.
+    pub(crate) fn book_commit(
+        &mut self,
+        place: usize,
+        call: &Call,
+        reply: &Reply,
+        effect: &Effect,
+        commit: &Commit,
+    ) -> Result<(), NoMemory>
+        requires board { IsBoard self.old }
+        requires within { place < length self.old.rows.items }
+        requires commit { effect.now ≡ Effect.Commit commit.now }
+        requires right { IsAnsweredAt place call.now reply.now effect.now self.old.rows.items }
+        ensures board { IsBoard self.new }
+        ensures ok { OnOk result (IsHandedBoard
+            (modify place (with_state call.now reply.now effect.now)) commit.now
+            self.old self.new) }
+        ensures opened { OnErr result (IsOpenedBoard commit.now.event self.old self.new) }
+    {
+        let ready = self.open(commit)?;
+        let news = News {
+            event: &commit.event,
+            after: &ready.after,
+            receivers: ready.receivers.as_slice(),
+        };
+        let rows = self.rows.as_mut_slice();
+        hand_over(self.alloc, rows, place, call, reply, effect, &news)?;
+        self.close(ready);
+        Ok(())
+    }
+
+    /// Hands over the commit of an emitted entry.
+    fn hand_emitted(&mut self, commit: &Commit) -> Result<(), NoMemory>
+        requires { IsBoard self.old }
+        ensures board { IsBoard self.new }
+        ensures ok { OnOk result (IsHandedBoard (λ us. us) commit.now self.old self.new) }
+        ensures opened { OnErr result (IsOpenedBoard commit.now.event self.old self.new) }
+    {
+        let emitted = self.open(commit)?;
+        let news = News {
+            event: &commit.event,
+            after: &emitted.after,
+            receivers: emitted.receivers.as_slice(),
+        };
+        let rows = self.rows.as_mut_slice();
+        hand_out(self.alloc, rows, &news)?;
+        self.close(emitted);
+        Ok(())
+    }
+
+    /// Takes in an emitted entry, whose commit is nobody's call. Where memory is wanting, the
+    /// tables tell what they told.
+    pub fn emit(&mut self, commit: &Commit) -> Result<(), NoMemory>
+        requires { IsBoard self.old }
+        ensures board { IsBoard self.new }
+        ensures ok { OnOk result (IsEmitted commit.now self.old self.new) }
+        ensures kept { OnErr result (IsKept self.old self.new) }
+    {
+        self.hand_emitted(commit)
+    }
+}
