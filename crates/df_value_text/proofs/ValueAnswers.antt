@@ -8,7 +8,8 @@ use Rattle.df_format.specs.Format.{Ends, IsViable}
 use Rattle.df_format.proofs.Laws.{ok_is, err_is, not_both, told, viable_map, can_go_on, no_longer}
 use Rattle.df_frozen.specs.Limits.{IsWithinLimits}
 use Rattle.df_frozen.specs.Plain.{Plain, int, words, bytes, items, entries, node_count}
-use Rattle.df_value_text.specs.code.Answer.{Fails, refusal, IsFound, IsRead, FirstLow}
+use Rattle.df_value_text.specs.ValueFault.{FirstLow}
+use Rattle.df_value_text.specs.code.Answer.{Fails, refusal, IsFound, IsRead}
 use Rattle.df_value_text.specs.Fits.{IsSpelled, IsValue}
 use Rattle.df_value_text.specs.OrderNames.{LowWithin, LowInValue}
 use Rattle.df_value_text.specs.ReadValue.{value_within}

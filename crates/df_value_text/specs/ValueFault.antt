@@ -1,7 +1,6 @@
 -- Where a value is refused, and why.
 use Rattle.std.specs.Prelude.{◌≡◌, ◌≤◌, ◌<◌, ℕ, List, [], ◌∷◌, ◌++◌, length, drop, nat_le, if◌then◌else◌, Result, Ok, Err, ⊤, ◌⊎◌}
 use Rattle.df_format.specs.Grammar.{CanGoOn, FirstBad}
-use Rattle.df_value_text.specs.code.Answer.{FirstLow}
 use Rattle.df_value_text.specs.Counting.{AreWithin, FirstOver, counts_of}
 use Rattle.df_value_text.specs.Fits.{IsSpelled}
 use Rattle.df_value_text.specs.OrderNames.{LowWithin}
@@ -10,6 +9,14 @@ use Rattle.df_value_text.specs.declared.refused.Fault.{Fault}
 use Rattle.df_value_text.specs.declared.refused.Fault.TheVariants as fault
 use Rattle.df_value_text.specs.declared.refused.TextRefused.{TextRefused}
 use Rattle.df_value_text.specs.declared.refused.TextRefused.TheVariants as refused
+
+-- the first bytes of these can go on, and what stands behind them is low
+pub record FirstLow {X : Type 0} (IsLow : List ℕ → List ℕ → Type 0) (spell : X → List ℕ)
+    (Fits : X → Type 0) (bytes rest : List ℕ) : Type 0 where
+  pub front : List ℕ
+  pub parts : bytes ≡ front ++ rest
+  pub viable : CanGoOn spell Fits front
+  pub low : IsLow front rest
 
 -- rest begins with the first byte with which no value can go on
 abbrev pub FirstBadValue : List ℕ → List ℕ → Type 0

@@ -1,8 +1,9 @@
 -- What a reader of bytes answers.
 use Rattle.std.specs.Prelude.{◌≡◌, ℕ, ◌≤◌, List, ◌++◌, length, drop, Result, Ok, Err, ⊤, ◌⊎◌}
 use Rattle.df_format.specs.Reading.{Bad, Low, Read}
-use Rattle.df_format.specs.Grammar.{CanGoOn, Stands, FirstBad}
+use Rattle.df_format.specs.Grammar.{Stands, FirstBad}
 use Rattle.df_value_text.specs.ReadTag.{ended}
+use Rattle.df_value_text.specs.ValueFault.{FirstLow}
 use Rattle.df_value_text.specs.declared.refused.Fault.{Fault}
 use Rattle.df_value_text.specs.declared.refused.Fault.TheVariants as fault
 use Rattle.df_value_text.specs.declared.refused.TextRefused.{TextRefused}
@@ -34,14 +35,6 @@ IsFound spell Fits bytes at read = (read.1 ≤ length bytes)
 abbrev pub IsRead : {X : Type 0} → List ℕ → X → List ℕ → Result (X × ℕ) TextRefused → Type 0
 IsRead bytes x rest (Ok read) = (read.0 ≡ x) × (drop read.1 bytes ≡ rest)
 IsRead bytes x rest (Err e) = e ≡ refused.NoMemory
-
--- the first bytes of these can go on, and what stands behind them is low
-pub record FirstLow {X : Type 0} (IsLow : List ℕ → List ℕ → Type 0) (spell : X → List ℕ)
-    (Fits : X → Type 0) (bytes rest : List ℕ) : Type 0 where
-  pub front : List ℕ
-  pub parts : bytes ≡ front ++ rest
-  pub viable : CanGoOn spell Fits front
-  pub low : IsLow front rest
 
 -- a refusal names the first bad byte
 abbrev pub NamesBad : {X : Type 0} → (X → List ℕ) → (X → Type 0) → List ℕ → ℕ → TextRefused → Type 0
