@@ -1,9 +1,8 @@
 -- The lines of calls, cut to their words.
-use Rattle.std.proofs.Common.{◌≡◌, ℕ, ◌<◌, ◌≤◌, ◌^◌, true, false, cond, ◌||◌, Option, Some, None, Result, Ok, Err, List, [], ◌∷◌, ◌++◌, length, map, codes, decimal, refl, sym, ap, subst, ◌∙◌, arith}
+use Rattle.std.proofs.Common.{◌≡◌, ℕ, ◌+◌, ◌<◌, ◌≤◌, ◌^◌, true, false, cond, ◌||◌, Option, Some, None, Result, Ok, Err, List, [], ◌∷◌, ◌++◌, length, length-append, map, codes, decimal, refl, sym, ap, subst, ◌∙◌, arith}
 use lib.Dec.{eqb}
-use Rattle.std.specs.List.{AllByRecursion, join_with_byte, slice_split, starts_with}
+use Rattle.std.specs.List.{AllByRecursion, join_with_byte}
 use Rattle.std.proofs.lemmas.List.Elements.{recursion_from_All}
-use Rattle.std.proofs.lemmas.List.Splits.{join_with_byte-slice_split}
 use Rattle.df_label.specs.declared.privilege.Privilege.{Privilege}
 use Rattle.df_unit.specs.declared.call.Call.{Call}
 use Rattle.df_unit.specs.declared.call.Call.TheVariants.{CreateEvent, AddPart, DelPart, ReadPart, CloneEvent, AttachPrivilege, ChangeOutLabel, CreateTag, DropEvent, Subscribe, SubscribeManaged, Get, Publish, Release, ChangeInOut, Instantiate}
@@ -18,7 +17,7 @@ use Rattle.df_journal_text.specs.Call.{call_words}
 use Rattle.df_journal_text.specs.Line.{spaced}
 use Rattle.df_journal_text.specs.Name.{unit_text}
 use Rattle.df_script_text.specs.declared.line.ScriptLine.{ScriptLine}
-use Rattle.df_script_text.specs.code.Cut.{HasNoSpace, call_pieces, cut_pieces}
+use Rattle.df_script_text.specs.code.Cut.{HasNoSpace, call_pieces, cut_pieces, most_spaces}
 use Rattle.df_script_text.specs.code.Lines.{braced, call_line, call_text}
 use Rattle.df_script_text.specs.code.Reads.{Reads, Tells}
 use Rattle.df_journal_text.specs.Fits.{ArePrivileges, IsCall, IsUnit}
@@ -28,7 +27,7 @@ use Rattle.df_script_text.specs.code.Stops.{IsTooLargeText}
 use Rattle.df_script_text.specs.declared.word.Unread.{Unread}
 use Rattle.df_script_text.specs.declared.word.Unread.TheVariants as unread
 use Rattle.df_script_text.proofs.Cuts.{AreCut-words, HasNoSpace-word, cut_once, cut_pieces-join, join-cut_pieces, not_cut, spaced-join}
-use Rattle.df_script_text.proofs.Splits.{Avoids, Avoids-line, Avoids-words, join_with_byte-spaced, slice_split-spaced}
+use Rattle.df_script_text.proofs.Splits.{Avoids, Avoids-line, Avoids-words, join_with_byte-spaced}
 use Rattle.df_script_text.proofs.Values.{IsLine-filter, IsLine-value, IsLine-word}
 use Rattle.df_script_text.proofs.Words.{AreWords, AreWords-privileges, is_word-act, is_word-actor, is_word-braced, is_word-half, is_word-label, is_word-name, is_word-privilege, is_word-tag, number_word}
 
@@ -87,6 +86,12 @@ apart : (call : Call) → HasWords call → IsCall call → length (call_words c
 apart call w f few = cut_pieces-join 4 (call_words call) (AreCut-words 4 (call_words call) (some_words call) few (AreWords-call call w f))
 
 -- a call's text is cut to its words
+-- between each two words stands a space
+join_long : (ws : List (List ℕ)) → length ws ≤ length (join_with_byte 32 ws) + 1
+join_long [] = omega arith
+join_long (w ∷ []) = omega arith
+join_long (w ∷ v ∷ vs) = let n = length-append w (32 ∷ join_with_byte 32 (v ∷ vs)) in omega (arith, n, join_long (v ∷ vs))
+
 call_pieces-text : (call : Call) → IsCall call → call_pieces (call_text call) ≡ call_words call
 call_pieces-text CreateEvent f = apart CreateEvent tt f (omega arith)
 call_pieces-text (AddPart h label name value) f =
@@ -105,23 +110,12 @@ call_pieces-text (Publish h) f = apart (Publish h) tt f (omega arith)
 call_pieces-text (Release h) f = apart (Release h) tt f (omega arith)
 call_pieces-text (ChangeInOut half act tag) f = apart (ChangeInOut half act tag) tt f (omega arith)
 call_pieces-text (Instantiate s privileges) f =
-    let words : List (List ℕ) = braced s ∷ map privilege_text privileges in
-    ap (slice_split (λ b. eqb b 32)) (join_with_byte-spaced (codes "spawn") words) ∙ slice_split-spaced (codes "spawn") words refl (AreWords-spawn s privileges f.0 f.1)
+    let words : List (List ℕ) = call_words (Instantiate s privileges) in
+    cut_pieces-join (length (join_with_byte 32 words)) words (AreCut-words (length (join_with_byte 32 words)) words (omega arith) (join_long words) (refl, AreWords-spawn s privileges f.0 f.1))
 
--- the pieces of a call with a space between each two
 join-call_pieces : (text : List ℕ) → join_with_byte 32 (call_pieces text) ≡ text
-join-call_pieces text =
-    elim (starts_with eqb text (codes "sub ") || starts_with eqb text (codes "msub "))
-    as (λ r. join_with_byte 32 (cond r (cut_pieces 1 text) (cond (starts_with eqb text (codes "spawn ")) (slice_split (λ b. eqb b 32) text) (cut_pieces 4 text))) ≡ text) [
-      | true ↦ join-cut_pieces 1 text
-      | false ↦
-          elim (starts_with eqb text (codes "spawn ")) as (λ r. join_with_byte 32 (cond r (slice_split (λ b. eqb b 32) text) (cut_pieces 4 text)) ≡ text) [
-            | true ↦ join_with_byte-slice_split 32 text
-            | false ↦ join-cut_pieces 4 text
-          ]
-    ]
+join-call_pieces text = join-cut_pieces (most_spaces text) text
 
--- what reads the words of a call reads its text
 pub Reads-call_text : (text : List ℕ) (ws : List (List ℕ)) → ws ≡ call_pieces text → (o : Option Call) → Reads call_words IsCall ws o → Reads call_text IsCall text o
 Reads-call_text text ws is (Some call) r = (r.0, sym (join-call_pieces text) ∙ ap (join_with_byte 32) (sym is ∙ r.1))
 Reads-call_text text ws is None r = λ call f e. r call f (is ∙ ap call_pieces e ∙ call_pieces-text call f)

@@ -12,7 +12,7 @@ use Rattle.df_journal_text.specs.Fits.{IsRoot}
 use Rattle.df_journal_text.specs.Start.{root_text, roots_text, start_text}
 use Rattle.df_script_text.specs.Script.{IsScript, IsScriptLine, IsScriptText, script_line, script_text}
 use Rattle.df_script_text.specs.code.Lines.{call_line, head_lines, numbered, script_lines}
-use Rattle.df_script_text.specs.code.Stops.{AreCalls, ArePassed, AreRootsAt, IsCallLine, IsFirstAt, IsHeadLine}
+use Rattle.df_script_text.specs.code.Stops.{ArePassed, AreRootsAt, IsCallLine, IsFirstAt, IsHeadLine}
 use Rattle.df_script_text.specs.declared.line.ScriptLine.{ScriptLine}
 use Rattle.df_script_text.proofs.Calls.{Avoids-call}
 use Rattle.df_script_text.proofs.Numbered.{numbered-each}
@@ -137,16 +137,14 @@ pub roots_before : (bytes : List ℕ) (at : ℕ) (rs : List RootStart) (place : 
 roots_before bytes at rs place i a =
     i.1 ∙ ap (λ (u : List ℕ). ended first ++ u) a.text ∙ sym (append_assoc (ended first) (lines_text (numbered root_text 0 rs)) (drop place bytes))
 
-pub calls_before : (bytes : List ℕ) (at : ℕ) (rs : List RootStart) (mid : ℕ) (ls : List ScriptLine) (place : ℕ) → IsFirstAt bytes at → AreRootsAt bytes at rs mid → AreCalls bytes mid ls place
-    → bytes ≡ lines_text (script_lines (rs, ls)) ++ drop place bytes
-calls_before bytes at rs mid ls place i r c =
+pub start_before : (bytes : List ℕ) (at : ℕ) (rs : List RootStart) (mid : ℕ) → IsFirstAt bytes at → AreRootsAt bytes at rs mid → bytes ≡ script_text rs [] ++ drop mid bytes
+start_before bytes at rs mid i r =
     let heads : List (List ℕ) = head_lines rs in
-    let calls : List (List ℕ) = map call_line ls in
-    let behind : List ℕ = drop place bytes in
+    let behind : List ℕ = drop mid bytes in
     roots_before bytes at rs r.place i r.passed
-    ∙ ap (λ (u : List ℕ). lines_text heads ++ u) (r.run ∙ ap (λ (u : List ℕ). ended run ++ u) c.text ∙ sym (append_assoc (ended run) (lines_text calls) behind))
-    ∙ sym (append_assoc (lines_text heads) (ended run ++ lines_text calls) behind)
-    ∙ ap (λ (u : List ℕ). u ++ behind) (sym (flat_map-append ended heads (run ∷ calls)))
+    ∙ ap (λ (u : List ℕ). lines_text heads ++ u) r.run
+    ∙ sym (append_assoc (lines_text heads) (ended run) behind)
+    ∙ ap (λ (u : List ℕ). u ++ behind) (sym (flat_map-append ended heads (run ∷ [])) ∙ sym (script_text-lines rs []))
 
 -- ---- the grammar
 

@@ -4,7 +4,9 @@ use Rattle.std.proofs.lemmas.List.{drop_all, map-append}
 use Rattle.std.proofs.lemmas.List.Concat.{flat_map-append}
 use Rattle.std.proofs.lemmas.List.Elements.{All-nil, All-push, recursion_from_All}
 use Rattle.df_lines.specs.Lines.{IsLine, ended, lines_text}
-use Rattle.df_lines.specs.code.Faults.{IsBadPlace, NamesBadPlace, TellsLine, refusal}
+use Rattle.df_lines.specs.Refused.{NamesBadLine}
+use Rattle.df_lines.specs.code.Faults.{IsBadPlace, NamesBadPlace, TellsLine}
+use Rattle.df_lines.specs.declared.refused.FileRefused.{FileRefused}
 use Rattle.df_lines.specs.declared.refused.FileRefused.TheVariants as refused
 use Rattle.df_lines.specs.declared.fault.FileFault.{FileFault}
 use Rattle.df_lines.specs.declared.fault.FileFault.TheVariants as fault
@@ -12,15 +14,16 @@ use Rattle.df_lines.proofs.FirstBad.{first_bad}
 use Rattle.df_journal_text.specs.Fits.{IsRoot}
 use Rattle.df_journal_text.specs.Start.{root_text}
 use Rattle.df_start.specs.declared.start.RootStart.{RootStart}
+use Rattle.df_script_text.specs.Reader.{HasReadUpTo}
 use Rattle.df_script_text.specs.Script.{IsScript, IsScriptLine, IsScriptText, script_text}
 use Rattle.df_script_text.specs.TooLarge.{IsTooLargeIn, IsTooLargeLine}
 use Rattle.df_script_text.specs.code.Lines.{call_line, head_lines, numbered, script_lines}
-use Rattle.df_script_text.specs.code.Stops.{AreCalls, ArePassed, AreRootsAt, CallsStop, IsCallLine, IsFirstAt, RootsStop, StopsAt, StopsCall, StopsFirst, TellsCall, TellsRoot, fault_of}
+use Rattle.df_script_text.specs.code.Stops.{ArePassed, AreRootsAt, IsCallLine, IsFirstAt, RootsStop, StopsAt, StopsCall, StopsFirst, TellsCall, TellsRoot, fault_of}
 use Rattle.df_script_text.specs.code.Reads.{Tells}
 use Rattle.df_script_text.specs.declared.line.ScriptLine.{ScriptLine}
 use Rattle.df_script_text.specs.declared.word.Unread.{Unread}
 use Rattle.df_script_text.specs.declared.word.Unread.TheVariants as unread
-use Rattle.df_script_text.proofs.Files.{run, first, script_text-lines, AreLines-head, AreLines-script, next_head, more_head, no_run, next_call, front_is, roots_before, calls_before, script_grammar}
+use Rattle.df_script_text.proofs.Files.{run, first, script_text-lines, AreLines-head, AreLines-script, next_head, more_head, no_run, next_call, front_is, roots_before, start_before, script_grammar}
 use Rattle.df_script_text.proofs.Numbered.{numbered-push}
 
 -- ---- loops
@@ -30,16 +33,6 @@ lines_push : (ls : List (List ℕ)) (l rest : List ℕ) → lines_text ls ++ (en
 lines_push ls l rest =
     sym (append_assoc (lines_text ls) (ended l) rest)
     ∙ ap (λ (u : List ℕ). u ++ rest) (ap (λ (u : List ℕ). lines_text ls ++ u) (sym (append-nil (ended l))) ∙ sym (flat_map-append ended ls (l ∷ [])))
-
-pub calls_more : (bytes : List ℕ) (at place : ℕ) (ls ms : List ScriptLine) (l : ScriptLine) (next : ℕ) → AreCalls bytes at ls place → TellsCall bytes place (Some (l, next)) → ms ≡ ls ++ l ∷ [] → AreCalls bytes at ms next
-calls_more bytes at place ls ms l next a t pushed =
-    subst (λ (ms : List ScriptLine). AreCalls bytes at ms next) (sym pushed) (record {
-      inside = t.1;
-      fit = All-push IsScriptLine ls l a.fit t.2;
-      text =
-          a.text ∙ ap (λ (u : List ℕ). lines_text (map call_line ls) ++ u) t.3 ∙ lines_push (map call_line ls) (call_line l) (drop next bytes)
-          ∙ ap (λ (m : List (List ℕ)). lines_text m ++ drop next bytes) (sym (map-append call_line ls (l ∷ [])));
-    })
 
 pub roots_more : (bytes : List ℕ) (at place : ℕ) (rs ss : List RootStart) (r : RootStart) (next n : ℕ) → n ≡ length rs → ArePassed bytes at rs place → TellsRoot n bytes place (Some (r, next)) → ss ≡ rs ++ r ∷ [] → ArePassed bytes at ss next
 roots_more bytes at place rs ss r next n is a t pushed =
@@ -122,12 +115,12 @@ roots_stop bytes at (fault.Bad here) i s =
 roots_stop bytes at (fault.TooLarge here) i s = absurd s.3
 
 -- a line among those of calls
-call_stop : (bytes : List ℕ) (at : ℕ) (rs : List RootStart) (mid : ℕ) (ls : List ScriptLine) (place here : ℕ) (bad : List ℕ) → IsFirstAt bytes at → AreRootsAt bytes at rs mid → AreCalls bytes mid ls place → here ≡ place → place < length bytes
+call_stop : (bytes : List ℕ) (rs : List RootStart) (ls : List ScriptLine) (place here : ℕ) (bad : List ℕ) → HasReadUpTo bytes rs ls place → here ≡ place → place < length bytes
     → StopsAt IsCallLine (drop place bytes) bad → IsBadPlace IsScriptText bytes here (script_lines (rs, ls)) bad
-call_stop bytes at rs mid ls place here bad i r c is some stop =
-    let whole = calls_before bytes at rs mid ls place i r c in
+call_stop bytes rs ls place here bad h is some stop =
+    let whole : bytes ≡ lines_text (script_lines (rs, ls)) ++ drop place bytes = h.text ∙ ap (λ (u : List ℕ). u ++ drop place bytes) (script_text-lines rs ls) in
     record {
-      first = first_bad script_lines (λ s. IsScript s.0 s.1) IsScriptText script_grammar bytes (script_lines (rs, ls)) bad stop.behind (parts_at bytes (script_lines (rs, ls)) place bad stop.behind whole stop.parts) (AreLines-script rs ls r.passed.few r.passed.fit c.fit) stop.line stop.end (rs, ls) ((r.passed.few, r.passed.fit), c.fit) [] (sym (append-nil (script_lines (rs, ls))))
+      first = first_bad script_lines (λ s. IsScript s.0 s.1) IsScriptText script_grammar bytes (script_lines (rs, ls)) bad stop.behind (parts_at bytes (script_lines (rs, ls)) place bad stop.behind whole stop.parts) (AreLines-script rs ls h.script.0.0 h.script.0.1 h.script.1) stop.line stop.end (rs, ls) h.script [] (sym (append-nil (script_lines (rs, ls))))
           (λ more feed x fits rest e.
           let grouped : script_lines (rs, ls) ++ bad ∷ rest ≡ head_lines rs ++ run ∷ (map call_line ls ++ bad ∷ rest) = append_assoc (head_lines rs) (run ∷ map call_line ls) (bad ∷ rest) in
           let both : script_lines x ≡ head_lines rs ++ run ∷ (map call_line ls ++ bad ∷ rest) = e ∙ grouped in
@@ -137,16 +130,16 @@ call_stop bytes at rs mid ls place here bad i r c is some stop =
           let left : drop place bytes ≡ [] = stop.parts ∙ ap (λ (u : List ℕ). u ++ stop.behind) none ∙ nothing in
           omega (arith, some, ap length left, length-drop place bytes));
       part = [];
-      parts = place_at bytes (script_lines (rs, ls)) place here c.inside whole is;
+      parts = place_at bytes (script_lines (rs, ls)) place here h.inside whole is;
       line = All-nil (λ b. eqb b 10 ≡ false);
     }
 
-pub calls_stop : (bytes : List ℕ) (at : ℕ) (rs : List RootStart) (mid : ℕ) (f : FileFault) → IsFirstAt bytes at → AreRootsAt bytes at rs mid → CallsStop bytes mid f → NamesBadPlace IsScriptText IsTooLargeIn bytes f
-calls_stop bytes at rs mid fault.NoMemory i r s = tt
-calls_stop bytes at rs mid (fault.Bad here) i r s =
-    (script_lines (rs, s.0), s.3.2.0, call_stop bytes at rs mid s.0 s.1 here s.3.2.0 i r s.2 s.3.0 s.3.1 s.3.2.1, λ l. s.3.2.2 l.1)
-calls_stop bytes at rs mid (fault.TooLarge here) i r s =
-    (script_lines (rs, s.0), s.3.2.0, call_stop bytes at rs mid s.0 s.1 here s.3.2.0 i r s.2 s.3.0 s.3.1 s.3.2.1, ((head_lines rs, map call_line s.0, refl), s.3.2.2))
+pub calls_stop : (bytes : List ℕ) (rs : List RootStart) (ls : List ScriptLine) (place : ℕ) (f : FileFault) → HasReadUpTo bytes rs ls place → StopsCall bytes place f → NamesBadPlace IsScriptText IsTooLargeIn bytes f
+calls_stop bytes rs ls place fault.NoMemory h s = tt
+calls_stop bytes rs ls place (fault.Bad here) h s =
+    (script_lines (rs, ls), s.2.0, call_stop bytes rs ls place here s.2.0 h s.0 s.1 s.2.1, λ l. s.2.2 l.1)
+calls_stop bytes rs ls place (fault.TooLarge here) h s =
+    (script_lines (rs, ls), s.2.0, call_stop bytes rs ls place here s.2.0 h s.0 s.1 s.2.1, ((head_lines rs, map call_line ls, refl), s.2.2))
 
 -- ---- one line
 
@@ -172,17 +165,33 @@ run_at bytes at line next is l =
     let n : next ≡ at + 4 = omega (arith, l.1, l.2, ap length e, length-drop at bytes, length-drop next bytes) in
     (omega (arith, n, l.2), e ∙ ap (λ (k : ℕ). run ++ 10 ∷ drop k bytes) n)
 
--- ---- a whole script
+-- ---- scripts up to a place
 
-pub script_whole : (bytes : List ℕ) (at : ℕ) (rs : List RootStart) (mid : ℕ) (ls : List ScriptLine) → IsFirstAt bytes at → AreRootsAt bytes at rs mid → AreCalls bytes mid ls (length bytes) → IsScript rs ls × (bytes ≡ script_text rs ls)
-script_whole bytes at rs mid ls i r c =
-    let none : drop (length bytes) bytes ≡ [] = drop_all (length bytes) bytes (omega arith) in (
-      ((r.passed.few, r.passed.fit), c.fit),
-      calls_before bytes at rs mid ls (length bytes) i r c ∙ ap (λ (u : List ℕ). lines_text (script_lines (rs, ls)) ++ u) none ∙ append-nil (lines_text (script_lines (rs, ls))) ∙ sym (script_text-lines rs ls),
-    )
+pub start_read : (bytes : List ℕ) (at : ℕ) (rs : List RootStart) (mid : ℕ) → IsFirstAt bytes at → AreRootsAt bytes at rs mid → HasReadUpTo bytes rs [] mid
+start_read bytes at rs mid i r = record { inside = r.inside; script = ((r.passed.few, r.passed.fit), All-nil IsScriptLine); text = start_before bytes at rs mid i r }
+
+-- one more call
+pub call_read : (bytes : List ℕ) (rs : List RootStart) (ls : List ScriptLine) (l : ScriptLine) (place next : ℕ) → HasReadUpTo bytes rs ls place → TellsCall bytes place (Some (l, next)) → HasReadUpTo bytes rs (ls ++ l ∷ []) next
+call_read bytes rs ls l place next h t =
+    let more : script_lines (rs, ls) ++ call_line l ∷ [] ≡ script_lines (rs, ls ++ l ∷ []) =
+    append_assoc (head_lines rs) (run ∷ map call_line ls) (call_line l ∷ []) ∙ ap (λ (m : List (List ℕ)). head_lines rs ++ run ∷ m) (sym (map-append call_line ls (l ∷ []))) in
+    record {
+      inside = t.1;
+      script = (h.script.0, All-push IsScriptLine ls l h.script.1 t.2);
+      text =
+          h.text ∙ ap (λ (u : List ℕ). u ++ drop place bytes) (script_text-lines rs ls)
+          ∙ ap (λ (u : List ℕ). lines_text (script_lines (rs, ls)) ++ u) t.3
+          ∙ lines_push (script_lines (rs, ls)) (call_line l) (drop next bytes)
+          ∙ ap (λ (m : List (List ℕ)). lines_text m ++ drop next bytes) more
+          ∙ ap (λ (u : List ℕ). u ++ drop next bytes) (sym (script_text-lines rs (ls ++ l ∷ [])));
+    }
+
+-- behind the last call
+pub all_read : (bytes : List ℕ) (rs : List RootStart) (ls : List ScriptLine) (place : ℕ) → HasReadUpTo bytes rs ls place → place ≡ length bytes → IsScript rs ls × (bytes ≡ script_text rs ls)
+all_read bytes rs ls place h is = (h.script, h.text ∙ ap (λ (u : List ℕ). script_text rs ls ++ u) (drop_all place bytes (omega (arith, is))) ∙ append-nil (script_text rs ls))
 
 -- what is a script is refused only for want of memory
-pub only_fault : (bytes : List ℕ) (f : FileFault) → NamesBadPlace IsScriptText IsTooLargeIn bytes f → IsScriptText bytes → refusal bytes f ≡ refused.NoMemory
-only_fault bytes fault.NoMemory names t = refl
-only_fault bytes (fault.Bad place) names t = absurd (names.2.first.none t)
-only_fault bytes (fault.TooLarge place) names t = absurd (names.2.first.none t)
+pub only_refused : (bytes : List ℕ) (r : FileRefused) → NamesBadLine IsScriptText IsTooLargeIn bytes r → IsScriptText bytes → r ≡ refused.NoMemory
+only_refused bytes refused.NoMemory names t = refl
+only_refused bytes (refused.Syntax line) names t = absurd (names.2.first.none t)
+only_refused bytes (refused.TooLarge line) names t = absurd (names.2.first.none t)

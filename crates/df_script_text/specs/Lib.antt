@@ -1,4 +1,5 @@
 pub mod ReadScript
+pub mod Reader
 pub mod Script
 pub mod TooLarge
 pub mod code

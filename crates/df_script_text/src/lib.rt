@@ -6,12 +6,14 @@ mod file;
 mod laws;
 mod line;
 mod pieces;
+mod reader;
 mod root;
 mod word;
 
 pub use file::read_script;
 pub use laws::{a_script_is_read_back, a_text_is_one_script};
 pub use line::ScriptLine;
+pub use reader::ScriptReader;
 pub use root::roots_at;
 
 #[cfg(test)]

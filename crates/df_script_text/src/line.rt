@@ -7,7 +7,7 @@ ghost use Rattle.df_script_text.specs.Script.{IsScriptLine};
 ghost use Rattle.df_script_text.specs.TooLarge.{IsTooLargeLine};
 ghost use Rattle.df_script_text.specs.code.Lines.{call_line};
 ghost use Rattle.df_script_text.specs.code.Reads.{Tells};
-ghost use Rattle.df_script_text.specs.code.Stops.{AreCalls, CallsStop, StopsCall, TellsCall, fault_of};
+ghost use Rattle.df_script_text.specs.code.Stops.{StopsCall, TellsCall, fault_of};
 
 use crate::call::read_call;
 use crate::pieces::cut_at_space;
@@ -87,7 +87,11 @@ fn call_in(
 }
 
 /// The call in the line at the place, and the place behind the line; none where no byte is left.
-fn call_at(alloc: Global, bytes: &[u8], at: usize) -> Result<Option<(ScriptLine, usize)>, FileFault>
+pub fn call_at(
+    alloc: Global,
+    bytes: &[u8],
+    at: usize,
+) -> Result<Option<(ScriptLine, usize)>, FileFault>
     requires { at ≤ length bytes.now }
     ensures read { IfOk result (TellsCall bytes.now at) }
     ensures stops { IfErr result (StopsCall bytes.now at) }
@@ -99,19 +103,4 @@ fn call_at(alloc: Global, bytes: &[u8], at: usize) -> Result<Option<(ScriptLine,
         Some((line, next)) => call_in(alloc, bytes, at, line, next),
         None => Err(open_fault(alloc, bytes, at)),
     }
-}
-
-/// The calls at the place, up to the end of the bytes.
-pub fn calls_at(alloc: Global, bytes: &[u8], at: usize) -> Result<Vec<ScriptLine>, FileFault>
-    requires { at ≤ length bytes.now }
-    ensures read { IfOk result (λ lines. AreCalls bytes.now at lines.items (length bytes.now)) }
-    ensures stops { IfErr result (CallsStop bytes.now at) }
-{
-    let mut lines = Vec::new(alloc);
-    let mut place = at;
-    'calls: while let Some((line, next)) = call_at(alloc, bytes, place)? {
-        lines.push(line)?;
-        place = next;
-    }
-    Ok(lines)
 }

@@ -1,13 +1,14 @@
 //! Texts in pieces.
 ghost use Rattle.std.specs.Prelude.{◌≡◌, ◌==◌, map, IfOk, option_map};
 ghost use Rattle.std.specs.List.{slice_split};
-ghost use Rattle.df_script_text.specs.code.Cut.{IsCutAtSpace, IsNextPiece, call_pieces, cut_pieces};
+ghost use Rattle.df_script_text.specs.code.Cut.{IsCutAtSpace, IsNextPiece, call_pieces, cut_pieces, most_spaces};
 
 use df_label::NoMemory;
+use smallvec::SmallVec;
 use std::alloc::Global;
 
-// A call has no more pieces, but for `spawn`.
-const MOST_PIECES: usize = 5;
+/// Pieces of a text. Those of a call take no memory, but for many of `spawn`.
+pub type Pieces<'a> = SmallVec<&'a [u8], 5>;
 
 /// The pieces of these bytes that lie before, between and behind those that equal `byte`.
 pub fn pieces(alloc: Global, bytes: &[u8], byte: u8) -> Result<Vec<&[u8]>, NoMemory>
@@ -36,10 +37,10 @@ fn next_piece(text: &[u8], spaces: usize) -> Option<(&[u8], &[u8])>
 
 /// The pieces between the first spaces, of which there are at most `spaces`, and the rest in one
 /// piece.
-fn cut_pieces(alloc: Global, text: &[u8], spaces: usize) -> Result<Vec<&[u8]>, NoMemory>
+fn cut_pieces(alloc: Global, text: &[u8], spaces: usize) -> Result<Pieces<'_>, NoMemory>
     ensures { IfOk result (λ v. map (λ p. p.now) v.items ≡ cut_pieces spaces text.now) }
 {
-    let mut pieces = Vec::with_capacity(alloc, MOST_PIECES)?;
+    let mut pieces = SmallVec::new(alloc);
     let mut rest = text;
     let mut left = spaces;
     'cuts: while let Some((piece, behind)) = next_piece(rest, left) {
@@ -51,15 +52,22 @@ fn cut_pieces(alloc: Global, text: &[u8], spaces: usize) -> Result<Vec<&[u8]>, N
     Ok(pieces)
 }
 
-/// The pieces of a call. Only a filter and a value may have spaces.
-pub fn call_pieces(alloc: Global, text: &[u8]) -> Result<Vec<&[u8]>, NoMemory>
-    ensures { IfOk result (λ v. map (λ p. p.now) v.items ≡ call_pieces text.now) }
+/// The most spaces at which a call is cut. Only a filter and a value may have further ones.
+fn most_spaces(text: &[u8]) -> usize
+    ensures { result ≡ most_spaces text.now }
 {
     if text.starts_with(b"sub ") || text.starts_with(b"msub ") {
-        cut_pieces(alloc, text, 1)
+        1
     } else if text.starts_with(b"spawn ") {
-        pieces(alloc, text, b' ')
+        text.len()
     } else {
-        cut_pieces(alloc, text, 4)
+        4
     }
+}
+
+/// The pieces of a call.
+pub fn call_pieces(alloc: Global, text: &[u8]) -> Result<Pieces<'_>, NoMemory>
+    ensures { IfOk result (λ v. map (λ p. p.now) v.items ≡ call_pieces text.now) }
+{
+    cut_pieces(alloc, text, most_spaces(text))
 }

@@ -1,6 +1,6 @@
 -- A text cut at its first spaces.
-use Rattle.std.specs.Prelude.{ℕ, zero, suc, ◌-◌, ◌<◌, List, [], ◌∷◌, ◌++◌, ◌≡◌, Option, Some, None, false, codes, ◌==◌, ◌||◌, if◌then◌else◌}
-use Rattle.std.specs.List.{All, slice_split, starts_with}
+use Rattle.std.specs.Prelude.{ℕ, zero, suc, ◌-◌, ◌<◌, List, [], ◌∷◌, ◌++◌, ◌≡◌, Option, Some, None, false, codes, length, ◌==◌, ◌||◌, if◌then◌else◌}
+use Rattle.std.specs.List.{All, starts_with}
 use lib.Dec.{eqb}
 
 -- no byte is a space
@@ -31,11 +31,13 @@ IsNextPiece spaces text None = cut_pieces spaces text ≡ text ∷ []
 IsNextPiece spaces text (Some parts) = (0 < spaces)
     × (cut_pieces spaces text ≡ parts.0 ∷ cut_pieces (spaces - 1) parts.1)
 
--- the pieces of a call: a filter is the second of two, a value the last of five, and both may have
--- spaces
+-- the most spaces at which a call is cut: a filter is the second of two pieces, a value the last of
+-- five, and both may have spaces; one that makes a unit is cut at each
+abbrev pub most_spaces : List ℕ → ℕ
+most_spaces text =
+    if starts_with eqb text (codes "sub ") || starts_with eqb text (codes "msub ") then 1
+    else if starts_with eqb text (codes "spawn ") then length text else 4
+
+-- the pieces of a call
 abbrev pub call_pieces : List ℕ → List (List ℕ)
-call_pieces text =
-    if starts_with eqb text (codes "sub ") || starts_with eqb text (codes "msub ")
-    then cut_pieces 1 text
-    else if starts_with eqb text (codes "spawn ") then slice_split (λ b. b == 32) text
-    else cut_pieces 4 text
+call_pieces text = cut_pieces (most_spaces text) text

@@ -53,17 +53,6 @@ TellsCall bytes at None = at ≡ length bytes
 TellsCall bytes at (Some read) = (at < read.1) × (read.1 ≤ length bytes) × IsScriptLine read.0
     × (drop at bytes ≡ ended (call_line read.0) ++ drop read.1 bytes)
 
--- from one place to the other stand the lines of these calls
-pub record AreCalls (bytes : List ℕ) (at : ℕ) (lines : List ScriptLine) (place : ℕ) : Type 0 where
-  pub inside : place ≤ length bytes
-  pub fit : All IsScriptLine lines
-  pub text : drop at bytes ≡ lines_text (map call_line lines) ++ drop place bytes
-
--- why no further call is read
-abbrev pub CallsStop : List ℕ → ℕ → FileFault → Type 0
-CallsStop bytes at f = (lines : List ScriptLine) × (place : ℕ) × AreCalls bytes at lines place
-    × StopsCall bytes place f
-
 -- ---- roots
 
 -- the line `run`, or that of the root of this number

@@ -1,0 +1,105 @@
+//! Scripts that are read line by line.
+
+ghost use Rattle.std.specs.Prelude.{◌≡◌, ◌≤◌, ◌<◌, List, [], length, IfErr, IfOk, IfSome};
+ghost use Rattle.df_lines.specs.Refused.{NamesBadLine};
+ghost use Rattle.df_lines.specs.code.Faults.{IsInside, NamesBadPlace};
+ghost use Rattle.df_start.specs.declared.start.RootStart.{RootStart};
+ghost use Rattle.df_script_text.specs.Reader.{GoesOn, HasRead, HasReadUpTo};
+ghost use Rattle.df_script_text.specs.Script.{IsScriptText};
+ghost use Rattle.df_script_text.specs.TooLarge.{IsTooLargeIn};
+ghost use Rattle.df_script_text.specs.code.Stops.{IsFirstAt, StopsFirst};
+ghost use Rattle.df_script_text.specs.declared.line.ScriptLine.{ScriptLine};
+
+use crate::line::{ScriptLine, call_at};
+use crate::root::roots_at;
+use df_lines::{FileFault, FileRefused, file_refused, line_at};
+use df_start::Start;
+use std::alloc::Global;
+use std::marker::Model;
+
+/// A script that is being read: its bytes, and the place behind the lines that were read.
+#[derive(Drop)]
+pub struct ScriptReader<'a> {
+    alloc: Global,
+    bytes: &'a [u8],
+    place: usize,
+}
+
+impl<'a> Model for ScriptReader<'a> {
+    ghost use Rattle.std.specs.Prelude.{◌≤◌, length};
+    ghost use Rattle.df_script_text.specs.Reader.{ReaderState, reader_code};
+
+    ghost Value = { ReaderState };
+
+    ghost coded = { reader_code };
+
+    ghost view = { λ r. record { bytes = r.bytes.now; place = r.place } };
+
+    ghost invariant = { λ r. r.place ≤ length r.bytes.now };
+}
+
+/// The place behind the first line.
+fn first_at(bytes: &[u8]) -> Result<usize, FileFault>
+    ensures read { IfOk result (IsFirstAt bytes.now) }
+    ensures stops { IfErr result (StopsFirst bytes.now) }
+{
+    let Some((line, next)) = line_at(bytes, 0) else {
+        return Err(FileFault::Bad(0));
+    };
+    if line != b"defcon-script 1".as_slice() {
+        return Err(FileFault::Bad(0));
+    }
+    Ok(next)
+}
+
+/// The start of a script, and the place behind it; or a place in the first bad line.
+fn start_at(alloc: Global, bytes: &[u8]) -> Result<(Start, usize), FileFault>
+    ensures read { IfOk result (λ s. HasReadUpTo bytes.now s.0 [] s.1) }
+    ensures inside { IfErr result (IsInside bytes.now) }
+    ensures names { IfErr result (NamesBadPlace IsScriptText IsTooLargeIn bytes.now) }
+{
+    let roots = first_at(bytes)?;
+    roots_at(alloc, bytes, roots)
+}
+
+impl<'a> ScriptReader<'a> {
+    /// Reads the start of a script. Its calls are left.
+    pub fn begin(alloc: Global, bytes: &'a [u8]) -> Result<(Start, ScriptReader<'a>), FileRefused>
+        ensures read { IfOk result (λ s. HasRead s.0 [] s.1) }
+        ensures bytes { IfOk result (λ s. s.1.bytes ≡ bytes.now) }
+        ensures refused { IfErr result (NamesBadLine IsScriptText IsTooLargeIn bytes.now) }
+    {
+        match start_at(alloc, bytes) {
+            Ok((start, place)) => Ok((
+                start,
+                ScriptReader {
+                    alloc,
+                    bytes,
+                    place,
+                },
+            )),
+            Err(fault) => Err(file_refused(bytes, fault)),
+        }
+    }
+
+    /// The next call; none behind the last.
+    pub fn next_line(&mut self) -> Result<Option<ScriptLine>, FileRefused>
+        ensures next { IfOk result (λ line. (roots : List RootStart) (lines : List ScriptLine)
+            → HasRead roots lines self.old → GoesOn roots lines line self.new) }
+        ensures further { IfOk result (λ line. IfSome line (λ _. self.old.place < self.new.place)) }
+        ensures within { self.new.place ≤ length self.new.bytes }
+        ensures bytes { self.new.bytes ≡ self.old.bytes }
+        ensures refused { IfErr result (λ e. (roots : List RootStart) (lines : List ScriptLine)
+            → HasRead roots lines self.old
+            → NamesBadLine IsScriptText IsTooLargeIn self.old.bytes e) }
+    {
+        match call_at(self.alloc, self.bytes, self.place) {
+            Ok(Some((line, next))) => {
+                self.place = next;
+                Ok(Some(line))
+            }
+            Ok(None) => Ok(None),
+            Err(fault) => Err(file_refused(self.bytes, fault)),
+        }
+    }
+}
