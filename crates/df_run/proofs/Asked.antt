@@ -1,7 +1,10 @@
 -- Where a command was read, the words ask for it.
-use Rattle.std.proofs.Common.{◌≡◌, List, ℕ, Option, Some}
+use Rattle.std.proofs.Common.{◌≡◌, List, ℕ, Ok, refl}
 use Rattle.df_words.specs.Words.{Ask, IsCommandOf}
 use Rattle.df_words.specs.declared.command.Command.{Command}
 
-pub asks_some : (words : List (List ℕ)) (answer : Option Command) (c : Command) → IsCommandOf words answer → answer ≡ Some c → Ask words c
-asks_some words answer c read is = (read c).0 is
+pub asks : (words : List (List ℕ)) (command : Command) → IsCommandOf words (Ok command) → Ask words command
+asks words command read = (read command).0 refl
+
+pub is_asked : (words : List (List ℕ)) (command c : Command) → IsCommandOf words (Ok command) → Ask words c → command ≡ c
+is_asked words command c read ask = (read c).1 ask

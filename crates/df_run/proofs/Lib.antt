@@ -1,5 +1,7 @@
 pub mod Asked
+pub mod Audits
 pub mod Blame
+pub mod Files
+pub mod Inputs
 pub mod Journals
-pub mod Lints
 pub mod Sound

@@ -1,37 +1,17 @@
--- The journal of a script's calls is sound.
-use Rattle.std.proofs.Common.{map, reverse}
-use Rattle.df_machine.specs.Journal as machine
-use Rattle.df_rules.proofs.Exercised.{exercised}
-use Rattle.df_rules.proofs.Places.{legal_before}
-use Rattle.df_rules.proofs.PurgeKeeps.{purge_keeps, purge_legal}
-use Rattle.df_rules.proofs.ReleaseLaws.{row_release_laws}
-use Rattle.df_rules.proofs.RowLaws.{row_laws}
+-- The journal of a script's calls is sound, and nothing was emitted into it.
+use Rattle.std.proofs.Common.{List, map, reverse}
+use Rattle.df_audit.proofs.Sound.{legal_is_sound}
+use Rattle.df_audit.specs.Sound.{IsSound}
+use Rattle.df_machine.specs.Journal.{firsts}
 use Rattle.df_rules.proofs.Runs.{run_legal, run_unaided}
-use Rattle.df_rules.proofs.Taking.{gets_give_deliveries}
-use Rattle.df_rules.proofs.TakingRows.{row_taking_laws, nothing_after_all}
-use Rattle.df_rules.specs.Start.{rows, roots}
-use Rattle.std.specs.Prelude.{List, ◌∷◌}
-use Rattle.df_start.specs.Begun.{begun}
+use Rattle.df_rules.specs.Legal.{IsUnaided}
+use Rattle.df_rules.specs.Start.{rows}
 use Rattle.df_start.specs.declared.start.RootStart.{RootStart}
-use Rattle.df_unit.specs.declared.call.Call.TheVariants.{Get}
-use Rattle.df_unit.specs.declared.entry.Entry.TheVariants.{Done}
-use Rattle.df_unit.specs.declared.reply.Reply.{Reply}
 use Rattle.df_script_text.specs.declared.line.ScriptLine.{ScriptLine}
-use Rattle.df_run.specs.Steps.{IsSound, called, journal_of}
+use Rattle.df_run.specs.Steps.{called, journal_of}
 
-pub journal_is_sound : (begin : List RootStart) (lines : List ScriptLine) → IsSound (machine.firsts begin) (journal_of begin lines)
-journal_is_sound begin lines =
-    let start = map begun begin in
-    let past = journal_of begin lines in
-    let legal = run_legal rows (roots start) (reverse (map called lines)) in
-    record {
-      legal = legal;
-      unaided = run_unaided rows (roots start) (reverse (map called lines));
-      delivers = λ u st h. gets_give_deliveries rows (roots start) (row_taking_laws start) past legal u st h;
-      none_left = λ newer older u f same. nothing_after_all start older u f (legal_before rows (roots start) past legal newer (Done u Get Reply.Nothing f ∷ older) same);
-      separates = λ l. record {
-        legal = purge_legal rows (roots start) (row_laws start) l past legal;
-        keeps = purge_keeps rows (roots start) (row_laws start) l past;
-        exercised = λ newer older u call r f k same h. exercised rows (roots start) (row_laws start) (row_release_laws start) l older u call r f k (legal_before rows (roots start) past legal newer (Done u call r f ∷ older) same) h;
-      };
-    }
+pub journal_is_sound : (begin : List RootStart) (lines : List ScriptLine) → IsSound (firsts begin) (journal_of begin lines)
+journal_is_sound begin lines = legal_is_sound begin (journal_of begin lines) (run_legal rows (firsts begin) (reverse (map called lines)))
+
+pub journal_is_unaided : (begin : List RootStart) (lines : List ScriptLine) → IsUnaided (journal_of begin lines)
+journal_is_unaided begin lines = run_unaided rows (firsts begin) (reverse (map called lines))

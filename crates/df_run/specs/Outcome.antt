@@ -1,19 +1,17 @@
 -- When each status comes, and what is written then. `told` is what is in the command's file, where
 -- the shelf tells it.
-use Rattle.std.specs.Prelude.{◌≡◌, ◌↔◌, ◌⊎◌, ⊤, ℕ, ◌<◌, ◌≤◌, List, [], length, Option, Some, None, slice_get}
+use Rattle.std.specs.Prelude.{◌≡◌, ◌⊎◌, ⊤, ℕ, ◌<◌, ◌≤◌, List, [], length, Option, Some, None, slice_get}
 use Rattle.std.specs.Option.{option_and_then}
 use Rattle.df_io.specs.Faults.{Rose}
 use Rattle.df_io.specs.Limits.{longest_file}
 use Rattle.df_io.specs.Pieces.{HasAll, HasFront}
 use Rattle.df_run.specs.declared.status.Status.{Status}
 use Rattle.df_run.specs.declared.status.Status.TheVariants as status
-use Rattle.df_run.specs.Tasks.{BlamesBytes, IsInput, IsOutput}
-use Rattle.df_words.specs.Words.{Ask, file_of}
+use Rattle.df_run.specs.Tasks.{BlamesBytes, IsInput, IsRightInput, IsText, IsWrongInput}
+use Rattle.df_run.specs.declared.tasks.End.{End}
+use Rattle.df_run.specs.declared.tasks.End.TheVariants as end
+use Rattle.df_words.specs.Words.{Ask, AskNothing, file_of}
 use Rattle.df_words.specs.declared.command.Command.{Command}
-
--- the words ask for nothing
-abbrev pub AskNothing : List (List ℕ) → Type 0
-AskNothing words = (c : Command) → ¬ Ask words c
 
 -- what holds of the command for which the words ask, where they ask for one
 abbrev pub IfAsked : List (List ℕ) → (Command → Type 0) → Type 0
@@ -29,9 +27,10 @@ told_at shelf words (Some place) = option_and_then shelf (slice_get words place)
 abbrev pub file_told : (List ℕ → Option (List ℕ)) → List (List ℕ) → Command → Option (List ℕ)
 file_told shelf words c = told_at shelf words (file_of c)
 
--- Usage comes exactly where the words ask for nothing
+-- Usage comes exactly where the words ask for nothing, unless there was no memory
 abbrev pub UsageIsExact : List (List ℕ) → Status → Type 0
-UsageIsExact words result = (result ≡ status.Usage) ↔ AskNothing words
+UsageIsExact words result = (result ≡ status.Usage → AskNothing words)
+    × (AskNothing words → (result ≡ status.Usage) ⊎ (result ≡ status.NoMemory))
 
 -- the status is one of a command's run
 abbrev pub IsOfACommand : Status → Type 0
@@ -90,23 +89,40 @@ ReadFaultIsDue before now result = result ≡ status.ReadFault → Rose before n
 abbrev pub WriteFaultIsDue : ℕ → ℕ → Status → Type 0
 WriteFaultIsDue before now result = result ≡ status.WriteFault → Rose before now
 
--- the text is what the command writes of bytes that were read
-abbrev pub IsOutputOfSome : Command → Option (List ℕ) → List ℕ → Type 0
-IsOutputOfSome command told text = (bytes : List ℕ) × IsOutput command bytes text
+-- a status that calls a journal wrong tells the first wrong place of what was read
+abbrev pub WrongIsDue : Command → Option (List ℕ) → Status → Type 0
+WrongIsDue command told (status.Wrong place) =
+    (bytes : List ℕ) × WasRead told bytes × IsWrongInput command bytes place
+WrongIsDue command told _ = ⊤
+
+-- Wrong comes exactly where the file, read whole, is a journal that isn't right, with its first
+-- wrong place; a fault may come in its place
+abbrev pub WrongIsExact : Command → Option (List ℕ) → Status → Type 0
+WrongIsExact command told result =
+    WrongIsDue command told result
+    × IfTold told (λ bytes. length bytes ≤ longest_file → (place : ℕ) →
+    IsWrongInput command bytes place →
+    (result ≡ status.Wrong place) ⊎ ((result ≡ status.WriteFault) ⊎ IsCutOff result))
+
+-- the text is what the command writes of bytes that were read, where it ends so
+abbrev pub IsTextOfSome : Command → Option (List ℕ) → End → List ℕ → Type 0
+IsTextOfSome command told e text = (bytes : List ℕ) × IsText command bytes e text
     × IfTold told (λ file. bytes ≡ file)
 
--- after Done the whole output was written, after WriteFault a front of it, and after any other
--- status nothing; whatever the shelf tells, it is the output of bytes that the command reads
+-- after Done and Wrong the whole text was written, after WriteFault a front of it, and after any
+-- other status nothing; whatever the shelf tells, it is the text of bytes that the command reads
 abbrev pub Writes : Command → Option (List ℕ) → Option (List ℕ) → Option (List ℕ) → Status → Type 0
-Writes command told old new status.Done = (text : List ℕ) × IsOutputOfSome command told text
-    × HasAll old text new
-Writes command told old new status.WriteFault = (text : List ℕ) × IsOutputOfSome command told text
-    × HasFront old text new
+Writes command told old new status.Done =
+    (text : List ℕ) × IsTextOfSome command told end.Done text × HasAll old text new
+Writes command told old new (status.Wrong place) =
+    (text : List ℕ) × IsTextOfSome command told (end.Wrong place) text × HasAll old text new
+Writes command told old new status.WriteFault =
+    (text : List ℕ) × (e : End) × IsTextOfSome command told e text × HasFront old text new
 Writes command told old new _ = new ≡ old
 
--- a file that fits and is what the command reads is done: what is left is Done, a fault or want of
--- memory
+-- a file that fits and is what the command reads, where it is a journal a right one, is done: what
+-- is left is Done, a fault or want of memory
 abbrev pub DoesInput : Command → Option (List ℕ) → Status → Type 0
 DoesInput command told result =
-    IfTold told (λ bytes. length bytes ≤ longest_file → IsInput command bytes →
+    IfTold told (λ bytes. length bytes ≤ longest_file → IsRightInput command bytes →
     (result ≡ status.Done) ⊎ ((result ≡ status.WriteFault) ⊎ IsCutOff result))

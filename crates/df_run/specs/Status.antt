@@ -3,13 +3,14 @@ use Rattle.std.specs.Prelude.{ℕ, List, ◌++◌, codes, decimal}
 use Rattle.df_run.specs.declared.status.BadKind.{BadKind}
 use Rattle.df_run.specs.declared.status.BadKind.TheVariants.{Syntax, TooLarge, BadOrder}
 use Rattle.df_run.specs.declared.status.Status.{Status}
-use Rattle.df_run.specs.declared.status.Status.TheVariants.{Done, Usage, BadInput, ReadFault, WriteFault, NoMemory, TooLong}
+use Rattle.df_run.specs.declared.status.Status.TheVariants.{Done, Usage, BadInput, Wrong, ReadFault, WriteFault, NoMemory, TooLong}
 
 -- the code of a status
 abbrev pub code_of : Status → ℕ
 code_of Done = 0
 code_of Usage = 2
 code_of (BadInput input line kind) = 3
+code_of (Wrong place) = 4
 code_of ReadFault = 5
 code_of WriteFault = 6
 code_of NoMemory = 7
@@ -28,6 +29,7 @@ status_text Usage = codes "defcon: usage"
 status_text (BadInput input line kind) =
     codes "defcon: bad input " ++ decimal input ++ codes " line " ++ decimal line ++ codes ": "
     ++ kind_text kind
+status_text (Wrong place) = codes "defcon: wrong at " ++ decimal place
 status_text ReadFault = codes "defcon: read fault"
 status_text WriteFault = codes "defcon: write fault"
 status_text NoMemory = codes "defcon: no memory"

@@ -3,6 +3,10 @@
 #![tactic(auto)]
 
 #[cfg(test)]
+mod audit_tests;
+#[cfg(test)]
+mod audited;
+#[cfg(test)]
 mod examples;
 mod lint;
 mod program;

@@ -12,23 +12,29 @@ use std::{env, io};
 
 /// What `--help` prints.
 const HELP: &str = "usage: defcon steps SCRIPT
+       defcon check JOURNAL
+       defcon purge LABEL JOURNAL
+       defcon upgrade JOURNAL
        defcon auction ORDERS
        defcon lint SCRIPT
        defcon gen KEY N
 
 steps runs the unit calls of the file SCRIPT, and writes the journal of all calls, replies,
-commits and events handed out. auction reads the order file ORDERS, and writes for each symbol
-the price at which the greatest quantity trades, and the trades. lint makes none of the calls of
-SCRIPT: of its start it writes, for each root and each privilege, whether the units of the root's
-family may ever hold it. gen writes a tick file of N ticks, at most 100,000, which are the same
-for the same number KEY.
+commits and events handed out. check says whether the file JOURNAL is what the rules give, or
+which entry is the first that isn't. purge writes what stays of JOURNAL without all that LABEL,
+as {#0|}, may not see, and upgrade writes JOURNAL with the contaminations of its units. auction
+reads the order file ORDERS, and writes for each symbol the price at which the greatest quantity
+trades, and the trades. lint makes none of the calls of SCRIPT: of its start it writes, for each
+root and each privilege, whether the units of the root's family may ever hold it. gen writes a
+tick file of N ticks, at most 100,000, which are the same for the same number KEY.
 
   --help     this text
   --version  the version
 
 Ends with 0 where all was written, 2 for words that have none of these forms, 3 for a file that
-isn't in its form, 5 for a file that can't be read, 6 for output that can't be written, 7 where
-memory runs out, and 8 for a file of more than 67,108,864 bytes.
+isn't in its form, 4 for a journal that isn't what the rules give, 5 for a file that can't be
+read, 6 for output that can't be written, 7 where memory runs out, and 8 for a file of more than
+67,108,864 bytes.
 ";
 
 /// What `--version` prints.

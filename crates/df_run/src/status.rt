@@ -21,6 +21,10 @@ pub enum Status {
         line: u64,
         kind: BadKind,
     },
+    /// The journal isn't right, and this is its first wrong place.
+    Wrong {
+        place: u64,
+    },
     ReadFault,
     WriteFault,
     NoMemory,
@@ -38,6 +42,7 @@ impl Status {
             Status::Done => 0,
             Status::Usage => 2,
             Status::BadInput { .. } => 3,
+            Status::Wrong { .. } => 4,
             Status::ReadFault => 5,
             Status::WriteFault => 6,
             Status::NoMemory => 7,
@@ -74,6 +79,7 @@ impl fmt::Display for Status {
             Status::BadInput { input, line, kind } => {
                 write!(f, "defcon: bad input {input} line {line}: {kind}")
             }
+            Status::Wrong { place } => write!(f, "defcon: wrong at {place}"),
             Status::ReadFault => f.write_str("defcon: read fault"),
             Status::WriteFault => f.write_str("defcon: write fault"),
             Status::NoMemory => f.write_str("defcon: no memory"),

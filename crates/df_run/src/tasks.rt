@@ -2,16 +2,19 @@ ghost use Rattle.std.specs.Prelude.{◌≡◌, ◌≤◌, ℕ, List, IfErr, IfOk
 ghost use Rattle.df_auction.specs.Refusing.{IsRightRefusal};
 ghost use Rattle.df_gen.specs.Generated.{generated};
 ghost use Rattle.df_io.specs.Limits.{longest_file};
-ghost use Rattle.df_run.specs.Tasks.{IsOutput, RefusesInput, told_of};
+ghost use Rattle.df_run.specs.Tasks.{IsText, RefusesInput, end_of, told_of};
+ghost use Rattle.df_run.specs.declared.tasks.End.TheVariants as end;
 ghost use Rattle.df_ticks.specs.TickText.{ticks_text};
-ghost use Rattle.df_words.specs.declared.command.Command.TheVariants.{Auction, Lint, Steps};
+ghost use Rattle.df_words.specs.declared.command.Command.TheVariants.{Auction, Check, Gen, Lint, Purge, Steps, Upgrade};
 
 use crate::lint::lint_script;
 use crate::status::BadKind;
 use crate::steps::steps;
 use df_auction::{OrdersRefused, auction_text};
+use df_audit::{Audit, Finding, check_text, purge_text, upgrade_text};
 use df_frozen::NoMemory;
 use df_gen::gen_ticks;
+use df_label::Label;
 use df_lines::FileRefused;
 use df_ticks::write_ticks;
 use df_words::Command;
@@ -25,24 +28,39 @@ pub enum Refused {
     NoMemory,
 }
 
-/// The text that the command writes of these bytes. A command without a file looks at none.
-pub fn output_of(alloc: Global, command: Command, bytes: &[u8]) -> Result<Vec<u8>, Refused>
+/// How a run ends once all is written.
+#[derive(Clone, Copy, Debug, PartialEq, Eq)]
+pub enum End {
+    Done,
+    /// The journal isn't right, and this is its first wrong place.
+    Wrong { place: u64 },
+}
+
+/// What a command writes, and how its run then ends.
+#[derive(Drop)]
+pub struct Output {
+    pub text: Vec<u8>,
+    pub end: End,
+}
+
+/// What the command writes of these bytes. A command without a file looks at none.
+pub fn output_of(alloc: Global, command: &Command, bytes: &[u8]) -> Result<Output, Refused>
     requires { length bytes.now ≤ longest_file }
-    ensures gives { IfOk result (λ text. IsOutput command bytes.now text.items) }
-    ensures refuses { IfErr result (RefusesInput command bytes.now) }
+    ensures gives { IfOk result (λ o. IsText command.now bytes.now o.end o.text.items) }
+    ensures refuses { IfErr result (RefusesInput command.now bytes.now) }
 {
     match command {
         Command::Steps { .. } => journal_of_script(alloc, bytes),
+        Command::Check { .. } => check_of_journal(alloc, bytes),
+        Command::Purge { label, .. } => purge_of_journal(alloc, label, bytes),
+        Command::Upgrade { .. } => upgrade_of_journal(alloc, bytes),
         Command::Auction { .. } => auctions_of_orders(alloc, bytes),
         Command::Lint { .. } => lint_of_script(alloc, bytes),
-        Command::Gen { key, n } => match ticks_of_key(alloc, key, n) {
-            Ok(text) => Ok(text),
-            Err(NoMemory) => Err(Refused::NoMemory),
-        },
+        Command::Gen { key, n } => ticks_of_key(alloc, *key, *n),
     }
 }
 
-/// The line of a script that is blamed, or want of memory.
+/// The line of a file that is blamed, or want of memory.
 fn blamed_line(refused: FileRefused) -> Refused
     ensures { result ≡ told_of refused }
 {
@@ -59,40 +77,110 @@ fn blamed_line(refused: FileRefused) -> Refused
     }
 }
 
-fn journal_of_script(alloc: Global, bytes: &[u8]) -> Result<Vec<u8>, Refused>
-    ensures gives { (file : ℕ) → IfOk result (λ text. IsOutput (Steps file) bytes.now text.items) }
+/// A text that is written where the run is done.
+fn done(text: Vec<u8>) -> Output
+    ensures text { result.text.items ≡ text.items }
+    ensures end { result.end ≡ end.Done }
+{
+    Output {
+        text,
+        end: End::Done,
+    }
+}
+
+/// What an audit tells, and how it ends.
+fn audited(audit: Audit) -> Output
+    ensures text { result.text.items ≡ audit.text.items }
+    ensures end { result.end ≡ end_of audit.finding }
+{
+    let Audit { finding, text } = audit;
+    let end = match finding {
+        Finding::Right => End::Done,
+        Finding::Wrong { place } => End::Wrong { place },
+    };
+    Output { text, end }
+}
+
+fn journal_of_script(alloc: Global, bytes: &[u8]) -> Result<Output, Refused>
+    ensures gives { (file : ℕ) → IfOk result (λ o.
+        IsText (Steps file) bytes.now o.end o.text.items) }
     ensures refuses { (file : ℕ) → IfErr result (RefusesInput (Steps file) bytes.now) }
 {
     match steps(alloc, bytes) {
-        Ok(text) => Ok(text),
+        Ok(text) => Ok(done(text)),
         Err(refused) => Err(blamed_line(refused)),
     }
 }
 
-fn auctions_of_orders(alloc: Global, bytes: &[u8]) -> Result<Vec<u8>, Refused>
+fn check_of_journal(alloc: Global, bytes: &[u8]) -> Result<Output, Refused>
+    ensures gives { (journal : ℕ) → IfOk result (λ o.
+        IsText (Check journal) bytes.now o.end o.text.items) }
+    ensures refuses { (journal : ℕ) → IfErr result (RefusesInput (Check journal) bytes.now) }
+{
+    match check_text(alloc, bytes) {
+        Ok(audit) => Ok(audited(audit)),
+        Err(refused) => Err(blamed_line(refused)),
+    }
+}
+
+fn purge_of_journal(alloc: Global, label: &Label, bytes: &[u8]) -> Result<Output, Refused>
+    ensures gives { (journal : ℕ) → IfOk result (λ o.
+        IsText (Purge label.now journal) bytes.now o.end o.text.items) }
+    ensures refuses { (journal : ℕ) →
+        IfErr result (RefusesInput (Purge label.now journal) bytes.now) }
+{
+    match purge_text(alloc, label, bytes) {
+        Ok(audit) => Ok(audited(audit)),
+        Err(refused) => Err(blamed_line(refused)),
+    }
+}
+
+fn upgrade_of_journal(alloc: Global, bytes: &[u8]) -> Result<Output, Refused>
+    ensures gives { (journal : ℕ) → IfOk result (λ o.
+        IsText (Upgrade journal) bytes.now o.end o.text.items) }
+    ensures refuses { (journal : ℕ) → IfErr result (RefusesInput (Upgrade journal) bytes.now) }
+{
+    match upgrade_text(alloc, bytes) {
+        Ok(audit) => Ok(audited(audit)),
+        Err(refused) => Err(blamed_line(refused)),
+    }
+}
+
+fn auctions_of_orders(alloc: Global, bytes: &[u8]) -> Result<Output, Refused>
     requires { length bytes.now ≤ longest_file }
-    ensures gives { (orders : ℕ) → IfOk result (λ text.
-        IsOutput (Auction orders) bytes.now text.items) }
+    ensures gives { (orders : ℕ) → IfOk result (λ o.
+        IsText (Auction orders) bytes.now o.end o.text.items) }
     ensures refuses { (orders : ℕ) → IfErr result (RefusesInput (Auction orders) bytes.now) }
 {
     match auction_text(alloc, bytes) {
-        Ok(text) => Ok(text),
+        Ok(text) => Ok(done(text)),
         Err(refused) => Err(blamed(refused)),
     }
 }
 
-fn lint_of_script(alloc: Global, bytes: &[u8]) -> Result<Vec<u8>, Refused>
-    ensures gives { (script : ℕ) → IfOk result (λ text.
-        IsOutput (Lint script) bytes.now text.items) }
+fn lint_of_script(alloc: Global, bytes: &[u8]) -> Result<Output, Refused>
+    ensures gives { (script : ℕ) → IfOk result (λ o.
+        IsText (Lint script) bytes.now o.end o.text.items) }
     ensures refuses { (script : ℕ) → IfErr result (RefusesInput (Lint script) bytes.now) }
 {
     match lint_script(alloc, bytes) {
-        Ok(text) => Ok(text),
+        Ok(text) => Ok(done(text)),
         Err(refused) => Err(blamed_line(refused)),
     }
 }
 
-fn ticks_of_key(alloc: Global, key: u64, n: u32) -> Result<Vec<u8>, NoMemory>
+fn ticks_of_key(alloc: Global, key: u64, n: u32) -> Result<Output, Refused>
+    ensures gives { (bytes : List ℕ) → IfOk result (λ o.
+        IsText (Gen key n) bytes o.end o.text.items) }
+    ensures refuses { (bytes : List ℕ) → IfErr result (RefusesInput (Gen key n) bytes) }
+{
+    match ticks_text(alloc, key, n) {
+        Ok(text) => Ok(done(text)),
+        Err(NoMemory) => Err(Refused::NoMemory),
+    }
+}
+
+fn ticks_text(alloc: Global, key: u64, n: u32) -> Result<Vec<u8>, NoMemory>
     ensures { IfOk result (λ text. text.items ≡ ticks_text (generated key n)) }
 {
     let ticks = gen_ticks(alloc, key, n)?;

@@ -42,7 +42,7 @@ fn done_to(rt: &HostRuntime, task: &str, bytes: &[u8]) -> Result<(Status, Memory
 
 #[test]
 fn scripts_are_run_or_refused_whole(rt: HostRuntime) -> Result<(), Fail> {
-    let files: [(&[u8], Status, &[u8]); 8] = [
+    let files: [(&[u8], Status, &[u8]); 7] = [
         (
             b"defcon-script 1\nrun\n",
             Status::Done,
@@ -54,11 +54,6 @@ fn scripts_are_run_or_refused_whole(rt: HostRuntime) -> Result<(), Fail> {
         (
             b"defcon-script 1\nrun\n0 geT\n",
             bad(3, BadKind::Syntax),
-            b"",
-        ),
-        (
-            b"defcon-script 1\nunit 0 {|}\nrun\n0 get\n0 msub a?\n0 spawn {}\n",
-            bad(5, BadKind::Syntax),
             b"",
         ),
         (
@@ -154,7 +149,7 @@ fn each_write_may_fail(rt: HostRuntime) -> Result<(), Fail> {
 #[test]
 fn other_words_are_usage(rt: HostRuntime) -> Result<(), Fail> {
     let alloc = rt.alloc();
-    let lines: [&[&str]; 11] = [
+    let lines: [&[&str]; 15] = [
         &[],
         &["steps"],
         &["auction", ""],
@@ -166,6 +161,10 @@ fn other_words_are_usage(rt: HostRuntime) -> Result<(), Fail> {
         &["--help", "a"],
         &["gen", "7"],
         &["gen", "7", "0"],
+        &["check"],
+        &["purge", "a"],
+        &["purge", "{#1,#0|}", "a"],
+        &["upgrade", "{|}", "a"],
     ];
     for line in lines {
         let words = words_of(alloc, line)?;
@@ -385,6 +384,7 @@ fn each_status_has_its_line(rt: HostRuntime) -> Result<(), Fail> {
             bad(17, BadKind::BadOrder),
             "defcon: bad input 1 line 17: order",
         ),
+        (Status::Wrong { place: 30 }, "defcon: wrong at 30"),
         (Status::ReadFault, "defcon: read fault"),
         (Status::WriteFault, "defcon: write fault"),
         (Status::NoMemory, "defcon: no memory"),

@@ -43,7 +43,7 @@ run
 : {|} 5
 ";
 
-pub static WORKED: [Worked; 19] = [
+pub static WORKED: [Worked; 21] = [
     Worked {
         name: "first script",
         script: FIRST,
@@ -1052,6 +1052,115 @@ run
 @ {|}
 0.0.0.0.0.0.0.0 spawn {} -> too deep
 @ {|}
+",
+    },
+    Worked {
+        name: "instances by contamination",
+        script: b"defcon-script 1
+unit 0 {|}
+unit 1 {|}
+run
+1 msub a?&b?
+0 create
+0 add 0 {#0|} a 1
+0 add 0 {#1|} b 2
+0 add 0 {|} a 3
+0 publish 0
+1/0{#0,#1} get
+1/0{#1} get
+1/0{#0} get
+1 get
+",
+        journal: b"defcon-journal 2
+unit 0 {|}
+unit 1 {|}
+run
+1 msub a?&b? -> sub 0
+@ {|}
+0 create -> handle 0
+@ {|}
+0 add 0 {#0|} a 1 -> ok
+@ {|}
+0 add 0 {#1|} b 2 -> ok
+@ {|}
+0 add 0 {|} a 3 -> ok
+@ {|}
+0 publish 0 -> ok
+@ {|}
+= 0!0
++ {#0|} a 1
++ {#1|} b 2
++ {|} a 3
+1/0{#0,#1} get -> event 0 0
+@ {#0,#1|}
+< 0!0
+. {#0|} a 1
+. {#1|} b 2
+. {|} a 3
+1/0{#1} get -> event 0 0
+@ {#1|}
+< 0!0
+. {#1|} b 2
+. {|} a 3
+1/0{#0} get -> no unit
+1 get -> nothing
+@ {|}
+",
+    },
+    Worked {
+        name: "an instance asks for a tag",
+        script: b"defcon-script 1
+unit 0 {|}
+unit 1 {|}
+run
+1 msub a?&b?
+0 create
+0 add 0 {#0|} a 1
+0 add 0 {#1|} b 2
+0 add 0 {|} a 3
+0 publish 0
+1/0{#0,#1} get
+1/0{#1} get
+1/0{#0} get
+1 get
+1/0{#1} tag
+",
+        journal: b"defcon-journal 2
+unit 0 {|}
+unit 1 {|}
+run
+1 msub a?&b? -> sub 0
+@ {|}
+0 create -> handle 0
+@ {|}
+0 add 0 {#0|} a 1 -> ok
+@ {|}
+0 add 0 {#1|} b 2 -> ok
+@ {|}
+0 add 0 {|} a 3 -> ok
+@ {|}
+0 publish 0 -> ok
+@ {|}
+= 0!0
++ {#0|} a 1
++ {#1|} b 2
++ {|} a 3
+1/0{#0,#1} get -> event 0 0
+@ {#0,#1|}
+< 0!0
+. {#0|} a 1
+. {#1|} b 2
+. {|} a 3
+1/0{#1} get -> event 0 0
+@ {#1|}
+< 0!0
+. {#1|} b 2
+. {|} a 3
+1/0{#0} get -> no unit
+1 get -> nothing
+@ {|}
+1/0{#1} tag -> not in managed
+@ {#1|}
 ",
     },
 ];

@@ -1,8 +1,13 @@
 -- What the words of a command ask for.
-use Rattle.std.specs.Prelude.{◌≡◌, ◌↔◌, ℕ, ◌<◌, ◌≤◌, ◌^◌, List, [], ◌∷◌, length, map, Option, Some, None, String, string_bytes, codes, decimal}
+use Rattle.std.specs.Prelude.{◌≡◌, ◌↔◌, ⊤, ℕ, ◌<◌, ◌≤◌, ◌^◌, List, [], ◌∷◌, length, map, Option, Some, None, Result, Ok, Err, String, string_bytes, codes, decimal}
 use Rattle.std.specs.declared.alloc.Global.{Global}
+use Rattle.df_label.specs.declared.label.Label.{Label}
+use Rattle.df_value_text.specs.Fits.{IsLabel}
+use Rattle.df_value_text.specs.Label.{label_text}
 use Rattle.df_words.specs.declared.command.Command.{Command}
-use Rattle.df_words.specs.declared.command.Command.TheVariants.{Steps, Auction, Lint, Gen}
+use Rattle.df_words.specs.declared.command.Command.TheVariants.{Steps, Check, Purge, Upgrade, Auction, Lint, Gen}
+use Rattle.df_words.specs.declared.command.WordsRefused.{WordsRefused}
+use Rattle.df_words.specs.declared.command.WordsRefused.TheVariants as refused
 
 -- the bytes of the words
 abbrev pub texts : List (String Global) → List (List ℕ)
@@ -13,6 +18,13 @@ abbrev pub NameFile : List ℕ → ℕ → List (List ℕ) → Type 0
 NameFile word place words =
     (name : List ℕ) × (words ≡ word ∷ name ∷ []) × (0 < length name) × (place ≡ 1)
 
+-- the words are this one, a label, and the name of a file, which has at least one byte and this
+-- place
+abbrev pub NameLabelled : List ℕ → Label → ℕ → List (List ℕ) → Type 0
+NameLabelled word label place words =
+    (name : List ℕ) × (words ≡ word ∷ label_text label ∷ name ∷ []) × IsLabel label
+    × (0 < length name) × (place ≡ 2)
+
 -- how many ticks are made at once
 abbrev pub IsCount : ℕ → Type 0
 IsCount n = (1 ≤ n) × (n ≤ 100_000)
@@ -20,21 +32,45 @@ IsCount n = (1 ≤ n) × (n ≤ 100_000)
 -- the words ask for the command
 abbrev pub Ask : List (List ℕ) → Command → Type 0
 Ask words (Steps file) = NameFile (codes "steps") file words
+Ask words (Check journal) = NameFile (codes "check") journal words
+Ask words (Purge label journal) = NameLabelled (codes "purge") label journal words
+Ask words (Upgrade journal) = NameFile (codes "upgrade") journal words
 Ask words (Auction orders) = NameFile (codes "auction") orders words
 Ask words (Lint script) = NameFile (codes "lint") script words
 Ask words (Gen key n) =
     (words ≡ codes "gen" ∷ decimal key ∷ decimal n ∷ []) × (key < 2 ^ 64) × IsCount n
 
--- the answer is the command for which the words ask, or none where they ask for none
-abbrev pub IsCommandOf : List (List ℕ) → Option Command → Type 0
-IsCommandOf words answer = (c : Command) → (answer ≡ Some c) ↔ Ask words c
+-- the words ask for nothing
+abbrev pub AskNothing : List (List ℕ) → Type 0
+AskNothing words = (c : Command) → ¬ Ask words c
+
+-- the answer is the command for which the words ask, or Usage where they ask for none, unless there
+-- was no memory
+abbrev pub IsCommandOf : List (List ℕ) → Result Command WordsRefused → Type 0
+IsCommandOf words (Ok command) = (c : Command) → (command ≡ c) ↔ Ask words c
+IsCommandOf words (Err refused.Usage) = AskNothing words
+IsCommandOf words (Err refused.NoMemory) = ⊤
 
 -- the place of the command's file among the words, if it has one
 abbrev pub file_of : Command → Option ℕ
 file_of (Steps file) = Some file
+file_of (Check journal) = Some journal
+file_of (Purge label journal) = Some journal
+file_of (Upgrade journal) = Some journal
 file_of (Auction orders) = Some orders
 file_of (Lint script) = Some script
 file_of (Gen key n) = None
+
+-- the word spells the label
+abbrev pub Spells : List ℕ → Label → Type 0
+Spells word label = (word ≡ label_text label) × IsLabel label
+
+-- the answer is the label that the word spells, or Usage where it spells none, unless there was no
+-- memory
+abbrev pub IsLabelIn : List ℕ → Result Label WordsRefused → Type 0
+IsLabelIn word (Ok label) = (l : Label) → (label ≡ l) ↔ Spells word l
+IsLabelIn word (Err refused.Usage) = (l : Label) → ¬ Spells word l
+IsLabelIn word (Err refused.NoMemory) = ⊤
 
 -- the answer is the number that the word spells, or none where it spells none
 abbrev pub IsNumberIn : List ℕ → Option ℕ → Type 0

@@ -2,10 +2,11 @@
 #![tactic(auto)]
 
 mod command;
+mod label;
 mod number;
 mod words;
 
-pub use command::Command;
+pub use command::{Command, WordsRefused};
 pub use words::read_words;
 
 #[cfg(test)]

@@ -1,47 +1,82 @@
 //! Reading the words of a command.
-ghost use Rattle.std.specs.Prelude.{◌∷◌, []};
+ghost use Rattle.std.specs.Prelude.{◌∷◌, [], codes};
 ghost use Rattle.df_words.specs.Words.{IsCommandOf, texts};
 
-use crate::command::Command;
+use crate::command::{Command, WordsRefused};
+use crate::label::label_in;
 use crate::number::{count_in, number_in};
+use std::alloc::Global;
 
 /// What is to be done with the file of this name, by the word before it.
-fn file_command(word: &str, name: &str) -> Option<Command>
+fn file_command(word: &str, name: &str) -> Result<Command, WordsRefused>
     ensures { IsCommandOf (word.now ∷ name.now ∷ []) result }
 {
     if name.is_empty() {
-        return None;
+        return Err(WordsRefused::Usage);
     }
     if word == "steps" {
-        Some(Command::Steps { file: 1 })
+        Ok(Command::Steps { file: 1 })
+    } else if word == "check" {
+        Ok(Command::Check { journal: 1 })
+    } else if word == "upgrade" {
+        Ok(Command::Upgrade { journal: 1 })
     } else if word == "auction" {
-        Some(Command::Auction { orders: 1 })
+        Ok(Command::Auction { orders: 1 })
     } else if word == "lint" {
-        Some(Command::Lint { script: 1 })
+        Ok(Command::Lint { script: 1 })
     } else {
-        None
+        Err(WordsRefused::Usage)
     }
 }
 
-/// What is to be done with these two numbers, by the word before them.
-fn number_command(word: &str, key: &str, count: &str) -> Option<Command>
-    ensures { IsCommandOf (word.now ∷ key.now ∷ count.now ∷ []) result }
+/// What is to be done with these two words, by the one before them.
+fn pair_command(
+    alloc: Global,
+    word: &str,
+    first: &str,
+    second: &str,
+) -> Result<Command, WordsRefused>
+    ensures { IsCommandOf (word.now ∷ first.now ∷ second.now ∷ []) result }
 {
-    if word != "gen" {
-        return None;
+    if word == "purge" {
+        purge_command(alloc, first, second)
+    } else if word == "gen" {
+        gen_command(first, second)
+    } else {
+        Err(WordsRefused::Usage)
     }
-    let key = number_in(key)?;
-    let n = count_in(count)?;
-    Some(Command::Gen { key, n })
 }
 
-/// What the words behind the program's name ask for, if it is anything.
-pub fn read_words(words: &[String]) -> Option<Command>
+/// The purge of the journal of this name at the label that the word spells.
+fn purge_command(alloc: Global, label: &str, journal: &str) -> Result<Command, WordsRefused>
+    ensures { IsCommandOf (codes "purge" ∷ label.now ∷ journal.now ∷ []) result }
+{
+    if journal.is_empty() {
+        return Err(WordsRefused::Usage);
+    }
+    let label = label_in(alloc, label)?;
+    Ok(Command::Purge { label, journal: 2 })
+}
+
+/// As many ticks of the key as the words say.
+fn gen_command(key: &str, count: &str) -> Result<Command, WordsRefused>
+    ensures { IsCommandOf (codes "gen" ∷ key.now ∷ count.now ∷ []) result }
+{
+    match (number_in(key), count_in(count)) {
+        (Some(key), Some(n)) => Ok(Command::Gen { key, n }),
+        _ => Err(WordsRefused::Usage),
+    }
+}
+
+/// What the words behind the program's name ask for.
+pub fn read_words(alloc: Global, words: &[String]) -> Result<Command, WordsRefused>
     ensures { IsCommandOf (texts words.now) result }
 {
     match words {
         [word, name] => file_command(word.as_str(), name.as_str()),
-        [word, key, count] => number_command(word.as_str(), key.as_str(), count.as_str()),
-        _ => None,
+        [word, first, second] => {
+            pair_command(alloc, word.as_str(), first.as_str(), second.as_str())
+        }
+        _ => Err(WordsRefused::Usage),
     }
 }

@@ -1,13 +1,13 @@
-use Rattle.df_run.proofs.Asked.{asks_some}
+use Rattle.df_run.proofs.Asked.{asks}
 use Rattle.df_words.specs.Words.{texts}
 use Rattle.df_run.proofs.run.run_plain.Goals as goal
 
-pub returns-in-Some-clause-usage : goal.returns-in-Some-clause-usage
-returns-in-Some-clause-usage g c = (
+pub returns-in-Ok-clause-usage : goal.returns-in-Ok-clause-usage
+returns-in-Ok-clause-usage g c = (
   λ usage. absurd (c.run_command.ensures.asked usage),
-  λ nothing. absurd (nothing c.in-Some.command (asks_some (texts c.args.words.now) c.read_words.result c.in-Some.command c.read_words.ensures c.in-Some.is)),
+  λ nothing. absurd (nothing c.in-Ok.command (asks (texts c.args.words.now) c.in-Ok.command c.in-Ok.ensures)),
 )
 
-pub returns-in-Some-clause-unused : goal.returns-in-Some-clause-unused
-returns-in-Some-clause-unused g c =
-    λ nothing. absurd (nothing c.in-Some.command (asks_some (texts c.args.words.now) c.read_words.result c.in-Some.command c.read_words.ensures c.in-Some.is))
+pub returns-in-Ok-clause-unused : goal.returns-in-Ok-clause-unused
+returns-in-Ok-clause-unused g c =
+    λ nothing. absurd (nothing c.in-Ok.command (asks (texts c.args.words.now) c.in-Ok.command c.in-Ok.ensures))

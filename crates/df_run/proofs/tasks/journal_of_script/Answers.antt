@@ -1,6 +1,6 @@
 use Rattle.std.proofs.Common.{sym, subst}
 use Rattle.df_run.specs.Tasks.{RefusesInput}
-use Rattle.df_run.proofs.Journals.{run_blames}
+use Rattle.df_run.proofs.Files.{run_blames}
 use Rattle.df_run.proofs.tasks.journal_of_script.Goals as goal
 use Rattle.df_words.specs.declared.command.Command.TheVariants.{Steps}
 

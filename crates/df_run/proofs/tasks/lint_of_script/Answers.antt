@@ -1,6 +1,6 @@
 use Rattle.std.proofs.Common.{sym, subst}
 use Rattle.df_run.specs.Tasks.{RefusesInput}
-use Rattle.df_run.proofs.Lints.{lint_blames}
+use Rattle.df_run.proofs.Files.{lint_blames}
 use Rattle.df_run.proofs.tasks.lint_of_script.Goals as goal
 use Rattle.df_words.specs.declared.command.Command.TheVariants.{Lint}
 

@@ -19,6 +19,6 @@ returns-in-len2 c =
 
 pub returns-in-len3 : goal.returns-in-len3
 returns-in-len3 c =
-    let words = three_items c.word-item-then-words-lt4.result c.key-item.result c.count-item.result c.args.words.now c.in-len3.len_at_least c.in-len3.len_below c.word-item-then-words-lt4.is c.key-item.is c.count-item.is in
-    let told = three_texts c.word-item-then-words-lt4.result c.key-item.result c.count-item.result c.as_str-in-len3.result.now c.as_str-in-len3-2.result.now c.as_str-in-len3-3.result.now c.as_str-in-len3.ensures.value c.as_str-in-len3-2.ensures.value c.as_str-in-len3-3.ensures.value in
-    subst (λ ws. IsCommandOf ws c.number_command.result) (sym (ap texts words ∙ told)) c.number_command.ensures
+    let words = three_items c.word-item-then-words-lt4.result c.first-item.result c.second-item.result c.args.words.now c.in-len3.len_at_least c.in-len3.len_below c.word-item-then-words-lt4.is c.first-item.is c.second-item.is in
+    let told = three_texts c.word-item-then-words-lt4.result c.first-item.result c.second-item.result c.as_str-in-len3.result.now c.as_str-in-len3-2.result.now c.as_str-in-len3-3.result.now c.as_str-in-len3.ensures.value c.as_str-in-len3-2.ensures.value c.as_str-in-len3-3.ensures.value in
+    subst (λ ws. IsCommandOf ws c.pair_command.result) (sym (ap texts words ∙ told)) c.pair_command.ensures

@@ -1,0 +1,95 @@
+-- A journal is right, or wrong first at one place, whichever way it is told.
+use Rattle.std.proofs.Common.{◌≡◌, ◌⊎◌, inl, inr, ℕ, List, [], ◌∷◌, ◌++◌, length, reverse, refl, ap, sym, subst, ◌∙◌}
+use Rattle.std.specs.Prelude.{suc}
+use Rattle.df_machine.specs.Journal.{firsts}
+use Rattle.df_rules.proofs.Places.{legal_at}
+use Rattle.df_rules.specs.Legal.{Legal}
+use Rattle.df_rules.specs.Start.{rows}
+use Rattle.df_start.specs.declared.start.RootStart.{RootStart}
+use Rattle.df_unit.specs.declared.entry.Entry.{Entry}
+use Rattle.df_unit.specs.declared.entry.Noted.{Noted}
+use Rattle.df_replay.specs.Noted.{AreRight}
+use Rattle.df_check.proofs.JudgedNoted.{right_at}
+use Rattle.df_check.specs.Check as plain
+use Rattle.df_check.specs.CheckNoted as with_notes
+use Rattle.df_journal_file.proofs.Texts.{not_both, one_noted, one_plain}
+use Rattle.df_journal_file.specs.Either.{IsJournalOf}
+use Rattle.df_journal_file.specs.declared.file.Journal.{Journal}
+use Rattle.df_journal_file.specs.declared.file.Journal.TheVariants.{First, Second}
+use Rattle.df_audit.specs.Audit.{IsRightJournal, IsWrongAt, OfJournal}
+
+-- ---- of two places in a list one comes first, or they are one
+
+module _ {X : Type 0} where
+  -- the first place comes before the second
+  abbrev IsBefore : List X → X → List X → Type 0
+  IsBefore xs x ys = (between : List X) × (ys ≡ xs ++ x ∷ between)
+
+  places : (xs ys : List X) (x y : X) (vs ws : List X) → xs ++ x ∷ vs ≡ ys ++ y ∷ ws → (length xs ≡ length ys) ⊎ (IsBefore xs x ys ⊎ IsBefore ys y xs)
+  places [] [] x y vs ws e = inl refl
+  places [] (b ∷ ys) x y vs ws e = let head : b ≡ x = cc in inr (inl (ys, ap (λ (c : X). c ∷ ys) head))
+  places (a ∷ xs) [] x y vs ws e = let head : a ≡ y = cc in inr (inr (xs, ap (λ (c : X). c ∷ xs) head))
+  places (a ∷ xs) (b ∷ ys) x y vs ws e =
+      let head : b ≡ a = cc in
+      elim (places xs ys x y vs ws (let tail : xs ++ x ∷ vs ≡ ys ++ y ∷ ws = cc in tail)) [
+        | inl same ↦ inl (ap suc same)
+        | inr (inl before) ↦ inr (inl (before.0, ap (λ (c : X). c ∷ ys) head ∙ ap (λ (zs : List X). a ∷ zs) before.1))
+        | inr (inr before) ↦ inr (inr (before.0, ap (λ (c : X). c ∷ xs) (sym head) ∙ ap (λ (zs : List X). b ∷ zs) before.1))
+      ]
+
+-- ---- one list has one first wrong place
+
+module _ (roots : List RootStart) where
+  right_before : (entries : List Entry) (p : ℕ) (e : Entry) (w : plain.IsFirstWrong roots entries p e) (between : List Entry) (older : List Entry) → Legal rows (firsts roots) (reverse older) → older ≡ w.older ++ w.kept ∷ between → ⊥
+  right_before entries p e w between older legal is = w.wrong (legal_at rows (firsts roots) older legal w.older between w.kept is)
+
+  pub one_plain_place : (entries : List Entry) (p q : ℕ) (d e : Entry) → plain.IsFirstWrong roots entries p d → plain.IsFirstWrong roots entries q e → p ≡ q
+  one_plain_place entries p q d e v w =
+      elim (places v.older w.older v.kept w.kept v.newer w.newer (sym v.whole ∙ w.whole)) [
+        | inl same ↦ v.at ∙ same ∙ sym w.at
+        | inr (inl before) ↦ absurd (right_before entries p d v before.0 w.older w.legal before.1)
+        | inr (inr before) ↦ absurd (right_before entries q e w before.0 v.older v.legal before.1)
+      ]
+
+  pub plain_not_wrong : (entries : List Entry) (p : ℕ) (e : Entry) → Legal rows (firsts roots) (reverse entries) → plain.IsFirstWrong roots entries p e → ⊥
+  plain_not_wrong entries p e legal w = w.wrong (legal_at rows (firsts roots) entries legal w.older w.newer w.kept w.whole)
+
+  noted_before : (notes : List Noted) (p : ℕ) (e : Noted) (w : with_notes.IsFirstWrong roots notes p e) (between older : List Noted) → AreRight roots older → older ≡ w.older ++ w.kept ∷ between → ⊥
+  noted_before notes p e w between older right is = w.wrong (w.answer ∙ right_at roots older w.older between w.kept right is)
+
+  pub one_noted_place : (notes : List Noted) (p q : ℕ) (d e : Noted) → with_notes.IsFirstWrong roots notes p d → with_notes.IsFirstWrong roots notes q e → p ≡ q
+  one_noted_place notes p q d e v w =
+      elim (places v.older w.older v.kept w.kept v.newer w.newer (sym v.whole ∙ w.whole)) [
+        | inl same ↦ v.at ∙ same ∙ sym w.at
+        | inr (inl before) ↦ absurd (noted_before notes p d v before.0 w.older w.right before.1)
+        | inr (inr before) ↦ absurd (noted_before notes q e w before.0 v.older v.right before.1)
+      ]
+
+  pub noted_not_wrong : (notes : List Noted) (p : ℕ) (e : Noted) → AreRight roots notes → with_notes.IsFirstWrong roots notes p e → ⊥
+  noted_not_wrong notes p e right w = noted_before notes p e w w.newer notes right w.whole
+
+-- ---- bytes are one journal
+
+pub right_is_not_wrong : (bytes : List ℕ) (p : ℕ) (i j : Journal) → IsJournalOf i bytes → IsJournalOf j bytes → IsRightJournal i → IsWrongAt j p → ⊥
+right_is_not_wrong bytes p (First r es) (First s ds) a b right wrong =
+    let same = one_plain bytes r s es.items ds.items a b in
+    let legal = subst (λ (x : List RootStart × List Entry). Legal rows (firsts x.0) (reverse x.1)) (ap (λ (x : List RootStart). (x, es.items)) same.0 ∙ ap (λ (x : List Entry). (s, x)) same.1) right in
+    plain_not_wrong s ds.items p wrong.0 legal wrong.1
+right_is_not_wrong bytes p (First r es) (Second s ns) a b right wrong = not_both bytes r s es.items ns.items a b
+right_is_not_wrong bytes p (Second r ns) (First s es) a b right wrong = not_both bytes s r es.items ns.items b a
+right_is_not_wrong bytes p (Second r ns) (Second s ms) a b right wrong =
+    let same = one_noted bytes r s ns.items ms.items a b in
+    let are = subst (λ (x : List RootStart × List Noted). AreRight x.0 x.1) (ap (λ (x : List RootStart). (x, ns.items)) same.0 ∙ ap (λ (x : List Noted). (s, x)) same.1) right in
+    noted_not_wrong s ms.items p wrong.0 are wrong.1
+
+pub one_place : (bytes : List ℕ) (p q : ℕ) (i j : Journal) → IsJournalOf i bytes → IsJournalOf j bytes → IsWrongAt i p → IsWrongAt j q → p ≡ q
+one_place bytes p q (First r es) (First s ds) a b v w =
+    let same = one_plain bytes r s es.items ds.items a b in
+    let moved = subst (λ (x : List RootStart × List Entry). plain.IsFirstWrong x.0 x.1 p v.0) (ap (λ (x : List RootStart). (x, es.items)) same.0 ∙ ap (λ (x : List Entry). (s, x)) same.1) v.1 in
+    one_plain_place s ds.items p q v.0 w.0 moved w.1
+one_place bytes p q (First r es) (Second s ns) a b v w = absurd (not_both bytes r s es.items ns.items a b)
+one_place bytes p q (Second r ns) (First s es) a b v w = absurd (not_both bytes s r es.items ns.items b a)
+one_place bytes p q (Second r ns) (Second s ms) a b v w =
+    let same = one_noted bytes r s ns.items ms.items a b in
+    let moved = subst (λ (x : List RootStart × List Noted). with_notes.IsFirstWrong x.0 x.1 p v.0) (ap (λ (x : List RootStart). (x, ns.items)) same.0 ∙ ap (λ (x : List Noted). (s, x)) same.1) v.1 in
+    one_noted_place s ms.items p q v.0 w.0 moved w.1

@@ -1,0 +1,4 @@
+pub mod Exact
+pub mod Reports
+pub mod Sound
+pub mod Told

@@ -1,0 +1,4 @@
+use Rattle.df_audit.proofs.check.check_text.Goals as goal
+
+pub returns-in-Ok-checked-clause-tells : goal.returns-in-Ok-checked-clause-tells
+returns-in-Ok-checked-clause-tells c = (c.in-Ok.journal, c.in-Ok.ensures.read, c.in-Ok-checked.ensures)

@@ -1,0 +1,121 @@
+-- What an audit makes of a kept journal.
+use Rattle.std.specs.Prelude.{◌≡◌, ℕ, List, [], ◌∷◌, ◌++◌, None, codes, decimal, length, reverse}
+use Rattle.df_label.specs.declared.label.Label.{Label}
+use Rattle.df_machine.specs.Journal.{firsts}
+use Rattle.df_rules.specs.Legal.{Legal}
+use Rattle.df_rules.specs.Purge.{purge}
+use Rattle.df_rules.specs.Separates.{Separates}
+use Rattle.df_rules.specs.Start.{rows}
+use Rattle.df_start.specs.declared.start.RootStart.{RootStart}
+use Rattle.df_unit.specs.declared.entry.Entry.{Entry}
+use Rattle.df_unit.specs.declared.entry.Noted.{Noted}
+use Rattle.df_replay.specs.Noted.{AreRight, noted, past_of}
+use Rattle.df_check.specs.Check as plain
+use Rattle.df_check.specs.CheckNoted as with_notes
+use Rattle.df_journal_text.specs.Entry.{entry_text, noted_text}
+use Rattle.df_journal_text.specs.Line.{line}
+use Rattle.df_journal_text.specs.Start.{journal_text}
+use Rattle.df_journal_file.specs.Either.{IsJournalOf}
+use Rattle.df_journal_file.specs.declared.file.Journal.{Journal}
+use Rattle.df_journal_file.specs.declared.file.Journal.TheVariants.{First, Second}
+use Rattle.df_audit.specs.Sound.{IsSound}
+use Rattle.df_audit.specs.declared.audit.Finding.{Finding}
+use Rattle.df_audit.specs.declared.audit.Finding.TheVariants.{Right, Wrong}
+
+-- ---- a journal in one of its versions
+
+abbrev pub roots_in : Journal → List RootStart
+roots_in (First start entries) = start
+roots_in (Second start notes) = start
+
+-- its entries, the newest first
+abbrev pub past_in : Journal → List Entry
+past_in (First start entries) = reverse entries.items
+past_in (Second start notes) = past_of notes.items
+
+-- each entry is what the rules give, and so is each contamination that is noted
+abbrev pub IsRightJournal : Journal → Type 0
+IsRightJournal (First start entries) = Legal rows (firsts start) (reverse entries.items)
+IsRightJournal (Second start notes) = AreRight start notes.items
+
+-- the first place where they aren't, counted from 0
+abbrev pub IsWrongAt : Journal → ℕ → Type 0
+IsWrongAt (First start entries) place =
+    (expected : Entry) × plain.IsFirstWrong start entries.items place expected
+IsWrongAt (Second start notes) place =
+    (expected : Noted) × with_notes.IsFirstWrong start notes.items place expected
+
+-- ---- texts
+
+-- what is told of a right journal with so many entries
+abbrev pub valid_text : ℕ → List ℕ
+valid_text count = line (codes "valid") (decimal count ∷ [])
+
+-- what is told of a wrong place: the lines that are kept there, and those that the rules give
+abbrev pub wrong_text : ℕ → List ℕ → List ℕ → List ℕ
+wrong_text place kept expected = line (codes "wrong") (decimal place ∷ [])
+    ++ line (codes "kept") [] ++ kept ++ line (codes "expected") [] ++ expected
+
+-- a journal in its second version: each entry with the contamination that its actor has before it
+abbrev pub noted_journal : List RootStart → List Entry → List ℕ
+noted_journal roots past = journal_text roots (noted roots past)
+
+-- ---- what an audit finds and tells
+
+-- a check of a journal in its first version: the text says that it is right, or tells of the first
+-- wrong place
+abbrev pub IsCheckOfFirst : List RootStart → List Entry → Finding → List ℕ → Type 0
+IsCheckOfFirst roots entries Right text = Legal rows (firsts roots) (reverse entries)
+    × (text ≡ valid_text (length entries))
+IsCheckOfFirst roots entries (Wrong place) text =
+    (expected : Entry) × (at : plain.IsFirstWrong roots entries place expected)
+    × (text ≡ wrong_text place (entry_text None at.kept) (entry_text None expected))
+
+-- the same in its second version
+abbrev pub IsCheckOfSecond : List RootStart → List Noted → Finding → List ℕ → Type 0
+IsCheckOfSecond roots notes Right text = AreRight roots notes × (text ≡ valid_text (length notes))
+IsCheckOfSecond roots notes (Wrong place) text =
+    (expected : Noted) × (at : with_notes.IsFirstWrong roots notes place expected)
+    × (text ≡ wrong_text place (noted_text at.kept) (noted_text expected))
+
+-- a check says whether the journal is right
+abbrev pub IsCheckOf : Journal → Finding → List ℕ → Type 0
+IsCheckOf (First start entries) finding text = IsCheckOfFirst start entries.items finding text
+IsCheckOf (Second start notes) finding text = IsCheckOfSecond start notes.items finding text
+
+-- what a purge leaves of the entries
+abbrev pub purged_in : Label → Journal → List Entry
+purged_in label journal = purge rows (firsts (roots_in journal)) label (past_in journal)
+
+-- the text is that of the purge of a right journal; units within the label lose nothing by it, what
+-- is left of the others was emitted by privileges, and the purge itself is sound
+pub record IsPurgeOf (label : Label) (journal : Journal) (text : List ℕ) : Type 0 where
+  pub right : IsRightJournal journal
+  pub told : text ≡ noted_journal (roots_in journal) (purged_in label journal)
+  pub separates : Separates rows (firsts (roots_in journal)) (past_in journal) label
+  pub sound : IsSound (firsts (roots_in journal)) (purged_in label journal)
+
+-- the text is that of a right journal in its second version
+pub record IsUpgradeOf (journal : Journal) (text : List ℕ) : Type 0 where
+  pub right : IsRightJournal journal
+  pub told : text ≡ noted_journal (roots_in journal) (past_in journal)
+  pub sound : IsSound (firsts (roots_in journal)) (past_in journal)
+
+-- of a wrong journal nothing is told but the place
+pub record TellsPlace (journal : Journal) (place : ℕ) (text : List ℕ) : Type 0 where
+  pub wrong : IsWrongAt journal place
+  pub silent : text ≡ []
+
+-- a purge of a right journal, or its first wrong place
+abbrev pub Purges : Label → Journal → Finding → List ℕ → Type 0
+Purges label journal Right text = IsPurgeOf label journal text
+Purges label journal (Wrong place) text = TellsPlace journal place text
+
+-- a right journal in its second version, or its first wrong place
+abbrev pub Upgrades : Journal → Finding → List ℕ → Type 0
+Upgrades journal Right text = IsUpgradeOf journal text
+Upgrades journal (Wrong place) text = TellsPlace journal place text
+
+-- the bytes are a journal of which this holds
+abbrev pub OfJournal : List ℕ → (Journal → Type 0) → Type 0
+OfJournal bytes P = (journal : Journal) × IsJournalOf journal bytes × P journal

@@ -1,0 +1,17 @@
+//! What an auditor asks of the bytes of a kept journal: whether it is what the rules give, what it
+//! would have been to a label, and the contaminations of its units.
+#![tactic(auto)]
+
+mod audit;
+mod check;
+mod laws;
+mod right;
+mod text;
+
+pub use audit::{Audit, Finding};
+pub use check::check_text;
+pub use laws::{a_journal_is_right_or_wrong, a_wrong_journal_has_one_place};
+pub use right::{purge_text, upgrade_text};
+
+#[cfg(test)]
+mod tests;

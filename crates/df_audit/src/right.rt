@@ -1,0 +1,137 @@
+//! What is made of a journal that is right.
+ghost use Rattle.std.specs.Prelude.{◌≡◌, [], IfErr, IfOk};
+ghost use Rattle.df_lines.specs.Refused.{NamesBadLine};
+ghost use Rattle.df_journal_text.specs.Start.{journal_text};
+ghost use Rattle.df_journal_file.specs.Either.{IsEitherText};
+ghost use Rattle.df_journal_file.specs.TooLarge.{IsLargeIn};
+ghost use Rattle.df_audit.specs.Audit.{OfJournal, Purges, Upgrades};
+ghost use Rattle.df_audit.specs.code.Noting.{IsNotedOf, IsNotedOfFirst, IsNotedOfSecond};
+ghost use Rattle.df_audit.specs.declared.audit.Finding.TheVariants.{Right, Wrong};
+
+use crate::audit::{Audit, Finding};
+use crate::text::noted_text;
+use df_check::{NotedVerdict, Verdict, check, check_noted};
+use df_journal_file::{Journal, read_either};
+use df_label::{Label, NoMemory};
+use df_lines::FileRefused;
+use df_purge::purge_noted;
+use df_start::Start;
+use df_unit::{Entry, Noted};
+use df_upgrade::note;
+use std::alloc::Global;
+
+/// A journal with the notes that are right, or its first wrong place.
+#[derive(Drop)]
+pub enum Noting {
+    Noted { start: Start, notes: Vec<Noted> },
+    Wrong { place: u64 },
+}
+
+/// The purge at the label of the journal that these bytes are, in the second version.
+pub fn purge_text(alloc: Global, label: &Label, bytes: &[u8]) -> Result<Audit, FileRefused>
+    ensures tells { IfOk result (λ audit. OfJournal bytes.now (λ journal.
+        Purges label.now journal audit.finding audit.text.items)) }
+    ensures refuses { IfErr result (NamesBadLine IsEitherText (IsLargeIn IsEitherText) bytes.now) }
+{
+    let journal = match read_either(alloc, bytes) {
+        Ok(journal) => journal,
+        Err(refused) => return Err(refused),
+    };
+    match purged(alloc, label, journal) {
+        Ok(audit) => Ok(audit),
+        Err(NoMemory) => Err(FileRefused::NoMemory),
+    }
+}
+
+/// The journal that these bytes are, in the second version.
+pub fn upgrade_text(alloc: Global, bytes: &[u8]) -> Result<Audit, FileRefused>
+    ensures tells { IfOk result (λ audit. OfJournal bytes.now (λ journal.
+        Upgrades journal audit.finding audit.text.items)) }
+    ensures refuses { IfErr result (NamesBadLine IsEitherText (IsLargeIn IsEitherText) bytes.now) }
+{
+    let journal = match read_either(alloc, bytes) {
+        Ok(journal) => journal,
+        Err(refused) => return Err(refused),
+    };
+    match upgraded(alloc, journal) {
+        Ok(audit) => Ok(audit),
+        Err(NoMemory) => Err(FileRefused::NoMemory),
+    }
+}
+
+fn purged(alloc: Global, label: &Label, journal: Journal) -> Result<Audit, NoMemory>
+    ensures { IfOk result (λ audit.
+        Purges label.now journal audit.finding audit.text.items) }
+{
+    let (start, notes) = match right_notes(alloc, journal)? {
+        Noting::Noted { start, notes } => (start, notes),
+        Noting::Wrong { place } => return Ok(silent(alloc, place)),
+    };
+    let left = purge_noted(alloc, label, notes.as_slice())?;
+    told(alloc, &start, left.as_slice())
+}
+
+fn upgraded(alloc: Global, journal: Journal) -> Result<Audit, NoMemory>
+    ensures { IfOk result (λ audit. Upgrades journal audit.finding audit.text.items) }
+{
+    match right_notes(alloc, journal)? {
+        Noting::Noted { start, notes } => told(alloc, &start, notes.as_slice()),
+        Noting::Wrong { place } => Ok(silent(alloc, place)),
+    }
+}
+
+/// The journal with its notes, where it is right.
+fn right_notes(alloc: Global, journal: Journal) -> Result<Noting, NoMemory>
+    ensures { IfOk result (IsNotedOf journal) }
+{
+    match journal {
+        Journal::First { start, entries } => first_notes(alloc, start, entries.as_slice()),
+        Journal::Second { start, noted } => second_notes(alloc, start, noted),
+    }
+}
+
+/// The notes of a journal in its first version, where it is right.
+fn first_notes(alloc: Global, start: Start, entries: &[Entry]) -> Result<Noting, NoMemory>
+    ensures { IfOk result (IsNotedOfFirst start entries.now) }
+{
+    match check(alloc, &start, entries)? {
+        Verdict::Valid => {
+            let notes = note(alloc, &start, entries)?;
+            Ok(Noting::Noted { start, notes })
+        }
+        Verdict::Wrong { place, .. } => Ok(Noting::Wrong { place }),
+    }
+}
+
+/// The notes of a journal in its second version, where it is right.
+fn second_notes(alloc: Global, start: Start, notes: Vec<Noted>) -> Result<Noting, NoMemory>
+    ensures { IfOk result (IsNotedOfSecond start notes.items) }
+{
+    match check_noted(alloc, &start, notes.as_slice())? {
+        NotedVerdict::Valid => Ok(Noting::Noted { start, notes }),
+        NotedVerdict::Wrong { place, .. } => Ok(Noting::Wrong { place }),
+    }
+}
+
+/// The text of noted entries.
+fn told(alloc: Global, start: &Start, notes: &[Noted]) -> Result<Audit, NoMemory>
+    ensures finding { IfOk result (λ audit. audit.finding ≡ Right) }
+    ensures text { IfOk result (λ audit. audit.text.items ≡ journal_text start.now notes.now) }
+{
+    let text = noted_text(alloc, start, notes)?;
+    Ok(Audit {
+        finding: Finding::Right,
+        text,
+    })
+}
+
+/// Nothing but a wrong place.
+fn silent(alloc: Global, place: u64) -> Audit
+    ensures finding { result.finding ≡ Wrong place }
+    ensures text { result.text.items ≡ [] }
+{
+    Audit {
+        finding: Finding::Wrong { place },
+        text: Vec::new(alloc),
+    }
+}

@@ -1,0 +1,123 @@
+-- A check of a noted journal, as far as it has come.
+use Rattle.std.proofs.Common.{◌≡◌, ◌↔◌, ℕ, List, [], ◌∷◌, ◌++◌, ◌+◌, ◌<◌, ◌≤◌, Some, length, take, drop, get_or, map, reverse, refl, ap, sym, subst, ◌∙◌, arith, append_assoc, length-append}
+use Rattle.std.proofs.lemmas.List.{length-map, length-reverse, length-take-le, map-append, reverse-append, take_all, take_more}
+use Rattle.df_machine.specs.Journal.{State, firsts}
+use Rattle.df_rules.specs.Legal.{Legal}
+use Rattle.df_rules.specs.Start.{rows}
+use Rattle.df_rules.proofs.Places.{legal_at}
+use Rattle.df_start.specs.declared.start.RootStart.{RootStart}
+use Rattle.df_unit.specs.declared.entry.Entry.{Entry}
+use Rattle.df_unit.specs.declared.entry.Noted.{Noted}
+use Rattle.df_replay.specs.Noted.{AreRight, noted, noted_in, past_of}
+use Rattle.df_replay.specs.Replay.{entry_for, replayed}
+use Rattle.df_replay.proofs.Replayed.{core_more}
+use Rattle.df_replay.proofs.Right.{is_right, right_is}
+use Rattle.df_check.proofs.Judged.{split_at}
+use Rattle.df_check.specs.CheckNoted.{IsFirstWrong, JudgesNoted, TellsOtherNoted, noted_for}
+use Rattle.df_check.specs.declared.noted.NotedVerdict.{NotedVerdict}
+use Rattle.df_check.specs.declared.noted.NotedVerdict.TheVariants.{Valid, Wrong}
+
+-- the machine's journal is what was kept so far
+pub record IsSoFar (roots : List RootStart) (journal : List Noted) (i : ℕ) (core : State) : Type 0 where
+  pub made : core ≡ (roots, past_of (take i journal))
+  pub right : AreRight roots (take i journal)
+
+abbrev bare : Noted → Entry
+bare n = n.entry
+
+past_push : (older : List Noted) (kept : Noted) → past_of (older ++ kept ∷ []) ≡ kept.entry ∷ past_of older
+past_push older kept = ap reverse (map-append bare older (kept ∷ [])) ∙ reverse-append (map bare older) (kept.entry ∷ [])
+
+-- the elements in the middle of two equal lists
+in_the_middle : (xs ys ms ns : List Noted) (x y : Noted) → length xs ≡ length ys → xs ++ x ∷ ms ≡ ys ++ y ∷ ns → x ≡ y
+in_the_middle [] [] ms ns x y l e = cc
+in_the_middle [] (b ∷ ys) ms ns x y l e = absurd (omega arith)
+in_the_middle (a ∷ xs) [] ms ns x y l e = absurd (omega arith)
+in_the_middle (a ∷ xs) (b ∷ ys) ms ns x y l e = in_the_middle xs ys ms ns x y (omega arith) (let t : xs ++ x ∷ ms ≡ ys ++ y ∷ ns = cc in t)
+
+module _ (roots : List RootStart) where
+  noted_length : (past : List Entry) → length (noted roots past) ≡ length past
+  noted_length [] = refl
+  noted_length (e ∷ past) = omega (arith, length-append (noted roots past) (noted_in (roots, past) e ∷ []), noted_length past)
+
+  -- what is noted with an entry comes behind what is noted with those before it
+  noted_split : (newer past : List Entry) (e : Entry) → (later : List Noted) × (noted roots (newer ++ e ∷ past) ≡ noted roots past ++ noted_in (roots, past) e ∷ later)
+  noted_split [] past e = ([], refl)
+  noted_split (n ∷ newer) past e =
+      let below = noted_split newer past e in
+      let last = noted_in (roots, newer ++ e ∷ past) n ∷ [] in
+      (below.0 ++ last, ap (λ (ns : List Noted). ns ++ last) below.1 ∙ append_assoc (noted roots past) (noted_in (roots, past) e ∷ below.0) last)
+
+  -- an entry with its note is right where the rules give it
+  note_right : (past : List Entry) (kept : Noted) → noted_for (roots, past) kept ≡ kept → noted_in (roots, past) kept.entry ≡ kept
+  note_right past kept same = ap (noted_in (roots, past)) (sym (ap bare same)) ∙ same
+
+  -- and the other way round
+  right_note : (past : List Entry) (kept : Noted) → entry_for (roots, past) kept.entry ≡ kept.entry → noted_in (roots, past) kept.entry ≡ kept → noted_for (roots, past) kept ≡ kept
+  right_note past kept right note = ap (noted_in (roots, past)) right ∙ note
+
+  right_push : (older : List Noted) (kept : Noted) → AreRight roots older → noted_for (roots, past_of older) kept ≡ kept → AreRight roots (older ++ kept ∷ [])
+  right_push older kept right same =
+      let past = past_of older in
+      let more = sym (past_push older kept) in
+      record {
+        legal = subst (Legal rows (firsts roots)) more (right.legal, is_right roots past kept.entry (ap bare same));
+        noted =
+            ap (λ (n : Noted). older ++ n ∷ []) (sym (note_right past kept same))
+            ∙ ap (λ (ns : List Noted). ns ++ noted_in (roots, past) kept.entry ∷ []) right.noted
+            ∙ ap (noted roots) more;
+      }
+
+  bared : (older newer : List Noted) (kept : Noted) → map bare (older ++ kept ∷ newer) ≡ map bare older ++ kept.entry ∷ map bare newer
+  bared older newer kept = map-append bare older (kept ∷ newer)
+
+  past_split : (older newer : List Noted) (kept : Noted) → past_of (older ++ kept ∷ newer) ≡ past_of newer ++ kept.entry ∷ past_of older
+  past_split older newer kept =
+      ap reverse (bared older newer kept)
+      ∙ reverse-append (map bare older) (kept.entry ∷ map bare newer)
+      ∙ ap (λ (r : List Entry). r ++ past_of older) (reverse-append (kept.entry ∷ []) (map bare newer))
+      ∙ append_assoc (past_of newer) (kept.entry ∷ []) (past_of older)
+
+  pub right_at : (journal older newer : List Noted) (kept : Noted) → AreRight roots journal → journal ≡ older ++ kept ∷ newer → noted_for (roots, past_of older) kept ≡ kept
+  right_at journal older newer kept right whole =
+      let past = past_of older in
+      let entry = right_is roots past kept.entry (legal_at rows (firsts roots) (map bare journal) right.legal (map bare older) (map bare newer) kept.entry (ap (map bare) whole ∙ bared older newer kept)) in
+      let split = noted_split (past_of newer) past kept.entry in
+      let whole_noted : older ++ kept ∷ newer ≡ noted roots past ++ noted_in (roots, past) kept.entry ∷ split.0 =
+      sym whole ∙ right.noted ∙ ap (noted roots) (ap past_of whole ∙ past_split older newer kept) ∙ split.1 in
+      let long : length older ≡ length (noted roots past) = sym (noted_length past ∙ length-reverse (map bare older) ∙ length-map older bare) in
+      right_note past kept entry (sym (in_the_middle older (noted roots past) newer split.0 kept (noted_in (roots, past) kept.entry) long whole_noted))
+
+  module _ (journal : List Noted) where
+    pub so_far_more : (i : ℕ) (d : Noted) (old new : State) → i < length journal → IsSoFar roots journal i old → new ≡ replayed old (get_or journal i d).entry → noted_for old (get_or journal i d) ≡ get_or journal i d → IsSoFar roots journal (i + 1) new
+    so_far_more i d old new inside so made same =
+        let older = take i journal in
+        let kept = get_or journal i d in
+        let here : noted_for (roots, past_of older) kept ≡ kept = ap (λ (s : State). noted_for s kept) (sym so.made) ∙ same in
+        let more = sym (take_more journal i d inside) in
+        record {
+          made = core_more roots (past_of older) kept.entry old new so.made made (ap bare here) ∙ ap (λ (p : List Entry). let s : State = (roots, p) in s) (sym (past_push older kept) ∙ ap past_of more);
+          right = subst (AreRight roots) more (right_push older kept so.right here);
+        }
+
+    pub first_wrong : (i : ℕ) (d : Noted) (old : State) (other : Noted) → i < length journal → IsSoFar roots journal i old → TellsOtherNoted (noted_for old (get_or journal i d)) (get_or journal i d) (Some other) → IsFirstWrong roots journal i other
+    first_wrong i d old other inside so tells =
+        let kept = get_or journal i d in
+        record {
+          older = take i journal;
+          kept = kept;
+          newer = drop (i + 1) journal;
+          whole = split_at journal i d inside;
+          at = sym (length-take-le i journal (omega (arith, inside)));
+          right = so.right;
+          answer = tells.0 ∙ ap (λ (s : State). noted_for s kept) so.made;
+          wrong = λ same. tells.1 (sym tells.0 ∙ same);
+        }
+
+    pub so_far_all : (i : ℕ) (core : State) → length journal ≤ i → IsSoFar roots journal i core → AreRight roots journal
+    so_far_all i core done so = subst (AreRight roots) (take_all i journal done) so.right
+
+    pub valid_is : (verdict : NotedVerdict) → JudgesNoted roots journal verdict → (verdict ≡ Valid) ↔ AreRight roots journal
+    valid_is Valid right = (λ _. right, λ _. refl)
+    valid_is (Wrong place expected) w =
+        (λ e. absurd (let z : ⊥ = cc in z), λ right. absurd (w.wrong (w.answer ∙ right_at journal w.older w.newer w.kept right w.whole)))

@@ -1,0 +1,10 @@
+//! Whether a kept journal is what the rules give.
+#![tactic(auto)]
+
+mod noted;
+mod plain;
+#[cfg(test)]
+mod tests;
+
+pub use noted::{NotedVerdict, check_noted};
+pub use plain::{Verdict, check};

@@ -1,0 +1,76 @@
+-- A purge, as far as it has come.
+use Rattle.std.proofs.Common.{◌≡◌, Bool, true, false, ℕ, List, [], ◌∷◌, ◌++◌, ◌+◌, ◌<◌, ◌≤◌, Option, Some, None, length, take, drop, get_or, reverse, refl, ap, sym, subst, ◌∙◌}
+use Rattle.std.proofs.lemmas.List.{drop_more, reverse-append, take_all, take-append-drop}
+use Rattle.df_label.specs.declared.label.Label.{Label}
+use Rattle.df_machine.specs.Journal.{State, firsts}
+use Rattle.df_rules.proofs.Exercised.{exercised}
+use Rattle.df_rules.proofs.Places.{legal_at, legal_before}
+use Rattle.df_rules.proofs.PurgeKeeps.{purge_keeps, purge_legal}
+use Rattle.df_rules.proofs.ReleaseLaws.{row_release_laws}
+use Rattle.df_rules.proofs.RowLaws.{row_laws}
+use Rattle.df_rules.specs.Commits.{commit_of}
+use Rattle.df_rules.specs.Legal.{Legal}
+use Rattle.df_rules.specs.Purge.{Keeps, echo, emitted, left_of, purge, stays}
+use Rattle.df_rules.specs.Start.{roots, rows}
+use Rattle.df_start.specs.Begun.{begun}
+use Rattle.df_start.specs.declared.start.RootStart.{RootStart}
+use Rattle.df_unit.specs.declared.commit.Commit.{Commit}
+use Rattle.df_unit.specs.declared.entry.Entry.{Entry}
+use Rattle.df_unit.specs.declared.entry.Entry.TheVariants.{Done}
+use Rattle.std.specs.Prelude.{map}
+use Rattle.df_replay.proofs.Replayed.{core_more, reversed_more}
+use Rattle.df_replay.proofs.Right.{right_is}
+use Rattle.df_replay.specs.Replay.{entry_for, replayed}
+use Rattle.df_purge.specs.Purged.{EmitsByPrivileges}
+
+-- the machine's journal is what was kept so far, and what stays of it stands there
+pub record IsSoFar (begin : List RootStart) (label : Label) (journal : List Entry) (i : ℕ) (core : State) (left : List Entry) : Type 0 where
+  pub made : core ≡ (begin, reverse (take i journal))
+  pub purged : reverse left ≡ purge rows (firsts begin) label (reverse (take i journal))
+
+-- of an entry at most one stays
+emitted_reversed : (c : Option Commit) → reverse (emitted c) ≡ emitted c
+emitted_reversed None = refl
+emitted_reversed (Some c) = refl
+
+left_reversed : (label : Label) (stays : Bool) (e : Entry) → reverse (left_of label stays e) ≡ left_of label stays e
+left_reversed label true e = refl
+left_reversed label false e = emitted_reversed (echo label (commit_of e))
+
+module _ (begin : List RootStart) (label : Label) (journal : List Entry) where
+  -- an entry of a legal journal is the one that the rules give
+  pub right_here : Legal rows (firsts begin) (reverse journal) → (i : ℕ) (d : Entry) → i < length journal → entry_for (begin, reverse (take i journal)) (get_or journal i d) ≡ get_or journal i d
+  right_here legal i d inside =
+      right_is begin (reverse (take i journal)) (get_or journal i d)
+      (legal_at rows (firsts begin) journal legal (take i journal) (drop (i + 1) journal) (get_or journal i d)
+      (sym (take-append-drop i journal) ∙ ap (λ (l : List Entry). take i journal ++ l) (drop_more journal i d inside)))
+
+  pub so_far_more : Legal rows (firsts begin) (reverse journal) → (i : ℕ) (d : Entry) (old new : State) (before now : List Entry) → i < length journal → IsSoFar begin label journal i old before → now ≡ before ++ left_of label (stays rows (firsts old.0) label old.1 (get_or journal i d)) (get_or journal i d) → new ≡ replayed old (get_or journal i d) → IsSoFar begin label journal (i + 1) new now
+  so_far_more legal i d old new before now inside so pushed made =
+      let past = reverse (take i journal) in
+      let kept = get_or journal i d in
+      let more = sym (reversed_more journal i d inside) in
+      let stay = stays rows (firsts begin) label past kept in
+      record {
+        made = core_more begin past kept old new so.made made (right_here legal i d inside) ∙ ap (λ (p : List Entry). let s : State = (begin, p) in s) more;
+        purged =
+            ap (reverse {A = Entry}) (pushed ∙ ap (λ (s : State). before ++ left_of label (stays rows (firsts s.0) label s.1 kept) kept) so.made)
+            ∙ reverse-append before (left_of label stay kept)
+            ∙ ap (λ (l : List Entry). l ++ reverse before) (left_reversed label stay kept)
+            ∙ ap (λ (l : List Entry). left_of label stay kept ++ l) so.purged
+            ∙ ap (purge rows (firsts begin) label) more;
+      }
+
+  pub so_far_all : (i : ℕ) (core : State) (left : List Entry) → length journal ≤ i → IsSoFar begin label journal i core left → reverse left ≡ purge rows (firsts begin) label (reverse journal)
+  so_far_all i core left done so = so.purged ∙ ap (λ (j : List Entry). purge rows (firsts begin) label (reverse j)) (take_all i journal done)
+
+  module _ (left : List Entry) (same : reverse left ≡ purge rows (firsts begin) label (reverse journal)) where
+    pub left_legal : Legal rows (firsts begin) (reverse journal) → Legal rows (firsts begin) (reverse left)
+    left_legal legal = subst (Legal rows (firsts begin)) (sym same) (purge_legal rows (firsts begin) (row_laws (map begun begin)) label (reverse journal) legal)
+
+    pub left_keeps : Keeps rows (firsts begin) label (reverse journal) (reverse left)
+    left_keeps = subst (Keeps rows (firsts begin) label (reverse journal)) (sym same) (purge_keeps rows (firsts begin) (row_laws (map begun begin)) label (reverse journal))
+
+  pub by_privileges : Legal rows (firsts begin) (reverse journal) → EmitsByPrivileges (firsts begin) label (reverse journal)
+  by_privileges legal newer older u call r f k same h =
+      exercised rows (firsts begin) (row_laws (map begun begin)) (row_release_laws (map begun begin)) label older u call r f k (legal_before rows (firsts begin) (reverse journal) legal newer (Done u call r f ∷ older) same) h

@@ -1,0 +1,6 @@
+//! The contaminations that go with the entries of a kept journal.
+#![tactic(auto)]
+
+mod notes;
+
+pub use notes::note;
