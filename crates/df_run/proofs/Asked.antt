@@ -5,6 +5,3 @@ use Rattle.df_words.specs.declared.command.Command.{Command}
 
 pub asks : (words : List (List ℕ)) (command : Command) → IsCommandOf words (Ok command) → Ask words command
 asks words command read = (read command).0 refl
-
-pub is_asked : (words : List (List ℕ)) (command c : Command) → IsCommandOf words (Ok command) → Ask words c → command ≡ c
-is_asked words command c read ask = (read c).1 ask

@@ -95,10 +95,6 @@ one_wrong (Gen key n) bytes p q v w = absurd v
 
 -- ---- statuses where all was written
 
-abbrev pub status_of : End → Status
-status_of end.Done = status.Done
-status_of (end.Wrong place) = status.Wrong place
-
 text_is_input : (c : Command) (bytes : List ℕ) (e : End) (text : List ℕ) → IsText c bytes e text → IsInput c bytes
 text_is_input c bytes end.Done text h = right_is_input c bytes (output_right c bytes text h)
 text_is_input c bytes (end.Wrong place) text h = wrong_is_input c bytes place (report_wrong c bytes place text h)
