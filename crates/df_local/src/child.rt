@@ -8,6 +8,7 @@ ghost use Rattle.df_local.specs.Births.{child_at};
 ghost use Rattle.df_local.specs.Locally.{with_own};
 
 use crate::Local;
+use crate::labels::contaminated;
 use df_label::{Label, NoMemory};
 use df_priv::Held;
 use df_unit::{Path, UnitName};
@@ -42,7 +43,7 @@ impl Local {
             unreachable!()
         };
         let path = path_with(self.alloc, path, number)?;
-        let contamination = self.contamination.join(&input)?;
+        let contamination = contaminated(&self.contamination, &input)?;
         let dropped = self.dropped.copy()?;
         let endorsed = self.endorsed.copy()?;
         Ok(Local {

@@ -6,6 +6,7 @@ ghost use Rattle.df_unit.specs.Beginnings.{fixed_of};
 ghost use Rattle.df_local.specs.Births.{IsAccounted, instance_at, record_of};
 
 use crate::Local;
+use crate::labels::contaminated;
 use crate::laws::tags_are_accounted_for;
 use df_filter::Filter;
 use df_label::{Label, NoMemory, TagSet};
@@ -85,7 +86,7 @@ impl Local {
         };
         let input = label_of(s, &fixed.input_integrity)?;
         let output = label_of(s, &fixed.output_integrity)?;
-        let contamination = fixed.contamination.join(&input)?;
+        let contamination = contaminated(&fixed.contamination, &input)?;
         let dropped = fixed.dropped.copy()?;
         let endorsed = fixed.endorsed.copy()?;
         let held = fixed.held.copy()?;

@@ -30,6 +30,13 @@ struct InChange {
     contamination: Label,
 }
 
+/// The contamination of a unit that has this one, once it reads at this input label.
+pub(crate) fn contaminated(contamination: &Label, input: &Label) -> Result<Label, NoMemory>
+    ensures { IfOk result (λ c. c ≡ join contamination.now input.now) }
+{
+    contamination.join(input)
+}
+
 impl Local {
     /// Changes the output label.
     pub fn change_out_label(&mut self, half: Half, act: Act, tag: &Tag) -> Result<Reply, NoMemory>
@@ -162,7 +169,7 @@ impl Local {
             (half_changed half act tag.now self.now.own.input)) }
     {
         let input = half_changed(half, act, tag, &self.input)?;
-        let contamination = self.contamination.join(&input)?;
+        let contamination = contaminated(&self.contamination, &input)?;
         Ok(InChange {
             input,
             contamination,

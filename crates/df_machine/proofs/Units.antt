@@ -7,8 +7,8 @@ use Rattle.df_rules.specs.Start.{rows}
 use Rattle.df_local.specs.code.LocalState.{LocalState}
 use Rattle.df_start.specs.Begun.{begun}
 use Rattle.df_start.specs.declared.start.RootStart.{RootStart}
+use Rattle.df_roll.specs.Roll.{names_in}
 use Rattle.df_tables.specs.Board.{IsBoard, TellsOf, managed_of}
-use Rattle.df_tables.specs.Roll.{names_in}
 use Rattle.df_tables.specs.Table.{find}
 use Rattle.df_tables.specs.declared.board.Board.{Board}
 use Rattle.df_tables.specs.declared.units.Unit.{Unit}

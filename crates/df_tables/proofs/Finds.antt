@@ -6,9 +6,9 @@ use Rattle.df_unit.specs.UnitOrder.{unit_cmp}
 use Rattle.df_unit.specs.UnitOrderLaws.{unit_cmp_ties}
 use Rattle.df_unit.specs.declared.name.UnitName.{UnitName}
 use Rattle.df_unit.proofs.SameFacts.{same_name-exact, same_name_decides}
-use Rattle.df_tables.specs.Roll.{names_in, seat_of}
+use Rattle.df_roll.specs.Roll.{names_in, seat_of}
+use Rattle.df_roll.specs.declared.seat.Seat.{Seat}
 use Rattle.df_tables.specs.Table.{find, moved_at, place_of}
-use Rattle.df_tables.specs.declared.roll.Seat.{Seat}
 use Rattle.df_tables.specs.declared.units.Unit.{Unit}
 
 -- a seat is found exactly where the seats have the name

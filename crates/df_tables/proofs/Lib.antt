@@ -1,7 +1,6 @@
 pub mod Places
 pub mod Opened
 pub mod Finds
-pub mod Seating
 pub mod Newborn
 pub mod Order
 pub mod Search
@@ -35,3 +34,4 @@ pub mod Committed
 pub mod HandedOver
 pub mod Alike
 pub mod Swapped
+pub mod FirstRoll

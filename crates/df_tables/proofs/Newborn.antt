@@ -14,17 +14,17 @@ use Rattle.df_label.specs.declared.label.Label.{Label}
 use Rattle.df_unit.specs.Name.{same}
 use Rattle.df_unit.specs.declared.name.UnitName.{UnitName}
 use Rattle.df_unit.proofs.SameFacts.{same_name-exact, same_name_decides}
+use Rattle.df_roll.specs.Roll.{seat_of}
+use Rattle.df_roll.specs.declared.seat.Seat.{Seat}
 use Rattle.df_tables.specs.Agree.{AreApart, FilterIndex, IsWhole, ManagedState, is_marked, is_told, subscribed_at, subscriptions_at}
 use Rattle.df_tables.specs.Births.{if_new}
 use Rattle.df_tables.specs.Board.{IsBoard, IsRollOf}
 use Rattle.df_tables.specs.Events.{place_by}
 use Rattle.df_tables.specs.Hand.{IsCalm, modify}
 use Rattle.df_tables.specs.Labels.{AreLabels, inputs}
-use Rattle.df_tables.specs.Roll.{seat_of}
 use Rattle.df_tables.specs.Table.{find, place_of}
 use Rattle.df_tables.specs.declared.board.Board.{Board}
 use Rattle.df_tables.specs.declared.events.EventRow.{EventRow}
-use Rattle.df_tables.specs.declared.roll.Seat.{Seat}
 use Rattle.df_tables.specs.declared.units.Unit.{Unit}
 use Rattle.df_tables.proofs.Opened.{end_none, end_some}
 

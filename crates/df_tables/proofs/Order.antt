@@ -13,11 +13,11 @@ use Rattle.df_unit.specs.Name.{same}
 use Rattle.df_unit.specs.UnitOrder.{unit_cmp}
 use Rattle.df_unit.specs.declared.name.UnitName.{UnitName}
 use Rattle.df_unit.specs.declared.name.UnitName.TheVariants.{Root}
+use Rattle.df_roll.specs.Roll.{seat_of}
+use Rattle.df_roll.specs.declared.seat.Seat.{Seat}
 use Rattle.df_tables.specs.Agree.{AreApart}
 use Rattle.df_tables.specs.Board.{IsRollOf}
-use Rattle.df_tables.specs.Roll.{seat_of}
 use Rattle.df_tables.specs.Table.{IsInOrder, moved_at, names_of, place_of, rows_from}
-use Rattle.df_tables.specs.declared.roll.Seat.{Seat}
 use Rattle.df_tables.specs.declared.units.Unit.{Unit}
 use Rattle.df_tables.proofs.Seats.{place_of-names}
 

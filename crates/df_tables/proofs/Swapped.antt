@@ -5,11 +5,11 @@ use Rattle.df_local.specs.code.LocalState.{LocalState}
 use Rattle.df_unit.specs.Name.{same}
 use Rattle.df_unit.specs.declared.name.UnitName.{UnitName}
 use Rattle.df_unit.proofs.SameFacts.{same_name-exact}
+use Rattle.df_roll.specs.Roll.{RollState}
 use Rattle.df_tables.specs.Agree.{FilterIndex, IsWhole}
 use Rattle.df_tables.specs.Board.{IsBoard}
 use Rattle.df_tables.specs.Hand.{modify}
 use Rattle.df_tables.specs.Labels.{AreLabels, inputs}
-use Rattle.df_tables.specs.Roll.{RollState}
 use Rattle.df_tables.specs.Runs.{IsSwapped, ReadsAs, with_own}
 use Rattle.df_tables.specs.Table.{find, moved_at, names_of, place_of}
 use Rattle.df_tables.specs.declared.board.Board.{Board}

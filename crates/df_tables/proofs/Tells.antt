@@ -13,11 +13,11 @@ use Rattle.df_unit.specs.declared.entry.Effect.{Effect}
 use Rattle.df_unit.specs.declared.entry.Entry.{Entry}
 use Rattle.df_unit.specs.declared.name.UnitName.{UnitName}
 use Rattle.df_unit.specs.declared.reply.Reply.{Reply}
+use Rattle.df_roll.specs.Roll.{names_in}
+use Rattle.df_roll.specs.declared.seat.Seat.{Seat}
 use Rattle.df_tables.specs.Agree.{Agrees, FilterIndex, IsRow, IsSeat, ManagedState}
 use Rattle.df_tables.specs.Board.{IsRollOf}
-use Rattle.df_tables.specs.Roll.{names_in}
 use Rattle.df_tables.specs.Table.{find}
-use Rattle.df_tables.specs.declared.roll.Seat.{Seat}
 use Rattle.df_tables.specs.declared.events.EventRow.{EventRow}
 use Rattle.df_tables.specs.declared.units.Unit.{Unit}
 use Rattle.df_tables.proofs.Finds.{place_some, seat_some}

@@ -25,15 +25,15 @@ use Rattle.df_unit.specs.declared.name.EventName.{EventName}
 use Rattle.df_part.specs.Contents.{apply}
 use Rattle.df_unit.specs.declared.name.UnitName.{UnitName}
 use Rattle.df_unit.specs.declared.reply.Reply.{Reply}
+use Rattle.df_roll.specs.Roll.{seat_of}
+use Rattle.df_roll.specs.declared.seat.Seat.{Seat}
 use Rattle.df_tables.specs.Agree.{Agrees, AreWithin, IsWhole, ManagedState, enrols}
 use Rattle.df_tables.specs.Labels.{AreLabels, inputs}
 use Rattle.df_tables.specs.Events.{IsOpened, event_place}
 use Rattle.df_tables.specs.Hand.{IsNews, modify, with_news}
 use Rattle.df_tables.specs.Births.{all_new, child_row, if_new, rows_in}
 use Rattle.df_tables.specs.Calls.{AreCalled, places_by}
-use Rattle.df_tables.specs.Roll.{seat_of}
 use Rattle.df_tables.specs.Table.{find, moved_row, parts_of, place_of}
-use Rattle.df_tables.specs.declared.roll.Seat.{Seat}
 use Rattle.df_tables.specs.declared.board.Board.{Board}
 use Rattle.df_tables.specs.declared.commits.Ready.{Ready}
 use Rattle.df_tables.specs.declared.units.Unit.{Unit}

@@ -34,14 +34,18 @@ pair_of us handed event None t = []
 pair_of us handed event (Some m) t =
     pair_at handed event m.sub (place_of (Managed m.owner m.sub t) us)
 
--- the row of the instance of contamination t of the subscription, if there is one, where it has
--- none, with the event as its first delivery
+-- the row of the instance of contamination t of a subscription, with the event as its first
+-- delivery
+abbrev pub born_instance : EventName → List Part → ManagedSubscription → List (List ℕ) → Unit
+born_instance event after m t = instance_row m.owner m.sub (record_of m.fixed) t
+    (given_to event after (readable_at (record_of m.fixed) t) (0, m.sub))
+
+-- that row, where there is such a subscription and the instance has none
 abbrev pub birth_of : List Unit → EventName → List Part → Option ManagedSubscription →
     List (List ℕ) → List Unit
 birth_of us event after None t = []
 birth_of us event after (Some m) t = if is_none (place_of (Managed m.owner m.sub t) us)
-    then instance_row m.owner m.sub (record_of m.fixed) t
-    (given_to event after (readable_at (record_of m.fixed) t) (0, m.sub)) ∷ [] else []
+    then born_instance event after m t ∷ [] else []
 
 -- those of the instances that have a row and are to be handed the event
 abbrev pub pairs_by : List Unit → List ManagedSubscription → List (List ℕ) → ℕ → List Instance →

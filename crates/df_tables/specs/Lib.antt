@@ -7,6 +7,5 @@ pub mod Hand
 pub mod Labels
 pub mod Line
 pub mod Moves
-pub mod Roll
 pub mod Runs
 pub mod Table

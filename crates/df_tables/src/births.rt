@@ -11,10 +11,10 @@ ghost use Rattle.df_tables.specs.Hand.{IsAnsweredAt, modify};
 ghost use Rattle.df_tables.specs.Table.{moved_row};
 
 use crate::line::Line;
-use crate::roll::Roll;
 use crate::units::Unit;
 use df_label::{Label, NoMemory, Privileges, TagSet};
 use df_local::Local;
+use df_roll::Roll;
 use df_spawn::{ChildLabels, SpawnRefused, child_labels};
 use df_unit::UnitName;
 use std::alloc::Global;

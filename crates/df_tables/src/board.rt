@@ -12,7 +12,7 @@ ghost use Rattle.df_unit.specs.declared.reply.Reply.{Reply};
 ghost use Rattle.df_unit.specs.declared.reply.Reply.TheVariants.{Sub};
 ghost use Rattle.df_unit.specs.UnitOrder.{unit_cmp};
 ghost use Rattle.df_label.specs.Ascending.{IsAscending};
-ghost use Rattle.df_tables.specs.Roll.{names_in};
+ghost use Rattle.df_roll.specs.Roll.{names_in};
 ghost use Rattle.df_tables.specs.Births.{IsEnrolled, IsNewborn, beside_of, rows_in};
 ghost use Rattle.df_tables.specs.Board.{AreBorn, HasRoom, IsBoard, IsBooked, IsBornBoard, IsChildBoard, IsKept, IsMovedBoard, IsRenewed, TellsOf, answer_on};
 ghost use Rattle.df_tables.specs.Hand.{IsAnsweredAt, IsCalm};
@@ -24,13 +24,13 @@ use crate::births::{Beside, Newborn, beside_of, child_of, count_child, make_room
 use crate::events::Events;
 use crate::managing::subscribe_managed;
 use crate::moves::{move_at, subscribe};
-use crate::roll::Roll;
-use crate::units::{Unit, labels_of, refresh};
+use crate::units::{Unit, first_roll, labels_of, refresh};
 use df_filter::Filter;
 use df_index::Index;
 use df_instances::{Managed, Marks};
 use df_label::{Label, NoMemory, Privileges, TagSet};
 use df_local::Answer;
+use df_roll::Roll;
 use df_unit::{Call, Effect, Reply, UnitName};
 use std::alloc::Global;
 
@@ -100,7 +100,7 @@ impl Board {
             rows.items ≡ rows_from 0 starts → TellsOf starts [] b) }
     {
         let labels = labels_of(alloc, rows.as_slice())?;
-        let roll = Roll::of_ordered(alloc, rows.as_slice())?;
+        let roll = first_roll(alloc, rows.as_slice())?;
         Ok(Board {
             rows,
             roll,

@@ -6,12 +6,11 @@ ghost use Rattle.df_label.specs.TagSet.{is_subset};
 ghost use Rattle.df_instances.specs.Chosen.{HasBase};
 ghost use Rattle.df_local.specs.Births.{IsAccounted, record_of};
 ghost use Rattle.df_managed.specs.Contaminations.{EndsWith};
-ghost use Rattle.df_unit.specs.Beginnings.{readable_at};
 ghost use Rattle.df_unit.specs.declared.name.UnitName.TheVariants.{Managed as InstanceOf};
-ghost use Rattle.df_tables.specs.Births.{IsNewborn, instance_row, rows_in};
+ghost use Rattle.df_tables.specs.Births.{IsNewborn, rows_in};
 ghost use Rattle.df_tables.specs.Board.{IsBoard};
-ghost use Rattle.df_tables.specs.Calls.{AreCalled, birth_of, pair_of};
-ghost use Rattle.df_tables.specs.Hand.{IsCalm, given_to};
+ghost use Rattle.df_tables.specs.Calls.{AreCalled, birth_of, born_instance, pair_of};
+ghost use Rattle.df_tables.specs.Hand.{IsCalm};
 
 use crate::births::{Newborn, beside_of};
 use crate::board::Board;
@@ -60,9 +59,7 @@ pub(crate) fn born(
     requires owned { 0 < length subscription.now.owner }
     requires accounted { IsAccounted (record_of subscription.now.fixed) }
     requires base { is_subset subscription.now.fixed.base s.now ≡ true }
-    ensures { IfOk result (λ u. u ≡ instance_row subscription.now.owner subscription.now.sub
-        (record_of subscription.now.fixed) s.now (given_to event.now after.now
-        (readable_at (record_of subscription.now.fixed) s.now) (0, subscription.now.sub))) }
+    ensures { IfOk result (λ u. u ≡ born_instance event.now after.now subscription.now s.now) }
 {
     let (owner, sub) = (subscription.owner.as_slice(), subscription.sub);
     let local = Local::of_instance(alloc, owner, sub, &subscription.fixed, s)?;
@@ -86,6 +83,28 @@ fn add_row(to: &mut Vec<Newborn>, row: Unit) -> Result<(), NoMemory>
 }
 
 impl Board {
+    /// Makes the row of the instance of contamination `s` of a subscription, which has none, with
+    /// an event as its first delivery.
+    fn add_born(
+        &self,
+        subscription: &ManagedSubscription,
+        s: &TagSet,
+        event: &EventName,
+        after: &Contents,
+        to: &mut Vec<Newborn>,
+    ) -> Result<(), NoMemory>
+        requires owned { 0 < length subscription.now.owner }
+        requires accounted { IsAccounted (record_of subscription.now.fixed) }
+        requires base { is_subset subscription.now.fixed.base s.now ≡ true }
+        requires newborn { All IsNewborn to.old.items }
+        ensures newborn { OnOk result (All IsNewborn to.new.items) }
+        ensures rows { OnOk result (rows_in to.new.items ≡ rows_in to.old.items
+            ++ born_instance event.now after.now subscription.now s.now ∷ []) }
+    {
+        let row = born(self.alloc, subscription, s, event, after)?;
+        add_row(to, row)
+    }
+
     /// Calls an instance, which is handed the event unless it was before.
     fn call_one(
         &self,
@@ -110,8 +129,8 @@ impl Board {
         let name = name_of(subscription, &instance.s)?;
         match self.roll.place(&name) {
             None => {
-                let row = born(self.alloc, subscription, &instance.s, &commit.event, after)?;
-                add_row(&mut called.born, row)?;
+                let (s, event) = (&instance.s, &commit.event);
+                self.add_born(subscription, s, event, after, &mut called.born)?;
             }
             Some(place) => {
                 if !self.marks.was_handed(event, place) {

@@ -11,14 +11,12 @@ mod handing;
 mod line;
 mod managing;
 mod moves;
-mod roll;
 mod runs;
 mod units;
 
 pub use board::Board;
 pub use events::{EventRow, Events};
 pub use line::Line;
-pub use roll::{Roll, Seat};
 pub use units::{Unit, first_unit};
 
 #[cfg(test)]

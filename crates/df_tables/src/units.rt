@@ -2,12 +2,15 @@
 
 ghost use Rattle.std.specs.Prelude.{◌≡◌, ◌<◌, Some, length, IfOk, IfSome, OnOk, OnErr, option_copied};
 ghost use Rattle.df_unit.specs.UnitOrder.{unit_cmp};
+ghost use Rattle.df_unit.specs.declared.name.UnitName.{UnitName};
+ghost use Rattle.df_roll.specs.Roll.{seat_of};
 ghost use Rattle.df_tables.specs.Labels.{AreLabels, inputs};
 ghost use Rattle.df_tables.specs.Table.{IsInOrder, find, first_row, place_of};
 
 use crate::line::Line;
 use df_label::{Label, NoMemory, Privileges};
 use df_local::Local;
+use df_roll::Roll;
 use df_unit::UnitName;
 use std::alloc::Global;
 use std::cmp::Ordering;
@@ -32,6 +35,19 @@ pub fn first_unit(
         local: Local::of_root(alloc, number, label, privileges)?,
         line: Line::new(alloc),
     })
+}
+
+/// The places of rows.
+pub fn first_roll(alloc: Global, units: &[Unit]) -> Result<Roll, NoMemory>
+    ensures { IfOk result (λ r. (n : UnitName) → seat_of n r.seats ≡ place_of n units.now) }
+{
+    let mut roll = Roll::new(alloc);
+    for (place, unit) in units.iter().enumerate() {
+        let name = unit.local.name().copy()?;
+        roll.reserve(1)?;
+        roll.seat(name, place);
+    }
+    Ok(roll)
 }
 
 /// The labels at which units read.

@@ -1,6 +1,6 @@
 use Rattle.std.proofs.Common.{List, reverse, ap, subst, ◌∙◌}
 use Rattle.std.specs.Prelude.{slice_get}
-use Rattle.df_tables.specs.Roll.{names_in}
+use Rattle.df_roll.specs.Roll.{names_in}
 use Rattle.df_unit.specs.declared.name.UnitName.{UnitName}
 use Rattle.df_machine.specs.Journal.{IsRoll, State}
 use Rattle.df_machine.proofs.Units.{roll_is, roll_of}

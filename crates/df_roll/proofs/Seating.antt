@@ -1,10 +1,11 @@
 -- What a binary search of the seats tells, and one more seat.
-use Rattle.std.proofs.Common.{◌≡◌, ℕ, zero, suc, ◌<◌, ◌≤◌, Bool, true, false, if◌then◌else◌, List, [], ◌∷◌, ◌++◌, drop, get_or, length, Option, Some, None, option_map, ◌+◌, Result, Ok, Err, IfOk, IfErr, refl, ap, sym, subst, ◌∙◌, arith}
+use Rattle.std.proofs.Common.{◌≡◌, ℕ, zero, suc, ◌<◌, ◌≤◌, Bool, true, false, if◌then◌else◌, List, [], ◌∷◌, get_or, length, Option, Some, None, Result, Ok, Err, IfOk, IfErr, refl, ap, sym, subst, ◌∙◌, arith}
 use Rattle.std.proofs.Math.ListN.{get_or-map}
-use Rattle.std.proofs.lemmas.List.{append-nil, drop_all, length-map}
+use Rattle.std.proofs.lemmas.List.{length-map}
 use Rattle.std.specs.List.{insert}
 use Rattle.std.specs.List.Sorted.{IsBinarySearchResult, IsNonDecreasingBy, IsPartitionPoint, IsSearchInRange}
 use Rattle.std.specs.Option.{option_or}
+use Rattle.std.specs.Prelude.{is_some}
 use Rattle.std.specs.Ordering.{is_eq, ordering_index}
 use Rattle.std.specs.declared.cmp.Ordering.TheVariants.{Less, Equal, Greater}
 use Rattle.df_label.proofs.PlaceFacts.{non_decreasing, searched_ascending}
@@ -15,15 +16,13 @@ use Rattle.df_unit.specs.UnitOrderLaws.{unit_cmp_ties}
 use Rattle.df_unit.specs.declared.name.UnitName.{UnitName}
 use Rattle.df_unit.proofs.OrderFacts.{unit_cmp_exact}
 use Rattle.df_unit.proofs.SameFacts.{same_name-exact}
-use Rattle.df_tables.specs.Roll.{names_in, seat_of}
-use Rattle.df_tables.specs.Table.{names_of, place_of}
-use Rattle.df_tables.specs.declared.units.Unit.{Unit}
-use Rattle.df_tables.specs.declared.roll.Seat.{Seat}
+use Rattle.df_roll.specs.Roll.{names_in, seat_of}
+use Rattle.df_roll.specs.declared.seat.Seat.{Seat}
 
 abbrev name : Seat → UnitName
 name s = s.unit
 
-below_at : (n : UnitName) (ss : List Seat) (k : ℕ) (d : Seat) → IsBelow unit_cmp n (names_in ss) → k < length ss → unit_cmp n (get_or ss k d).unit ≡ Less
+pub below_at : (n : UnitName) (ss : List Seat) (k : ℕ) (d : Seat) → IsBelow unit_cmp n (names_in ss) → k < length ss → unit_cmp n (get_or ss k d).unit ≡ Less
 below_at n [] k d b h = absurd (omega arith)
 below_at n (s ∷ ss) zero d b h = b.0
 below_at n (s ∷ ss) (suc k) d b h = below_at n ss k d b.1 (omega arith)
@@ -36,7 +35,7 @@ named_at (s ∷ ss) (suc k) n d h = named_at ss k n d (omega arith)
 
 module _ (a : UnitName) where
   -- comparisons with the unit rise along the seats
-  rises : (ss : List Seat) → IsAscending unit_cmp (names_in ss) → IsNonDecreasingBy (λ s. ordering_index (unit_cmp s.unit a)) ss
+  pub rises : (ss : List Seat) → IsAscending unit_cmp (names_in ss) → IsNonDecreasingBy (λ s. ordering_index (unit_cmp s.unit a)) ss
   rises ss order i j d h k =
       let below : j < length (names_in ss) = rw (length-map ss name) k in
       let at = non_decreasing unit_cmp unit_cmp_exact a (names_in ss) order i j d.unit h below in
@@ -115,33 +114,6 @@ names_in-insert ss zero s = refl
 names_in-insert [] (suc k) s = refl
 names_in-insert (t ∷ ss) (suc k) s = ap (λ (ns : List UnitName). t.unit ∷ ns) (names_in-insert ss k s)
 
--- the seats of rows that stand in order
-
--- the seats of the rows, the first of which has the place k
-abbrev pub seats_from : ℕ → List Unit → List Seat
-seats_from k [] = []
-seats_from k (u ∷ us) = record { unit = u.local.unit; place = k } ∷ seats_from (k + 1) us
-
-pub names_in-seats : (k : ℕ) (us : List Unit) → names_in (seats_from k us) ≡ names_of us
-names_in-seats k [] = refl
-names_in-seats k (u ∷ us) = ap (λ (ns : List UnitName). u.local.unit ∷ ns) (names_in-seats (k + 1) us)
-
-seat_of-seats : (n : UnitName) (k : ℕ) (us : List Unit) → seat_of n (seats_from k us) ≡ option_map (λ j. k + j) (place_of n us)
-seat_of-seats n k [] = refl
-seat_of-seats n k (u ∷ us) = ap (λ (o : Option ℕ). if same u.local.unit n then Some k else o) (seat_of-seats n (k + 1) us) ∙ by (same u.local.unit n) (place_of n us)
-  where
-    by : (b : Bool) (o : Option ℕ) → (if b then Some k else option_map (λ j. k + 1 + j) o) ≡ option_map (λ j. k + j) (if b then Some 0 else option_map suc o)
-    by true o = ap Some (omega arith)
-    by false None = refl
-    by false (Some j) = ap Some (omega arith)
-
-pub seat_of-first : (n : UnitName) (us : List Unit) → seat_of n (seats_from 0 us) ≡ place_of n us
-seat_of-first n us = seat_of-seats n 0 us ∙ by (place_of n us)
-  where
-    by : (o : Option ℕ) → option_map (λ j. 0 + j) o ≡ o
-    by None = refl
-    by (Some j) = ap Some (omega arith)
-
 -- what a search of the seats tells
 pub record Searched (a : UnitName) (ss : List Seat) (r : Result ℕ ℕ) : Type 0 where
   pub found : IfOk r (λ k. (d : Seat) → seat_of a ss ≡ Some (get_or ss k d).place)
@@ -152,20 +124,18 @@ pub searched : (a : UnitName) (ss : List Seat) → IsAscending unit_cmp (names_i
 searched a ss order (Ok k) h p = record { found = λ d. found a ss order k d h p; absent = tt; between = tt }
 searched a ss order (Err k) h p = record { found = tt; absent = absent a ss order k p h; between = between a ss order k p h }
 
--- when each row has its seat, the seats are those of all rows
-pub seats_all : (ss : List Seat) (k : ℕ) (us : List Unit) → length us ≤ k → ss ++ seats_from k (drop k us) ≡ seats_from 0 us → ss ≡ seats_from 0 us
-seats_all ss k us h e = sym (ap (λ (l : List Unit). ss ++ seats_from k l) (drop_all k us h) ∙ append-nil ss) ∙ e
-
 -- a unit that has a seat keeps it
-pub held : (n a : UnitName) (ss : List Seat) (k j : ℕ) → seat_of a ss ≡ Some j → seat_of n ss ≡ option_or (seat_of n ss) (if same a n then Some k else None)
-held n a ss k j h = by (same a n) refl
+pub held : (n a : UnitName) (ss : List Seat) (k : ℕ) → is_some (seat_of a ss) ≡ true → seat_of n ss ≡ option_or (seat_of n ss) (if same a n then Some k else None)
+held n a ss k h = by (same a n) refl
   where
     alone : (o : Option ℕ) → o ≡ option_or o None
     alone None = refl
     alone (Some i) = refl
 
+    kept : (o : Option ℕ) → is_some o ≡ true → o ≡ option_or o (Some k)
+    kept None e = absurd (let z : ⊥ = cc in z)
+    kept (Some i) e = refl
+
     by : (b : Bool) → same a n ≡ b → seat_of n ss ≡ option_or (seat_of n ss) (if b then Some k else None)
-    by true e =
-        let is : seat_of n ss ≡ Some j = subst (λ (m : UnitName). seat_of m ss ≡ Some j) (same_name-exact a n e) h in
-        is ∙ ap (λ (o : Option ℕ). option_or o (Some k)) (sym is)
+    by true e = kept (seat_of n ss) (subst (λ (m : UnitName). is_some (seat_of m ss) ≡ true) (same_name-exact a n e) h)
     by false e = alone (seat_of n ss)

@@ -2,7 +2,7 @@
 use Rattle.std.specs.Prelude.{ℕ, if◌then◌else◌, List, [], ◌∷◌, Option, Some, None, map}
 use Rattle.df_unit.specs.Name.{same}
 use Rattle.df_unit.specs.declared.name.UnitName.{UnitName}
-use Rattle.df_tables.specs.declared.roll.Seat.{Seat}
+use Rattle.df_roll.specs.declared.seat.Seat.{Seat}
 
 -- the seats, and for how many more there is room
 pub record RollState : Type 0 where

@@ -1,9 +1,9 @@
 use Rattle.std.proofs.Common.{rules}
 use Rattle.std.proofs.lemmas.Fn.{always_returns_same}
 use Rattle.df_unit.specs.UnitOrder.{unit_cmp}
-use Rattle.df_tables.specs.declared.roll.Seat.{Seat}
-use Rattle.df_tables.proofs.Seating.{searched}
-use Rattle.df_tables.proofs.roll.seat_at.Goals as goal
+use Rattle.df_roll.specs.declared.seat.Seat.{Seat}
+use Rattle.df_roll.proofs.Seating.{searched}
+use Rattle.df_roll.proofs.seat.seat_at.Goals as goal
 
 pub returns-clause-found : goal.returns-clause-found
 returns-clause-found c =
