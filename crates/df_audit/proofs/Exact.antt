@@ -9,6 +9,7 @@ use Rattle.df_start.specs.declared.start.RootStart.{RootStart}
 use Rattle.df_unit.specs.declared.entry.Entry.{Entry}
 use Rattle.df_unit.specs.declared.entry.Noted.{Noted}
 use Rattle.df_replay.specs.Noted.{AreRight}
+use Rattle.df_check.proofs.Judged.{legal_not_wrong}
 use Rattle.df_check.proofs.JudgedNoted.{right_at}
 use Rattle.df_check.specs.Check as plain
 use Rattle.df_check.specs.CheckNoted as with_notes
@@ -51,9 +52,6 @@ module _ (roots : List RootStart) where
         | inr (inr before) ↦ absurd (right_before entries q e w before.0 v.older v.legal before.1)
       ]
 
-  pub plain_not_wrong : (entries : List Entry) (p : ℕ) (e : Entry) → Legal rows (firsts roots) (reverse entries) → plain.IsFirstWrong roots entries p e → ⊥
-  plain_not_wrong entries p e legal w = w.wrong (legal_at rows (firsts roots) entries legal w.older w.newer w.kept w.whole)
-
   noted_before : (notes : List Noted) (p : ℕ) (e : Noted) (w : with_notes.IsFirstWrong roots notes p e) (between older : List Noted) → AreRight roots older → older ≡ w.older ++ w.kept ∷ between → ⊥
   noted_before notes p e w between older right is = w.wrong (w.answer ∙ right_at roots older w.older between w.kept right is)
 
@@ -74,7 +72,7 @@ pub right_is_not_wrong : (bytes : List ℕ) (p : ℕ) (i j : Journal) → IsJour
 right_is_not_wrong bytes p (First r es) (First s ds) a b right wrong =
     let same = one_plain bytes r s es.items ds.items a b in
     let legal = subst (λ (x : List RootStart × List Entry). Legal rows (firsts x.0) (reverse x.1)) (ap (λ (x : List RootStart). (x, es.items)) same.0 ∙ ap (λ (x : List Entry). (s, x)) same.1) right in
-    plain_not_wrong s ds.items p wrong.0 legal wrong.1
+    legal_not_wrong s ds.items p wrong.0 legal wrong.1
 right_is_not_wrong bytes p (First r es) (Second s ns) a b right wrong = not_both bytes r s es.items ns.items a b
 right_is_not_wrong bytes p (Second r ns) (First s es) a b right wrong = not_both bytes s r es.items ns.items b a
 right_is_not_wrong bytes p (Second r ns) (Second s ms) a b right wrong =

@@ -10,14 +10,14 @@ ghost use Rattle.df_audit.specs.declared.audit.Finding.TheVariants.{Right, Wrong
 
 use crate::audit::{Audit, Finding};
 use crate::text::noted_text;
-use df_check::{NotedVerdict, Verdict, check, check_noted};
+use df_check::{NotedVerdict, check_noted};
 use df_journal_file::{Journal, read_either};
 use df_label::{Label, NoMemory};
 use df_lines::FileRefused;
 use df_purge::purge_noted;
 use df_start::Start;
 use df_unit::{Entry, Noted};
-use df_upgrade::note;
+use df_upgrade::{Judged, judge_and_note};
 use std::alloc::Global;
 
 /// A journal with the notes that are right, or its first wrong place.
@@ -85,21 +85,18 @@ fn right_notes(alloc: Global, journal: Journal) -> Result<Noting, NoMemory>
     ensures { IfOk result (IsNotedOf journal) }
 {
     match journal {
-        Journal::First { start, entries } => first_notes(alloc, start, entries.as_slice()),
+        Journal::First { start, entries } => first_notes(alloc, start, entries),
         Journal::Second { start, noted } => second_notes(alloc, start, noted),
     }
 }
 
 /// The notes of a journal in its first version, where it is right.
-fn first_notes(alloc: Global, start: Start, entries: &[Entry]) -> Result<Noting, NoMemory>
-    ensures { IfOk result (IsNotedOfFirst start entries.now) }
+fn first_notes(alloc: Global, start: Start, entries: Vec<Entry>) -> Result<Noting, NoMemory>
+    ensures { IfOk result (IsNotedOfFirst start entries.items) }
 {
-    match check(alloc, &start, entries)? {
-        Verdict::Valid => {
-            let notes = note(alloc, &start, entries)?;
-            Ok(Noting::Noted { start, notes })
-        }
-        Verdict::Wrong { place, .. } => Ok(Noting::Wrong { place }),
+    match judge_and_note(alloc, &start, entries)? {
+        Judged::Right { notes } => Ok(Noting::Noted { start, notes }),
+        Judged::Wrong { place, .. } => Ok(Noting::Wrong { place }),
     }
 }
 

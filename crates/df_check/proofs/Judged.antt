@@ -54,7 +54,10 @@ module _ (roots : List RootStart) (journal : List Entry) where
   pub so_far_all : (i : ℕ) (core : State) → length journal ≤ i → IsSoFar roots journal i core → Legal rows (firsts roots) (reverse journal)
   so_far_all i core done so = subst (λ (j : List Entry). Legal rows (firsts roots) (reverse j)) (take_all i journal done) so.legal
 
+  -- a legal journal has no wrong place
+  pub legal_not_wrong : (place : ℕ) (expected : Entry) → Legal rows (firsts roots) (reverse journal) → IsFirstWrong roots journal place expected → ⊥
+  legal_not_wrong place expected legal w = w.wrong (legal_at rows (firsts roots) journal legal w.older w.newer w.kept w.whole)
+
   pub valid_is : (verdict : Verdict) → Judges roots journal verdict → (verdict ≡ Valid) ↔ Legal rows (firsts roots) (reverse journal)
   valid_is Valid legal = (λ _. legal, λ _. refl)
-  valid_is (Wrong place expected) w =
-      (λ e. absurd (let z : ⊥ = cc in z), λ legal. absurd (w.wrong (legal_at rows (firsts roots) journal legal w.older w.newer w.kept w.whole)))
+  valid_is (Wrong place expected) w = (λ e. absurd (let z : ⊥ = cc in z), λ legal. absurd (legal_not_wrong place expected legal w))

@@ -36,7 +36,7 @@ in_the_middle (a ∷ xs) [] ms ns x y l e = absurd (omega arith)
 in_the_middle (a ∷ xs) (b ∷ ys) ms ns x y l e = in_the_middle xs ys ms ns x y (omega arith) (let t : xs ++ x ∷ ms ≡ ys ++ y ∷ ns = cc in t)
 
 module _ (roots : List RootStart) where
-  noted_length : (past : List Entry) → length (noted roots past) ≡ length past
+  pub noted_length : (past : List Entry) → length (noted roots past) ≡ length past
   noted_length [] = refl
   noted_length (e ∷ past) = omega (arith, length-append (noted roots past) (noted_in (roots, past) e ∷ []), noted_length past)
 

@@ -7,4 +7,4 @@ mod plain;
 mod tests;
 
 pub use noted::{NotedVerdict, check_noted};
-pub use plain::{Verdict, check};
+pub use plain::{Verdict, check, other_than};

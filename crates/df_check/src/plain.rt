@@ -39,7 +39,8 @@ pub fn check(alloc: Global, start: &Start, journal: &[Entry]) -> Result<Verdict,
 }
 
 /// Appends the entry that the rules give where a kept one stands, and gives it where it is another.
-fn other_than(core: &mut Core, kept: &Entry) -> Result<Option<Entry>, NoMemory>
+/// Where memory is wanting, it may have been appended.
+pub fn other_than(core: &mut Core, kept: &Entry) -> Result<Option<Entry>, NoMemory>
     ensures made { OnOk result (core.new ≡ replayed core.old kept.now) }
     ensures other { IfOk result (TellsOther (entry_for core.old kept.now) kept.now) }
 {

@@ -3,4 +3,4 @@
 
 mod notes;
 
-pub use notes::note;
+pub use notes::{Judged, judge_and_note, note};

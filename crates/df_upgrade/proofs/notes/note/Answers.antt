@@ -1,13 +1,14 @@
-use Rattle.std.proofs.Common.{◌≡◌, [], ◌∷◌, ◌++◌, subst}
+use Rattle.std.proofs.Common.{List, reverse, sym, subst}
+use Rattle.df_machine.specs.Journal.{firsts}
+use Rattle.df_rules.specs.Legal.{Legal}
+use Rattle.df_rules.specs.Start.{rows}
 use Rattle.df_unit.specs.declared.entry.Entry.{Entry}
-use Rattle.df_replay.specs.Noted.{noted_in}
-use Rattle.df_replay.specs.Replay.{replayed}
-use Rattle.df_upgrade.proofs.Kept.{so_far_more}
+use Rattle.df_check.proofs.Judged.{legal_not_wrong}
 use Rattle.df_upgrade.proofs.notes.note.Goals as goal
 
-pub loop-kept-preserved : goal.loop-kept-preserved
-loop-kept-preserved c =
-    let core = c.loop-kept.core in
-    let pushed = subst (λ (kept : Entry). c.push_noted.new.to.items ≡ c.loop-kept.notes.items ++ noted_in core kept ∷ []) c.kept-item.is c.in_ok-push_noted.ensures in
-    let made = subst (λ (kept : Entry). c.replay.new.core ≡ replayed core kept) c.kept-item.is c.in_ok-replay.ensures in
-    so_far_more c.args.start.now c.args.journal.now c.requires c.loop-kept.kept-index c.kept-item.result core c.replay.new.core c.loop-kept.notes.items c.push_noted.new.to.items c.loop-kept-test.true c.loop-kept.invariant pushed made
+pub unreachable-requires : goal.unreachable-requires
+unreachable-requires c =
+    let start = c.args.start.now in
+    let wrong = rw c.in-Wrong.is at c.in_ok-notes.ensures in
+    let legal = subst (λ (es : List Entry). Legal rows (firsts start) (reverse es)) (sym c.in_ok-entries.ensures) c.requires in
+    legal_not_wrong start c.in_ok-entries.entries.items c.in-Wrong.place c.in-Wrong.expected legal wrong
