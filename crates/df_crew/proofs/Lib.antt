@@ -1,0 +1,9 @@
+pub mod Entries
+pub mod Brained
+pub mod Acting
+pub mod LocalRuns
+pub mod Goings
+pub mod Keeping
+pub mod Minded
+pub mod Manning
+pub mod Resting

@@ -1,0 +1,67 @@
+-- The units of a roll, one after another, and when a crew is quiet.
+use Rattle.std.proofs.Common.{◌≡◌, ◌⊎◌, inl, inr, ℕ, zero, suc, ◌<◌, List, [], ◌∷◌, ◌++◌, Bool, true, false, ◌||◌, refl, sym, ◌∙◌, ap, subst, Option, Some, None, length, get_or, slice_get, is_eq, arith}
+use Rattle.std.specs.Prelude.{is_some}
+use Rattle.std.specs.Option.{option_map}
+use Rattle.std.proofs.lemmas.Bool.{or_cases}
+use Rattle.df_crew.specs.CrewState.{CrewState}
+use Rattle.df_crew.specs.Resting.{IsResting}
+use Rattle.df_label.specs.Ascending.{contains_by}
+use Rattle.df_label.proofs.SetFacts.{contains-itself}
+use Rattle.df_local.specs.code.LocalState.{LocalState}
+use Rattle.df_machine.specs.Journal.{IsRoll, State, firsts, local_of}
+use Rattle.df_rules.specs.Follows.{Brain, Quiet}
+use Rattle.df_rules.specs.Own.{exists, own}
+use Rattle.df_rules.specs.Start.{rows}
+use Rattle.df_unit.proofs.OrderFacts.{unit_cmp_exact}
+use Rattle.df_unit.proofs.SameFacts.{same_name-exact}
+use Rattle.df_unit.specs.OwnState.{OwnState}
+use Rattle.df_unit.specs.UnitOrder.{unit_cmp}
+use Rattle.df_unit.specs.UnitOrderLaws.{unit_cmp_ties}
+use Rattle.df_unit.specs.declared.name.UnitName.{UnitName}
+
+-- what follows a beginning of a list, and the beginning with it
+pub next_named : {A : Type 0} (xs rest : List A) (x : A) → slice_get (xs ++ rest) (length xs) ≡ Some x → (later : List A) × (xs ++ rest ≡ (xs ++ x ∷ []) ++ later)
+next_named [] [] x h = absurd (let z : ⊥ = cc in z)
+next_named [] (y ∷ rest) x h = (rest, (let z : y ≡ x = cc in ap (λ (v : _). v ∷ rest) z))
+next_named (y ∷ xs) rest x h = let n = next_named xs rest x h in (n.0, ap (λ (l : List _). y ∷ l) n.1)
+
+-- a beginning behind which nothing follows is the whole list
+pub all_named : {A : Type 0} (xs rest : List A) → slice_get (xs ++ rest) (length xs) ≡ None → xs ++ rest ≡ xs
+all_named [] [] h = refl
+all_named [] (y ∷ rest) h = absurd (let z : ⊥ = cc in z)
+all_named (y ∷ xs) rest h = ap (λ (l : List _). y ∷ l) (all_named xs rest h)
+
+-- a name at a place is one of the names
+named : (names : List UnitName) (k : ℕ) (d : UnitName) → k < length names → contains_by unit_cmp names (get_or names k d) ≡ true
+named [] k d h = absurd (let z : ⊥ = omega arith in z)
+named (v ∷ names) zero d h = contains-itself unit_cmp unit_cmp_exact v names
+named (v ∷ names) (suc k) d h = by _ _ (named names k d (let z : k < length names = omega arith in z))
+  where
+    by : (b c : Bool) → c ≡ true → (b || c) ≡ true
+    by true c e = refl
+    by false c e = e
+
+-- what is one of the names stands at a place
+placed : (names : List UnitName) (u : UnitName) → contains_by unit_cmp names u ≡ true → (k : ℕ) × (k < length names) × (get_or names k u ≡ u)
+placed [] u h = absurd (let z : ⊥ = cc in z)
+placed (v ∷ names) u h = go (or_cases _ _ h) (λ there. placed names u there)
+  where
+    go : ((is_eq (unit_cmp v u) ≡ true) ⊎ (contains_by unit_cmp names u ≡ true)) → (contains_by unit_cmp names u ≡ true → (k : ℕ) × (k < length names) × (get_or names k u ≡ u)) →
+        (k : ℕ) × (k < length (v ∷ names)) × (get_or (v ∷ names) k u ≡ u)
+    go (inl e) ih = (0, (let z : 0 < length (v ∷ names) = omega arith in z), same_name-exact v u (unit_cmp_ties v u ∙ e))
+    go (inr there) ih = let p = ih there in (suc p.0, (let y : p.0 < length names = p.1 in let z : suc p.0 < length (v ∷ names) = omega arith in z), p.2)
+
+-- who is named in a roll exists
+pub exists_named : (core : State) (names : List UnitName) → IsRoll core names → (k : ℕ) (d : UnitName) → k < length names → is_some (local_of core (get_or names k d)) ≡ true
+exists_named core names roll k d h = by (own rows (firsts core.0) core.1 (get_or names k d)) (sym (roll.units (get_or names k d)) ∙ named names k d h)
+  where
+    by : (o : Option OwnState) → is_some o ≡ true → is_some (option_map (λ (st : OwnState). let x : LocalState = record { unit = get_or names k d; own = st } in x) o) ≡ true
+    by None e = absurd (let z : ⊥ = cc in z)
+    by (Some st) e = refl
+
+-- where each unit of a roll is at rest, all is quiet
+pub quiet_by : {B : Type 0} (brain : Brain B) (crew : CrewState B) (names : List UnitName) → IsRoll crew.core names → ((k : ℕ) (d : UnitName) → k < length names → IsResting brain crew (get_or names k d)) →
+    Quiet brain rows (firsts crew.core.0) crew.brains crew.core.1
+quiet_by brain crew names roll rest = λ u st here.
+    let p = placed names u (roll.units u ∙ ap is_some here) in
+    subst (λ (v : UnitName). IsResting brain crew v) p.2 (rest p.0 u p.1) st here

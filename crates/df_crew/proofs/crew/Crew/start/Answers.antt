@@ -1,0 +1,13 @@
+use Rattle.std.proofs.Common.{sym, subst}
+use Rattle.df_crew.specs.Manned.{IsManned}
+use Rattle.df_crew.proofs.Minded.{manned_start}
+use Rattle.df_crew.proofs.crew.Crew.start.Goals as goal
+use Rattle.df_machine.specs.Journal.{State}
+use Rattle.df_rules.specs.Follows.{brain_of}
+
+pub invariant_of-result : goal.invariant_of-result
+invariant_of-result g c =
+    let brain = brain_of g.B.StepFunction.next g.B.StepFunction.instance in
+    let bs = c.args.brains.items in
+    subst (λ (k : State). IsManned brain bs c.new-minds.result c.new-seeds.result k) (sym c.in_ok-core.ensures)
+    (manned_start brain c.args.start bs c.new-minds.result c.new-seeds.result c.requires c.new-minds.ensures)

@@ -1,0 +1,4 @@
+pub mod Kept
+pub mod Going
+pub mod Seeding
+pub mod Renewal

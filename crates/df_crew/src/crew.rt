@@ -1,0 +1,337 @@
+//! A crew: a machine whose units have brains.
+
+ghost use Rattle.std.specs.Prelude.{◌≡◌, ◌↔◌, ◌+◌, [], length, Err, IfErr, IfOk, IsTrue, None, OnErr, OnOk, Some, is_some, option_copied, true, List};
+ghost use Rattle.std.specs.Option.{option_map};
+ghost use Rattle.df_machine.specs.Journal.{IsRoll, firsts, local_of};
+ghost use Rattle.df_rules.specs.Follows.{Quiet, began_with, brain_of, root_began};
+ghost use Rattle.df_crew.specs.Manned.{seed_name};
+ghost use Rattle.df_crew.specs.declared.crew.BeginRefused.TheVariants.{NoSuchUnit};
+ghost use Rattle.df_crew.specs.Booking.{IsCurrent, IsRefused, booked};
+ghost use Rattle.df_crew.specs.CrewState.{mind_in, pair_of};
+ghost use Rattle.df_crew.specs.Resting.{IsResting};
+ghost use Rattle.df_crew.specs.Turns.{turned};
+ghost use Rattle.df_unit.specs.declared.name.UnitName.{UnitName};
+ghost use Rattle.df_rules.specs.Start.{rows};
+
+use crate::going::Going;
+use crate::kept::Kept;
+use crate::mind::Mind;
+use crate::renewal::book_kept;
+use crate::turn::Turn;
+use df_brain::{Brain, Last};
+use df_label::{NoMemory, TagSet};
+use df_local::Local;
+use df_local_run::LocalRun;
+use df_machine::Core;
+use df_start::Start;
+use df_unit::{Path, UnitName};
+use std::alloc::Global;
+use std::marker::Model;
+
+/// Why no turn was begun.
+#[derive(Clone, Copy, Debug, PartialEq, Eq)]
+pub enum BeginRefused {
+    NoSuchUnit,
+    NoMemory,
+}
+
+/// Why a turn was not booked.
+#[derive(Clone, Copy, Debug, PartialEq, Eq)]
+pub enum TurnCause {
+    /// The unit doesn't exist, or its own state or its brain is not as the turn began.
+    Stale,
+    NoMemory,
+}
+
+/// A turn that was not booked. Nothing has changed.
+#[derive(Drop)]
+pub struct NotTurned<B: Brain> {
+    pub turn: Turn<B>,
+    pub cause: TurnCause,
+}
+
+/// A machine whose units have brains. A contract sees it as the machine's start and journal, and
+/// the brains with which the roots began.
+#[derive(Drop)]
+pub struct Crew<B: Brain> {
+    core: Core,
+    brains: Vec<B>,
+    minds: Kept<Mind<B>>,
+    seeds: Kept<B>,
+    alloc: Global,
+}
+
+impl<B: Brain> Model for Crew<B> {
+    ghost use Rattle.df_crew.specs.CrewState.{CrewState, crew_code};
+    ghost use Rattle.df_crew.specs.Manned.{IsManned};
+    ghost use Rattle.df_rules.specs.Follows.{brain_of};
+
+    ghost Value = { CrewState B };
+
+    ghost coded = { crew_code B.code };
+
+    ghost view = { λ c. record { core = c.core; brains = c.brains.items } };
+
+    ghost invariant = { λ c. IsManned (brain_of B.next B.instance) c.brains.items c.minds c.seeds
+        c.core };
+}
+
+/// The name under which the brain of a subscription's instances is kept.
+pub(crate) fn seed_name(alloc: Global, owner: &Path, sub: u32) -> Result<UnitName, NoMemory>
+    ensures { IfOk result (λ name. name ≡ seed_name owner.now sub) }
+{
+    Ok(UnitName::Managed {
+        owner: owner.copy()?,
+        sub,
+        s: TagSet::new(alloc),
+    })
+}
+
+/// The state with which a root's brain began.
+fn root_state<'a, B: Brain>(brains: &'a [B], path: &Path) -> Option<&'a B>
+    ensures { option_copied result ≡ root_began brains.now path.now }
+{
+    match path.as_slice() {
+        [number] => brains.get(*number as usize),
+        _ => None,
+    }
+}
+
+impl<B: Brain> Crew<B> {
+    ghost use Rattle.df_crew.specs.Locally.{IsBegun};
+    ghost use Rattle.df_crew.specs.Manned.{IsFollowed};
+
+    /// A crew whose journal is empty, with a brain for each root.
+    pub fn start(alloc: Global, start: Start, brains: Vec<B>) -> Result<Crew<B>, NoMemory>
+        requires { length brains.items ≡ length start }
+        ensures { IfOk result (λ c. c ≡ record { core = (start, []); brains = brains.items }) }
+    {
+        let core = Core::start(alloc, start)?;
+        let minds = Kept::new(alloc);
+        let seeds = Kept::new(alloc);
+        Ok(Crew {
+            core,
+            brains,
+            minds,
+            seeds,
+            alloc,
+        })
+    }
+
+    /// The machine. Its journal is legal, nothing was emitted into it, and each unit makes the
+    /// calls that its brain wants.
+    pub fn core(&self) -> &Core
+        ensures core { result.now ≡ self.now.core }
+        ensures followed { IsFollowed (brain_of B.next B.instance) self.now.brains self.now.core }
+    {
+        &self.core
+    }
+
+    /// The state with which a unit's brain began.
+    fn first_state(&self, unit: &UnitName) -> Result<Option<&B>, NoMemory>
+        requires { is_some (local_of self.now.core unit.now) ≡ true }
+        ensures { IfOk result (λ state. option_copied state
+            ≡ began_with (brain_of B.next B.instance) rows (firsts self.now.core.0)
+            self.now.brains self.now.core.1 unit.now) }
+    {
+        match unit {
+            UnitName::Root(path) => Ok(root_state(self.brains.as_slice(), path)),
+            UnitName::Managed { owner, sub, .. } => {
+                Ok(self.seeds.get(&seed_name(self.alloc, owner, *sub)?))
+            }
+        }
+    }
+
+    /// A unit's brain.
+    fn mind(&self, unit: &UnitName) -> Result<Mind<B>, NoMemory>
+        requires { is_some (local_of self.now.core unit.now) ≡ true }
+        ensures { IfOk result (λ m. mind_in (brain_of B.next B.instance) self.now.brains
+            self.now.core unit.now ≡ Some (pair_of m)) }
+    {
+        if let Some(mind) = self.minds.get(unit) {
+            return mind.copy();
+        }
+        let state = self.first_state(unit)?.unwrap();
+        Ok(Mind {
+            state: state.copy()?,
+            last: Last::Start,
+        })
+    }
+
+    /// Whether this is a unit's brain.
+    fn has_mind(&self, unit: &UnitName, mind: &Mind<B>) -> Result<bool, NoMemory>
+        requires { is_some (local_of self.now.core unit.now) ≡ true }
+        ensures { IfOk result (λ b. IsTrue b ↔ (mind_in (brain_of B.next B.instance)
+            self.now.brains self.now.core unit.now ≡ Some (pair_of mind.now))) }
+    {
+        if let Some(here) = self.minds.get(unit) {
+            return Ok(here.same(mind));
+        }
+        let state = self.first_state(unit)?.unwrap();
+        Ok(mind.is_first(state))
+    }
+
+    /// A turn of a unit. It costs two copies of the unit and of its brain.
+    pub fn begin(&self, unit: &UnitName) -> Result<Turn<B>, BeginRefused>
+        ensures begun { IfOk result (λ t. IsBegun (brain_of B.next B.instance) self.now.brains
+            self.now.core unit.now t) }
+        ensures absent { (result ≡ Err NoSuchUnit) ↔ (local_of self.now.core unit.now ≡ None) }
+    {
+        let Some(local) = self.core.local(unit) else {
+            return Err(BeginRefused::NoSuchUnit);
+        };
+        match self.turn_of(local, unit) {
+            Ok(turn) => Ok(turn),
+            Err(NoMemory) => Err(BeginRefused::NoMemory),
+        }
+    }
+
+    /// A turn of a unit that exists.
+    fn turn_of(&self, local: &Local, unit: &UnitName) -> Result<Turn<B>, NoMemory>
+        requires { local_of self.now.core unit.now ≡ Some local.now }
+        ensures { IfOk result (λ t. IsBegun (brain_of B.next B.instance) self.now.brains
+            self.now.core unit.now t) }
+    {
+        let run = LocalRun::begin(self.alloc, local)?;
+        let mind = self.mind(unit)?;
+        let base = mind.copy()?;
+        let going = Going {
+            run,
+            mind,
+            ahead: None,
+        };
+        Ok(Turn {
+            base,
+            going,
+            is_ready: false,
+        })
+    }
+
+    /// Whether the unit and its brain are as the turn began.
+    fn is_current(&self, turn: &Turn<B>) -> Result<bool, NoMemory>
+        ensures { IfOk result (λ b.
+            IsTrue b ↔ IsCurrent (brain_of B.next B.instance) turn.now self.now) }
+    {
+        let unit = turn.going.run.base();
+        let Some(local) = self.core.local(unit.name()) else {
+            return Ok(false);
+        };
+        if !local.same(unit) {
+            return Ok(false);
+        }
+        self.has_mind(unit.name(), &turn.base)
+    }
+
+    /// Books a turn that was advanced and is current, or gives it back where there is no memory.
+    fn book_ready(&mut self, turn: Turn<B>) -> Result<u64, Turn<B>>
+        requires ready { turn.is_ready ≡ true }
+        requires current { IsCurrent (brain_of B.next B.instance) turn self.old }
+        ensures ok { OnOk result (self.new
+            ≡ turned (brain_of B.next B.instance) turn.unit.unit self.old) }
+        ensures count { IfOk result (λ n. length self.new.core.1 ≡ n + length self.old.core.1) }
+        ensures unchanged { OnErr result (self.new ≡ self.old) }
+        ensures back { IfErr result (λ t. t ≡ turn) }
+    {
+        let Turn {
+            base,
+            going,
+            is_ready,
+        } = turn;
+        let (minds, seeds) = (&mut self.minds, &mut self.seeds);
+        match book_kept(self.alloc, &mut self.core, minds, seeds, &base, going) {
+            Ok(count) => {
+                drop(base);
+                Ok(count)
+            }
+            Err(going) => Err(Turn {
+                base,
+                going,
+                is_ready,
+            }),
+        }
+    }
+
+    /// Books a turn: its local calls, and then the shared call that is wanted, or a get where the
+    /// turn waits and a delivery is left. It answers the number of entries. A turn that was not
+    /// advanced has none.
+    pub fn book(&mut self, turn: Turn<B>) -> Result<u64, NotTurned<B>>
+        ensures ok { OnOk result (self.new
+            ≡ booked (brain_of B.next B.instance) turn self.old) }
+        ensures count { IfOk result (λ n. length self.new.core.1 ≡ n + length self.old.core.1) }
+        ensures current { OnOk result (IsCurrent (brain_of B.next B.instance) turn self.old) }
+        ensures refused { IfErr result (λ e.
+            IsRefused e.cause (brain_of B.next B.instance) turn self.old) }
+        ensures unchanged { OnErr result (self.new ≡ self.old) }
+        ensures back { IfErr result (λ e. e.turn ≡ turn) }
+    {
+        let Ok(current) = self.is_current(&turn) else {
+            return Err(NotTurned {
+                turn,
+                cause: TurnCause::NoMemory,
+            });
+        };
+        if !current {
+            return Err(NotTurned {
+                turn,
+                cause: TurnCause::Stale,
+            });
+        }
+        if !turn.is_ready {
+            return Ok(0);
+        }
+        match self.book_ready(turn) {
+            Ok(count) => Ok(count),
+            Err(turn) => Err(NotTurned {
+                turn,
+                cause: TurnCause::NoMemory,
+            }),
+        }
+    }
+
+    /// The units that exist, in their order.
+    fn units(&self) -> Result<Vec<UnitName>, NoMemory>
+        ensures { IfOk result (λ units. IsRoll self.now.core units.items) }
+    {
+        let mut units: Vec<UnitName> = Vec::new(self.alloc);
+        while let Some(unit) = self.core.unit_at(units.as_slice().len()) {
+            units.push(unit.copy()?)?;
+        }
+        Ok(units)
+    }
+
+    /// Whether a unit waits, and no delivery is left to it.
+    fn is_at_rest(&self, unit: &UnitName) -> Result<bool, NoMemory>
+        requires { is_some (local_of self.now.core unit.now) ≡ true }
+        ensures { IfOk result (λ b.
+            IsTrue b ↔ IsResting (brain_of B.next B.instance) self.now unit.now) }
+    {
+        if self.core.has_delivery(unit) {
+            return Ok(false);
+        }
+        self.mind(unit)?.waits()
+    }
+
+    /// Whether each of the units waits, and no delivery is left to it.
+    fn are_at_rest(&self, units: &[UnitName]) -> Result<bool, NoMemory>
+        requires { IsRoll self.now.core units.now }
+        ensures { IfOk result (λ b. IsTrue b ↔ Quiet (brain_of B.next B.instance) rows
+            (firsts self.now.core.0) self.now.brains self.now.core.1) }
+    {
+        for unit in units {
+            if !self.is_at_rest(unit)? {
+                return Ok(false);
+            }
+        }
+        Ok(true)
+    }
+
+    /// Whether each unit waits, and no delivery is left to it. It costs a copy of each unit's name
+    /// and brain.
+    pub fn is_quiet(&self) -> Result<bool, NoMemory>
+        ensures { IfOk result (λ b. IsTrue b ↔ Quiet (brain_of B.next B.instance) rows
+            (firsts self.now.core.0) self.now.brains self.now.core.1) }
+    {
+        let units = self.units()?;
+        self.are_at_rest(units.as_slice())
+    }
+}

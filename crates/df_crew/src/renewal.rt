@@ -1,0 +1,136 @@
+//! What a crew keeps of its units' brains, before and after a turn is booked.
+
+ghost use Rattle.std.specs.Prelude.{◌≡◌, ◌+◌, IfErr, IfOk, IfSome, List, OnErr, OnOk, Some, if◌then◌else◌, length};
+ghost use Rattle.std.specs.Option.{option_map};
+ghost use Rattle.df_crew.specs.CrewState.{pair_of};
+ghost use Rattle.df_crew.specs.code.Going.{IsGoing};
+ghost use Rattle.df_crew.specs.code.Kept.{IsPlace, kept_at};
+ghost use Rattle.df_crew.specs.Manned.{IsManned};
+ghost use Rattle.df_crew.specs.code.Renewal.{IsUnderWay, shared_of};
+ghost use Rattle.df_crew.specs.code.Seeding.{IsSeed, IsSeeded, seed_of_want};
+ghost use Rattle.df_machine.specs.Booking.{booked};
+ghost use Rattle.df_machine.specs.Journal.{State, local_of};
+ghost use Rattle.df_rules.specs.Follows.{brain_of};
+ghost use Rattle.df_unit.specs.Name.{same};
+ghost use Rattle.df_unit.specs.declared.name.UnitName.{UnitName};
+
+use crate::booking::book_going;
+use crate::crew::seed_name;
+use crate::going::{Ahead, Going};
+use crate::kept::Kept;
+use crate::mind::Mind;
+use df_brain::{Brain, Want};
+use df_label::NoMemory;
+use df_local::Local;
+use df_machine::Core;
+use df_unit::{Call, UnitName};
+use std::alloc::Global;
+
+/// The brain of the instances of a subscription that a turn is to make, with the name under which
+/// it is kept.
+fn seed_for<B: Brain>(
+    alloc: Global,
+    unit: &Local,
+    ahead: &Ahead<B>,
+) -> Result<Option<(UnitName, B)>, NoMemory>
+    ensures name { IfOk result (λ seed. option_map (λ (s : UnitName × B). s.0) seed
+        ≡ seed_of_want unit.now ahead.now.want) }
+    ensures brain { IfOk result (λ seed. IfSome seed (λ s.
+        s.1 ≡ B.instance ahead.now.state unit.now.own.subs)) }
+{
+    let Want::Call(Call::SubscribeManaged { .. }) = &ahead.want else {
+        return Ok(None);
+    };
+    let UnitName::Root(owner) = unit.name() else {
+        return Ok(None);
+    };
+    let sub = unit.subs_made();
+    let name = seed_name(alloc, owner, sub)?;
+    let brain = ahead.state.instance(sub)?;
+    Ok(Some((name, brain)))
+}
+
+/// Keeps that brain.
+fn seed<B: Brain>(alloc: Global, seeds: &mut Kept<B>, going: &Going<B>) -> Result<(), NoMemory>
+    ensures ok { OnOk result (IsSeeded (brain_of B.next B.instance) going.now.run.present
+        going.now.ahead seeds.old seeds.new) }
+    ensures unchanged { OnErr result (seeds.new ≡ seeds.old) }
+{
+    let Some(ahead) = &going.ahead else {
+        return Ok(());
+    };
+    if let Some((name, brain)) = seed_for(alloc, going.run.present(), ahead)? {
+        seeds.put(&name, brain)?;
+    }
+    Ok(())
+}
+
+/// Keeps a turn's brain as it was, where its unit has its place, which is answered.
+fn keep<B: Brain>(
+    minds: &mut Kept<Mind<B>>,
+    base: &Mind<B>,
+    going: &Going<B>,
+) -> Result<usize, NoMemory>
+    ensures ok { OnOk result ((n : UnitName) → kept_at n minds.new
+        ≡ (if same going.now.run.base.unit n then Some base.now else kept_at n minds.old)) }
+    ensures place { IfOk result (λ k. IsPlace going.now.run.base.unit k minds.new) }
+    ensures unchanged { OnErr result (minds.new ≡ minds.old) }
+{
+    minds.put(going.run.base().name(), base.copy()?)
+}
+
+/// Room for what a turn makes of its unit's brain, at the place that is answered, and of a
+/// subscription's. The tables agree with the journal as before, also where there is no memory.
+fn prepare<B: Brain>(
+    alloc: Global,
+    minds: &mut Kept<Mind<B>>,
+    seeds: &mut Kept<B>,
+    base: &Mind<B>,
+    going: &Going<B>,
+) -> Result<usize, NoMemory>
+    ensures manned { (bs : List B) (core : State) →
+        IsUnderWay (brain_of B.next B.instance) bs base.now going.now core →
+        IsManned (brain_of B.next B.instance) bs minds.old seeds.old core →
+        IsManned (brain_of B.next B.instance) bs minds.new seeds.new core }
+    ensures place { IfOk result (λ k. IsPlace going.now.run.base.unit k minds.new) }
+    ensures seeded { OnOk result (IsSeed (brain_of B.next B.instance) going.now.run.present
+        going.now.ahead seeds.new) }
+{
+    let place = keep(minds, base, going)?;
+    seed(alloc, seeds, going)?;
+    Ok(place)
+}
+
+/// Books a turn and renews its unit's brain, or gives it back where there is no memory. The tables
+/// agree with the journal as before.
+pub(crate) fn book_kept<B: Brain>(
+    alloc: Global,
+    core: &mut Core,
+    minds: &mut Kept<Mind<B>>,
+    seeds: &mut Kept<B>,
+    base: &Mind<B>,
+    going: Going<B>,
+) -> Result<u64, Going<B>>
+    requires going { IsGoing (brain_of B.next B.instance) (pair_of base.now) going }
+    requires unit { local_of core.old going.run.base.unit ≡ Some going.run.base }
+    ensures manned { (bs : List B) →
+        IsUnderWay (brain_of B.next B.instance) bs base.now going core.old →
+        IsManned (brain_of B.next B.instance) bs minds.old seeds.old core.old →
+        IsManned (brain_of B.next B.instance) bs minds.new seeds.new core.new }
+    ensures entries { OnOk result (core.new
+        ≡ booked going.run (shared_of going core.old) core.old) }
+    ensures count { IfOk result (λ n. length core.new.1 ≡ n + length core.old.1) }
+    ensures unchanged { OnErr result (core.new ≡ core.old) }
+    ensures back { IfErr result (λ g. g ≡ going) }
+{
+    let Ok(place) = prepare(alloc, minds, seeds, base, &going) else {
+        return Err(going);
+    };
+    match book_going(core, going) {
+        Ok(booked) => {
+            minds.renew(place, booked.mind);
+            Ok(booked.count)
+        }
+        Err(going) => Err(going),
+    }
+}

@@ -1,0 +1,8 @@
+mod Keeping
+mod Opening
+mod Roll
+mod Passing
+mod Opens
+mod LoadForm
+mod Told
+mod Whole

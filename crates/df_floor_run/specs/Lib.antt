@@ -1,0 +1,3 @@
+pub mod FloorRun
+pub mod Load
+pub mod code

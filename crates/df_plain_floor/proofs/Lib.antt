@@ -1,0 +1,9 @@
+pub mod More
+pub mod Still
+pub mod Resting
+pub mod Turning
+pub mod Taking
+pub mod Passing
+pub mod Opening
+pub mod Rolls
+pub mod Ending

@@ -1,0 +1,12 @@
+use Rattle.std.proofs.Common.{ℕ, not, ap, ◌∙◌, length}
+use Rattle.std.specs.Prelude.{nat_eq}
+use Rattle.df_rules.specs.Follows.{brain_of}
+use Rattle.df_plain_floor.proofs.Passing.{appending}
+use Rattle.df_plain_floor.proofs.run.appends.Goals as goal
+
+pub returns-clause-appending : goal.returns-clause-appending
+returns-clause-appending g c =
+    appending (brain_of g.B.StepFunction.next g.B.StepFunction.instance) c.args.max c.args.crew.now c.take_turn.new.crew c.in_ok-take_turn.ensures.turns
+    (not (nat_eq c.entries.result c.entries-before.result))
+    (ap (λ (m : ℕ). not (nat_eq m c.entries-before.result)) c.entries.ensures
+    ∙ ap (λ (m : ℕ). not (nat_eq (length c.take_turn.new.crew.core.1) m)) c.entries-before.ensures)

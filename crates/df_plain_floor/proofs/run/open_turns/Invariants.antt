@@ -1,0 +1,9 @@
+use Rattle.df_plain_floor.specs.Grown.{AreTurns}
+use Rattle.df_plain_floor.specs.PlainRun.{Opened}
+use Rattle.df_rules.specs.Follows.{brain_of}
+use Rattle.df_plain_floor.proofs.run.open_turns.Given as goal
+
+abbrev pub invariant-loop-others : goal.invariant-loop-others
+invariant-loop-others g l =
+    Opened (brain_of g.B.StepFunction.next g.B.StepFunction.instance) l.max l.others l.initial.crew l.crew
+    × AreTurns (brain_of g.B.StepFunction.next g.B.StepFunction.instance) l.max l.initial.crew l.crew
