@@ -1,7 +1,59 @@
--- Where a command was read, the words ask for it.
-use Rattle.std.proofs.Common.{◌≡◌, List, ℕ, Ok, refl}
-use Rattle.df_words.specs.Words.{Ask, IsCommandOf}
+-- Where a command was read, the words ask for it, and name its files.
+use Rattle.std.proofs.Common.{◌≡◌, ◌<◌, List, ℕ, [], ◌∷◌, length, Ok, ap, refl, sym, subst, arith}
+use Rattle.df_words.specs.Words.{Ask, IsCommandOf, files_of}
 use Rattle.df_words.specs.declared.command.Command.{Command}
+use Rattle.df_words.specs.declared.command.Command.TheVariants.{Steps, Check, Purge, Upgrade, Auction, Lint, Gen, Floor, Load}
+use Rattle.df_words.specs.declared.command.Files.TheVariants as files
 
 pub asks : (words : List (List ℕ)) (command : Command) → IsCommandOf words (Ok command) → Ask words command
 asks words command read = (read command).0 refl
+
+one_is : (a b : ℕ) → files.One a ≡ files.One b → a ≡ b
+one_is a b e = cc
+
+one_is_two : (a b d : ℕ) → files.One a ≡ files.Two b d → ⊥
+one_is_two a b d e = cc
+
+none_is_two : (b d : ℕ) → files.None ≡ files.Two b d → ⊥
+none_is_two b d e = cc
+
+two_is_one : (a b d : ℕ) → files.Two b d ≡ files.One a → ⊥
+two_is_one a b d e = cc
+
+none_is_one : (a : ℕ) → files.None ≡ files.One a → ⊥
+none_is_one a e = cc
+
+-- a place below the number of words
+below : (n place file : ℕ) (words : List (List ℕ)) (w : List (List ℕ)) → words ≡ w → place ≡ n → place ≡ file → n < length w → file < length words
+below n place file words w is at same less = subst (λ (k : ℕ). k < length words) same (subst (λ (k : ℕ). k < length words) (sym at) (subst (λ (ws : List (List ℕ)). n < length ws) (sym is) less))
+
+-- the only file has a place among the words
+pub one_place : (c : Command) (words : List (List ℕ)) (file : ℕ) → Ask words c → files_of c ≡ files.One file → file < length words
+one_place (Steps place) words file ask is = below 1 place file words _ ask.1 ask.3 (one_is place file is) (omega (arith))
+one_place (Check place) words file ask is = below 1 place file words _ ask.1 ask.3 (one_is place file is) (omega (arith))
+one_place (Purge label place) words file ask is = below 2 place file words _ ask.1 ask.4 (one_is place file is) (omega (arith))
+one_place (Upgrade place) words file ask is = below 1 place file words _ ask.1 ask.3 (one_is place file is) (omega (arith))
+one_place (Auction place) words file ask is = below 1 place file words _ ask.1 ask.3 (one_is place file is) (omega (arith))
+one_place (Lint place) words file ask is = below 1 place file words _ ask.1 ask.3 (one_is place file is) (omega (arith))
+one_place (Gen key n) words file ask is = absurd (none_is_one file is)
+one_place (Floor config ticks) words file ask is = absurd (two_is_one file config ticks is)
+one_place (Load key n) words file ask is = absurd (none_is_one file is)
+
+-- two files are those of a floor
+pub two_files : (c : Command) (first second : ℕ) → files_of c ≡ files.Two first second → c ≡ Floor first second
+two_files (Floor config ticks) first second is = cc
+two_files (Steps place) first second is = absurd (one_is_two place first second is)
+two_files (Check place) first second is = absurd (one_is_two place first second is)
+two_files (Purge label place) first second is = absurd (one_is_two place first second is)
+two_files (Upgrade place) first second is = absurd (one_is_two place first second is)
+two_files (Auction place) first second is = absurd (one_is_two place first second is)
+two_files (Lint place) first second is = absurd (one_is_two place first second is)
+two_files (Gen key n) first second is = absurd (none_is_two first second is)
+two_files (Load key n) first second is = absurd (none_is_two first second is)
+
+-- both have places among the words
+pub two_places : (words : List (List ℕ)) (first second : ℕ) → Ask words (Floor first second) → (first < length words) × (second < length words)
+two_places words first second ask = (
+  below 1 first first words _ ask.2 ask.5 refl (omega (arith)),
+  below 2 second second words _ ask.2 ask.6 refl (omega (arith)),
+)

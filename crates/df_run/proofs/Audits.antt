@@ -1,5 +1,5 @@
 -- What an audit tells is what the command writes.
-use Rattle.std.proofs.Common.{◌≡◌, ℕ, List, ap, sym, subst, ◌∙◌}
+use Rattle.std.proofs.Common.{◌≡◌, ℕ, List, [], ◌∷◌, sym, subst}
 use Rattle.df_audit.specs.Audit.{IsCheckOf, OfJournal, Purges, Upgrades}
 use Rattle.df_audit.specs.declared.audit.Finding.{Finding}
 use Rattle.df_audit.specs.declared.audit.Finding.TheVariants.{Right, Wrong}
@@ -10,27 +10,27 @@ use Rattle.df_run.specs.Tasks.{IsText, end_of}
 use Rattle.df_run.specs.declared.tasks.End.{End}
 
 -- the text and the end that were handed on
-same_text : (c : Command) (bytes : List ℕ) (d e : End) (text told : List ℕ) → IsText c bytes d text → e ≡ d → told ≡ text → IsText c bytes e told
-same_text c bytes d e text told h end same = subst (λ (x : End). IsText c bytes x told) (sym end) (subst (IsText c bytes d) (sym same) h)
+same_text : (c : Command) (bytes : List ℕ) (d e : End) (text told : List ℕ) → IsText c (bytes ∷ []) d text → e ≡ d → told ≡ text → IsText c (bytes ∷ []) e told
+same_text c bytes d e text told h end same = subst (λ (x : End). IsText c (bytes ∷ []) x told) (sym end) (subst (IsText c (bytes ∷ []) d) (sym same) h)
 
-check_ends : (journal : ℕ) (bytes : List ℕ) (finding : Finding) (text : List ℕ) → OfJournal bytes (λ j. IsCheckOf j finding text) → IsText (Check journal) bytes (end_of finding) text
+check_ends : (journal : ℕ) (bytes : List ℕ) (finding : Finding) (text : List ℕ) → OfJournal bytes (λ j. IsCheckOf j finding text) → IsText (Check journal) (bytes ∷ []) (end_of finding) text
 check_ends journal bytes Right text h = h
 check_ends journal bytes (Wrong place) text h = h
 
-purge_ends : (label : Label) (journal : ℕ) (bytes : List ℕ) (finding : Finding) (text : List ℕ) → OfJournal bytes (λ j. Purges label j finding text) → IsText (Purge label journal) bytes (end_of finding) text
+purge_ends : (label : Label) (journal : ℕ) (bytes : List ℕ) (finding : Finding) (text : List ℕ) → OfJournal bytes (λ j. Purges label j finding text) → IsText (Purge label journal) (bytes ∷ []) (end_of finding) text
 purge_ends label journal bytes Right text h = h
 purge_ends label journal bytes (Wrong place) text h = h
 
-upgrade_ends : (journal : ℕ) (bytes : List ℕ) (finding : Finding) (text : List ℕ) → OfJournal bytes (λ j. Upgrades j finding text) → IsText (Upgrade journal) bytes (end_of finding) text
+upgrade_ends : (journal : ℕ) (bytes : List ℕ) (finding : Finding) (text : List ℕ) → OfJournal bytes (λ j. Upgrades j finding text) → IsText (Upgrade journal) (bytes ∷ []) (end_of finding) text
 upgrade_ends journal bytes Right text h = h
 upgrade_ends journal bytes (Wrong place) text h = h
 
 module _ (journal : ℕ) (bytes : List ℕ) (finding : Finding) (text : List ℕ) (e : End) (told : List ℕ) where
-  pub check_given : OfJournal bytes (λ j. IsCheckOf j finding text) → e ≡ end_of finding → told ≡ text → IsText (Check journal) bytes e told
+  pub check_given : OfJournal bytes (λ j. IsCheckOf j finding text) → e ≡ end_of finding → told ≡ text → IsText (Check journal) (bytes ∷ []) e told
   check_given h = same_text (Check journal) bytes (end_of finding) e text told (check_ends journal bytes finding text h)
 
-  pub upgrade_given : OfJournal bytes (λ j. Upgrades j finding text) → e ≡ end_of finding → told ≡ text → IsText (Upgrade journal) bytes e told
+  pub upgrade_given : OfJournal bytes (λ j. Upgrades j finding text) → e ≡ end_of finding → told ≡ text → IsText (Upgrade journal) (bytes ∷ []) e told
   upgrade_given h = same_text (Upgrade journal) bytes (end_of finding) e text told (upgrade_ends journal bytes finding text h)
 
-pub purge_given : (label : Label) (journal : ℕ) (bytes : List ℕ) (finding : Finding) (text : List ℕ) (e : End) (told : List ℕ) → OfJournal bytes (λ j. Purges label j finding text) → e ≡ end_of finding → told ≡ text → IsText (Purge label journal) bytes e told
+pub purge_given : (label : Label) (journal : ℕ) (bytes : List ℕ) (finding : Finding) (text : List ℕ) (e : End) (told : List ℕ) → OfJournal bytes (λ j. Purges label j finding text) → e ≡ end_of finding → told ≡ text → IsText (Purge label journal) (bytes ∷ []) e told
 purge_given label journal bytes finding text e told h = same_text (Purge label journal) bytes (end_of finding) e text told (purge_ends label journal bytes finding text h)

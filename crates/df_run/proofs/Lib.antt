@@ -1,7 +1,11 @@
 pub mod Asked
 pub mod Audits
-pub mod Blame
+pub mod Ending
 pub mod Files
+pub mod Floors
 pub mod Inputs
 pub mod Journals
+pub mod OneRun
+pub mod Reaching
 pub mod Sound
+pub mod Stopping

@@ -1,4 +1,6 @@
+pub mod Floor
 pub mod Lint
+pub mod Making
 pub mod Outcome
 pub mod Status
 pub mod Steps

@@ -1,9 +1,9 @@
 -- What is told of a run when it has ended: the code with which the program ends, and a line.
 use Rattle.std.specs.Prelude.{ℕ, List, ◌++◌, codes, decimal}
 use Rattle.df_run.specs.declared.status.BadKind.{BadKind}
-use Rattle.df_run.specs.declared.status.BadKind.TheVariants.{Syntax, TooLarge, BadOrder}
+use Rattle.df_run.specs.declared.status.BadKind.TheVariants.{Syntax, TooLarge, BadOrder, BadConfig, BadTick}
 use Rattle.df_run.specs.declared.status.Status.{Status}
-use Rattle.df_run.specs.declared.status.Status.TheVariants.{Done, Usage, BadInput, Wrong, ReadFault, WriteFault, NoMemory, TooLong}
+use Rattle.df_run.specs.declared.status.Status.TheVariants.{Done, Usage, BadInput, Wrong, ReadFault, WriteFault, NoMemory, TooLong, Unsettled}
 
 -- the code of a status
 abbrev pub code_of : Status → ℕ
@@ -15,12 +15,15 @@ code_of ReadFault = 5
 code_of WriteFault = 6
 code_of NoMemory = 7
 code_of (TooLong input) = 8
+code_of (Unsettled steps) = 9
 
 -- the word for what is wrong with an input
 abbrev pub kind_text : BadKind → List ℕ
 kind_text Syntax = codes "syntax"
 kind_text TooLarge = codes "too large"
 kind_text BadOrder = codes "order"
+kind_text BadConfig = codes "config"
+kind_text BadTick = codes "tick"
 
 -- the line of a status, without its line feed; that of Done is not printed
 abbrev pub status_text : Status → List ℕ
@@ -34,3 +37,4 @@ status_text ReadFault = codes "defcon: read fault"
 status_text WriteFault = codes "defcon: write fault"
 status_text NoMemory = codes "defcon: no memory"
 status_text (TooLong input) = codes "defcon: input " ++ decimal input ++ codes " too long"
+status_text (Unsettled steps) = codes "defcon: unsettled after " ++ decimal steps

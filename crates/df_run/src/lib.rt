@@ -1,4 +1,4 @@
-//! The top call: what the words of a command ask for, from the bytes of a file to the bytes of the
+//! The top call: what the words of a command ask for, from the bytes of files to the bytes of the
 //! output, and the program that hands over the user's words.
 #![tactic(auto)]
 
@@ -8,7 +8,10 @@ mod audit_tests;
 mod audited;
 #[cfg(test)]
 mod examples;
+mod floor;
+mod input;
 mod lint;
+mod making;
 mod program;
 mod run;
 mod status;

@@ -9,6 +9,8 @@ pub enum BadKind {
     Syntax,
     TooLarge,
     BadOrder,
+    BadConfig,
+    BadTick,
 }
 
 /// How a run ended.
@@ -31,6 +33,11 @@ pub enum Status {
     TooLong {
         input: u32,
     },
+    /// The run of a floor was cut off: its journal has so many entries, at least as many as it may
+    /// have, and some unit is not at rest.
+    Unsettled {
+        steps: u64,
+    },
 }
 
 impl Status {
@@ -47,6 +54,7 @@ impl Status {
             Status::WriteFault => 6,
             Status::NoMemory => 7,
             Status::TooLong { .. } => 8,
+            Status::Unsettled { .. } => 9,
         }
     }
 }
@@ -62,6 +70,8 @@ impl fmt::Display for BadKind {
             BadKind::Syntax => f.write_str("syntax"),
             BadKind::TooLarge => f.write_str("too large"),
             BadKind::BadOrder => f.write_str("order"),
+            BadKind::BadConfig => f.write_str("config"),
+            BadKind::BadTick => f.write_str("tick"),
         }
     }
 }
@@ -84,6 +94,7 @@ impl fmt::Display for Status {
             Status::WriteFault => f.write_str("defcon: write fault"),
             Status::NoMemory => f.write_str("defcon: no memory"),
             Status::TooLong { input } => write!(f, "defcon: input {input} too long"),
+            Status::Unsettled { steps } => write!(f, "defcon: unsettled after {steps}"),
         }
     }
 }

@@ -1,20 +1,22 @@
-ghost use Rattle.std.specs.Prelude.{◌≡◌, ◌≤◌, ℕ, List, IfErr, IfOk, length};
+ghost use Rattle.std.specs.Prelude.{◌≡◌, ◌≤◌, ℕ, List, [], ◌∷◌, IfErr, IfOk, length};
 ghost use Rattle.df_auction.specs.Refusing.{IsRightRefusal};
 ghost use Rattle.df_gen.specs.Generated.{generated};
 ghost use Rattle.df_io.specs.Limits.{longest_file};
 ghost use Rattle.df_run.specs.Tasks.{IsText, RefusesInput, end_of, told_of};
 ghost use Rattle.df_run.specs.declared.tasks.End.TheVariants as end;
 ghost use Rattle.df_ticks.specs.TickText.{ticks_text};
-ghost use Rattle.df_words.specs.declared.command.Command.TheVariants.{Auction, Check, Gen, Lint, Purge, Steps, Upgrade};
+ghost use Rattle.df_words.specs.declared.command.Command.TheVariants.{Auction, Check, Gen, Lint, Load, Purge, Steps, Upgrade};
+ghost use Rattle.df_words.specs.Words.{Ask, files_of};
+ghost use Rattle.df_words.specs.declared.command.Files.TheVariants as files;
 
 use crate::lint::lint_script;
 use crate::status::BadKind;
 use crate::steps::steps;
 use df_auction::{OrdersRefused, auction_text};
 use df_audit::{Audit, Finding, check_text, purge_text, upgrade_text};
-use df_frozen::NoMemory;
+use df_floor_run::run_load;
 use df_gen::gen_ticks;
-use df_label::Label;
+use df_label::{Label, NoMemory};
 use df_lines::FileRefused;
 use df_ticks::write_ticks;
 use df_words::Command;
@@ -34,6 +36,8 @@ pub enum End {
     Done,
     /// The journal isn't right, and this is its first wrong place.
     Wrong { place: u64 },
+    /// The run of a floor was cut off, with so many entries.
+    Unsettled { steps: u64 },
 }
 
 /// What a command writes, and how its run then ends.
@@ -43,10 +47,12 @@ pub struct Output {
     pub end: End,
 }
 
-/// What the command writes of these bytes. A command without a file looks at none.
+/// What a command of one file writes of its bytes.
 pub fn output_of(alloc: Global, command: &Command, bytes: &[u8]) -> Result<Output, Refused>
-    requires { length bytes.now ≤ longest_file }
-    ensures gives { IfOk result (λ o. IsText command.now bytes.now o.end o.text.items) }
+    requires one { (file : ℕ) × (files_of command.now ≡ files.One file) }
+    requires short { length bytes.now ≤ longest_file }
+    ensures gives { IfOk result (λ o.
+        IsText command.now (bytes.now ∷ []) o.end o.text.items) }
     ensures refuses { IfErr result (RefusesInput command.now bytes.now) }
 {
     match command {
@@ -56,7 +62,20 @@ pub fn output_of(alloc: Global, command: &Command, bytes: &[u8]) -> Result<Outpu
         Command::Upgrade { .. } => upgrade_of_journal(alloc, bytes),
         Command::Auction { .. } => auctions_of_orders(alloc, bytes),
         Command::Lint { .. } => lint_of_script(alloc, bytes),
+        Command::Gen { .. } | Command::Floor { .. } | Command::Load { .. } => unreachable!(),
+    }
+}
+
+/// What a command without a file writes.
+pub fn output_of_key(alloc: Global, command: &Command) -> Result<Output, NoMemory>
+    requires asked { (words : List (List ℕ)) × Ask words command.now }
+    requires none { files_of command.now ≡ files.None }
+    ensures { IfOk result (λ o. IsText command.now [] o.end o.text.items) }
+{
+    match command {
         Command::Gen { key, n } => ticks_of_key(alloc, *key, *n),
+        Command::Load { key, n } => load_of_key(alloc, *key, *n),
+        _ => unreachable!(),
     }
 }
 
@@ -103,7 +122,7 @@ fn audited(audit: Audit) -> Output
 
 fn journal_of_script(alloc: Global, bytes: &[u8]) -> Result<Output, Refused>
     ensures gives { (file : ℕ) → IfOk result (λ o.
-        IsText (Steps file) bytes.now o.end o.text.items) }
+        IsText (Steps file) (bytes.now ∷ []) o.end o.text.items) }
     ensures refuses { (file : ℕ) → IfErr result (RefusesInput (Steps file) bytes.now) }
 {
     match steps(alloc, bytes) {
@@ -114,7 +133,7 @@ fn journal_of_script(alloc: Global, bytes: &[u8]) -> Result<Output, Refused>
 
 fn check_of_journal(alloc: Global, bytes: &[u8]) -> Result<Output, Refused>
     ensures gives { (journal : ℕ) → IfOk result (λ o.
-        IsText (Check journal) bytes.now o.end o.text.items) }
+        IsText (Check journal) (bytes.now ∷ []) o.end o.text.items) }
     ensures refuses { (journal : ℕ) → IfErr result (RefusesInput (Check journal) bytes.now) }
 {
     match check_text(alloc, bytes) {
@@ -125,7 +144,7 @@ fn check_of_journal(alloc: Global, bytes: &[u8]) -> Result<Output, Refused>
 
 fn purge_of_journal(alloc: Global, label: &Label, bytes: &[u8]) -> Result<Output, Refused>
     ensures gives { (journal : ℕ) → IfOk result (λ o.
-        IsText (Purge label.now journal) bytes.now o.end o.text.items) }
+        IsText (Purge label.now journal) (bytes.now ∷ []) o.end o.text.items) }
     ensures refuses { (journal : ℕ) →
         IfErr result (RefusesInput (Purge label.now journal) bytes.now) }
 {
@@ -137,7 +156,7 @@ fn purge_of_journal(alloc: Global, label: &Label, bytes: &[u8]) -> Result<Output
 
 fn upgrade_of_journal(alloc: Global, bytes: &[u8]) -> Result<Output, Refused>
     ensures gives { (journal : ℕ) → IfOk result (λ o.
-        IsText (Upgrade journal) bytes.now o.end o.text.items) }
+        IsText (Upgrade journal) (bytes.now ∷ []) o.end o.text.items) }
     ensures refuses { (journal : ℕ) → IfErr result (RefusesInput (Upgrade journal) bytes.now) }
 {
     match upgrade_text(alloc, bytes) {
@@ -149,7 +168,7 @@ fn upgrade_of_journal(alloc: Global, bytes: &[u8]) -> Result<Output, Refused>
 fn auctions_of_orders(alloc: Global, bytes: &[u8]) -> Result<Output, Refused>
     requires { length bytes.now ≤ longest_file }
     ensures gives { (orders : ℕ) → IfOk result (λ o.
-        IsText (Auction orders) bytes.now o.end o.text.items) }
+        IsText (Auction orders) (bytes.now ∷ []) o.end o.text.items) }
     ensures refuses { (orders : ℕ) → IfErr result (RefusesInput (Auction orders) bytes.now) }
 {
     match auction_text(alloc, bytes) {
@@ -160,7 +179,7 @@ fn auctions_of_orders(alloc: Global, bytes: &[u8]) -> Result<Output, Refused>
 
 fn lint_of_script(alloc: Global, bytes: &[u8]) -> Result<Output, Refused>
     ensures gives { (script : ℕ) → IfOk result (λ o.
-        IsText (Lint script) bytes.now o.end o.text.items) }
+        IsText (Lint script) (bytes.now ∷ []) o.end o.text.items) }
     ensures refuses { (script : ℕ) → IfErr result (RefusesInput (Lint script) bytes.now) }
 {
     match lint_script(alloc, bytes) {
@@ -169,22 +188,28 @@ fn lint_of_script(alloc: Global, bytes: &[u8]) -> Result<Output, Refused>
     }
 }
 
-fn ticks_of_key(alloc: Global, key: u64, n: u32) -> Result<Output, Refused>
-    ensures gives { (bytes : List ℕ) → IfOk result (λ o.
-        IsText (Gen key n) bytes o.end o.text.items) }
-    ensures refuses { (bytes : List ℕ) → IfErr result (RefusesInput (Gen key n) bytes) }
+fn ticks_of_key(alloc: Global, key: u64, n: u32) -> Result<Output, NoMemory>
+    ensures { IfOk result (λ o. IsText (Gen key n) [] o.end o.text.items) }
 {
     match ticks_text(alloc, key, n) {
         Ok(text) => Ok(done(text)),
-        Err(NoMemory) => Err(Refused::NoMemory),
+        Err(_) => Err(NoMemory),
     }
 }
 
-fn ticks_text(alloc: Global, key: u64, n: u32) -> Result<Vec<u8>, NoMemory>
+fn ticks_text(alloc: Global, key: u64, n: u32) -> Result<Vec<u8>, df_frozen::NoMemory>
     ensures { IfOk result (λ text. text.items ≡ ticks_text (generated key n)) }
 {
     let ticks = gen_ticks(alloc, key, n)?;
     write_ticks(alloc, ticks.as_slice())
+}
+
+fn load_of_key(alloc: Global, key: u64, n: u32) -> Result<Output, NoMemory>
+    requires { n ≤ 4_000 }
+    ensures { IfOk result (λ o. IsText (Load key n) [] o.end o.text.items) }
+{
+    let text = run_load(alloc, key, n)?;
+    Ok(done(text))
 }
 
 /// The record of an order file that is blamed, or want of memory.

@@ -149,7 +149,7 @@ fn each_write_may_fail(rt: HostRuntime) -> Result<(), Fail> {
 #[test]
 fn other_words_are_usage(rt: HostRuntime) -> Result<(), Fail> {
     let alloc = rt.alloc();
-    let lines: [&[&str]; 15] = [
+    let lines: [&[&str]; 18] = [
         &[],
         &["steps"],
         &["auction", ""],
@@ -165,6 +165,9 @@ fn other_words_are_usage(rt: HostRuntime) -> Result<(), Fail> {
         &["purge", "a"],
         &["purge", "{#1,#0|}", "a"],
         &["upgrade", "{|}", "a"],
+        &["floor", "a"],
+        &["floor", "a", "a", "--workers", "2"],
+        &["load", "1", "4001"],
     ];
     for line in lines {
         let words = words_of(alloc, line)?;
@@ -384,11 +387,23 @@ fn each_status_has_its_line(rt: HostRuntime) -> Result<(), Fail> {
             bad(17, BadKind::BadOrder),
             "defcon: bad input 1 line 17: order",
         ),
+        (
+            bad(0, BadKind::BadConfig),
+            "defcon: bad input 1 line 0: config",
+        ),
+        (
+            bad(17, BadKind::BadTick),
+            "defcon: bad input 1 line 17: tick",
+        ),
         (Status::Wrong { place: 30 }, "defcon: wrong at 30"),
         (Status::ReadFault, "defcon: read fault"),
         (Status::WriteFault, "defcon: write fault"),
         (Status::NoMemory, "defcon: no memory"),
         (Status::TooLong { input: 1 }, "defcon: input 1 too long"),
+        (
+            Status::Unsettled { steps: 21 },
+            "defcon: unsettled after 21",
+        ),
     ] {
         let told = format!(in rt.alloc(); "{status}")?;
         assert_eq!(rt; told.as_str(), line);

@@ -1,5 +1,5 @@
 -- Words that are labels.
-use Rattle.std.proofs.Common.{◌≡◌, ◌≢◌, ℕ, ◌-◌, ◌<◌, ◌≤◌, List, [], ◌∷◌, length, drop, Ok, codes, refl, sym, ap, subst, ◌∙◌, arith, append-nil, length-drop}
+use Rattle.std.proofs.Common.{◌≡◌, ◌≢◌, ℕ, ◌-◌, ◌<◌, ◌≤◌, List, [], ◌∷◌, length, drop, get_or, Ok, codes, refl, sym, ap, subst, ◌∙◌, arith, append-nil, length-drop}
 use Rattle.df_format.specs.Grammar.{Stands}
 use Rattle.df_label.specs.declared.label.Label.{Label}
 use Rattle.df_value_text.specs.Fits.{IsLabel}
@@ -7,7 +7,7 @@ use Rattle.df_value_text.specs.Label.{label_text}
 use Rattle.df_value_text.specs.declared.refused.TextRefused.TheVariants as refused
 use Rattle.df_words.specs.Words.{Ask, IsCommandOf, IsLabelIn, Spells}
 use Rattle.df_words.specs.declared.command.Command.{Command}
-use Rattle.df_words.specs.declared.command.Command.TheVariants.{Steps, Check, Purge, Upgrade, Auction, Lint, Gen}
+use Rattle.df_words.specs.declared.command.Command.TheVariants.{Steps, Check, Purge, Upgrade, Auction, Lint, Gen, Floor, Load}
 
 -- a label that the word spells stands there, in front of nothing
 pub stands : (word : List ℕ) (l : Label) → Spells word l → Stands label_text IsLabel word l []
@@ -28,6 +28,10 @@ asked_back word name label is (Upgrade journal) ask = absurd (let no : ⊥ = cc 
 asked_back word name label is (Auction orders) ask = absurd (let no : ⊥ = cc in no)
 asked_back word name label is (Lint script) ask = absurd (let no : ⊥ = cc in no)
 asked_back word name label is (Gen key n) ask = absurd (let no : ⊥ = cc in no)
+asked_back word name label is (Floor config ticks) ask =
+    let letter : 112 ≡ 102 = ap (λ (words : List (List ℕ)). get_or (get_or words 0 []) 0 0) ask.2 in
+    absurd (omega (arith, letter))
+asked_back word name label is (Load key n) ask = absurd (let no : ⊥ = cc in no)
 asked_back word name label is (Purge l journal) ask =
     let spelled : word ≡ label_text l = cc in
     let same : label ≡ l = (is l).1 (spelled, ask.2) in

@@ -1,11 +1,13 @@
 -- What the words of a command ask for.
-use Rattle.std.specs.Prelude.{◌≡◌, ◌↔◌, ⊤, ℕ, ◌<◌, ◌≤◌, ◌^◌, List, [], ◌∷◌, length, map, Option, Some, None, Result, Ok, Err, String, string_bytes, codes, decimal}
+use Rattle.std.specs.Prelude.{◌≡◌, ◌↔◌, ⊤, ℕ, ◌<◌, ◌≤◌, ◌^◌, List, [], ◌∷◌, length, map, Option, Some, Result, Ok, Err, String, string_bytes, codes, decimal}
 use Rattle.std.specs.declared.alloc.Global.{Global}
 use Rattle.df_label.specs.declared.label.Label.{Label}
 use Rattle.df_value_text.specs.Fits.{IsLabel}
 use Rattle.df_value_text.specs.Label.{label_text}
 use Rattle.df_words.specs.declared.command.Command.{Command}
-use Rattle.df_words.specs.declared.command.Command.TheVariants.{Steps, Check, Purge, Upgrade, Auction, Lint, Gen}
+use Rattle.df_words.specs.declared.command.Command.TheVariants.{Steps, Check, Purge, Upgrade, Auction, Lint, Gen, Floor, Load}
+use Rattle.df_words.specs.declared.command.Files.{Files}
+use Rattle.df_words.specs.declared.command.Files.TheVariants as files
 use Rattle.df_words.specs.declared.command.WordsRefused.{WordsRefused}
 use Rattle.df_words.specs.declared.command.WordsRefused.TheVariants as refused
 
@@ -25,9 +27,21 @@ NameLabelled word label place words =
     (name : List ℕ) × (words ≡ word ∷ label_text label ∷ name ∷ []) × IsLabel label
     × (0 < length name) × (place ≡ 2)
 
--- how many ticks are made at once
-abbrev pub IsCount : ℕ → Type 0
-IsCount n = (1 ≤ n) × (n ≤ 100_000)
+-- the words are this one and the names of two files, which have at least one byte each and these
+-- places
+abbrev pub NameTwo : List ℕ → ℕ → ℕ → List (List ℕ) → Type 0
+NameTwo word first second words =
+    (one : List ℕ) × (other : List ℕ) × (words ≡ word ∷ one ∷ other ∷ [])
+    × (0 < length one) × (0 < length other) × (first ≡ 1) × (second ≡ 2)
+
+-- a number of ticks, which is at most so many
+abbrev pub IsCount : ℕ → ℕ → Type 0
+IsCount most n = (1 ≤ n) × (n ≤ most)
+
+-- the words are this one, a key, and a number of ticks, which is at most so many
+abbrev pub NameTicks : List ℕ → ℕ → ℕ → ℕ → List (List ℕ) → Type 0
+NameTicks word most key n words =
+    (words ≡ word ∷ decimal key ∷ decimal n ∷ []) × (key < 2 ^ 64) × IsCount most n
 
 -- the words ask for the command
 abbrev pub Ask : List (List ℕ) → Command → Type 0
@@ -37,8 +51,9 @@ Ask words (Purge label journal) = NameLabelled (codes "purge") label journal wor
 Ask words (Upgrade journal) = NameFile (codes "upgrade") journal words
 Ask words (Auction orders) = NameFile (codes "auction") orders words
 Ask words (Lint script) = NameFile (codes "lint") script words
-Ask words (Gen key n) =
-    (words ≡ codes "gen" ∷ decimal key ∷ decimal n ∷ []) × (key < 2 ^ 64) × IsCount n
+Ask words (Gen key n) = NameTicks (codes "gen") 100_000 key n words
+Ask words (Floor config ticks) = NameTwo (codes "floor") config ticks words
+Ask words (Load key n) = NameTicks (codes "load") 4_000 key n words
 
 -- the words ask for nothing
 abbrev pub AskNothing : List (List ℕ) → Type 0
@@ -51,15 +66,17 @@ IsCommandOf words (Ok command) = (c : Command) → (command ≡ c) ↔ Ask words
 IsCommandOf words (Err refused.Usage) = AskNothing words
 IsCommandOf words (Err refused.NoMemory) = ⊤
 
--- the place of the command's file among the words, if it has one
-abbrev pub file_of : Command → Option ℕ
-file_of (Steps file) = Some file
-file_of (Check journal) = Some journal
-file_of (Purge label journal) = Some journal
-file_of (Upgrade journal) = Some journal
-file_of (Auction orders) = Some orders
-file_of (Lint script) = Some script
-file_of (Gen key n) = None
+-- the command's files, in the order in which they are read
+abbrev pub files_of : Command → Files
+files_of (Steps file) = files.One file
+files_of (Check journal) = files.One journal
+files_of (Purge label journal) = files.One journal
+files_of (Upgrade journal) = files.One journal
+files_of (Auction orders) = files.One orders
+files_of (Lint script) = files.One script
+files_of (Gen key n) = files.None
+files_of (Floor config ticks) = files.Two config ticks
+files_of (Load key n) = files.None
 
 -- the word spells the label
 abbrev pub Spells : List ℕ → Label → Type 0
@@ -76,6 +93,7 @@ IsLabelIn word (Err refused.NoMemory) = ⊤
 abbrev pub IsNumberIn : List ℕ → Option ℕ → Type 0
 IsNumberIn word answer = (n : ℕ) → (answer ≡ Some n) ↔ ((word ≡ decimal n) × (n < 2 ^ 64))
 
--- the answer is the number of ticks that the word spells, or none where it spells none
-abbrev pub IsCountIn : List ℕ → Option ℕ → Type 0
-IsCountIn word answer = (n : ℕ) → (answer ≡ Some n) ↔ ((word ≡ decimal n) × IsCount n)
+-- the answer is the number of ticks that the word spells, or none where it spells none that is at
+-- most so many
+abbrev pub IsCountIn : ℕ → List ℕ → Option ℕ → Type 0
+IsCountIn most word answer = (n : ℕ) → (answer ≡ Some n) ↔ ((word ≡ decimal n) × IsCount most n)

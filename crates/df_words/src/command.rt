@@ -1,5 +1,5 @@
 ghost use Rattle.std.specs.Prelude.{◌≡◌};
-ghost use Rattle.df_words.specs.Words.{file_of};
+ghost use Rattle.df_words.specs.Words.{files_of};
 
 use df_label::Label;
 
@@ -20,6 +20,21 @@ pub enum Command {
     Lint { script: usize },
     /// Write a file of the first n ticks of a key.
     Gen { key: u64, n: u32 },
+    /// Run the trading floor of a configuration on the ticks of a file, and write its journal and
+    /// what it comes to.
+    Floor { config: usize, ticks: usize },
+    /// Run a floor of a fixed configuration on the first n ticks of a key, and write what its
+    /// journal comes to.
+    Load { key: u64, n: u32 },
+}
+
+/// The files of a command, by the places of their names among the words, in the order in which they
+/// are read.
+#[derive(Clone, Copy, Debug, PartialEq, Eq)]
+pub enum Files {
+    None,
+    One { file: usize },
+    Two { first: usize, second: usize },
 }
 
 /// Why words ask for nothing.
@@ -31,18 +46,22 @@ pub enum WordsRefused {
 }
 
 impl Command {
-    /// The place of its file among the words, if it has one.
-    pub fn file(&self) -> Option<usize>
-        ensures { result ≡ file_of self.now }
+    /// What it reads.
+    pub fn files(&self) -> Files
+        ensures { result ≡ files_of self.now }
     {
         match self {
-            Command::Steps { file } => Some(*file),
+            Command::Steps { file } => Files::One { file: *file },
             Command::Check { journal }
             | Command::Purge { journal, .. }
-            | Command::Upgrade { journal } => Some(*journal),
-            Command::Auction { orders } => Some(*orders),
-            Command::Lint { script } => Some(*script),
-            Command::Gen { .. } => None,
+            | Command::Upgrade { journal } => Files::One { file: *journal },
+            Command::Auction { orders } => Files::One { file: *orders },
+            Command::Lint { script } => Files::One { file: *script },
+            Command::Floor { config, ticks } => Files::Two {
+                first: *config,
+                second: *ticks,
+            },
+            Command::Gen { .. } | Command::Load { .. } => Files::None,
         }
     }
 }

@@ -6,7 +6,7 @@ mod label;
 mod number;
 mod words;
 
-pub use command::{Command, WordsRefused};
+pub use command::{Command, Files, WordsRefused};
 pub use words::read_words;
 
 #[cfg(test)]

@@ -18,12 +18,12 @@ pub fn number_in(word: &str) -> Option<u64>
     }
 }
 
-/// The number of ticks that the whole word asks for.
-pub fn count_in(word: &str) -> Option<u32>
-    ensures { IsCountIn word.now result }
+/// The number of ticks that the whole word asks for, if it is at most so many.
+pub fn count_in(word: &str, most: u32) -> Option<u32>
+    ensures { IsCountIn most word.now result }
 {
     let count = number_in(word)?;
-    if count == 0 || count > 100_000 {
+    if count == 0 || count > most as u64 {
         return None;
     }
     Some(count as u32)

@@ -52,6 +52,16 @@ fn words_ask_for_commands(rt: HostRuntime) -> Result<(), Fail> {
         n: 100_000,
     };
     assert!(rt; asks(alloc, "gen 18446744073709551615 100000", &last)?);
+    let floor = Command::Floor {
+        config: 1,
+        ticks: 2,
+    };
+    assert!(rt; asks(alloc, "floor a a", &floor)?);
+    let most = Command::Load {
+        key: u64::MAX,
+        n: 4_000,
+    };
+    assert!(rt; asks(alloc, "load 18446744073709551615 4000", &most)?);
     Ok(())
 }
 
@@ -70,7 +80,9 @@ fn other_words_ask_for_nothing(rt: HostRuntime) -> Result<(), Fail> {
     let lines =
         "|steps|steps |steps a b|Steps a|check|check |check a b|upgrade|upgrade a b|purge {|}|\
         gen 7|gen 7 0|gen 7 100001|gen 07 1|gen +7 1|gen 7 1 |\
-        gen 18446744073709551616 1|gen  1|gen 7 01";
+        gen 18446744073709551616 1|gen  1|gen 7 01|\
+        floor a|floor a |floor  a|floor a b --workers 2|floor a b c|Floor a b|\
+        load 1|load 1 0|load 1 4001|load 01 1|load 18446744073709551616 1|load 1 1 1";
     for line in lines.split('|') {
         assert!(rt; asks_nothing(rt.alloc(), line)?);
     }

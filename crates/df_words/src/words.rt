@@ -7,6 +7,12 @@ use crate::label::label_in;
 use crate::number::{count_in, number_in};
 use std::alloc::Global;
 
+/// The most ticks that are written at once.
+const MOST_GENERATED: u32 = 100_000;
+
+/// The most ticks on which a floor is run that no file tells.
+const MOST_LOADED: u32 = 4_000;
+
 /// What is to be done with the file of this name, by the word before it.
 fn file_command(word: &str, name: &str) -> Result<Command, WordsRefused>
     ensures { IsCommandOf (word.now ∷ name.now ∷ []) result }
@@ -42,6 +48,10 @@ fn pair_command(
         purge_command(alloc, first, second)
     } else if word == "gen" {
         gen_command(first, second)
+    } else if word == "floor" {
+        floor_command(first, second)
+    } else if word == "load" {
+        load_command(first, second)
     } else {
         Err(WordsRefused::Usage)
     }
@@ -62,8 +72,31 @@ fn purge_command(alloc: Global, label: &str, journal: &str) -> Result<Command, W
 fn gen_command(key: &str, count: &str) -> Result<Command, WordsRefused>
     ensures { IsCommandOf (codes "gen" ∷ key.now ∷ count.now ∷ []) result }
 {
-    match (number_in(key), count_in(count)) {
+    match (number_in(key), count_in(count, MOST_GENERATED)) {
         (Some(key), Some(n)) => Ok(Command::Gen { key, n }),
+        _ => Err(WordsRefused::Usage),
+    }
+}
+
+/// The floor of the files of these names.
+fn floor_command(config: &str, ticks: &str) -> Result<Command, WordsRefused>
+    ensures { IsCommandOf (codes "floor" ∷ config.now ∷ ticks.now ∷ []) result }
+{
+    if config.is_empty() || ticks.is_empty() {
+        return Err(WordsRefused::Usage);
+    }
+    Ok(Command::Floor {
+        config: 1,
+        ticks: 2,
+    })
+}
+
+/// A floor on as many ticks of the key as the words say.
+fn load_command(key: &str, count: &str) -> Result<Command, WordsRefused>
+    ensures { IsCommandOf (codes "load" ∷ key.now ∷ count.now ∷ []) result }
+{
+    match (number_in(key), count_in(count, MOST_LOADED)) {
+        (Some(key), Some(n)) => Ok(Command::Load { key, n }),
         _ => Err(WordsRefused::Usage),
     }
 }

@@ -1,0 +1,92 @@
+-- A run of one file, and of a floor's two files.
+use Rattle.std.proofs.Common.{◌≡◌, ◌≤◌, ℕ, List, [], ◌∷◌, Option, None, Some, refl, sym, subst, inl, inr, slice_get, arith}
+use Rattle.std.specs.Option.{option_and_then}
+use Rattle.df_audit.proofs.Sound.{legal_is_sound}
+use Rattle.df_config.specs.ConfigFile.{IsConfigFile}
+use Rattle.df_config.specs.declared.config.Config.{Config}
+use Rattle.df_floor.specs.Starting.{floor_start}
+use Rattle.df_floor_run.specs.FloorRun.{IsFloorRun}
+use Rattle.df_floor_run.specs.declared.run.FloorEnd.{FloorEnd}
+use Rattle.df_floor_run.specs.declared.run.FloorEnd.TheVariants as floor
+use Rattle.df_io.specs.Faults.{Rose, count_more}
+use Rattle.df_ticks.specs.TickFile.{IsTickFile}
+use Rattle.df_ticks.specs.declared.tick.Tick.{Tick}
+use Rattle.df_words.specs.declared.command.Command.{Command}
+use Rattle.df_words.specs.declared.command.Command.TheVariants.{Floor}
+use Rattle.df_run.specs.Making.{Stops, StopsAt, TellsFloor, end_of_floor}
+use Rattle.df_run.specs.Outcome.{IsTextOfSome, OfRead, told_at}
+use Rattle.df_run.specs.Tasks.{BlamesBytes, IsInput, IsText}
+use Rattle.df_run.specs.declared.status.Status.{Status}
+use Rattle.df_run.specs.declared.status.Status.TheVariants as status
+use Rattle.df_run.specs.declared.tasks.End.{End}
+use Rattle.df_run.specs.declared.tasks.End.TheVariants as end
+
+-- the first file stops a run
+pub first_stops : (c : Command) (told : Option (List ℕ)) (files : List (Option (List ℕ))) (before now : ℕ) (s : Status) → StopsAt c 1 told before now s → Stops c (told ∷ files) before now s
+first_stops c told files before now status.ReadFault h = record { stop = tt; bad_input = tt; too_long = tt; read_fault = λ e. h }
+first_stops c told files before now status.NoMemory h = record { stop = tt; bad_input = tt; too_long = tt; read_fault = λ e. absurd (let no : ⊥ = cc in no) }
+first_stops c told files before now (status.TooLong i) h = record { stop = tt; bad_input = tt; too_long = inl h; read_fault = λ e. absurd (let no : ⊥ = cc in no) }
+first_stops c told files before now (status.BadInput i line kind) h = record {
+  stop = tt;
+  bad_input = inl (h.0, subst (λ (k : ℕ). OfRead told (λ bytes. BlamesBytes c k bytes line kind)) (sym h.0) h.1);
+  too_long = tt;
+  read_fault = λ e. absurd (let no : ⊥ = cc in no);
+}
+first_stops c told files before now status.Done h = absurd h
+first_stops c told files before now status.Usage h = absurd h
+first_stops c told files before now (status.Wrong place) h = absurd h
+first_stops c told files before now status.WriteFault h = absurd h
+first_stops c told files before now (status.Unsettled steps) h = absurd h
+
+-- a count that rose later rose
+rose_later : (before mid now : ℕ) → before ≤ mid → Rose mid now → Rose before now
+rose_later before mid now le rose = omega (arith, le, rose)
+
+-- the second file stops a run
+pub second_stops : (c : Command) (one other : Option (List ℕ)) (before mid now : ℕ) (s : Status) → OfRead one (IsInput c 1) → before ≤ mid → StopsAt c 2 other mid now s → Stops c (one ∷ other ∷ []) before now s
+second_stops c one other before mid now status.ReadFault good le h = record { stop = tt; bad_input = tt; too_long = tt; read_fault = λ e. rose_later before mid now le h }
+second_stops c one other before mid now status.NoMemory good le h = record { stop = tt; bad_input = tt; too_long = tt; read_fault = λ e. absurd (let no : ⊥ = cc in no) }
+second_stops c one other before mid now (status.TooLong i) good le h = record { stop = tt; bad_input = tt; too_long = inr (good, inl h); read_fault = λ e. absurd (let no : ⊥ = cc in no) }
+second_stops c one other before mid now (status.BadInput i line kind) good le h = record {
+  stop = tt;
+  bad_input = inr (good, inl (h.0, subst (λ (k : ℕ). OfRead other (λ bytes. BlamesBytes c k bytes line kind)) (sym h.0) h.1));
+  too_long = tt;
+  read_fault = λ e. absurd (let no : ⊥ = cc in no);
+}
+second_stops c one other before mid now status.Done good le h = absurd h
+second_stops c one other before mid now status.Usage good le h = absurd h
+second_stops c one other before mid now (status.Wrong place) good le h = absurd h
+second_stops c one other before mid now status.WriteFault good le h = absurd h
+second_stops c one other before mid now (status.Unsettled steps) good le h = absurd h
+
+-- want of memory stops a run of any files
+pub want_stops : (c : Command) (files : List (Option (List ℕ))) (before now : ℕ) → Stops c files before now status.NoMemory
+want_stops c files before now = record { stop = tt; bad_input = tt; too_long = tt; read_fault = λ e. absurd (let no : ⊥ = cc in no) }
+
+-- a shelf that tells the same tells the same of a file
+same_told : (f g : List ℕ → Option (List ℕ)) (name : Option (List ℕ)) → ((n : List ℕ) → f n ≡ g n) → option_and_then f name ≡ option_and_then g name
+same_told f g None same = refl
+same_told f g (Some name) same = same name
+
+pub told_again : (f g : List ℕ → Option (List ℕ)) (words : List (List ℕ)) (place : ℕ) → ((n : List ℕ) → f n ≡ g n) → told_at f words place ≡ told_at g words place
+told_again f g words place same = same_told f g (slice_get words place) same
+
+-- ---- the text of a floor
+
+run_tells : (config : Config) (ticks : List Tick) (text : List ℕ) (e : FloorEnd) → IsFloorRun config ticks text e → TellsFloor config ticks (end_of_floor e) text
+run_tells config ticks text floor.Quiet h = record { run = h; sound = legal_is_sound (floor_start config) h.after.core.1 h.runs.journal.legal }
+run_tells config ticks text (floor.Unsettled steps) h = record { run = h; sound = legal_is_sound (floor_start config) h.after.core.1 h.runs.journal.legal }
+
+pub run_told : (config : Config) (ticks : List Tick) (text out : List ℕ) (e : FloorEnd) (d : End) → IsFloorRun config ticks text e → d ≡ end_of_floor e → out ≡ text → TellsFloor config ticks d out
+run_told config ticks text out e d h ends same = subst (λ (x : End). TellsFloor config ticks x out) (sym ends) (subst (TellsFloor config ticks (end_of_floor e)) (sym same) (run_tells config ticks text e h))
+
+floor_text : (first second : ℕ) (one other : List ℕ) (config : Config) (ticks : List Tick) (e : End) (text : List ℕ) → IsConfigFile one config → IsTickFile other ticks → TellsFloor config ticks e text → IsText (Floor first second) (one ∷ other ∷ []) e text
+floor_text first second one other config ticks end.Done text c t h = (config, ticks, c, t, h)
+floor_text first second one other config ticks (end.Wrong place) text c t h = absurd h
+floor_text first second one other config ticks (end.Unsettled steps) text c t h = (config, ticks, c, t, h)
+
+pub floor_told : (first second : ℕ) (one other : Option (List ℕ)) (config : Config) (ticks : List Tick) (e : End) (text : List ℕ) → OfRead one (λ bytes. IsConfigFile bytes config) → OfRead other (λ bytes. IsTickFile bytes ticks) → TellsFloor config ticks e text → IsTextOfSome (Floor first second) (one ∷ other ∷ []) e text
+floor_told first second one other config ticks e text p q h = (p.0 ∷ q.0 ∷ [], (p.1, (q.1, tt)), floor_text first second p.0 q.0 config ticks e text p.2 q.2 h)
+
+pub config_good : (first second : ℕ) (one : Option (List ℕ)) (config : Config) → OfRead one (λ bytes. IsConfigFile bytes config) → OfRead one (IsInput (Floor first second) 1)
+config_good first second one config p = (p.0, p.1, (config, p.2))

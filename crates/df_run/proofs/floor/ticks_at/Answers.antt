@@ -1,0 +1,16 @@
+use Rattle.std.proofs.Common.{List, ℕ, refl, subst}
+use Rattle.df_ticks.proofs.OneReading.{a_tick_file_is_good}
+use Rattle.df_ticks.specs.Refusing.{IsRightRefusal}
+use Rattle.df_ticks.specs.declared.ticks.TicksRefused.TheVariants.{BadTick}
+use Rattle.df_run.proofs.floor.ticks_at.Goals as goal
+use Rattle.df_words.specs.declared.command.Command.TheVariants.{Floor}
+
+pub returns-in-Err-clause-stops : goal.returns-in-Err-clause-stops
+returns-in-Err-clause-stops g c = λ config ticks. c.in-Err.ensures.stops (Floor config ticks)
+
+pub returns-in-Err-BadTick-clause-stops : goal.returns-in-Err-BadTick-clause-stops
+returns-in-Err-BadTick-clause-stops g c =
+    let line = c.in-Err-BadTick.line in
+    let refused = rw c.in-Err-BadTick.field-0-is at c.in-Err-BadTick.ensures.refused in
+    let bad = subst (λ (bs : List ℕ). IsRightRefusal bs (BadTick line)) c.as_slice.ensures.value refused in
+    λ config ticks. (refl, (c.in-Ok.bytes.items, c.in-Ok.ensures.read, record { bad = λ read. a_tick_file_is_good c.in-Ok.bytes.items read.0 line read.1 bad; place = (refl, bad) }))
