@@ -1,17 +1,19 @@
-ghost use Rattle.std.specs.Prelude.{◌≡◌, [], ◌++◌, not, OnOk, OnErr, IfOk};
-ghost use Rattle.std.specs.List.{filter};
+ghost use Rattle.std.specs.Prelude.{◌≡◌, [], ◌++◌, not, IsTrue, OnOk, OnErr, IfOk};
+ghost use Rattle.std.specs.List.{filter, list_all};
 ghost use Rattle.df_part.specs.Contents.{apply, is_deleted, spared};
-ghost use Rattle.df_part.specs.Part.{cut};
+ghost use Rattle.df_part.specs.Part.{cut, readable};
 
-use crate::{Edit, Part, PartRef, ReadableParts, Spot};
+use crate::parts::share_all;
+use crate::{Edit, Part, PartRef, Parts, ReadableParts, Spot, readable};
 use df_label::{Label, NoMemory};
 use std::alloc::Global;
 use std::marker::Model;
 
-/// The parts of an event, in the order in which they were added.
+/// The parts of an event, in the order in which they were added. They are shared by all that is
+/// made of them.
 #[derive(Drop)]
 pub struct Contents {
-    parts: Vec<PartRef>,
+    parts: Parts,
 }
 
 impl Model for Contents {
@@ -24,7 +26,7 @@ impl Model for Contents {
 
     ghost coded = { coded_list content.the_row.coded };
 
-    ghost view = { λ c. c.parts.items };
+    ghost view = { λ c. c.parts };
 }
 
 impl Contents {
@@ -33,8 +35,22 @@ impl Contents {
         ensures { result ≡ [] }
     {
         Contents {
-            parts: Vec::new(alloc),
+            parts: Parts::new(Vec::new(alloc)),
         }
+    }
+
+    /// The parts after an edit, built once: it deletes first, each part that has the name and the
+    /// exact label of a deleted spot, and then adds, in order. An empty edit shares what there was.
+    pub fn applied(&self, edit: &Edit) -> Result<Contents, NoMemory>
+        ensures { IfOk result (λ c. c ≡ apply edit.now self.now) }
+    {
+        if is_idle(edit) {
+            return self.copy();
+        }
+        let alloc = self.parts.allocator();
+        let parts = edited(alloc, self.parts(), edit)?;
+        let parts = Parts::shared(alloc, parts)?;
+        Ok(Contents { parts })
     }
 
     /// Deletes first, each part that has the name and the exact label of a deleted spot, and then
@@ -43,10 +59,7 @@ impl Contents {
         ensures ok { OnOk result (self.new ≡ apply edit.now self.old) }
         ensures unchanged { OnErr result (self.new ≡ self.old) }
     {
-        let alloc = *self.parts.allocator();
-        let mut parts = kept(alloc, self.parts.as_slice(), edit.deleted())?;
-        share_all(edit.added(), &mut parts)?;
-        self.parts = parts;
+        *self = self.applied(edit)?;
         Ok(())
     }
 
@@ -63,12 +76,25 @@ impl Contents {
         ReadableParts::new(at, self.parts.as_slice())
     }
 
+    /// The parts that may be read at a label, as a list. Where all may be read, it is the one that
+    /// there is, shared.
+    pub fn seen_at(&self, at: &Label) -> Result<Parts, NoMemory>
+        ensures { IfOk result (λ p. p ≡ cut at.now self.now) }
+    {
+        if are_readable(at, self.parts()) {
+            return self.parts.copy();
+        }
+        let alloc = self.parts.allocator();
+        Parts::shared(alloc, seen(alloc, at, self)?)
+    }
+
+    /// The same parts, shared.
     pub fn copy(&self) -> Result<Contents, NoMemory>
         ensures { IfOk result (λ c. c ≡ self.now) }
     {
-        let mut parts = Vec::new(*self.parts.allocator());
-        share_all(self.parts.as_slice(), &mut parts)?;
-        Ok(Contents { parts })
+        Ok(Contents {
+            parts: self.parts.copy()?,
+        })
     }
 }
 
@@ -81,24 +107,50 @@ pub fn is_deleted(part: &Part, deleted: &[Spot]) -> bool
         .any(|spot| part.is_at(&spot.name, &spot.label))
 }
 
-fn kept(alloc: Global, parts: &[PartRef], deleted: &[Spot]) -> Result<Vec<PartRef>, NoMemory>
-    ensures { IfOk result (λ v. v.items ≡ spared deleted.now parts.now) }
+/// Whether an edit neither deletes nor adds.
+fn is_idle(edit: &Edit) -> bool
+    ensures { IsTrue result → edit.now ≡ ([], []) }
 {
-    let mut kept = Vec::new(alloc);
-    for part in parts {
-        if !is_deleted(part.part(), deleted) {
-            kept.push(part.share()?)?;
-        }
-    }
-    Ok(kept)
+    edit.deleted().is_empty() && edit.added().is_empty()
 }
 
-/// Appends a share of each part.
-pub(crate) fn share_all(parts: &[PartRef], to: &mut Vec<PartRef>) -> Result<(), NoMemory>
-    ensures { OnOk result (to.new.items ≡ to.old.items ++ parts.now) }
+/// Whether all of the parts may be read at a label.
+fn are_readable(at: &Label, parts: &[PartRef]) -> bool
+    ensures { result ≡ list_all (readable at.now) parts.now }
+{
+    parts.iter().all(|part| readable(at, part.part()))
+}
+
+/// A list of its own, of the parts that may be read at a label.
+fn seen(alloc: Global, at: &Label, contents: &Contents) -> Result<Vec<PartRef>, NoMemory>
+    ensures { IfOk result (λ v. v.items ≡ cut at.now contents.now) }
+{
+    let mut seen = Vec::new(alloc);
+    for part in contents.readable_by(at) {
+        seen.push(part.share()?)?;
+    }
+    Ok(seen)
+}
+
+/// What an edit makes of parts, as a list of its own.
+fn edited(alloc: Global, parts: &[PartRef], edit: &Edit) -> Result<Vec<PartRef>, NoMemory>
+    ensures { IfOk result (λ v. v.items ≡ apply edit.now parts.now) }
+{
+    let count = parts.len().saturating_add(edit.added().len());
+    let mut edited = Vec::with_capacity(alloc, count)?;
+    put_spared(parts, edit.deleted(), &mut edited)?;
+    share_all(edit.added(), &mut edited)?;
+    Ok(edited)
+}
+
+/// Appends a share of each part that a deletion leaves.
+fn put_spared(parts: &[PartRef], deleted: &[Spot], to: &mut Vec<PartRef>) -> Result<(), NoMemory>
+    ensures { OnOk result (to.new.items ≡ to.old.items ++ spared deleted.now parts.now) }
 {
     for part in parts {
-        to.push(part.share()?)?;
+        if !is_deleted(part.part(), deleted) {
+            to.push(part.share()?)?;
+        }
     }
     Ok(())
 }

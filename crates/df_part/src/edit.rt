@@ -1,7 +1,7 @@
 ghost use Rattle.std.specs.Prelude.{◌≡◌, ◌↔◌, IsTrue, IfOk};
 
 use crate::PartRef;
-use crate::contents::share_all;
+use crate::parts::{same_parts, share_all};
 use df_frozen::Name;
 use df_label::{Label, NoMemory};
 use std::alloc::Global;
@@ -104,21 +104,6 @@ fn copies(alloc: Global, spots: &[Spot]) -> Result<Vec<Spot>, NoMemory>
 }
 
 fn same_spots(a: &[Spot], b: &[Spot]) -> bool
-    ensures { IsTrue result ↔ (a.now ≡ b.now) }
-{
-    if a.len() != b.len() {
-        return false;
-    }
-    for i in 0..a.len() {
-        let is_same = a[i].same(&b[i]);
-        if !is_same {
-            return false;
-        }
-    }
-    true
-}
-
-fn same_parts(a: &[PartRef], b: &[PartRef]) -> bool
     ensures { IsTrue result ↔ (a.now ≡ b.now) }
 {
     if a.len() != b.len() {

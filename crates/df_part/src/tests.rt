@@ -1,5 +1,5 @@
 //! What an edit makes of an event's parts, and which parts may be read at a label.
-use crate::{Contents, Edit, Part, PartRef, Spot, readable};
+use crate::{Contents, Edit, Part, PartRef, Parts, Spot, readable};
 use df_frozen::{Frozen, Name, Value};
 use df_label::{Label, Privileges, Tag, TagSet};
 use std::alloc::Global;
@@ -173,7 +173,8 @@ fn are_read(contents: &Contents, at: &Label, numbers: &[i64]) -> bool {
 fn are_read_at(alloc: Global, edit: &Edit, at: &Label, numbers: &[i64]) -> Result<bool, Fail> {
     let mut contents = Contents::new(alloc);
     contents.apply(edit)?;
-    Ok(are_read(&contents, at, numbers))
+    let seen = contents.seen_at(at)?;
+    Ok(are_read(&contents, at, numbers) && are_numbered(seen.as_slice(), numbers))
 }
 
 fn gives(alloc: Global, at: &Label, numbers: &[i64]) -> Result<bool, Fail> {
@@ -230,9 +231,28 @@ fn is_own_copy(alloc: Global) -> Result<bool, Fail> {
     is_itself(&first)
 }
 
+/// Whether a list of these parts is its copy, own or shared.
+fn is_its_list(alloc: Global, rows: &[Row]) -> Result<bool, Fail> {
+    let own = Parts::new(parts(alloc, rows)?);
+    let shared = Parts::shared(alloc, parts(alloc, rows)?)?;
+    let own_copy = own.copy()?;
+    let shared_copy = shared.copy()?;
+    Ok(own_copy.same(&shared) && shared_copy.same(&own))
+}
+
+/// Whether lists of none, of one and of four parts are their copies.
+fn are_their_lists(alloc: Global) -> Result<bool, Fail> {
+    Ok(
+        is_its_list(alloc, &[])?
+            && is_its_list(alloc, ADDED.as_slice())?
+            && is_its_list(alloc, PARTS.as_slice())?,
+    )
+}
+
 #[test]
 fn compares_by_plain_content(rt: HostRuntime) -> Result<(), Fail> {
     assert!(rt; is_own_copy(rt.alloc())?);
+    assert!(rt; are_their_lists(rt.alloc())?);
     for (row, is_same) in [
         (("a", true, false, 0), true),
         (("b", true, false, 0), false),

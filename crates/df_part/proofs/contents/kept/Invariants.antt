@@ -1,6 +1,0 @@
-use Rattle.std.proofs.Common.{◌≡◌, take}
-use Rattle.df_part.specs.Contents.{spared}
-use Rattle.df_part.proofs.contents.kept.Given as goal
-
-abbrev pub invariant-loop-part : goal.invariant-loop-part
-invariant-loop-part l = l.kept.items ≡ spared l.deleted (take l.part-index l.parts)
