@@ -12,8 +12,8 @@ use crate::marked::{part_lines, shown_lines, spot_lines};
 use crate::place::{called_at, event_at, mark_stands, note_at};
 use df_label::Label;
 use df_lines::FileFault;
-use df_part::Edit;
-use df_unit::{Commit, Effect, Entry, Given, Noted, Parts, PartsRead, Reply};
+use df_part::{Edit, Parts};
+use df_unit::{Commit, Effect, Entry, Given, Noted, PartsRead, Reply};
 use df_value_text::byte_stands;
 use std::alloc::Global;
 

@@ -8,11 +8,9 @@ use crate::{
     write_head, write_noted, write_start, write_unit,
 };
 use df_label::Label;
-use df_part::{Edit, PartRef, Spot};
+use df_part::{Edit, PartRef, Parts, Spot};
 use df_start::{RootStart, Start};
-use df_unit::{
-    Call, Commit, Effect, Entry, EventName, Given, Noted, Parts, PartsRead, Reply, UnitName,
-};
+use df_unit::{Call, Commit, Effect, Entry, EventName, Given, Noted, PartsRead, Reply, UnitName};
 use df_value_text::Fault;
 use std::alloc::Global;
 use std::test::Fail;

@@ -13,7 +13,8 @@ use crate::parts::new_part;
 use crate::take::is_accepted;
 use df_frozen::{Frozen, Name};
 use df_label::{Label, NoMemory};
-use df_unit::{Drafts, EventName, Handle, Parts, Reply, Spots};
+use df_part::Parts;
+use df_unit::{Drafts, EventName, Handle, Reply, Spots};
 
 impl Local {
     /// Opens an empty draft of the unit's next event.

@@ -1,8 +1,8 @@
 ghost use Rattle.std.specs.Prelude.{◌≡◌, ◌↔◌, IsTrue, IfOk};
 
-use crate::{EventName, Parts};
+use crate::EventName;
 use df_label::NoMemory;
-use df_part::Edit;
+use df_part::{Edit, Parts};
 
 /// An edit of one event, made at once.
 #[derive(Drop)]

@@ -1,8 +1,8 @@
 ghost use Rattle.std.specs.Prelude.{◌≡◌};
 
-use crate::{EventName, Parts};
+use crate::EventName;
 use df_label::NoMemory;
-use df_part::{Part, Spot};
+use df_part::{Part, Parts, Spot};
 use std::marker::Model;
 
 /// Spots that a release will delete, in order.

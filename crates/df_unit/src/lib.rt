@@ -17,6 +17,6 @@ pub use commit::{Commit, Given};
 pub use entry::{Effect, Entry, Noted};
 pub use handle::{Drafts, Handle, Spots};
 pub use name::{EventName, UnitName};
-pub use parts::{PartRead, Parts, PartsRead};
+pub use parts::{PartRead, PartsRead};
 pub use path::Path;
 pub use reply::Reply;

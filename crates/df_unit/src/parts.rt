@@ -1,83 +1,9 @@
-ghost use Rattle.std.specs.Prelude.{◌≡◌, ◌↔◌, ◌++◌, IsTrue, IfOk, OnOk};
+ghost use Rattle.std.specs.Prelude.{◌≡◌, ◌↔◌, IsTrue, IfOk};
 
 use df_frozen::Frozen;
 use df_label::{Label, NoMemory, Privileges};
-use df_part::PartRef;
 use std::alloc::Global;
 use std::marker::Model;
-
-/// Shared parts, in order.
-#[derive(Drop)]
-pub struct Parts {
-    parts: Vec<PartRef>,
-}
-
-impl Model for Parts {
-    ghost use Rattle.std.specs.Prelude.{List};
-    ghost use Rattle.std.specs.Coded.{coded_list};
-    ghost use Rattle.df_part.specs.declared.part.Part.{Part};
-    ghost use Rattle.df_part.specs.contracts.part.Part as content;
-
-    ghost Value = { List Part };
-
-    ghost coded = { coded_list content.the_row.coded };
-
-    ghost view = { λ p. p.parts.items };
-}
-
-impl Parts {
-    /// Takes no memory.
-    pub fn new(parts: Vec<PartRef>) -> Parts
-        ensures { result ≡ parts.items }
-    {
-        Parts { parts }
-    }
-
-    pub fn as_slice(&self) -> &[PartRef]
-        ensures { result.now ≡ self.now }
-    {
-        self.parts.as_slice()
-    }
-
-    /// Whether the two have the same parts.
-    pub fn same(&self, other: &Parts) -> bool
-        ensures { IsTrue result ↔ (self.now ≡ other.now) }
-    {
-        same_parts(self.parts.as_slice(), other.parts.as_slice())
-    }
-
-    pub fn copy(&self) -> Result<Parts, NoMemory>
-        ensures { IfOk result (λ p. p ≡ self.now) }
-    {
-        let mut parts = Vec::new(*self.parts.allocator());
-        share_all(self.parts.as_slice(), &mut parts)?;
-        Ok(Parts { parts })
-    }
-}
-
-fn share_all(parts: &[PartRef], to: &mut Vec<PartRef>) -> Result<(), NoMemory>
-    ensures { OnOk result (to.new.items ≡ to.old.items ++ parts.now) }
-{
-    for part in parts {
-        to.push(part.share()?)?;
-    }
-    Ok(())
-}
-
-fn same_parts(a: &[PartRef], b: &[PartRef]) -> bool
-    ensures { IsTrue result ↔ (a.now ≡ b.now) }
-{
-    if a.len() != b.len() {
-        return false;
-    }
-    for i in 0..a.len() {
-        let is_same = a[i].same(&b[i]);
-        if !is_same {
-            return false;
-        }
-    }
-    true
-}
 
 /// What a read shows of a part.
 #[derive(Drop)]
