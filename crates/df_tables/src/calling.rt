@@ -63,7 +63,7 @@ pub(crate) fn born(
 {
     let (owner, sub) = (subscription.owner.as_slice(), subscription.sub);
     let local = Local::of_instance(alloc, owner, sub, &subscription.fixed, s)?;
-    let given = given_to(alloc, event, after, local.input(), (0, sub))?;
+    let given = given_to(event, after, local.input(), (0, sub))?;
     let mut line = Line::new(alloc);
     line.stage(given)?;
     line.settle();

@@ -68,15 +68,6 @@ fn receivers<L: Ledger>(
     index.receivers(labels, event, after, edit, &mut steps)
 }
 
-/// The parts after an edit.
-fn applied(contents: &Contents, edit: &Edit) -> Result<Contents, NoMemory>
-    ensures { IfOk result (λ c. c ≡ apply edit.now contents.now) }
-{
-    let mut after = contents.copy()?;
-    after.apply(edit)?;
-    Ok(after)
-}
-
 /// Receivers of both kinds, one after another.
 fn both(
     alloc: Global,
@@ -203,7 +194,7 @@ impl Board {
         ensures opened { IsOpenedBoard commit.now.event self.old self.new }
     {
         let place = self.open_event(&commit.event)?;
-        let after = applied(self.events.contents(place), &commit.edit)?;
+        let after = self.events.contents(place).applied(&commit.edit)?;
         let called = self.called(place, commit, &after)?;
         self.make_ready(commit, place, after, called)
     }
@@ -260,7 +251,7 @@ impl Board {
             receivers: ready.receivers.as_slice(),
         };
         let rows = self.rows.as_mut_slice();
-        hand_over(self.alloc, rows, place, call, reply, effect, &news)?;
+        hand_over(rows, place, call, reply, effect, &news)?;
         self.close(ready);
         Ok(())
     }
@@ -279,7 +270,7 @@ impl Board {
             receivers: emitted.receivers.as_slice(),
         };
         let rows = self.rows.as_mut_slice();
-        hand_out(self.alloc, rows, &news)?;
+        hand_out(rows, &news)?;
         self.close(emitted);
         Ok(())
     }

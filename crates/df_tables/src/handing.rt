@@ -2,7 +2,6 @@
 
 ghost use Rattle.std.specs.Prelude.{◌≡◌, ◌<◌, OnOk, OnErr, IfOk, List, length, map};
 ghost use Rattle.std.specs.List.{All};
-ghost use Rattle.df_part.specs.Part.{cut};
 ghost use Rattle.df_unit.specs.declared.commit.Given.{Given};
 ghost use Rattle.df_tables.specs.Hand.{IsAnsweredAt, IsCalm, IsNews, each, given_to, modify, quiet_row, settled_row, staged_row, with_news, with_state};
 ghost use Rattle.df_tables.specs.declared.units.Unit.{Unit};
@@ -10,8 +9,7 @@ ghost use Rattle.df_tables.specs.declared.units.Unit.{Unit};
 use crate::units::Unit;
 use df_label::{Label, NoMemory};
 use df_part::Contents;
-use df_unit::{Call, Effect, EventName, Given, Parts, Reply};
-use std::alloc::Global;
+use df_unit::{Call, Effect, EventName, Given, Reply};
 
 /// What a commit brings: the event, its parts after the commit, and to whom it is to be handed.
 #[derive(Drop)]
@@ -21,20 +19,8 @@ pub(crate) struct News<'a> {
     pub receivers: &'a [(usize, u32)],
 }
 
-/// The parts of an event that are readable at a label.
-fn seen_at(alloc: Global, at: &Label, contents: &Contents) -> Result<Parts, NoMemory>
-    ensures { IfOk result (λ p. p ≡ cut at.now contents.now) }
-{
-    let mut seen = Vec::new(alloc);
-    for part in contents.readable_by(at) {
-        seen.push(part.share()?)?;
-    }
-    Ok(Parts::new(seen))
-}
-
 /// The delivery of an event to a receiver who reads at a label.
 pub(crate) fn given_to(
-    alloc: Global,
     event: &EventName,
     after: &Contents,
     at: &Label,
@@ -45,13 +31,12 @@ pub(crate) fn given_to(
     Ok(Given {
         event: event.copy()?,
         sub: receiver.1,
-        parts: seen_at(alloc, at, after)?,
+        parts: after.seen_at(at)?,
     })
 }
 
 /// Stages one delivery at a row.
 fn stage_at(
-    alloc: Global,
     unit: &mut Unit,
     event: &EventName,
     after: &Contents,
@@ -60,7 +45,7 @@ fn stage_at(
     ensures ok { OnOk result (unit.new ≡ staged_row event.now after.now receiver unit.old) }
     ensures unchanged { OnErr result (unit.new ≡ unit.old) }
 {
-    let Ok(given) = given_to(alloc, event, after, unit.local.input(), receiver) else {
+    let Ok(given) = given_to(event, after, unit.local.input(), receiver) else {
         return Err(NoMemory);
     };
     let Ok(()) = unit.line.stage(given) else {
@@ -72,7 +57,6 @@ fn stage_at(
 /// Stages the event at each receiver's row. Where memory is wanting, only what is staged there is
 /// another.
 fn stage(
-    alloc: Global,
     units: &mut [Unit],
     receivers: &[(usize, u32)],
     event: &EventName,
@@ -86,7 +70,7 @@ fn stage(
 {
     for receiver in receivers {
         let unit = &mut units[receiver.0];
-        let Ok(()) = stage_at(alloc, unit, event, after, *receiver) else {
+        let Ok(()) = stage_at(unit, event, after, *receiver) else {
             return Err(NoMemory);
         };
     }
@@ -139,7 +123,6 @@ fn take_commit(
 /// Hands an event to its receivers, and takes the commit's entry into the own state of the actor,
 /// whose row has this place. Where memory is wanting, the table is as before.
 pub(crate) fn hand_over(
-    alloc: Global,
     units: &mut [Unit],
     place: usize,
     call: &Call,
@@ -157,7 +140,7 @@ pub(crate) fn hand_over(
         (map (with_news given) units.old)) }
     ensures unchanged { OnErr result (units.new ≡ units.old) }
 {
-    let Ok(()) = stage(alloc, units, news.receivers, news.event, news.after) else {
+    let Ok(()) = stage(units, news.receivers, news.event, news.after) else {
         quiet(units, news.receivers);
         return Err(NoMemory);
     };
@@ -170,7 +153,7 @@ pub(crate) fn hand_over(
 }
 
 /// Hands an event to its receivers. Where memory is wanting, the table is as before.
-pub(crate) fn hand_out(alloc: Global, units: &mut [Unit], news: &News<'_>) -> Result<(), NoMemory>
+pub(crate) fn hand_out(units: &mut [Unit], news: &News<'_>) -> Result<(), NoMemory>
     requires receivers { All (λ p. p.0 < length units.old) news.now.receivers.now }
     requires calm { All IsCalm units.old }
     ensures ok { (given : Unit → List Given) → IsNews given news.now.event.now
@@ -178,7 +161,7 @@ pub(crate) fn hand_out(alloc: Global, units: &mut [Unit], news: &News<'_>) -> Re
         OnOk result (units.new ≡ map (with_news given) units.old) }
     ensures unchanged { OnErr result (units.new ≡ units.old) }
 {
-    let Ok(()) = stage(alloc, units, news.receivers, news.event, news.after) else {
+    let Ok(()) = stage(units, news.receivers, news.event, news.after) else {
         quiet(units, news.receivers);
         return Err(NoMemory);
     };
