@@ -1,19 +1,20 @@
-ghost use Rattle.std.specs.Prelude.{◌≡◌, ◌∷◌, ◌++◌, [], IfOk, Ok, None, OnOk, reverse};
+ghost use Rattle.std.specs.Prelude.{◌≡◌, ◌∷◌, ◌++◌, ◌<◌, [], IfOk, OnOk, reverse};
+ghost use Rattle.std.specs.VecDeque.{deque_len};
 ghost use Rattle.df_machine.specs.Journal.{firsts};
 ghost use Rattle.df_rules.specs.Legal.{Legal};
 ghost use Rattle.df_rules.specs.Start.{rows};
-ghost use Rattle.df_replay.specs.Noted.{noted, noted_in};
-ghost use Rattle.df_replay.specs.Replay.{entry_for, replayed};
-ghost use Rattle.df_check.specs.Check.{TellsOther};
-ghost use Rattle.df_upgrade.specs.Notes.{JudgesAndNotes};
+ghost use Rattle.df_replay.specs.Noted.{noted};
+ghost use Rattle.df_replay.specs.Replay.{replayed};
+ghost use Rattle.df_upgrade.specs.Notes.{Compares, JudgesAndNotes, MovesFirst};
 
 use df_check::other_than;
-use df_label::NoMemory;
+use df_label::{Label, NoMemory};
 use df_machine::Core;
 use df_replay::{begin, contamination_before, copy_entry};
 use df_start::Start;
 use df_unit::{Entry, Noted};
 use std::alloc::Global;
+use std::collections::VecDeque;
 
 /// A legal journal with its notes, or the first wrong place of another. A place counts the entries
 /// before it.
@@ -31,36 +32,73 @@ pub fn judge_and_note(alloc: Global, start: &Start, journal: Vec<Entry>) -> Resu
     ensures { IfOk result (JudgesAndNotes start.now journal.items) }
 {
     let mut core = begin(alloc, start)?;
+    judge_from(alloc, &mut core, journal)
+}
+
+/// Judges and notes a journal by a machine whose own is empty.
+fn judge_from(alloc: Global, core: &mut Core, journal: Vec<Entry>) -> Result<Judged, NoMemory>
+    requires { core.old.1 ≡ [] }
+    ensures { IfOk result (JudgesAndNotes core.old.0 journal.items) }
+{
     let mut notes = Vec::with_capacity(alloc, journal.len())?;
-    for kept in journal {
-        let place = notes.len() as u64;
-        if let Some(expected) = note_or_other(&mut core, kept, &mut notes)? {
-            return Ok(Judged::Wrong { place, expected });
+    let mut left = VecDeque::from(journal);
+    'entries: while let Some(kept) = left.front() {
+        match compare(core, kept)? {
+            Compared::Same { contamination } => note_first(&mut left, contamination, &mut notes)?,
+            Compared::Other { expected } => {
+                let place = notes.len() as u64;
+                return Ok(Judged::Wrong { place, expected });
+            }
         }
     }
     Ok(Judged::Right { notes })
 }
 
-/// Appends the entry that the rules give where a kept one stands. Gives it where it is another, and
-/// else notes the kept one with the contamination that its actor has before it.
-fn note_or_other(
-    core: &mut Core,
-    kept: Entry,
+/// Moves the first of the entries that are left to the notes, with this contamination.
+fn note_first(
+    left: &mut VecDeque<Entry>,
+    contamination: Option<Label>,
     to: &mut Vec<Noted>,
-) -> Result<Option<Entry>, NoMemory>
-    ensures made { OnOk result (core.new ≡ replayed core.old kept) }
-    ensures other { IfOk result (TellsOther (entry_for core.old kept) kept) }
-    ensures noted { result ≡ Ok None → to.new.items ≡ to.old.items ++ noted_in core.old kept ∷ [] }
+) -> Result<(), NoMemory>
+    requires { 0 < deque_len left.old }
+    ensures { OnOk result (MovesFirst left.old.items left.new.items contamination
+        to.old.items to.new.items) }
 {
-    let contamination = contamination_before(core, &kept)?;
-    if let Some(expected) = other_than(core, &kept)? {
-        return Ok(Some(expected));
+    let Some(entry) = left.pop_front() else {
+        unreachable!()
+    };
+    add_note(to, entry, contamination)
+}
+
+/// What a kept entry is, beside the one that the rules give there.
+#[derive(Drop)]
+enum Compared {
+    Same { contamination: Option<Label> },
+    Other { expected: Entry },
+}
+
+/// Appends the entry that the rules give where a kept one stands, and compares them. Where they are
+/// the same, it gives the contamination that the actor has before it.
+fn compare(core: &mut Core, kept: &Entry) -> Result<Compared, NoMemory>
+    ensures made { OnOk result (core.new ≡ replayed core.old kept.now) }
+    ensures compares { IfOk result (Compares core.old kept.now) }
+{
+    let contamination = contamination_before(core, kept)?;
+    match other_than(core, kept)? {
+        Some(expected) => Ok(Compared::Other { expected }),
+        None => Ok(Compared::Same { contamination }),
     }
+}
+
+fn add_note(to: &mut Vec<Noted>, entry: Entry, contamination: Option<Label>) -> Result<(), NoMemory>
+    ensures { OnOk result (to.new.items ≡
+        to.old.items ++ record { entry = entry; contamination = contamination } ∷ []) }
+{
     to.push(Noted {
-        entry: kept,
+        entry,
         contamination,
     })?;
-    Ok(None)
+    Ok(())
 }
 
 /// Each entry of a legal journal, the oldest first, with the contamination that its actor has
