@@ -1,6 +1,7 @@
 pub mod Call
 pub mod Entry
 pub mod Fits
+pub mod Front
 pub mod Large
 pub mod Line
 pub mod Name

@@ -1,7 +1,9 @@
 ghost use Rattle.std.specs.Prelude.{◌≡◌, ◌++◌, ◌∷◌, [], OnOk, codes, option_copied};
-ghost use Rattle.df_journal_text.specs.Entry.{call_line, edit_text, entry_text, note_text, reads_text};
+ghost use Rattle.df_journal_text.specs.Entry.{edit_text, entry_text, note_text, reads_text};
+ghost use Rattle.df_journal_text.specs.Front.{IsFrontOf};
 ghost use Rattle.df_journal_text.specs.Line.{line};
 ghost use Rattle.df_journal_text.specs.Name.{event_text};
+ghost use Rattle.df_journal_text.specs.code.Outcome.{answer_text, outcome_text};
 
 use crate::call::append_call;
 use crate::effect::{append_edit, append_effect, append_event_line, append_reads};
@@ -9,19 +11,12 @@ use crate::line::{append_label_word, append_word};
 use crate::name::append_unit;
 use crate::reply::append_reply;
 use df_label::{Label, NoMemory};
-use df_unit::{Call, Commit, Entry, Reply, UnitName};
+use df_unit::{Commit, Effect, Entry, Reply};
 
-/// Appends the line of a call and its reply.
-fn append_call_line(
-    actor: &UnitName,
-    call: &Call,
-    reply: &Reply,
-    to: &mut Vec<u8>,
-) -> Result<(), NoMemory>
-    ensures { OnOk result (to.new.items ≡ to.old.items ++ call_line actor.now call.now reply.now) }
+/// Appends the reply of a call behind its words, and ends the line.
+fn append_answer(reply: &Reply, to: &mut Vec<u8>) -> Result<(), NoMemory>
+    ensures { OnOk result (to.new.items ≡ to.old.items ++ answer_text reply.now) }
 {
-    append_unit(actor, to)?;
-    append_call(call, to)?;
     append_word(b"->", to)?;
     append_reply(reply, to)?;
     to.push(b'\n')?;
@@ -60,6 +55,23 @@ fn append_emitted(commit: &Commit, to: &mut Vec<u8>) -> Result<(), NoMemory>
     Ok(())
 }
 
+/// Appends what stands behind the words of a call.
+fn append_outcome(
+    reply: &Reply,
+    effect: &Effect,
+    contamination: &Option<Label>,
+    to: &mut Vec<u8>,
+) -> Result<(), NoMemory>
+    ensures { OnOk result (to.new.items ≡ to.old.items
+        ++ outcome_text contamination.now reply.now effect.now) }
+{
+    append_answer(reply, to)?;
+    append_note(contamination, to)?;
+    append_reply_reads(reply, to)?;
+    append_effect(effect, to)?;
+    Ok(())
+}
+
 /// Appends the lines of an entry, with its actor's contamination where that is noted.
 pub fn append_entry(
     entry: &Entry,
@@ -75,10 +87,30 @@ pub fn append_entry(
             reply,
             effect,
         } => {
-            append_call_line(actor, call, reply, to)?;
-            append_note(contamination, to)?;
-            append_reply_reads(reply, to)?;
-            append_effect(effect, to)?;
+            append_unit(actor, to)?;
+            append_call(call, to)?;
+            append_outcome(reply, effect, contamination, to)?;
+            Ok(())
+        }
+        Entry::Emitted(commit) => append_emitted(commit, to),
+    }
+}
+
+/// Appends the lines of an entry whose call is spelled already: its unit and words are these bytes,
+/// and aren't spelled again. Without memory a part of the lines may have been appended.
+pub fn append_spelled(
+    front: &[u8],
+    entry: &Entry,
+    contamination: &Option<Label>,
+    to: &mut Vec<u8>,
+) -> Result<(), NoMemory>
+    requires { IsFrontOf front.now entry.now }
+    ensures { OnOk result (to.new.items ≡ to.old.items ++ entry_text contamination.now entry.now) }
+{
+    match entry {
+        Entry::Done { reply, effect, .. } => {
+            to.extend_from_slice(front)?;
+            append_outcome(reply, effect, contamination, to)?;
             Ok(())
         }
         Entry::Emitted(commit) => append_emitted(commit, to),

@@ -19,6 +19,7 @@ mod word_reader;
 mod writers;
 
 pub use call_reader::read_call_at;
+pub use entry::append_spelled;
 pub use laws::{a_journal_is_read_back, a_text_is_one_journal};
 pub use line_fault::LineFault;
 pub use line_reader::{read_call_line, read_part_line, read_shown_line};

@@ -1,11 +1,13 @@
 //! A whole journal: its head, and an entry of each kind of effect. What is written is read first,
 //! from text.
 
+ghost use Rattle.df_journal_text.specs.Front.{IsFrontOf};
+
 use crate::name_reader::event_at;
 use crate::word_reader::{label_word, named_at, privileges_at};
 use crate::{
-    LineFault, read_call_line, read_part_line, read_shown_line, unit_at, write_entry, write_event,
-    write_head, write_noted, write_start, write_unit,
+    LineFault, append_spelled, read_call_line, read_part_line, read_shown_line, unit_at,
+    write_entry, write_event, write_head, write_noted, write_start, write_unit,
 };
 use df_label::Label;
 use df_part::{Edit, PartRef, Parts, Spot};
@@ -147,6 +149,34 @@ fn given_text(alloc: Global) -> Result<Vec<u8>, LineFault> {
     text_of(alloc, &noted)
 }
 
+/// The text of an entry whose call is spelled already.
+fn spelled_text(alloc: Global, front: &[u8], noted: &Noted) -> Result<Vec<u8>, LineFault>
+    requires { IsFrontOf front.now noted.now.entry }
+{
+    let mut text = Vec::new(alloc);
+    append_spelled(front, &noted.entry, &noted.contamination, &mut text)?;
+    Ok(text)
+}
+
+fn spelled_get_text(alloc: Global) -> Result<Vec<u8>, LineFault> {
+    let label = label(alloc)?;
+    let (actor, _) = unit_at(alloc, b"1.2/3{#0}", 0)?;
+    let mut front = Vec::new(alloc);
+    write_unit(&actor, &mut front)?;
+    front.extend_from_slice(b" get")?;
+    let entry = Entry::Done {
+        actor,
+        call: Call::Get,
+        reply: Reply::Nothing,
+        effect: Effect::Nothing,
+    };
+    let noted = Noted {
+        entry,
+        contamination: Some(label),
+    };
+    spelled_text(alloc, front.as_slice(), &noted)
+}
+
 fn entry_text(alloc: Global, entry: &Entry) -> Result<Vec<u8>, LineFault> {
     let mut text = Vec::new(alloc);
     write_entry(entry, &mut text)?;
@@ -173,6 +203,10 @@ fn entries_are_written(rt: HostRuntime) -> Result<(), Fail> {
     assert_eq!(rt;
         given_text(alloc)?.as_slice(),
         b"1.2/3{#0} get -> event 0 4\n@ {#0|}\n< 0!7\n. {#0|} a -5 #0+auth\n".as_slice()
+    );
+    assert_eq!(rt;
+        spelled_get_text(alloc)?.as_slice(),
+        b"1.2/3{#0} get -> nothing\n@ {#0|}\n".as_slice()
     );
     assert_eq!(rt;
         emitted_text(alloc)?.as_slice(),
