@@ -1,16 +1,16 @@
 -- Where reading a script stops, there is its first bad line.
 use Rattle.std.proofs.Common.{◌≡◌, ℕ, ◌+◌, ◌<◌, ◌≤◌, List, [], ◌∷◌, ◌++◌, length, length-drop, take, drop, map, false, eqb, Option, Some, None, Result, Ok, Err, refl, sym, ap, subst, ◌∙◌, arith, append-nil, append_assoc, length-append, zero-add}
-use Rattle.std.proofs.lemmas.List.{drop_all, map-append}
+use Rattle.std.proofs.lemmas.List.{map-append}
 use Rattle.std.proofs.lemmas.List.Concat.{flat_map-append}
 use Rattle.std.proofs.lemmas.List.Elements.{All-nil, All-push, recursion_from_All}
 use Rattle.df_lines.specs.Lines.{IsLine, ended, lines_text}
 use Rattle.df_lines.specs.Refused.{NamesBadLine}
-use Rattle.df_lines.specs.code.Faults.{IsBadPlace, NamesBadPlace, TellsLine}
+use Rattle.df_lines.specs.code.Faults.{IsBadPlace, NamesBadPlace, TellsLine, refusal}
 use Rattle.df_lines.specs.declared.refused.FileRefused.{FileRefused}
 use Rattle.df_lines.specs.declared.refused.FileRefused.TheVariants as refused
 use Rattle.df_lines.specs.declared.fault.FileFault.{FileFault}
 use Rattle.df_lines.specs.declared.fault.FileFault.TheVariants as fault
-use Rattle.df_lines.proofs.FirstBad.{first_bad}
+use Rattle.df_lines.proofs.FirstBad.{first_bad, names_line}
 use Rattle.df_journal_text.specs.Fits.{IsRoot}
 use Rattle.df_journal_text.specs.Start.{root_text}
 use Rattle.df_start.specs.declared.start.RootStart.{RootStart}
@@ -18,8 +18,8 @@ use Rattle.df_script_text.specs.Reader.{HasReadUpTo}
 use Rattle.df_script_text.specs.Script.{IsScript, IsScriptLine, IsScriptText, script_text}
 use Rattle.df_script_text.specs.TooLarge.{IsTooLargeIn, IsTooLargeLine}
 use Rattle.df_script_text.specs.code.Lines.{call_line, head_lines, numbered, script_lines}
-use Rattle.df_script_text.specs.code.Stops.{ArePassed, AreRootsAt, IsCallLine, IsFirstAt, RootsStop, StopsAt, StopsCall, StopsFirst, TellsCall, TellsRoot, fault_of}
-use Rattle.df_script_text.specs.code.Reads.{Tells}
+use Rattle.df_script_text.specs.code.Stops.{ArePassed, AreRootsAt, IsCallLine, IsFirstAt, RootsStop, StopsAt, StopsCall, StopsFirst, TellsRoot, fault_of}
+use Rattle.df_script_text.specs.code.Reads.{Reads, Tells}
 use Rattle.df_script_text.specs.declared.line.ScriptLine.{ScriptLine}
 use Rattle.df_script_text.specs.declared.word.Unread.{Unread}
 use Rattle.df_script_text.specs.declared.word.Unread.TheVariants as unread
@@ -141,6 +141,11 @@ calls_stop bytes rs ls place (fault.Bad here) h s =
 calls_stop bytes rs ls place (fault.TooLarge here) h s =
     (script_lines (rs, ls), s.2.0, call_stop bytes rs ls place here s.2.0 h s.0 s.1 s.2.1, ((head_lines rs, map call_line ls, refl), s.2.2))
 
+-- why the next call isn't read, as it is told to callers
+pub calls_refused : (bytes : List ℕ) (rs : List RootStart) (ls : List ScriptLine) (place : ℕ) (f : FileFault) (r : FileRefused) → r ≡ refusal bytes f → HasReadUpTo bytes rs ls place → StopsCall bytes place f → NamesBadLine IsScriptText IsTooLargeIn bytes r
+calls_refused bytes rs ls place f r is h s =
+    subst (λ (r : FileRefused). NamesBadLine IsScriptText IsTooLargeIn bytes r) (sym is) (names_line IsScriptText IsTooLargeIn bytes f (calls_stop bytes rs ls place f h s))
+
 -- ---- one line
 
 -- a line without line feed is bad
@@ -152,11 +157,18 @@ open_call bytes at some line (Ok o) t = (refl, some, (drop at bytes, open_stop I
 open_call bytes at some line (Err unread.NoMemory) t = tt
 open_call bytes at some line (Err unread.TooLarge) t = (refl, some, (drop at bytes, open_stop IsCallLine (drop at bytes) line, t.1))
 
--- a line that can't be read is bad
+-- a line is bad where no call is spelled so
+line_stop : (bytes : List ℕ) (at : ℕ) (line : List ℕ) (next : ℕ) → TellsLine bytes at (Some (line, next)) → Reads call_line IsScriptLine line None → StopsAt IsCallLine (drop at bytes) line
+line_stop bytes at line next l none = record { behind = 10 ∷ drop next bytes; parts = l.3; line = l.0; end = refl; refused = λ more e k. none k.0 k.1 k.2 }
+
+-- a line that isn't a call's
+pub bad_call : (bytes : List ℕ) (at : ℕ) (line : List ℕ) (next : ℕ) → TellsLine bytes at (Some (line, next)) → Tells call_line IsScriptLine IsTooLargeLine line (Ok None) → StopsCall bytes at (fault.Bad at)
+bad_call bytes at line next l t = (refl, omega (arith, l.1, l.2), (line, line_stop bytes at line next l t.0, t.1))
+
+-- a line that can't be read
 pub line_call : (bytes : List ℕ) (at : ℕ) (line : List ℕ) (next : ℕ) → TellsLine bytes at (Some (line, next)) → (e : Unread) → Tells call_line IsScriptLine IsTooLargeLine line (Err e) → StopsCall bytes at (fault_of at (Err e))
 line_call bytes at line next l unread.NoMemory t = tt
-line_call bytes at line next l unread.TooLarge t =
-    (refl, omega (arith, l.1, l.2), (line, record { behind = 10 ∷ drop next bytes; parts = l.3; line = l.0; end = refl; refused = λ more e k. t.0 k.0 k.1 k.2 }, t.1))
+line_call bytes at line next l unread.TooLarge t = (refl, omega (arith, l.1, l.2), (line, line_stop bytes at line next l t.0, t.1))
 
 -- the line `run`
 pub run_at : (bytes : List ℕ) (at : ℕ) (line : List ℕ) (next : ℕ) → line ≡ run → TellsLine bytes at (Some (line, next)) → TellsRoot 0 bytes at None
@@ -170,25 +182,25 @@ run_at bytes at line next is l =
 pub start_read : (bytes : List ℕ) (at : ℕ) (rs : List RootStart) (mid : ℕ) → IsFirstAt bytes at → AreRootsAt bytes at rs mid → HasReadUpTo bytes rs [] mid
 start_read bytes at rs mid i r = record { inside = r.inside; script = ((r.passed.few, r.passed.fit), All-nil IsScriptLine); text = start_before bytes at rs mid i r }
 
+-- the line of a call, with its line feed
+line_read : (bytes : List ℕ) (at : ℕ) (line : List ℕ) (next : ℕ) (l : ScriptLine) → TellsLine bytes at (Some (line, next)) → line ≡ call_line l → drop at bytes ≡ ended (call_line l) ++ drop next bytes
+line_read bytes at line next l t is = t.3 ∙ ap (λ (u : List ℕ). u ++ 10 ∷ drop next bytes) is ∙ sym (append_assoc (call_line l) (10 ∷ []) (drop next bytes))
+
 -- one more call
-pub call_read : (bytes : List ℕ) (rs : List RootStart) (ls : List ScriptLine) (l : ScriptLine) (place next : ℕ) → HasReadUpTo bytes rs ls place → TellsCall bytes place (Some (l, next)) → HasReadUpTo bytes rs (ls ++ l ∷ []) next
-call_read bytes rs ls l place next h t =
+pub call_read : (bytes : List ℕ) (rs : List RootStart) (ls : List ScriptLine) (l : ScriptLine) (place : ℕ) (line : List ℕ) (next : ℕ) → HasReadUpTo bytes rs ls place → TellsLine bytes place (Some (line, next)) → Reads call_line IsScriptLine line (Some l) → HasReadUpTo bytes rs (ls ++ l ∷ []) next
+call_read bytes rs ls l place line next h t read =
     let more : script_lines (rs, ls) ++ call_line l ∷ [] ≡ script_lines (rs, ls ++ l ∷ []) =
     append_assoc (head_lines rs) (run ∷ map call_line ls) (call_line l ∷ []) ∙ ap (λ (m : List (List ℕ)). head_lines rs ++ run ∷ m) (sym (map-append call_line ls (l ∷ []))) in
     record {
-      inside = t.1;
-      script = (h.script.0, All-push IsScriptLine ls l h.script.1 t.2);
+      inside = t.2;
+      script = (h.script.0, All-push IsScriptLine ls l h.script.1 read.0);
       text =
           h.text ∙ ap (λ (u : List ℕ). u ++ drop place bytes) (script_text-lines rs ls)
-          ∙ ap (λ (u : List ℕ). lines_text (script_lines (rs, ls)) ++ u) t.3
+          ∙ ap (λ (u : List ℕ). lines_text (script_lines (rs, ls)) ++ u) (line_read bytes place line next l t read.1)
           ∙ lines_push (script_lines (rs, ls)) (call_line l) (drop next bytes)
           ∙ ap (λ (m : List (List ℕ)). lines_text m ++ drop next bytes) more
           ∙ ap (λ (u : List ℕ). u ++ drop next bytes) (sym (script_text-lines rs (ls ++ l ∷ [])));
     }
-
--- behind the last call
-pub all_read : (bytes : List ℕ) (rs : List RootStart) (ls : List ScriptLine) (place : ℕ) → HasReadUpTo bytes rs ls place → place ≡ length bytes → IsScript rs ls × (bytes ≡ script_text rs ls)
-all_read bytes rs ls place h is = (h.script, h.text ∙ ap (λ (u : List ℕ). script_text rs ls ++ u) (drop_all place bytes (omega (arith, is))) ∙ append-nil (script_text rs ls))
 
 -- what is a script is refused only for want of memory
 pub only_refused : (bytes : List ℕ) (r : FileRefused) → NamesBadLine IsScriptText IsTooLargeIn bytes r → IsScriptText bytes → r ≡ refused.NoMemory

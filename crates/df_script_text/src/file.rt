@@ -32,8 +32,8 @@ fn lines_of(alloc: Global, reader: &mut ScriptReader<'_>) -> Result<Vec<ScriptLi
         → NamesBadLine IsScriptText IsTooLargeIn reader.old.bytes e) }
 {
     let mut lines = Vec::new(alloc);
-    'lines: while let Some(line) = reader.next_line()? {
-        push_line(&mut lines, line)?;
+    'lines: while let Some(read) = reader.next_line()? {
+        push_line(&mut lines, read.line)?;
     }
     Ok(lines)
 }

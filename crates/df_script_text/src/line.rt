@@ -1,13 +1,12 @@
 //! The lines of calls.
 
-ghost use Rattle.std.specs.Prelude.{◌≡◌, ◌≤◌, ◌<◌, Some, drop, length, IfErr, IfOk};
+ghost use Rattle.std.specs.Prelude.{◌≡◌, ◌≤◌, ◌<◌, drop, length, option_map, IfErr, IfOk};
 ghost use Rattle.df_lines.specs.Lines.{IsLine};
-ghost use Rattle.df_lines.specs.code.Faults.{TellsLine};
 ghost use Rattle.df_script_text.specs.Script.{IsScriptLine};
 ghost use Rattle.df_script_text.specs.TooLarge.{IsTooLargeLine};
 ghost use Rattle.df_script_text.specs.code.Lines.{call_line};
 ghost use Rattle.df_script_text.specs.code.Reads.{Tells};
-ghost use Rattle.df_script_text.specs.code.Stops.{StopsCall, TellsCall, fault_of};
+ghost use Rattle.df_script_text.specs.code.Stops.{StopsCall, TellsWords, fault_of};
 
 use crate::call::read_call;
 use crate::pieces::cut_at_space;
@@ -23,8 +22,16 @@ pub struct ScriptLine {
     pub call: Call,
 }
 
+/// A call of a script, and the words of its line as they stand in the bytes that are read, without
+/// the line feed.
+#[derive(Drop)]
+pub struct ReadLine<'a> {
+    pub words: &'a [u8],
+    pub line: ScriptLine,
+}
+
 /// A line, without its line feed.
-fn read_line(alloc: Global, line: &[u8]) -> Result<Option<ScriptLine>, Unread>
+pub fn read_line(alloc: Global, line: &[u8]) -> Result<Option<ScriptLine>, Unread>
     ensures { Tells call_line IsScriptLine IsTooLargeLine line.now result }
 {
     let Some((actor, call)) = cut_at_space(line) else {
@@ -40,7 +47,7 @@ fn read_line(alloc: Global, line: &[u8]) -> Result<Option<ScriptLine>, Unread>
 }
 
 /// Why no call is read at the place, where this came of its line.
-fn fault_of(at: usize, read: Result<Option<ScriptLine>, Unread>) -> FileFault
+pub fn fault_of(at: usize, read: Result<Option<ScriptLine>, Unread>) -> FileFault
     ensures { result ≡ fault_of at read }
 {
     match read {
@@ -67,40 +74,19 @@ fn open_fault(alloc: Global, bytes: &[u8], at: usize) -> FileFault
     fault_of(at, read_line(alloc, rest_at(bytes, at)))
 }
 
-/// The call in the line that stands at the place, and the place behind it.
-fn call_in(
-    alloc: Global,
-    bytes: &[u8],
-    at: usize,
-    line: &[u8],
-    next: usize,
-) -> Result<Option<(ScriptLine, usize)>, FileFault>
-    requires { TellsLine bytes.now at (Some (line.now, next)) }
-    ensures read { IfOk result (TellsCall bytes.now at) }
-    ensures stops { IfErr result (StopsCall bytes.now at) }
-{
-    match read_line(alloc, line) {
-        Ok(Some(read)) => Ok(Some((read, next))),
-        Ok(None) => Err(FileFault::Bad(at)),
-        Err(unread) => Err(fault_of(at, Err(unread))),
-    }
-}
-
-/// The call in the line at the place, and the place behind the line; none where no byte is left.
-pub fn call_at(
-    alloc: Global,
-    bytes: &[u8],
-    at: usize,
-) -> Result<Option<(ScriptLine, usize)>, FileFault>
+/// The line at the place without its line feed, and the place behind that; none where no byte is
+/// left.
+pub fn words_at(alloc: Global, bytes: &[u8], at: usize) -> Result<Option<(&[u8], usize)>, FileFault>
     requires { at ≤ length bytes.now }
-    ensures read { IfOk result (TellsCall bytes.now at) }
+    ensures read { IfOk result (λ line. TellsWords bytes.now at
+        (option_map (λ l. (l.0.now, l.1)) line)) }
     ensures stops { IfErr result (StopsCall bytes.now at) }
 {
     if at == bytes.len() {
         return Ok(None);
     }
     match line_at(bytes, at) {
-        Some((line, next)) => call_in(alloc, bytes, at, line, next),
+        Some(line) => Ok(Some(line)),
         None => Err(open_fault(alloc, bytes, at)),
     }
 }

@@ -1,16 +1,17 @@
 //! Scripts that are read line by line.
 
-ghost use Rattle.std.specs.Prelude.{◌≡◌, ◌≤◌, ◌<◌, List, [], length, IfErr, IfOk, IfSome};
+ghost use Rattle.std.specs.Prelude.{◌≡◌, ◌≤◌, ◌<◌, List, [], length, option_map, IfErr, IfOk, IfSome};
 ghost use Rattle.df_lines.specs.Refused.{NamesBadLine};
 ghost use Rattle.df_lines.specs.code.Faults.{IsInside, NamesBadPlace};
 ghost use Rattle.df_start.specs.declared.start.RootStart.{RootStart};
+ghost use Rattle.df_journal_text.specs.Front.{call_front};
 ghost use Rattle.df_script_text.specs.Reader.{GoesOn, HasRead, HasReadUpTo};
 ghost use Rattle.df_script_text.specs.Script.{IsScriptText};
 ghost use Rattle.df_script_text.specs.TooLarge.{IsTooLargeIn};
 ghost use Rattle.df_script_text.specs.code.Stops.{IsFirstAt, StopsFirst};
 ghost use Rattle.df_script_text.specs.declared.line.ScriptLine.{ScriptLine};
 
-use crate::line::{ScriptLine, call_at};
+use crate::line::{ReadLine, fault_of, read_line, words_at};
 use crate::root::roots_at;
 use df_lines::{FileFault, FileRefused, file_refused, line_at};
 use df_start::Start;
@@ -83,23 +84,31 @@ impl<'a> ScriptReader<'a> {
     }
 
     /// The next call; none behind the last.
-    pub fn next_line(&mut self) -> Result<Option<ScriptLine>, FileRefused>
-        ensures next { IfOk result (λ line. (roots : List RootStart) (lines : List ScriptLine)
-            → HasRead roots lines self.old → GoesOn roots lines line self.new) }
-        ensures further { IfOk result (λ line. IfSome line (λ _. self.old.place < self.new.place)) }
+    pub fn next_line(&mut self) -> Result<Option<ReadLine<'a>>, FileRefused>
+        ensures next { IfOk result (λ read. (roots : List RootStart) (lines : List ScriptLine)
+            → HasRead roots lines self.old
+            → GoesOn roots lines (option_map (λ r. r.line) read) self.new) }
+        ensures words { IfOk result (λ read. IfSome read (λ r.
+            r.words.now ≡ call_front r.line.actor r.line.call)) }
+        ensures further { IfOk result (λ read. IfSome read (λ _. self.old.place < self.new.place)) }
         ensures within { self.new.place ≤ length self.new.bytes }
         ensures bytes { self.new.bytes ≡ self.old.bytes }
         ensures refused { IfErr result (λ e. (roots : List RootStart) (lines : List ScriptLine)
             → HasRead roots lines self.old
             → NamesBadLine IsScriptText IsTooLargeIn self.old.bytes e) }
     {
-        match call_at(self.alloc, self.bytes, self.place) {
-            Ok(Some((line, next))) => {
+        let (words, next) = match words_at(self.alloc, self.bytes, self.place) {
+            Ok(Some(line)) => line,
+            Ok(None) => return Ok(None),
+            Err(fault) => return Err(file_refused(self.bytes, fault)),
+        };
+        match read_line(self.alloc, words) {
+            Ok(Some(line)) => {
                 self.place = next;
-                Ok(Some(line))
+                Ok(Some(ReadLine { words, line }))
             }
-            Ok(None) => Ok(None),
-            Err(fault) => Err(file_refused(self.bytes, fault)),
+            Ok(None) => Err(file_refused(self.bytes, FileFault::Bad(self.place))),
+            Err(unread) => Err(file_refused(self.bytes, fault_of(self.place, Err(unread)))),
         }
     }
 }

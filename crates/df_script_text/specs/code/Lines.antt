@@ -4,9 +4,8 @@ use Rattle.std.specs.List.{join_with_byte}
 use Rattle.df_start.specs.declared.start.RootStart.{RootStart}
 use Rattle.df_value_text.specs.Label.{label_text, privilege_text, tags_text}
 use Rattle.df_unit.specs.declared.call.Call.{Call}
-use Rattle.df_journal_text.specs.Line.{spaced}
-use Rattle.df_journal_text.specs.Name.{unit_text}
 use Rattle.df_journal_text.specs.Call.{call_words}
+use Rattle.df_journal_text.specs.Front.{call_front}
 use Rattle.df_journal_text.specs.Start.{root_text}
 use Rattle.df_script_text.specs.declared.line.ScriptLine.{ScriptLine}
 
@@ -20,7 +19,7 @@ call_text call = join_with_byte 32 (call_words call)
 
 -- a call's line
 abbrev pub call_line : ScriptLine → List ℕ
-call_line l = unit_text l.actor ++ spaced (call_words l.call)
+call_line l = call_front l.actor l.call
 
 -- the words of the line of the root that has this number
 abbrev pub root_words : ℕ → RootStart → List (List ℕ)

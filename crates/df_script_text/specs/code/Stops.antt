@@ -1,7 +1,8 @@
 -- What was read of a script up to a place, and why reading stops there.
-use Rattle.std.specs.Prelude.{◌≡◌, ℕ, ◌+◌, ◌<◌, ◌≤◌, ◌^◌, List, ◌∷◌, ◌++◌, length, drop, map, codes, Option, Some, None, Result, Ok, Err, ⊤, ◌⊎◌}
+use Rattle.std.specs.Prelude.{◌≡◌, ℕ, ◌+◌, ◌<◌, ◌≤◌, ◌^◌, List, ◌∷◌, ◌++◌, length, drop, codes, Option, Some, None, Result, Ok, Err, ⊤, ◌⊎◌}
 use Rattle.std.specs.List.{All, join_with_byte}
 use Rattle.df_lines.specs.Lines.{EndsLine, IsLine, ended, lines_text}
+use Rattle.df_lines.specs.code.Faults.{TellsLine}
 use Rattle.df_lines.specs.declared.fault.FileFault.{FileFault}
 use Rattle.df_lines.specs.declared.fault.FileFault.TheVariants as fault
 use Rattle.df_journal_text.specs.Fits.{IsRoot}
@@ -47,11 +48,10 @@ fault_of at (Ok read) = fault.Bad at
 fault_of at (Err unread.NoMemory) = fault.NoMemory
 fault_of at (Err unread.TooLarge) = fault.TooLarge at
 
--- the call in the line at the place, and the place behind it; nothing, where no byte is left
-abbrev pub TellsCall : List ℕ → ℕ → Option (ScriptLine × ℕ) → Type 0
-TellsCall bytes at None = at ≡ length bytes
-TellsCall bytes at (Some read) = (at < read.1) × (read.1 ≤ length bytes) × IsScriptLine read.0
-    × (drop at bytes ≡ ended (call_line read.0) ++ drop read.1 bytes)
+-- the line at the place, and the place behind it; nothing, where no byte is left
+abbrev pub TellsWords : List ℕ → ℕ → Option (List ℕ × ℕ) → Type 0
+TellsWords bytes at None = at ≡ length bytes
+TellsWords bytes at (Some line) = TellsLine bytes at (Some line)
 
 -- ---- roots
 

@@ -2,26 +2,26 @@ use Rattle.std.proofs.Common.{List, ℕ, sym, subst, ◌∙◌}
 use Rattle.std.proofs.lemmas.Result.{err_from_is_err_and}
 use Rattle.df_lines.specs.Refused.{NamesBadLine}
 use Rattle.df_script_text.specs.Reader.{HasRead}
-use Rattle.df_script_text.specs.Script.{IsScriptText, script_text}
+use Rattle.df_script_text.specs.Script.{IsScriptText}
 use Rattle.df_script_text.specs.TooLarge.{IsTooLargeIn}
 use Rattle.df_script_text.specs.declared.line.ScriptLine.{ScriptLine}
 use Rattle.df_script_text.proofs.file.lines_of.Goals as goal
 
-pub returns-in_err-line-clause-refused : goal.returns-in_err-line-clause-refused
-returns-in_err-line-clause-refused c =
+pub returns-in_err-read-clause-refused : goal.returns-in_err-read-clause-refused
+returns-in_err-read-clause-refused c =
     let p = err_from_is_err_and c.from_residual.result c.from_residual.ensures.1 in
     rw (p.1, p.2)
-    (λ roots h. subst (λ (bytes : List ℕ). NamesBadLine IsScriptText IsTooLargeIn bytes c.in_err-line.field-0.0) c.lines.invariant.0
-    (c.in_err-line.ensures.refused roots c.lines.lines.items (c.lines.invariant.1 roots h)))
+    (λ roots h. subst (λ (bytes : List ℕ). NamesBadLine IsScriptText IsTooLargeIn bytes c.in_err-read.field-0.0) c.lines.invariant.0
+    (c.in_err-read.ensures.refused roots c.lines.lines.items (c.lines.invariant.1 roots h)))
 
 pub lines-preserved : goal.lines-preserved
 lines-preserved c = (
-  c.in_ok-line.ensures.bytes ∙ c.lines.invariant.0,
+  c.in_ok-read.ensures.bytes ∙ c.lines.invariant.0,
   λ roots h. subst (λ (ls : List ScriptLine). HasRead roots ls c.next_line.new.self) (sym c.in_ok-push_line.ensures)
-      (rw c.in-Some.is at (c.in_ok-line.ensures.next roots c.lines.lines.items (c.lines.invariant.1 roots h))),
+      (rw c.in-Some.is at (c.in_ok-read.ensures.next roots c.lines.lines.items (c.lines.invariant.1 roots h))),
 )
 
 pub returns-clause-read : goal.returns-clause-read
 returns-clause-read c = λ roots h.
-    let all = (rw c.in_default.is at (c.in_ok-line.ensures.next roots c.lines.lines.items (c.lines.invariant.1 roots h))) in
-    (all.0, sym (c.in_ok-line.ensures.bytes ∙ c.lines.invariant.0) ∙ all.1)
+    let all = (rw c.in_default.is at (c.in_ok-read.ensures.next roots c.lines.lines.items (c.lines.invariant.1 roots h))) in
+    (all.0, sym (c.in_ok-read.ensures.bytes ∙ c.lines.invariant.0) ∙ all.1)

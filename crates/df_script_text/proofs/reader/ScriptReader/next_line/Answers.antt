@@ -1,20 +1,37 @@
 use Rattle.std.proofs.Common.{subst, sym}
 use Rattle.df_lines.specs.Refused.{NamesBadLine}
-use Rattle.df_lines.specs.declared.refused.FileRefused.{FileRefused}
-use Rattle.df_lines.proofs.FirstBad.{names_line}
+use Rattle.df_lines.specs.declared.fault.FileFault.{FileFault}
+use Rattle.df_lines.specs.declared.fault.FileFault.TheVariants as fault
 use Rattle.df_script_text.specs.Reader.{HasRead, ReaderState}
 use Rattle.df_script_text.specs.Script.{IsScriptText}
 use Rattle.df_script_text.specs.TooLarge.{IsTooLargeIn}
-use Rattle.df_script_text.proofs.Stops.{all_read, call_read, calls_stop}
+use Rattle.df_script_text.specs.code.Stops.{StopsCall}
+use Rattle.df_script_text.proofs.Stops.{bad_call, call_read, calls_refused, line_call}
 use Rattle.df_script_text.proofs.reader.ScriptReader.next_line.Goals as goal
 
-pub returns-in-Ok-Some-clause-next : goal.returns-in-Ok-Some-clause-next
-returns-in-Ok-Some-clause-next c = λ roots lines h.
-    call_read c.self.inside.bytes.now roots lines c.in-Ok-Some.line c.self.inside.place c.in-Ok-Some.next (subst (HasRead roots lines) (sym c.self.view_is) h) (rw c.in-Ok-Some.field-0-is at c.in-Ok-Some.ensures.read)
+pub returns-in-Ok-Some-read_line-clause-next : goal.returns-in-Ok-Some-read_line-clause-next
+returns-in-Ok-Some-read_line-clause-next c = λ roots lines h.
+    let told = rw c.in-Ok-Some-read_line.field-0-is at c.in-Ok-Some-read_line.ensures in
+    call_read c.self.inside.bytes.now roots lines c.in-Ok-Some-read_line.line c.self.inside.place c.in-Ok-Some.line.0.now c.in-Ok-Some.line.1 (subst (HasRead roots lines) (sym c.self.view_is) h) (rw c.in-Ok-Some.field-0-is at c.in-Ok-Some.ensures.read) told.0
 
 pub returns-in-Err-clause-refused : goal.returns-in-Err-clause-refused
 returns-in-Err-clause-refused c = λ roots lines h.
     subst (λ (v : ReaderState). NamesBadLine IsScriptText IsTooLargeIn v.bytes c.file_refused.result) c.self.view_is
-    (subst (λ (r : FileRefused). NamesBadLine IsScriptText IsTooLargeIn c.self.inside.bytes.now r) (sym c.file_refused.ensures)
-    (names_line IsScriptText IsTooLargeIn c.self.inside.bytes.now c.in-Err.fault
-    (calls_stop c.self.inside.bytes.now roots lines c.self.inside.place c.in-Err.fault (subst (HasRead roots lines) (sym c.self.view_is) h) c.in-Err.ensures.stops)))
+    (calls_refused c.self.inside.bytes.now roots lines c.self.inside.place c.in-Err.fault c.file_refused.result c.file_refused.ensures (subst (HasRead roots lines) (sym c.self.view_is) h) c.in-Err.ensures.stops)
+
+pub returns-in-Ok-None-read_line-clause-refused : goal.returns-in-Ok-None-read_line-clause-refused
+returns-in-Ok-None-read_line-clause-refused c = λ roots lines h.
+    let bytes = c.self.inside.bytes.now in
+    let told = rw c.in-Ok-None-read_line.field-0-is at c.in-Ok-None-read_line.ensures in
+    let stops = bad_call bytes c.self.inside.place c.in-Ok-Some.line.0.now c.in-Ok-Some.line.1 (rw c.in-Ok-Some.field-0-is at c.in-Ok-Some.ensures.read) told in
+    subst (λ (v : ReaderState). NamesBadLine IsScriptText IsTooLargeIn v.bytes c.file_refused-in-Ok-None-read_line.result) c.self.view_is
+    (calls_refused bytes roots lines c.self.inside.place (fault.Bad c.self.inside.place) c.file_refused-in-Ok-None-read_line.result c.file_refused-in-Ok-None-read_line.ensures (subst (HasRead roots lines) (sym c.self.view_is) h) stops)
+
+pub returns-in-Err-read_line-clause-refused : goal.returns-in-Err-read_line-clause-refused
+returns-in-Err-read_line-clause-refused c = λ roots lines h.
+    let bytes = c.self.inside.bytes.now in
+    let told = rw c.in-Err-read_line.is at c.read_line.ensures in
+    let stops = line_call bytes c.self.inside.place c.in-Ok-Some.line.0.now c.in-Ok-Some.line.1 (rw c.in-Ok-Some.field-0-is at c.in-Ok-Some.ensures.read) c.in-Err-read_line.unread told in
+    subst (λ (v : ReaderState). NamesBadLine IsScriptText IsTooLargeIn v.bytes c.file_refused-in-Err-read_line.result) c.self.view_is
+    (calls_refused bytes roots lines c.self.inside.place c.fault_of.result c.file_refused-in-Err-read_line.result c.file_refused-in-Err-read_line.ensures (subst (HasRead roots lines) (sym c.self.view_is) h)
+    (subst (λ (f : FileFault). StopsCall bytes c.self.inside.place f) (sym c.fault_of.ensures) stops))
