@@ -15,22 +15,22 @@ lines-init c =
 pub lines-preserved : goal.lines-preserved
 lines-preserved c =
     let past = c.lines.invariant.0 in
-    let line = c.in-Some.line in (
+    let line = c.in-Some.read.line in (
       past ++ line ∷ [],
-      (rw c.in-Some.is at (c.in_ok-line.ensures.next c.args.start past c.lines.invariant.1)),
+      (rw c.in-Some.is at (c.in_ok-read.ensures.next c.args.start past c.lines.invariant.1)),
       written_more c.args.start past line c.lines.core c.append_step.new.core c.lines.text.items c.append_step.new.text.items c.lines.invariant.2 c.in_ok-append_step.ensures,
-      c.in_ok-line.ensures.bytes ∙ c.lines.invariant.3,
+      c.in_ok-read.ensures.bytes ∙ c.lines.invariant.3,
     )
 
-pub returns-in_err-line-clause-refuses : goal.returns-in_err-line-clause-refuses
-returns-in_err-line-clause-refuses c =
-    let p = err_from_is_err_and c.from_residual-in_err-line.result c.from_residual-in_err-line.ensures.1 in
+pub returns-in_err-read-clause-refuses : goal.returns-in_err-read-clause-refuses
+returns-in_err-read-clause-refuses c =
+    let p = err_from_is_err_and c.from_residual-in_err-read.result c.from_residual-in_err-read.ensures.1 in
     rw (p.1, p.2)
-    (subst (λ (bytes : List ℕ). NamesBadLine IsScriptText IsTooLargeIn bytes c.in_err-line.field-0.0) c.lines.invariant.3
-    (c.in_err-line.ensures.refused c.args.start c.lines.invariant.0 c.lines.invariant.1))
+    (subst (λ (bytes : List ℕ). NamesBadLine IsScriptText IsTooLargeIn bytes c.in_err-read.field-0.0) c.lines.invariant.3
+    (c.in_err-read.ensures.refused c.args.start c.lines.invariant.0 c.lines.invariant.1))
 
 pub returns-clause-records : goal.returns-clause-records
 returns-clause-records c =
     let lines = c.lines.invariant.0 in
-    let all = (rw c.in_default.is at (c.in_ok-line.ensures.next c.args.start lines c.lines.invariant.1)) in
-    (c.args.start, lines, all.0, sym (c.in_ok-line.ensures.bytes ∙ c.lines.invariant.3) ∙ all.1, c.lines.invariant.2.text, journal_is_unaided c.args.start lines, journal_is_sound c.args.start lines)
+    let all = (rw c.in_default.is at (c.in_ok-read.ensures.next c.args.start lines c.lines.invariant.1)) in
+    (c.args.start, lines, all.0, sym (c.in_ok-read.ensures.bytes ∙ c.lines.invariant.3) ∙ all.1, c.lines.invariant.2.text, journal_is_unaided c.args.start lines, journal_is_sound c.args.start lines)
