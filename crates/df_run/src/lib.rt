@@ -9,6 +9,10 @@ mod audited;
 #[cfg(test)]
 mod examples;
 mod floor;
+#[cfg(test)]
+mod floor_tests;
+#[cfg(test)]
+mod floors;
 mod input;
 mod lint;
 mod making;
