@@ -1,5 +1,5 @@
 //! Runs of trading floors by the program.
-use crate::floors::SMALL_FLOOR;
+use crate::floor_files::SMALL_FLOOR;
 use crate::run::run_main;
 use crate::status::{BadKind, Status};
 use df_io::{MemoryShelf, MemorySink, NoMemory};

@@ -10,9 +10,9 @@ mod audited;
 mod examples;
 mod floor;
 #[cfg(test)]
-mod floor_tests;
+mod floor_files;
 #[cfg(test)]
-mod floors;
+mod floor_tests;
 mod input;
 mod lint;
 mod making;
