@@ -103,7 +103,7 @@ fn hand<L: Ledger>(
     let mut added = Vec::new(alloc);
     added.push(part(alloc, row.name, row.secret)?)?;
     let edit = Edit::new(Vec::new(alloc), added);
-    contents.apply(&edit)?;
+    *contents = contents.applied(&edit)?;
     let receivers = index.receivers(labels, row.event, contents, &edit, counting)?;
     index.book(row.event, &receivers);
     Ok(receivers)

@@ -85,8 +85,7 @@ fn adding(alloc: Global, secrets: &[u32]) -> Result<Edit, Fail> {
 
 // The instances to which the first commit on an event goes.
 fn chosen(managed: &Managed, alloc: Global, edit: &Edit) -> Result<Instances, Fail> {
-    let mut contents = Contents::new(alloc);
-    contents.apply(edit)?;
+    let contents = Contents::new(alloc).applied(edit)?;
     Ok(managed.chosen(&contents, edit)?)
 }
 

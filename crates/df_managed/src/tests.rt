@@ -57,10 +57,9 @@ fn filter(alloc: Global) -> Result<Filter, Fail> {
 }
 
 fn given(alloc: Global, row: &Row<'_>) -> Result<TagSets, Fail> {
-    let mut contents = Contents::new(alloc);
-    contents.apply(&adding(alloc, row.old)?)?;
+    let contents = Contents::new(alloc).applied(&adding(alloc, row.old)?)?;
     let edit = adding(alloc, row.added)?;
-    contents.apply(&edit)?;
+    let contents = contents.applied(&edit)?;
     let base = TagSet::new(alloc);
     let integrity = tags(alloc, row.integrity)?;
     let filter = filter(alloc)?;

@@ -1,5 +1,5 @@
-ghost use Rattle.std.specs.Prelude.{◌≡◌, [], ◌++◌, not, IsTrue, OnOk, OnErr, IfOk};
-ghost use Rattle.std.specs.List.{filter, list_all};
+ghost use Rattle.std.specs.Prelude.{◌≡◌, ◌↔◌, [], ◌++◌, IsTrue, OnOk, IfOk};
+ghost use Rattle.std.specs.List.{list_all};
 ghost use Rattle.df_part.specs.Contents.{apply, is_deleted, spared};
 ghost use Rattle.df_part.specs.Part.{cut, readable};
 
@@ -53,16 +53,6 @@ impl Contents {
         Ok(Contents { parts })
     }
 
-    /// Deletes first, each part that has the name and the exact label of a deleted spot, and then
-    /// adds, in order.
-    pub fn apply(&mut self, edit: &Edit) -> Result<(), NoMemory>
-        ensures ok { OnOk result (self.new ≡ apply edit.now self.old) }
-        ensures unchanged { OnErr result (self.new ≡ self.old) }
-    {
-        *self = self.applied(edit)?;
-        Ok(())
-    }
-
     pub fn parts(&self) -> &[PartRef]
         ensures { result.now ≡ self.now }
     {
@@ -109,7 +99,7 @@ pub fn is_deleted(part: &Part, deleted: &[Spot]) -> bool
 
 /// Whether an edit neither deletes nor adds.
 fn is_idle(edit: &Edit) -> bool
-    ensures { IsTrue result → edit.now ≡ ([], []) }
+    ensures { IsTrue result ↔ (edit.now ≡ ([], [])) }
 {
     edit.deleted().is_empty() && edit.added().is_empty()
 }

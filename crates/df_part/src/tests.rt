@@ -95,7 +95,8 @@ fn deleting(alloc: Global, name: &str, secret: bool, origin: bool) -> Result<Edi
 
 fn apply_copy(contents: &mut Contents, edit: &Edit) -> Result<(), Fail> {
     let copy = edit.copy()?;
-    Ok(contents.apply(&copy)?)
+    *contents = contents.applied(&copy)?;
+    Ok(())
 }
 
 /// Whether the edit leaves parts of these numbers.
@@ -110,8 +111,7 @@ fn copy_leaves(contents: &Contents, edit: &Edit, numbers: &[i64]) -> Result<bool
 }
 
 fn leaves_of(alloc: Global, before: &Edit, edit: &Edit, numbers: &[i64]) -> Result<bool, Fail> {
-    let mut contents = Contents::new(alloc);
-    contents.apply(before)?;
+    let contents = Contents::new(alloc).applied(before)?;
     copy_leaves(&contents, edit, numbers)
 }
 
@@ -171,8 +171,7 @@ fn are_read(contents: &Contents, at: &Label, numbers: &[i64]) -> bool {
 }
 
 fn are_read_at(alloc: Global, edit: &Edit, at: &Label, numbers: &[i64]) -> Result<bool, Fail> {
-    let mut contents = Contents::new(alloc);
-    contents.apply(edit)?;
+    let contents = Contents::new(alloc).applied(edit)?;
     let seen = contents.seen_at(at)?;
     Ok(are_read(&contents, at, numbers) && are_numbered(seen.as_slice(), numbers))
 }
