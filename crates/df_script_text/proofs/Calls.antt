@@ -1,6 +1,5 @@
 -- The lines of calls, cut to their words.
-use Rattle.std.proofs.Common.{◌≡◌, ℕ, ◌+◌, ◌<◌, ◌≤◌, ◌^◌, true, false, cond, ◌||◌, Option, Some, None, Result, Ok, Err, List, [], ◌∷◌, ◌++◌, length, length-append, map, codes, decimal, refl, sym, ap, subst, ◌∙◌, arith}
-use lib.Dec.{eqb}
+use Rattle.std.proofs.Common.{◌≡◌, ℕ, ◌+◌, ◌<◌, ◌≤◌, ◌^◌, true, Option, Some, None, Result, Ok, Err, List, [], ◌∷◌, ◌++◌, length, length-append, map, codes, decimal, refl, sym, ap, subst, ◌∙◌, arith}
 use Rattle.std.specs.List.{AllByRecursion, join_with_byte}
 use Rattle.std.proofs.lemmas.List.Elements.{recursion_from_All}
 use Rattle.df_label.specs.declared.privilege.Privilege.{Privilege}
@@ -27,7 +26,7 @@ use Rattle.df_script_text.specs.code.Stops.{IsTooLargeText}
 use Rattle.df_script_text.specs.declared.word.Unread.{Unread}
 use Rattle.df_script_text.specs.declared.word.Unread.TheVariants as unread
 use Rattle.df_script_text.proofs.Cuts.{AreCut-words, HasNoSpace-word, cut_once, cut_pieces-join, join-cut_pieces, not_cut, spaced-join}
-use Rattle.df_script_text.proofs.Splits.{Avoids, Avoids-line, Avoids-words, join_with_byte-spaced}
+use Rattle.df_script_text.proofs.Splits.{Avoids, Avoids-line, Avoids-words}
 use Rattle.df_script_text.proofs.Values.{IsLine-filter, IsLine-value, IsLine-word}
 use Rattle.df_script_text.proofs.Words.{AreWords, AreWords-privileges, is_word-act, is_word-actor, is_word-braced, is_word-half, is_word-label, is_word-name, is_word-privilege, is_word-tag, number_word}
 

@@ -10,7 +10,7 @@ use Rattle.df_journal_text.specs.Fits.{IsUnit}
 use Rattle.df_journal_text.specs.Name.{unit_text}
 use Rattle.df_journal_text.specs.ReadCall.{braced_at}
 use Rattle.df_journal_text.specs.ReadName.{unit_at}
-use Rattle.df_journal_text.proofs.Founds.{Finds, braced_finds, short_finds, unit_finds}
+use Rattle.df_journal_text.proofs.Founds.{braced_finds, short_finds, unit_finds}
 use Rattle.df_journal_text.proofs.NameBacks.{unit_back}
 use Rattle.df_script_text.specs.code.Lines.{braced}
 

@@ -15,7 +15,7 @@ use Rattle.df_journal_text.specs.Fits.{IsRoot}
 use Rattle.df_journal_text.specs.Start.{root_text}
 use Rattle.df_start.specs.declared.start.RootStart.{RootStart}
 use Rattle.df_script_text.specs.Reader.{HasReadUpTo}
-use Rattle.df_script_text.specs.Script.{IsScript, IsScriptLine, IsScriptText, script_text}
+use Rattle.df_script_text.specs.Script.{IsScript, IsScriptLine, IsScriptText}
 use Rattle.df_script_text.specs.TooLarge.{IsTooLargeIn, IsTooLargeLine}
 use Rattle.df_script_text.specs.code.Lines.{call_line, head_lines, numbered, script_lines}
 use Rattle.df_script_text.specs.code.Stops.{ArePassed, AreRootsAt, IsCallLine, IsFirstAt, RootsStop, StopsAt, StopsCall, StopsFirst, TellsRoot, fault_of}
@@ -142,9 +142,12 @@ calls_stop bytes rs ls place (fault.TooLarge here) h s =
     (script_lines (rs, ls), s.2.0, call_stop bytes rs ls place here s.2.0 h s.0 s.1 s.2.1, ((head_lines rs, map call_line ls, refl), s.2.2))
 
 -- why the next call isn't read, as it is told to callers
-pub calls_refused : (bytes : List ℕ) (rs : List RootStart) (ls : List ScriptLine) (place : ℕ) (f : FileFault) (r : FileRefused) → r ≡ refusal bytes f → HasReadUpTo bytes rs ls place → StopsCall bytes place f → NamesBadLine IsScriptText IsTooLargeIn bytes r
+pub calls_refused : (bytes : List ℕ) (rs : List RootStart) (ls : List ScriptLine) (place : ℕ) (f : FileFault) (r : FileRefused)
+    → r ≡ refusal bytes f → HasReadUpTo bytes rs ls place → StopsCall bytes place f
+    → NamesBadLine IsScriptText IsTooLargeIn bytes r
 calls_refused bytes rs ls place f r is h s =
-    subst (λ (r : FileRefused). NamesBadLine IsScriptText IsTooLargeIn bytes r) (sym is) (names_line IsScriptText IsTooLargeIn bytes f (calls_stop bytes rs ls place f h s))
+    subst (λ (r : FileRefused). NamesBadLine IsScriptText IsTooLargeIn bytes r) (sym is)
+    (names_line IsScriptText IsTooLargeIn bytes f (calls_stop bytes rs ls place f h s))
 
 -- ---- one line
 
@@ -158,15 +161,19 @@ open_call bytes at some line (Err unread.NoMemory) t = tt
 open_call bytes at some line (Err unread.TooLarge) t = (refl, some, (drop at bytes, open_stop IsCallLine (drop at bytes) line, t.1))
 
 -- a line is bad where no call is spelled so
-line_stop : (bytes : List ℕ) (at : ℕ) (line : List ℕ) (next : ℕ) → TellsLine bytes at (Some (line, next)) → Reads call_line IsScriptLine line None → StopsAt IsCallLine (drop at bytes) line
-line_stop bytes at line next l none = record { behind = 10 ∷ drop next bytes; parts = l.3; line = l.0; end = refl; refused = λ more e k. none k.0 k.1 k.2 }
+line_stop : (bytes : List ℕ) (at : ℕ) (line : List ℕ) (next : ℕ) → TellsLine bytes at (Some (line, next))
+    → Reads call_line IsScriptLine line None → StopsAt IsCallLine (drop at bytes) line
+line_stop bytes at line next l none =
+    record { behind = 10 ∷ drop next bytes; parts = l.3; line = l.0; end = refl; refused = λ more e k. none k.0 k.1 k.2 }
 
 -- a line that isn't a call's
-pub bad_call : (bytes : List ℕ) (at : ℕ) (line : List ℕ) (next : ℕ) → TellsLine bytes at (Some (line, next)) → Tells call_line IsScriptLine IsTooLargeLine line (Ok None) → StopsCall bytes at (fault.Bad at)
+pub bad_call : (bytes : List ℕ) (at : ℕ) (line : List ℕ) (next : ℕ) → TellsLine bytes at (Some (line, next))
+    → Tells call_line IsScriptLine IsTooLargeLine line (Ok None) → StopsCall bytes at (fault.Bad at)
 bad_call bytes at line next l t = (refl, omega (arith, l.1, l.2), (line, line_stop bytes at line next l t.0, t.1))
 
 -- a line that can't be read
-pub line_call : (bytes : List ℕ) (at : ℕ) (line : List ℕ) (next : ℕ) → TellsLine bytes at (Some (line, next)) → (e : Unread) → Tells call_line IsScriptLine IsTooLargeLine line (Err e) → StopsCall bytes at (fault_of at (Err e))
+pub line_call : (bytes : List ℕ) (at : ℕ) (line : List ℕ) (next : ℕ) → TellsLine bytes at (Some (line, next))
+    → (e : Unread) → Tells call_line IsScriptLine IsTooLargeLine line (Err e) → StopsCall bytes at (fault_of at (Err e))
 line_call bytes at line next l unread.NoMemory t = tt
 line_call bytes at line next l unread.TooLarge t = (refl, omega (arith, l.1, l.2), (line, line_stop bytes at line next l t.0, t.1))
 
@@ -183,11 +190,15 @@ pub start_read : (bytes : List ℕ) (at : ℕ) (rs : List RootStart) (mid : ℕ)
 start_read bytes at rs mid i r = record { inside = r.inside; script = ((r.passed.few, r.passed.fit), All-nil IsScriptLine); text = start_before bytes at rs mid i r }
 
 -- the line of a call, with its line feed
-line_read : (bytes : List ℕ) (at : ℕ) (line : List ℕ) (next : ℕ) (l : ScriptLine) → TellsLine bytes at (Some (line, next)) → line ≡ call_line l → drop at bytes ≡ ended (call_line l) ++ drop next bytes
-line_read bytes at line next l t is = t.3 ∙ ap (λ (u : List ℕ). u ++ 10 ∷ drop next bytes) is ∙ sym (append_assoc (call_line l) (10 ∷ []) (drop next bytes))
+line_read : (bytes : List ℕ) (at : ℕ) (line : List ℕ) (next : ℕ) (l : ScriptLine) → TellsLine bytes at (Some (line, next))
+    → line ≡ call_line l → drop at bytes ≡ ended (call_line l) ++ drop next bytes
+line_read bytes at line next l t is =
+    t.3 ∙ ap (λ (u : List ℕ). u ++ 10 ∷ drop next bytes) is ∙ sym (append_assoc (call_line l) (10 ∷ []) (drop next bytes))
 
 -- one more call
-pub call_read : (bytes : List ℕ) (rs : List RootStart) (ls : List ScriptLine) (l : ScriptLine) (place : ℕ) (line : List ℕ) (next : ℕ) → HasReadUpTo bytes rs ls place → TellsLine bytes place (Some (line, next)) → Reads call_line IsScriptLine line (Some l) → HasReadUpTo bytes rs (ls ++ l ∷ []) next
+pub call_read : (bytes : List ℕ) (rs : List RootStart) (ls : List ScriptLine) (l : ScriptLine) (place : ℕ) (line : List ℕ) (next : ℕ)
+    → HasReadUpTo bytes rs ls place → TellsLine bytes place (Some (line, next)) → Reads call_line IsScriptLine line (Some l)
+    → HasReadUpTo bytes rs (ls ++ l ∷ []) next
 call_read bytes rs ls l place line next h t read =
     let more : script_lines (rs, ls) ++ call_line l ∷ [] ≡ script_lines (rs, ls ++ l ∷ []) =
     append_assoc (head_lines rs) (run ∷ map call_line ls) (call_line l ∷ []) ∙ ap (λ (m : List (List ℕ)). head_lines rs ++ run ∷ m) (sym (map-append call_line ls (l ∷ []))) in

@@ -11,27 +11,40 @@ use Rattle.df_script_text.proofs.reader.ScriptReader.next_line.Goals as goal
 
 pub returns-in-Ok-Some-read_line-clause-next : goal.returns-in-Ok-Some-read_line-clause-next
 returns-in-Ok-Some-read_line-clause-next c = λ roots lines h.
+    let found = rw c.in-Ok-Some.field-0-is at c.in-Ok-Some.ensures.read in
     let told = rw c.in-Ok-Some-read_line.field-0-is at c.in-Ok-Some-read_line.ensures in
-    call_read c.self.inside.bytes.now roots lines c.in-Ok-Some-read_line.line c.self.inside.place c.in-Ok-Some.line.0.now c.in-Ok-Some.line.1 (subst (HasRead roots lines) (sym c.self.view_is) h) (rw c.in-Ok-Some.field-0-is at c.in-Ok-Some.ensures.read) told.0
+    let read = subst (HasRead roots lines) (sym c.self.view_is) h in
+    call_read c.self.inside.bytes.now roots lines c.in-Ok-Some-read_line.line c.self.inside.place
+    c.in-Ok-Some.line.0.now c.in-Ok-Some.line.1 read found told.0
 
 pub returns-in-Err-clause-refused : goal.returns-in-Err-clause-refused
 returns-in-Err-clause-refused c = λ roots lines h.
+    let read = subst (HasRead roots lines) (sym c.self.view_is) h in
     subst (λ (v : ReaderState). NamesBadLine IsScriptText IsTooLargeIn v.bytes c.file_refused.result) c.self.view_is
-    (calls_refused c.self.inside.bytes.now roots lines c.self.inside.place c.in-Err.fault c.file_refused.result c.file_refused.ensures (subst (HasRead roots lines) (sym c.self.view_is) h) c.in-Err.ensures.stops)
+    (calls_refused c.self.inside.bytes.now roots lines c.self.inside.place c.in-Err.fault
+    c.file_refused.result c.file_refused.ensures read c.in-Err.ensures.stops)
 
 pub returns-in-Ok-None-read_line-clause-refused : goal.returns-in-Ok-None-read_line-clause-refused
 returns-in-Ok-None-read_line-clause-refused c = λ roots lines h.
     let bytes = c.self.inside.bytes.now in
+    let place = c.self.inside.place in
+    let refused = c.file_refused-in-Ok-None-read_line.result in
+    let found = rw c.in-Ok-Some.field-0-is at c.in-Ok-Some.ensures.read in
     let told = rw c.in-Ok-None-read_line.field-0-is at c.in-Ok-None-read_line.ensures in
-    let stops = bad_call bytes c.self.inside.place c.in-Ok-Some.line.0.now c.in-Ok-Some.line.1 (rw c.in-Ok-Some.field-0-is at c.in-Ok-Some.ensures.read) told in
-    subst (λ (v : ReaderState). NamesBadLine IsScriptText IsTooLargeIn v.bytes c.file_refused-in-Ok-None-read_line.result) c.self.view_is
-    (calls_refused bytes roots lines c.self.inside.place (fault.Bad c.self.inside.place) c.file_refused-in-Ok-None-read_line.result c.file_refused-in-Ok-None-read_line.ensures (subst (HasRead roots lines) (sym c.self.view_is) h) stops)
+    let stops = bad_call bytes place c.in-Ok-Some.line.0.now c.in-Ok-Some.line.1 found told in
+    let read = subst (HasRead roots lines) (sym c.self.view_is) h in
+    subst (λ (v : ReaderState). NamesBadLine IsScriptText IsTooLargeIn v.bytes refused) c.self.view_is
+    (calls_refused bytes roots lines place (fault.Bad place) refused c.file_refused-in-Ok-None-read_line.ensures read stops)
 
 pub returns-in-Err-read_line-clause-refused : goal.returns-in-Err-read_line-clause-refused
 returns-in-Err-read_line-clause-refused c = λ roots lines h.
     let bytes = c.self.inside.bytes.now in
+    let place = c.self.inside.place in
+    let refused = c.file_refused-in-Err-read_line.result in
+    let found = rw c.in-Ok-Some.field-0-is at c.in-Ok-Some.ensures.read in
     let told = rw c.in-Err-read_line.is at c.read_line.ensures in
-    let stops = line_call bytes c.self.inside.place c.in-Ok-Some.line.0.now c.in-Ok-Some.line.1 (rw c.in-Ok-Some.field-0-is at c.in-Ok-Some.ensures.read) c.in-Err-read_line.unread told in
-    subst (λ (v : ReaderState). NamesBadLine IsScriptText IsTooLargeIn v.bytes c.file_refused-in-Err-read_line.result) c.self.view_is
-    (calls_refused bytes roots lines c.self.inside.place c.fault_of.result c.file_refused-in-Err-read_line.result c.file_refused-in-Err-read_line.ensures (subst (HasRead roots lines) (sym c.self.view_is) h)
-    (subst (λ (f : FileFault). StopsCall bytes c.self.inside.place f) (sym c.fault_of.ensures) stops))
+    let line = line_call bytes place c.in-Ok-Some.line.0.now c.in-Ok-Some.line.1 found c.in-Err-read_line.unread told in
+    let stops = subst (λ (f : FileFault). StopsCall bytes place f) (sym c.fault_of.ensures) line in
+    let read = subst (HasRead roots lines) (sym c.self.view_is) h in
+    subst (λ (v : ReaderState). NamesBadLine IsScriptText IsTooLargeIn v.bytes refused) c.self.view_is
+    (calls_refused bytes roots lines place c.fault_of.result refused c.file_refused-in-Err-read_line.ensures read stops)
