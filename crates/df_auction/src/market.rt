@@ -1,7 +1,7 @@
 //! The auction and its certificate.
 
-ghost use Rattle.std.specs.Prelude.{◌≡◌, ◌↔◌, ◌<◌, ◌^◌, ℕ, All, IsTrue, IfOk, length, pos};
-ghost use Rattle.df_auction.specs.Stairs.{IsInRange, Certifies, buys_at, sells_at, qty_among, demand, supply};
+ghost use Rattle.std.specs.Prelude.{◌≡◌, ◌↔◌, ◌<◌, ◌^◌, All, IsTrue, IfOk, length, pos};
+ghost use Rattle.df_auction.specs.Stairs.{IsInRange, Certifies, buys_at, sells_at, demand, supply};
 ghost use Rattle.df_auction.specs.Matching.{total};
 ghost use Rattle.df_auction.specs.Auction.{IsMarket, Settles};
 

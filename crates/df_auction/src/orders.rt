@@ -1,8 +1,8 @@
 //! Reading an order file.
 
-ghost use Rattle.std.specs.Prelude.{◌≡◌, ◌++◌, ◌∷◌, [], ◌^◌, ◌<◌, Some, None, IfOk, IfErr, IsTrue, ◌↔◌, MatchOption, OnErr};
+ghost use Rattle.std.specs.Prelude.{◌≡◌, ◌<◌, Some, None, IfOk, IfErr, IsTrue, ◌↔◌};
 ghost use Rattle.csv.specs.Records.{fields_of};
-ghost use Rattle.df_auction.specs.OrderFile.{IsOrderFile, order_of};
+ghost use Rattle.df_auction.specs.OrderFile.{IsOrderFile};
 ghost use Rattle.std.specs.Prelude.{All, length};
 ghost use Rattle.df_auction.specs.Stairs.{IsInRange};
 ghost use Rattle.df_auction.specs.Refusing.{IsRightRefusal, TakesRecord};

@@ -1,8 +1,8 @@
 //! An order of the fields of a record.
 
-ghost use Rattle.std.specs.Prelude.{◌≡◌, ◌<◌, ◌^◌, IfOk, IsTrue, Some, None};
+ghost use Rattle.std.specs.Prelude.{◌≡◌, ◌<◌, IfOk, Some, None};
 ghost use Rattle.csv.specs.Records.{fields_of};
-ghost use Rattle.df_auction.specs.OrderFile.{order_of, order_of_six, number, is_symbol, is_digit};
+ghost use Rattle.df_auction.specs.OrderFile.{order_of, order_of_six, number, is_symbol};
 
 use csv::ByteRecord;
 use df_book::Order;

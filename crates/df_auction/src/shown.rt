@@ -1,8 +1,7 @@
 //! What an auction shows of its fills: trades, and what is left of the orders.
 
-ghost use Rattle.std.specs.Prelude.{◌≡◌, ◌+◌, ◌<◌, ◌≤◌, ◌^◌, ◌==◌, ℕ, All, IfOk, length, map, vec_len, slice_index, if◌then◌else◌, true};
+ghost use Rattle.std.specs.Prelude.{◌≡◌, ◌+◌, ◌<◌, ◌≤◌, ◌==◌, ℕ, All, IfOk, length, map, vec_len, slice_index, if◌then◌else◌};
 ghost use Rattle.df_auction.specs.Stairs.{IsInRange, qty_of};
-ghost use Rattle.df_auction.specs.Matching.{bought, sold, qty_at};
 ghost use Rattle.df_auction.specs.code.Clearing.{ArePlaced, StaysWithin};
 ghost use Rattle.df_auction.specs.Auction.{trade_of, rest_of};
 

@@ -1,8 +1,7 @@
 //! The lines of the auctions of a list of orders.
 
-ghost use Rattle.std.specs.Prelude.{◌≡◌, ◌++◌, ◌<◌, ◌^◌, All, IfOk, OnOk, codes, string_bytes};
+ghost use Rattle.std.specs.Prelude.{◌≡◌, ◌++◌, ◌<◌, ◌^◌, All, IfOk, OnOk, string_bytes};
 ghost use Rattle.std.specs.List.{flat_map};
-ghost use Rattle.std.specs.Fmt.{signed_decimal};
 ghost use Rattle.df_auction.specs.AuctionText.{auction_lines, price_line, trade_line};
 
 use crate::market::auction;

@@ -17,7 +17,7 @@ use Rattle.df_journal_file.proofs.Texts.{not_both, one_noted, one_plain}
 use Rattle.df_journal_file.specs.Either.{IsJournalOf}
 use Rattle.df_journal_file.specs.declared.file.Journal.{Journal}
 use Rattle.df_journal_file.specs.declared.file.Journal.TheVariants.{First, Second}
-use Rattle.df_audit.specs.Audit.{IsRightJournal, IsWrongAt, OfJournal}
+use Rattle.df_audit.specs.Audit.{IsRightJournal, IsWrongAt}
 
 -- ---- of two places in a list one comes first, or they are one
 

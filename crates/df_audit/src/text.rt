@@ -1,5 +1,5 @@
 //! Texts of an audit.
-ghost use Rattle.std.specs.Prelude.{◌≡◌, ◌++◌, IfOk, OnOk};
+ghost use Rattle.std.specs.Prelude.{◌≡◌, IfOk};
 ghost use Rattle.df_journal_text.specs.Entry.{entry_text};
 ghost use Rattle.df_journal_text.specs.Start.{journal_text};
 ghost use Rattle.df_audit.specs.Audit.{valid_text, wrong_text};

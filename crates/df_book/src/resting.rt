@@ -1,6 +1,6 @@
 //! What an order does to the places at which others rest.
 
-ghost use Rattle.std.specs.Prelude.{◌≡◌, ◌++◌, ◌≤ℤ◌, pos, not, string_bytes, IfOk, OnOk, OnErr};
+ghost use Rattle.std.specs.Prelude.{◌≡◌, ◌++◌, not, string_bytes, IfOk, OnOk, OnErr};
 ghost use Rattle.df_book.specs.code.Places.{IsSpan, IsInOrder, MayRest, IsPlan, AreFills, by_arrival, plan_of, queue, resting_of, filled, left_at, IsTaken};
 
 use crate::order::Order;

@@ -1,6 +1,6 @@
 //! The fields of a table, by their keys.
 
-ghost use Rattle.std.specs.Prelude.{◌≡◌, option_map, option_and_then, option_copied};
+ghost use Rattle.std.specs.Prelude.{◌≡◌, option_map};
 ghost use Rattle.toml.specs.Data.{get_member};
 ghost use Rattle.toml.specs.View.{items_view, table_view, view};
 ghost use Rattle.df_config.specs.ConfigTable.{size};

@@ -1,6 +1,6 @@
 //! Whether a configuration is in form.
 
-ghost use Rattle.std.specs.Prelude.{◌≡◌, ◌↔◌, ℕ, All, IsTrue, length};
+ghost use Rattle.std.specs.Prelude.{◌≡◌, ◌↔◌, All, IsTrue};
 ghost use Rattle.df_config.specs.ConfigForm.{AreNumbers, ArePairs, AreTraders, IsConfig, IsPair, IsTrader, are_different};
 
 use crate::config::Config;

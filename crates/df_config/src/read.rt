@@ -1,6 +1,6 @@
 //! Reading a configuration.
 
-ghost use Rattle.std.specs.Prelude.{◌≡◌, ◌↔◌, IfErr, IfOk};
+ghost use Rattle.std.specs.Prelude.{◌≡◌, IfErr, IfOk};
 ghost use Rattle.df_config.specs.ConfigFile.{IsConfigFile, IsRightRefusal};
 ghost use Rattle.df_config.specs.ConfigForm.{IsConfig};
 

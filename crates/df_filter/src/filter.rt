@@ -1,4 +1,4 @@
-ghost use Rattle.std.specs.Prelude.{IsTrue, ◌≡◌, ◌<◌, ◌≤◌, ◌↔◌, [], length, IfOk, OnErr, Err, Ok};
+ghost use Rattle.std.specs.Prelude.{IsTrue, ◌≡◌, ◌<◌, ◌≤◌, ◌↔◌, length, IfOk, Err, Ok};
 ghost use Rattle.df_filter.specs.Filter.{filter_of};
 ghost use Rattle.df_filter.specs.Limits.{most_clauses};
 

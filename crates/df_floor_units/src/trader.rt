@@ -1,6 +1,6 @@
 //! What a trader orders.
 
-ghost use Rattle.std.specs.Prelude.{◌≡◌, ◌↔◌, IsTrue, IfOk, pos, ◌-ℤ◌, ◌+ℤ◌};
+ghost use Rattle.std.specs.Prelude.{◌≡◌, ◌↔◌, IsTrue, IfOk};
 ghost use Rattle.df_floor_units.specs.Trading.{counted, limit_of, offer_of, sells};
 
 use df_label::NoMemory;

@@ -2,8 +2,7 @@
 
 ghost use Rattle.std.specs.Prelude.{◌≡◌, ◌+◌, max, IfOk, OnOk};
 ghost use Rattle.df_frozen.specs.Plain.{node_count, byte_count, depth};
-ghost use Rattle.df_frozen.specs.code.Counting.{own_byte_count, left, rows_of, pushed, rows_node_count, rows_byte_count, rows_depth};
-ghost use Rattle.df_frozen.specs.code.Inner.{children};
+ghost use Rattle.df_frozen.specs.code.Counting.{own_byte_count, left, rows_of, pushed};
 ghost use Rattle.df_frozen.specs.Limits.{counted};
 ghost use Rattle.df_frozen.specs.Value.{plain};
 

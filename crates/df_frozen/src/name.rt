@@ -8,7 +8,7 @@ ghost use Rattle.std.specs.Cmp.Rules.{hashing};
 ghost use Rattle.std.specs.List.{list_all};
 ghost use Rattle.std.specs.Hash as fed;
 ghost use Rattle.std.proofs.Common.{rules};
-ghost use Rattle.df_frozen.specs.Name.{is_name, is_name_byte, is_letter, is_digit};
+ghost use Rattle.df_frozen.specs.Name.{is_name, is_name_byte, is_letter};
 
 use std::cmp::Ordering;
 use std::error::Error;

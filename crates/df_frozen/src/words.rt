@@ -1,6 +1,6 @@
 //! Words: a text that is a value.
 
-ghost use Rattle.std.specs.Prelude.{◌≡◌, IfOk, IsUtf8};
+ghost use Rattle.std.specs.Prelude.{◌≡◌, IfOk};
 
 use crate::memory::NoMemory;
 use std::alloc::Global;

@@ -1,7 +1,7 @@
 //! To which subscriptions an event is to be handed at a commit.
 
 ghost use Rattle.std.specs.Prelude.{◌≡◌, ◌+◌, ◌<◌, ◌≤◌, ◌++◌, Some, length, OnOk, IfOk};
-ghost use Rattle.std.specs.List.{All, flat_map, list_any};
+ghost use Rattle.std.specs.List.{All, list_any};
 ghost use Rattle.std.specs.List.Sorted.{IsSorted};
 ghost use Rattle.df_part.specs.Part.{readable};
 ghost use Rattle.df_index.specs.Due.{has_pair, pair_cmp, pair_where, pairs_at};

@@ -1,6 +1,6 @@
 //! What an index is told of a filter.
 
-ghost use Rattle.std.specs.Prelude.{◌≡◌, IfOk, Some, Option, List, ℕ, Bool, true, map};
+ghost use Rattle.std.specs.Prelude.{◌≡◌, IfOk, Some, Option, List, ℕ, Bool, true};
 ghost use Rattle.std.specs.List.{Contains};
 
 use df_filter::Filter;

@@ -1,6 +1,6 @@
 //! Subscriptions, each listed under the first name of its filter.
 
-ghost use Rattle.std.specs.Prelude.{◌≡◌, [], ◌∷◌, ◌++◌, length, cond, List, ℕ, IsSome, IfOk, OnOk, OnErr};
+ghost use Rattle.std.specs.Prelude.{◌≡◌, [], ◌∷◌, ◌++◌, cond, List, ℕ, IsSome, IfOk, OnOk, OnErr};
 ghost use Rattle.std.specs.List.{All, flat_map};
 ghost use Rattle.std.specs.Str.{bytes_eq};
 ghost use Rattle.df_index.specs.Listing.{places_at, places_of};

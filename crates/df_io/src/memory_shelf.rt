@@ -1,4 +1,4 @@
-ghost use Rattle.std.specs.Prelude.{◌≡◌, ℕ, ◌+◌, ◌-◌, ◌<◌, ◌≤◌, ◌↔◌, ◌++◌, ◌∷◌, List, [], length, take, drop, min, Option, None, option_copied, unwrap_or, OnOk, OnErr, IfOk, IfSome, IsErr, Contains};
+ghost use Rattle.std.specs.Prelude.{◌≡◌, ℕ, ◌+◌, ◌-◌, ◌<◌, ◌≤◌, ◌↔◌, ◌++◌, ◌∷◌, List, [], length, take, drop, min, Option, None, option_copied, unwrap_or, OnOk, OnErr, IfOk, IfSome, IsErr};
 ghost use Rattle.std.specs.Str.{bytes_eq};
 ghost use Rattle.std.specs.List.{find, position_from};
 ghost use Rattle.df_io.specs.Faults.{Counts, CountsEach, count_more};

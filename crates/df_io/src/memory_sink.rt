@@ -1,4 +1,4 @@
-ghost use Rattle.std.specs.Prelude.{◌≡◌, ℕ, ◌+◌, ◌-◌, ◌^◌, ◌<◌, ◌≤◌, ◌↔◌, ◌++◌, ◌∷◌, List, [], length, min, Some, OnOk, OnErr, IfOk, IsErr};
+ghost use Rattle.std.specs.Prelude.{◌≡◌, ◌+◌, ◌-◌, ◌<◌, ◌≤◌, ◌↔◌, ◌++◌, ◌∷◌, [], length, min, Some, OnOk, OnErr, IfOk, IsErr};
 ghost use Rattle.df_io.specs.Faults.{Counts, CountsEach, count_more};
 ghost use Rattle.df_io.specs.Pieces.{Takes, Appends};
 ghost use Rattle.df_io.specs.MemorySink.{FailsWrite};

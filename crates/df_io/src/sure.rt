@@ -1,5 +1,4 @@
-ghost use Rattle.std.specs.Prelude.{◌≡◌, ℕ, ◌-◌, ◌≤◌, List, length, [], min, unwrap_or, OnOk, OnErr, IfOk, IsOk, Ok, if◌then◌else◌};
-ghost use Rattle.std.specs.Str.{bytes_eq};
+ghost use Rattle.std.specs.Prelude.{◌≡◌, ℕ, ◌-◌, ◌≤◌, List, length, [], min, unwrap_or, OnOk, OnErr, IfOk, Ok};
 ghost use Rattle.df_io.specs.Faults.{Counts};
 ghost use Rattle.df_io.specs.Files.{bytes_of, PutsFile};
 ghost use Rattle.df_io.specs.Pieces.{Reads, Takes, Appends};

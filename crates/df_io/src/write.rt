@@ -1,4 +1,4 @@
-ghost use Rattle.std.specs.Prelude.{OnOk, OnErr, length};
+ghost use Rattle.std.specs.Prelude.{OnOk, OnErr};
 ghost use Rattle.df_io.specs.Faults.{Counts};
 ghost use Rattle.df_io.specs.Pieces.{HasAll, HasFront};
 

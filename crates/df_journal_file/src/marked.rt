@@ -1,5 +1,5 @@
 //! Lines with the same mark, as many as there are.
-ghost use Rattle.std.specs.Prelude.{◌≡◌, ◌≤◌, ◌∷◌, [], IfErr, IfOk, length};
+ghost use Rattle.std.specs.Prelude.{◌≤◌, ◌∷◌, [], IfErr, IfOk, length};
 ghost use Rattle.df_journal_text.specs.Entry.{part_line, read_line, spot_line};
 ghost use Rattle.df_journal_text.specs.Fits.{IsPart, IsPartRead, IsSpot};
 ghost use Rattle.df_journal_text.specs.Large.{IsLargePart, IsLargeShown};

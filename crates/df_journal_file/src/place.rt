@@ -1,5 +1,5 @@
 //! Lines at a place, each with its line feed.
-ghost use Rattle.std.specs.Prelude.{◌≡◌, ◌≤◌, codes, drop, length};
+ghost use Rattle.std.specs.Prelude.{◌≡◌, ◌≤◌, drop, length};
 ghost use Rattle.df_value_text.specs.Fits.{IsLabel};
 ghost use Rattle.df_journal_text.specs.Entry.{call_line, part_line, read_line, spot_line};
 ghost use Rattle.df_journal_text.specs.Fits.{IsCalled, IsEvent, IsPart, IsPartRead, IsSpot};

@@ -1,6 +1,6 @@
 //! Lines that have no value, each without its line feed.
-ghost use Rattle.std.specs.Prelude.{◌≡◌, ◌∷◌, [], length};
-ghost use Rattle.df_format.specs.Reading.{as_at, behind_at};
+ghost use Rattle.std.specs.Prelude.{◌∷◌, [], length};
+ghost use Rattle.df_format.specs.Reading.{behind_at};
 ghost use Rattle.df_value_text.specs.Fits.{IsLabel};
 ghost use Rattle.df_value_text.specs.ReadLabel.{label_at};
 ghost use Rattle.df_value_text.specs.code.Answer.{Gives};

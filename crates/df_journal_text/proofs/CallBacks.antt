@@ -1,5 +1,5 @@
 -- Calls that are spelled are read back.
-use Rattle.std.proofs.Common.{◌≡◌, ℕ, Bool, false, List, [], ◌∷◌, ◌++◌, map, Ok, codes, decimal, refl}
+use Rattle.std.proofs.Common.{◌≡◌, ℕ, false, List, [], ◌∷◌, ◌++◌, map, Ok, refl}
 use Rattle.std.proofs.lemmas.List.Elements.{recursion_from_All}
 use Rattle.df_priv.specs.declared.need.Half.{Half}
 use Rattle.df_priv.specs.declared.need.Half.TheVariants.{S, I}

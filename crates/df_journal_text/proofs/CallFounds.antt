@@ -1,5 +1,5 @@
 -- Calls that are read are spelled so.
-use Rattle.std.proofs.Common.{◌≡◌, ℕ, ◌<◌, ◌^◌, true, Bool, List, [], ◌∷◌, ◌++◌, map, Ok, codes, decimal, refl}
+use Rattle.std.proofs.Common.{◌≡◌, ℕ, ◌<◌, ◌^◌, true, List, [], ◌∷◌, ◌++◌, codes, decimal, refl}
 use Rattle.df_priv.specs.declared.need.Half.{Half}
 use Rattle.df_priv.specs.declared.need.Half.TheVariants.{S, I}
 use Rattle.df_priv.specs.declared.need.Act.{Act}
@@ -7,7 +7,6 @@ use Rattle.df_priv.specs.declared.need.Act.TheVariants.{Add, Del}
 use Rattle.df_format.specs.Reading.{Read}
 use Rattle.df_frozen.specs.Name.{is_name}
 use Rattle.df_label.specs.declared.label.Label.{Label}
-use Rattle.df_unit.specs.declared.call.Call.{Call}
 use Rattle.df_unit.specs.declared.call.Call.TheVariants.{CreateEvent, DelPart, ReadPart, CloneEvent, AttachPrivilege, ChangeOutLabel, CreateTag, DropEvent, Subscribe, SubscribeManaged, Get, Publish, Release, ChangeInOut, Instantiate}
 use Rattle.df_value_text.specs.Fits.{IsLabel, IsTag}
 use Rattle.df_value_text.specs.Label.{label_text, privilege_text, tag_text}

@@ -1,14 +1,13 @@
 -- What the reader of calls answers.
-use Rattle.std.proofs.Common.{◌≡◌, ℕ, ◌≤◌, ◌<◌, ◌^◌, true, List, [], ◌∷◌, ◌++◌, length, drop, Result, Ok, Err, codes, decimal, refl, sym, ap, subst, ◌∙◌, inl}
-use Rattle.df_format.specs.Reading.{Stop, Bad, Low, Read, as_at, then_at, text_at}
+use Rattle.std.proofs.Common.{◌≡◌, ℕ, ◌≤◌, List, ◌++◌, length, drop, Result, Ok, Err, codes, decimal, refl, sym, ap, subst, ◌∙◌, inl}
+use Rattle.df_format.specs.Reading.{Stop, Bad, Low, Read, then_at, text_at}
 use Rattle.df_format.proofs.Laws.{not_both, ok_is}
 use Rattle.df_format.proofs.Texts.{text_again, text_found}
-use Rattle.df_frozen.specs.Name.{is_name}
 use Rattle.df_frozen.specs.Plain.{Plain}
 use Rattle.df_label.specs.declared.label.Label.{Label}
 use Rattle.df_unit.specs.declared.call.Call.{Call}
 use Rattle.df_unit.specs.declared.call.Call.TheVariants.{AddPart}
-use Rattle.df_value_text.specs.Fits.{IsLabel, IsSpelled, IsValue}
+use Rattle.df_value_text.specs.Fits.{IsSpelled, IsValue}
 use Rattle.df_value_text.specs.Label.{label_text}
 use Rattle.df_value_text.specs.ReadLabel.{label_at}
 use Rattle.df_value_text.specs.ReadName.{name_at}
@@ -21,7 +20,7 @@ use Rattle.df_value_text.specs.declared.refused.Fault.{Fault}
 use Rattle.df_value_text.specs.declared.refused.Fault.TheVariants as literal
 use Rattle.df_value_text.proofs.ValueLaws.{value_format}
 use Rattle.df_journal_text.specs.Fits.{IsCall}
-use Rattle.df_journal_text.specs.Large.{IsLargeCall, IsLargeNamed, IsLargeWord}
+use Rattle.df_journal_text.specs.Large.{IsLargeCall, IsLargeWord}
 use Rattle.df_journal_text.specs.Line.{word}
 use Rattle.df_journal_text.specs.ReadCall.{add_of, added_at, call_at, plain_kinds, spot_at}
 use Rattle.df_journal_text.specs.ReadWords.{keyed, kinds_at, word_at}

@@ -1,21 +1,19 @@
 -- What reading gives is spelled so, and fits.
-use Rattle.std.proofs.Common.{◌≡◌, ℕ, suc, zero, ◌<◌, ◌^◌, true, false, eqb, Bool, cond, Option, Some, None, List, [], ◌∷◌, ◌++◌, length, map, Ok, Err, decimal, refl, sym, ap, subst, ◌∙◌, arith, append_assoc, append-nil, ◌⊎◌, inl, inr}
-use Rattle.std.specs.Prelude.{⊤}
+use Rattle.std.proofs.Common.{◌≡◌, ℕ, suc, zero, ◌<◌, ◌^◌, true, eqb, Bool, Option, Some, None, List, [], ◌∷◌, ◌++◌, length, map, Ok, Err, decimal, refl, sym, ap, subst, ◌∙◌, arith, append_assoc, ◌⊎◌, inl, inr}
 use Rattle.std.specs.List.{AllByRecursion, flat_map}
 use Rattle.std.proofs.lemmas.List.Elements.{All-from_recursion}
-use Rattle.df_format.specs.Reading.{Bad, Low, Read, ◌>>=◌, as_at, then_at, maybe_at, text_at, behind_at, closed_at, while_at, all_at}
+use Rattle.df_format.specs.Reading.{Bad, Low, Read, ◌>>=◌, as_at, then_at, maybe_at, text_at, behind_at, closed_at, while_at}
 use Rattle.df_format.proofs.Laws.{bind_ok, chosen, ok_is, not_both}
 use Rattle.df_format.proofs.Texts.{text_found}
 use Rattle.df_frozen.specs.Name.{is_name}
-use Rattle.df_label.specs.declared.label.Label.{Label}
 use Rattle.df_label.specs.declared.privilege.Privilege.{Privilege}
 use Rattle.df_unit.specs.declared.name.UnitName.{UnitName}
 use Rattle.df_unit.specs.declared.name.UnitName.TheVariants.{Root, Managed}
 use Rattle.df_value_text.specs.Fits.{IsLabel, IsPrivilege, IsTag, IsTagSet}
-use Rattle.df_value_text.specs.Label.{label_text, path_text, privilege_text, tag_text, tags_text}
+use Rattle.df_value_text.specs.Label.{label_text, path_text, privilege_text, tag_text}
 use Rattle.df_value_text.specs.ReadLabel.{label_at, privilege_at}
 use Rattle.df_value_text.specs.ReadName.{name_at}
-use Rattle.df_value_text.specs.ReadTag.{numbers_at, short_at, tag_at, tags_at}
+use Rattle.df_value_text.specs.ReadTag.{numbers_at, short_at, tag_at}
 use Rattle.df_value_text.proofs.LabelLaws.{label_format, privilege_format}
 use Rattle.df_value_text.proofs.NameLaws.{name_format}
 use Rattle.df_value_text.proofs.TagLaws.{behind_byte, long_found, nowhere, nowhere_is_local, short_format, tag_format}
@@ -30,7 +28,7 @@ use Rattle.df_journal_text.specs.Name.{unit_text}
 use Rattle.df_journal_text.specs.ReadCall.{braced_at}
 use Rattle.df_journal_text.specs.ReadName.{instance_at, unit_at, unit_of}
 use Rattle.df_journal_text.specs.ReadWords.{ascend, ascending, bare_at, begins_pair, each_privilege_at, keyed, kinds_at, privileges_at, word_at}
-use Rattle.df_journal_text.proofs.WordBacks.{braced, privilege_words, spaced-privileges}
+use Rattle.df_journal_text.proofs.WordBacks.{braced, spaced-privileges}
 use Rattle.df_journal_text.proofs.Words.{ascending_of}
 
 -- what reading gives stands in front, and fits

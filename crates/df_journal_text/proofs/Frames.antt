@@ -1,5 +1,5 @@
 -- Whole lines: something in front, what may be too large, and something behind it.
-use Rattle.std.proofs.Common.{◌≡◌, ◌≢◌, ℕ, ◌≤◌, List, [], ◌∷◌, ◌++◌, length, drop, length-drop, Result, Ok, Err, refl, sym, ap, subst, ◌∙◌, arith, append-nil}
+use Rattle.std.proofs.Common.{◌≡◌, ◌≢◌, ℕ, ◌≤◌, List, [], ◌∷◌, ◌++◌, length, drop, length-drop, Result, Ok, Err, sym, ap, subst, ◌∙◌, arith, append-nil}
 use Rattle.std.proofs.lemmas.List.{append_cancel_right, drop_all}
 use Rattle.df_format.specs.Reading.{Stop, Bad, Low, Read}
 use Rattle.df_format.proofs.Laws.{not_both, ok_is}

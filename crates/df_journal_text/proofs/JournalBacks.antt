@@ -1,7 +1,7 @@
 -- Journals that are spelled are read back, so a text is that of one journal.
-use Rattle.std.proofs.Common.{◌≡◌, ℕ, ◌<◌, ◌||◌, Bool, true, false, eqb, List, [], ◌∷◌, ◌++◌, length, Option, Some, None, Ok, codes, decimal, refl, sym, ap, subst, ◌∙◌, append_assoc, arith, length-append, inl, inr}
+use Rattle.std.proofs.Common.{◌≡◌, ℕ, ◌<◌, ◌||◌, true, false, eqb, List, [], ◌∷◌, ◌++◌, length, Option, Some, None, Ok, codes, decimal, refl, sym, ap, subst, ◌∙◌, append_assoc, arith, inl, inr}
 use Rattle.std.specs.Char.{is_ascii_digit}
-use Rattle.std.specs.List.{AllByRecursion, flat_map}
+use Rattle.std.specs.List.{flat_map}
 use Rattle.std.proofs.lemmas.Bool.{eqb-true}
 use Rattle.std.proofs.lemmas.List.{append-nil}
 use Rattle.std.proofs.lemmas.List.Elements.{recursion_from_All}
@@ -31,9 +31,8 @@ use Rattle.df_journal_text.specs.Reply.{reply_words}
 use Rattle.df_journal_text.specs.Fits.{IsEntry, IsJournal, IsNoteOf, IsNoted, IsRoot, IsUnit}
 use Rattle.df_journal_text.specs.Name.{unit_text}
 use Rattle.df_journal_text.specs.ReadEntry.{EndsJournal, IsUnmarked, begins_entry, journal_at, noted_at}
-use Rattle.df_journal_text.specs.ReadWords.{begins_pair}
 use Rattle.df_journal_text.specs.Start.{journal_text, start_text}
-use Rattle.df_journal_text.proofs.EntryBacks.{IsNote, commit-rest, commit_back, commit_text, done_back}
+use Rattle.df_journal_text.proofs.EntryBacks.{commit-rest, commit_back, commit_text, done_back}
 use Rattle.df_journal_text.proofs.StartBacks.{start_back}
 
 -- ---- the first byte of an entry

@@ -1,8 +1,8 @@
 -- What the readers of lines with a value answer.
-use Rattle.std.proofs.Common.{◌≡◌, ℕ, true, List, [], ◌∷◌, ◌++◌, map, Ok, Err, codes, refl, sym, ap, subst, ◌∙◌, append_assoc, append-nil, inl}
+use Rattle.std.proofs.Common.{◌≡◌, ℕ, true, List, [], ◌∷◌, ◌++◌, map, Ok, codes, refl, sym, ap, subst, ◌∙◌, append_assoc, append-nil, inl}
 use Rattle.std.proofs.lemmas.List.Concat.{flat_map-append}
 use Rattle.std.proofs.lemmas.List.Elements.{recursion_from_All}
-use Rattle.df_format.specs.Reading.{Read, behind_at}
+use Rattle.df_format.specs.Reading.{behind_at}
 use Rattle.df_frozen.specs.Name.{is_name}
 use Rattle.df_frozen.specs.Plain.{Plain}
 use Rattle.df_label.specs.declared.label.Label.{Label}
@@ -18,7 +18,6 @@ use Rattle.df_value_text.specs.Label.{label_text, privilege_text}
 use Rattle.df_value_text.specs.ReadLabel.{label_at}
 use Rattle.df_value_text.specs.ReadName.{name_at}
 use Rattle.df_value_text.specs.ReadValue.{value_at}
-use Rattle.df_value_text.specs.Value.{value_text}
 use Rattle.df_value_text.specs.code.WordEnd.{EndsWord}
 use Rattle.df_value_text.proofs.Backs.{value_back}
 use Rattle.df_journal_text.specs.Call.{call_words}

@@ -1,16 +1,14 @@
 -- Names of units and events that are spelled are read back.
-use Rattle.std.proofs.Common.{◌≡◌, ℕ, ◌<◌, ◌^◌, Bool, true, false, eqb, List, [], ◌∷◌, ◌++◌, Option, Some, None, Ok, decimal, refl, sym, ap, ◌∙◌, append_assoc, arith, inl, inr}
+use Rattle.std.proofs.Common.{◌≡◌, ℕ, false, eqb, List, [], ◌∷◌, ◌++◌, None, Ok, decimal, refl, ap, ◌∙◌, append_assoc}
 use Rattle.std.specs.Char.{is_ascii_digit}
-use Rattle.df_format.specs.Reading.{Read, then_at, maybe_at, behind_at, closed_at}
-use Rattle.df_value_text.specs.Fits.{IsTag, IsTagSet}
+use Rattle.df_format.specs.Reading.{maybe_at, closed_at}
 use Rattle.df_value_text.specs.Label.{path_text, tags_text}
 use Rattle.df_value_text.specs.ReadTag.{numbers_at, short_at, tags_at}
-use Rattle.df_value_text.specs.code.WordEnd.{IsBreak, EndsWord}
+use Rattle.df_value_text.specs.code.WordEnd.{EndsWord}
 use Rattle.df_value_text.proofs.Backs.{EndsPath, path_back, digits_back, short_back, braced_back}
 use Rattle.df_value_text.proofs.WordEnds.{at_break}
 use Rattle.df_unit.specs.declared.name.UnitName.{UnitName}
 use Rattle.df_unit.specs.declared.name.UnitName.TheVariants.{Root, Managed}
-use Rattle.df_unit.specs.declared.name.EventName.{EventName}
 use Rattle.df_journal_text.specs.Fits.{IsUnit, IsEvent}
 use Rattle.df_journal_text.specs.Name.{unit_text, event_text}
 use Rattle.df_journal_text.specs.ReadName.{instance_at, unit_at, event_at}

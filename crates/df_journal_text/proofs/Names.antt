@@ -1,7 +1,6 @@
 -- Units, as the code reads them.
-use Rattle.std.proofs.Common.{◌≡◌, ℕ, true, false, eqb, List, Option, Some, None, Ok, Err, refl, sym, ap, ◌∙◌}
-use Rattle.df_format.specs.Reading.{Stop, Read, maybe_at}
-use Rattle.df_unit.specs.declared.name.UnitName.{UnitName}
+use Rattle.std.proofs.Common.{◌≡◌, ℕ, true, false, eqb, List, Some, Ok, Err, refl, sym, ap, ◌∙◌}
+use Rattle.df_format.specs.Reading.{Stop, maybe_at}
 use Rattle.df_unit.specs.declared.name.UnitName.TheVariants.{Root, Managed}
 use Rattle.df_value_text.specs.Number.{begins_with}
 use Rattle.df_value_text.specs.ReadTag.{numbers_at}

@@ -1,9 +1,7 @@
 -- Replies that are read are spelled so.
-use Rattle.std.proofs.Common.{◌≡◌, ℕ, ◌<◌, ◌^◌, List, [], ◌∷◌, ◌++◌, Ok, codes, decimal, refl, arith}
+use Rattle.std.proofs.Common.{ℕ, ◌<◌, ◌^◌, [], Ok, codes, decimal, refl, arith}
 use Rattle.std.specs.List.{All}
 use Rattle.std.proofs.lemmas.List.Elements.{All-from_recursion}
-use Rattle.df_unit.specs.declared.parts.PartRead.{PartRead}
-use Rattle.df_unit.specs.declared.reply.Reply.{Reply}
 use Rattle.df_unit.specs.declared.reply.Reply.TheVariants as reply
 use Rattle.df_value_text.specs.Label.{label_text, privilege_text, tag_text}
 use Rattle.df_value_text.proofs.NumberLaws.{number_format}

@@ -1,18 +1,16 @@
 -- Starts that are spelled are read back.
-use Rattle.std.proofs.Common.{◌≡◌, ℕ, zero, suc, ◌+◌, ◌≤◌, false, List, [], ◌∷◌, ◌++◌, length, map, Ok, codes, decimal, refl, sym, ap, ◌∙◌, append_assoc, arith, length-append, inr}
+use Rattle.std.proofs.Common.{◌≡◌, ℕ, zero, suc, ◌+◌, ◌≤◌, false, List, [], ◌∷◌, ◌++◌, length, map, Ok, codes, decimal, refl, ap, ◌∙◌, append_assoc, arith, length-append, inr}
 use Rattle.std.specs.List.{AllByRecursion}
 use Rattle.std.proofs.lemmas.List.Elements.{recursion_from_All}
-use Rattle.df_format.specs.Reading.{Read, behind_at, text_at, then_at}
+use Rattle.df_format.specs.Reading.{Read, behind_at}
 use Rattle.df_format.proofs.Texts.{text_again}
 use Rattle.df_start.specs.declared.start.RootStart.{RootStart}
 use Rattle.df_value_text.specs.Fits.{IsPrivilege}
 use Rattle.df_value_text.specs.Label.{label_text, privilege_text}
 use Rattle.df_value_text.specs.Number.{begins_with}
-use Rattle.df_value_text.specs.ReadLabel.{label_at}
 use Rattle.df_journal_text.specs.Fits.{IsRoot}
 use Rattle.df_journal_text.specs.Line.{spaced}
 use Rattle.df_journal_text.specs.ReadStart.{root_at, roots_within, start_at}
-use Rattle.df_journal_text.specs.ReadWords.{word_at, privileges_at, line_at}
 use Rattle.df_journal_text.specs.Start.{root_line, roots_text, start_text}
 use Rattle.df_journal_text.proofs.WordBacks.{line-rest, word_back, label_word, privileges_back}
 

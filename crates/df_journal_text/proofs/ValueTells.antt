@@ -1,8 +1,8 @@
 -- What the reader of values answers, as a word of a line.
-use Rattle.std.proofs.Common.{◌≡◌, ℕ, ◌+◌, ◌≤◌, ◌<◌, Bool, true, false, cond, eqb, List, [], ◌∷◌, ◌++◌, length, drop, Ok, Err, refl, sym, ap, subst, ◌∙◌, arith, append-nil, length-append, inl, inr}
+use Rattle.std.proofs.Common.{◌≡◌, ℕ, ◌+◌, ◌≤◌, true, false, cond, List, [], ◌∷◌, ◌++◌, length, drop, Ok, Err, refl, sym, ap, subst, ◌∙◌, arith, append-nil, length-append, inl, inr}
 use Rattle.std.specs.Prelude.{nat_lt}
 use Rattle.std.proofs.lemmas.Bool.Decides.{nat_tests}
-use Rattle.df_format.specs.Reading.{Stop, Bad, Low, Read, text_at}
+use Rattle.df_format.specs.Reading.{Bad, Low, text_at}
 use Rattle.df_format.specs.Format.{Ends}
 use Rattle.df_format.specs.Grammar.{CanGoOn, Stands}
 use Rattle.df_format.proofs.Laws.{not_both, told}
@@ -14,7 +14,7 @@ use Rattle.df_value_text.specs.declared.counting.Walk.{Walk}
 use Rattle.df_value_text.specs.ReadValue.{value_at, value_within}
 use Rattle.df_value_text.specs.OrderNames.{LowInValue}
 use Rattle.df_value_text.specs.Value.{value_text}
-use Rattle.df_value_text.specs.ValueFault.{FirstLowName, FirstTooLarge, IsTooLargeAt, IsWithinBefore, NamesTooLarge, NoLowBefore}
+use Rattle.df_value_text.specs.ValueFault.{FirstTooLarge, IsTooLargeAt, IsWithinBefore, NamesTooLarge, NoLowBefore}
 use Rattle.df_value_text.specs.code.Answer.{Fails, IsFound, IsRead, IsSyntaxAt}
 use Rattle.df_value_text.specs.code.WordEnd.{EndsWord}
 use Rattle.df_value_text.specs.declared.refused.Fault.{Fault}

@@ -1,17 +1,14 @@
 -- Words and lines that are spelled are read back.
-use Rattle.std.proofs.Common.{◌≡◌, ℕ, ◌+◌, ◌<◌, ◌≤◌, ◌^◌, Bool, true, false, List, [], ◌∷◌, ◌++◌, length, map, Ok, decimal, refl, sym, ap, ◌∙◌, append_assoc, arith, inl, inr}
+use Rattle.std.proofs.Common.{◌≡◌, ℕ, ◌+◌, ◌<◌, ◌^◌, true, false, List, [], ◌∷◌, ◌++◌, map, Ok, decimal, refl, ap, ◌∙◌, append_assoc, arith, inl}
 use Rattle.std.specs.List.{AllByRecursion, flat_map}
-use Rattle.df_format.specs.Reading.{Read, closed_at}
+use Rattle.df_format.specs.Reading.{Read}
 use Rattle.df_format.proofs.Backs.{Back, all_back}
 use Rattle.df_frozen.specs.Name.{is_name}
-use Rattle.df_frozen.specs.Plain.{Plain}
 use Rattle.df_label.specs.Ascending.{IsAscending}
 use Rattle.df_label.specs.Privilege.{privilege_cmp}
-use Rattle.df_label.specs.declared.label.Label.{Label}
 use Rattle.df_label.specs.declared.privilege.Privilege.{Privilege}
-use Rattle.df_filter.specs.declared.clause.Clause.{Clause}
 use Rattle.df_value_text.specs.Fits.{IsLabel, IsPrivilege, IsTag, IsTagSet, IsValue}
-use Rattle.df_value_text.specs.Label.{label_text, privilege_text, tag_text, tags_text, path_text, right_text}
+use Rattle.df_value_text.specs.Label.{label_text, privilege_text, tag_text, tags_text}
 use Rattle.df_value_text.specs.ReadLabel.{label_at, privilege_at}
 use Rattle.df_value_text.specs.ReadName.{name_at}
 use Rattle.df_value_text.specs.ReadTag.{short_at, tag_at}

@@ -1,13 +1,13 @@
 -- Keywords, instances and privileges, as the code reads them.
-use Rattle.std.proofs.Common.{◌≡◌, ℕ, ◌+◌, ◌<◌, ◌≤◌, zero, suc, Bool, true, false, ◌&&◌, eqb, List, [], ◌∷◌, ◌++◌, length, get_or, take, drop, length-drop, Option, Some, None, Ok, Err, refl, sym, ap, ◌∙◌, arith, inl, inr}
+use Rattle.std.proofs.Common.{◌≡◌, ℕ, ◌+◌, ◌<◌, ◌≤◌, Bool, true, false, ◌&&◌, eqb, List, [], ◌∷◌, length, get_or, take, drop, length-drop, Some, None, Ok, Err, refl, sym, ap, ◌∙◌, arith, inl, inr}
 use Rattle.std.specs.Ordering.{is_lt}
 use Rattle.std.specs.declared.cmp.Ordering.TheVariants.{Less}
 use Rattle.std.proofs.lemmas.List.{drop_more}
-use Rattle.df_format.specs.Reading.{Stop, Bad, Low, Read, ◌>>=◌, maybe_at, text_at, with_front}
+use Rattle.df_format.specs.Reading.{Bad, Low, Read, ◌>>=◌, maybe_at, text_at, with_front}
 use Rattle.df_format.proofs.ItemSteps.{format_shrinks}
 use Rattle.df_format.proofs.Laws.{bind_ok, told}
 use Rattle.df_format.proofs.Texts.{text_found}
-use Rattle.df_label.specs.Ascending.{IsAscending, IsBelow}
+use Rattle.df_label.specs.Ascending.{IsAscending}
 use Rattle.df_label.specs.Privilege.{privilege_cmp}
 use Rattle.df_label.specs.declared.privilege.Privilege.{Privilege}
 use Rattle.df_label.proofs.PrivilegeFacts.{privilege_cmp_exact}

@@ -1,5 +1,5 @@
 -- Which calls, replies, entries and journals have a spelling.
-use Rattle.std.specs.Prelude.{◌≡◌, ℕ, ◌<◌, ◌^◌, true, ⊤, List, [], length, Option, Some, None}
+use Rattle.std.specs.Prelude.{◌≡◌, ◌<◌, ◌^◌, true, ⊤, List, [], length, Option, Some, None}
 use Rattle.std.specs.List.{All}
 use Rattle.df_frozen.specs.Name.{is_name}
 use Rattle.df_label.specs.Ascending.{IsAscending}

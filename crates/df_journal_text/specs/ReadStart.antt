@@ -1,5 +1,5 @@
 -- Reading starts.
-use Rattle.std.specs.Prelude.{ℕ, ◌+◌, zero, suc, List, [], ◌∷◌, ◌++◌, length, Ok, codes, decimal, ◌==◌, if◌then◌else◌}
+use Rattle.std.specs.Prelude.{ℕ, ◌+◌, zero, suc, List, [], ◌∷◌, ◌++◌, length, Ok, codes, decimal, if◌then◌else◌}
 use Rattle.df_format.specs.Reading.{Read, ◌>>=◌, as_at, then_at, behind_at}
 use Rattle.df_label.specs.declared.label.Label.{Label}
 use Rattle.df_label.specs.declared.privilege.Privilege.{Privilege}

@@ -2,7 +2,7 @@ ghost use Rattle.std.specs.Prelude.{◌≡◌, ◌∷◌, [], ◌++◌, OnOk, co
 ghost use Rattle.df_value_text.specs.Label.{label_text, tag_text, tags_text};
 ghost use Rattle.df_filter_text.specs.Filter.{filter_text};
 ghost use Rattle.df_journal_text.specs.Call.{act_text, call_words, half_text};
-ghost use Rattle.df_journal_text.specs.Line.{spaced, word};
+ghost use Rattle.df_journal_text.specs.Line.{spaced};
 
 use crate::line::{
     append_label_word, append_name_word, append_number_word, append_privilege_word,

@@ -1,5 +1,5 @@
 //! Reading calls: the words behind the unit's.
-ghost use Rattle.std.specs.Prelude.{◌≡◌, ◌≤◌, length, drop};
+ghost use Rattle.std.specs.Prelude.{◌≤◌, length, drop};
 ghost use Rattle.df_value_text.specs.code.Answer.{Gives};
 ghost use Rattle.df_journal_text.specs.Fits.{IsCall};
 ghost use Rattle.df_journal_text.specs.Large.{IsLargeCall};

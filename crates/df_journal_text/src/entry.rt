@@ -1,4 +1,4 @@
-ghost use Rattle.std.specs.Prelude.{◌≡◌, ◌++◌, ◌∷◌, [], OnOk, codes, option_copied};
+ghost use Rattle.std.specs.Prelude.{◌≡◌, ◌++◌, ◌∷◌, [], OnOk, codes};
 ghost use Rattle.df_journal_text.specs.Entry.{edit_text, entry_text, note_text, reads_text};
 ghost use Rattle.df_journal_text.specs.Front.{IsFrontOf};
 ghost use Rattle.df_journal_text.specs.Line.{line};

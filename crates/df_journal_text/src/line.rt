@@ -2,8 +2,6 @@
 //! in front of it.
 
 ghost use Rattle.std.specs.Prelude.{◌≡◌, ◌++◌, OnOk, decimal, map};
-ghost use Rattle.std.specs.List.{flat_map};
-ghost use Rattle.df_frozen.specs.Value.{plain};
 ghost use Rattle.df_value_text.specs.Label.{label_text, privilege_text, tag_text};
 ghost use Rattle.df_value_text.specs.Value.{value_text};
 ghost use Rattle.df_journal_text.specs.Line.{spaced, word};

@@ -1,5 +1,5 @@
 //! Reading the lines of a journal, each without its line feed.
-ghost use Rattle.std.specs.Prelude.{◌≡◌, ◌≤◌, ◌∷◌, [], length, drop};
+ghost use Rattle.std.specs.Prelude.{◌≤◌, ◌∷◌, [], length, drop};
 ghost use Rattle.df_format.specs.Reading.{behind_at};
 ghost use Rattle.df_value_text.specs.ReadLabel.{label_at};
 ghost use Rattle.df_value_text.specs.code.Answer.{Gives};

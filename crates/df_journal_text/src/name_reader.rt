@@ -1,5 +1,5 @@
 //! Reading the names of units and events.
-ghost use Rattle.std.specs.Prelude.{◌≡◌, ◌≤◌, length, drop};
+ghost use Rattle.std.specs.Prelude.{◌≤◌, length, drop};
 ghost use Rattle.df_value_text.specs.ReadTag.{numbers_at};
 ghost use Rattle.df_value_text.specs.code.Answer.{Gives};
 ghost use Rattle.df_journal_text.specs.ReadCall.{braced_at};

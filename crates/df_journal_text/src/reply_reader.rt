@@ -1,5 +1,5 @@
 //! Reading replies: the words behind the arrow.
-ghost use Rattle.std.specs.Prelude.{◌≡◌, ◌≤◌, length, drop};
+ghost use Rattle.std.specs.Prelude.{◌≤◌, length, drop};
 ghost use Rattle.df_value_text.specs.code.Answer.{Gives};
 ghost use Rattle.df_journal_text.specs.ReadReply.{last_replies, long_at, refusing_replies, reply_at};
 ghost use Rattle.df_journal_text.specs.ReadWords.{kinds_at, word_at};

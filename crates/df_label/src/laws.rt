@@ -1,5 +1,5 @@
 //! The laws of sets and labels, each the contract of a function that does nothing.
-ghost use Rattle.std.specs.Prelude.{◌≡◌, ℕ, List, [], ◌∷◌, ◌++◌, IsTrue, IsNone, Some, ◌↔◌, ◌&&◌, ◌||◌, not, true, false};
+ghost use Rattle.std.specs.Prelude.{◌≡◌, ℕ, List, [], ◌∷◌, ◌++◌, IsTrue, IsNone, Some, ◌↔◌, ◌&&◌, ◌||◌, not};
 ghost use Rattle.df_label.specs.Ascending.{IsAscending};
 ghost use Rattle.df_label.specs.Tag.{tag_cmp, tag_eq, maker_of, number_of};
 ghost use Rattle.df_label.specs.TagSet.{contains, is_subset, first_missing, with, without, union, meet, IsLeastMissing};

@@ -4,7 +4,7 @@ ghost use Rattle.df_label.specs.Privileges.{contains as contains_privilege};
 ghost use Rattle.df_label.specs.Tag.{maker_of};
 ghost use Rattle.df_start.specs.declared.start.RootStart.{RootStart};
 ghost use Rattle.df_lint.specs.code.Cells.{cells_at};
-ghost use Rattle.df_lint.specs.code.First.{first_cell, first_cells, first_has};
+ghost use Rattle.df_lint.specs.code.First.{first_cell, first_cells};
 
 use crate::cell::Cell;
 use crate::row::Row;

@@ -1,5 +1,5 @@
 //! What a root's family may hold, as far as it is found: a cell for each tag.
-ghost use Rattle.std.specs.Prelude.{◌≡◌, ◌<◌, IfOk, OnOk, [], false, length, slice_set, true};
+ghost use Rattle.std.specs.Prelude.{◌≡◌, ◌<◌, IfOk, OnOk, false, length, slice_set, true};
 ghost use Rattle.df_lint.specs.code.Cells.{Grows, cell_at, cells_at, no_bar, pass_row};
 
 use crate::cell::{Cell, pass_on, reaches};

@@ -1,5 +1,5 @@
 -- What begins by another unit keeps the fact on its tags.
-use Rattle.std.proofs.Common.{◌≡◌, inl, inr, ℕ, List, true, ◌||◌, sym, ◌∙◌}
+use Rattle.std.proofs.Common.{◌≡◌, inl, inr, ℕ, List, true, sym, ◌∙◌}
 use Rattle.std.proofs.lemmas.Bool.{and_parts, or_cases, or_left, or_right}
 use Rattle.df_filter.specs.declared.clause.Clause.{Clause}
 use Rattle.df_label.specs.Label.{join}

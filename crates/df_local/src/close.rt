@@ -1,6 +1,6 @@
 //! Closing a handle, and the commit that goes with it.
 
-ghost use Rattle.std.specs.Prelude.{◌≡◌, [], IfOk, IfErr, option_copied};
+ghost use Rattle.std.specs.Prelude.{◌≡◌, IfOk, IfErr, option_copied};
 ghost use Rattle.df_unit.specs.Drafts.{relabelled};
 ghost use Rattle.df_unit.specs.Handles.{closed};
 ghost use Rattle.df_unit.specs.Rows.{unwritable};

@@ -3,10 +3,8 @@ use Rattle.std.specs.Prelude.{◌≡◌, ◌++◌, Bool, false, true, List, [], 
 use Rattle.df_unit.specs.Rows.{after}
 use Rattle.df_unit.specs.declared.call.Call.{Call}
 use Rattle.df_unit.specs.declared.call.Call.TheVariants.{AddPart, AttachPrivilege, ChangeOutLabel, CloneEvent, CreateEvent, CreateTag, DelPart, DropEvent, ReadPart}
-use Rattle.df_unit.specs.declared.entry.Effect.{Effect}
 use Rattle.df_unit.specs.declared.entry.Entry.{Entry}
 use Rattle.df_unit.specs.declared.entry.Entry.TheVariants.{Done, Emitted}
-use Rattle.df_unit.specs.declared.reply.Reply.{Reply}
 use Rattle.df_local.specs.Locally.{row_answer, with_own}
 use Rattle.df_local.specs.code.LocalState.{LocalState}
 use Rattle.df_local_run.specs.RunState.{RunState}

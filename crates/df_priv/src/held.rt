@@ -1,5 +1,5 @@
 //! The privileges that a unit holds.
-ghost use Rattle.std.specs.Prelude.{◌≡◌, IsTrue, ◌↔◌, IfOk, OnOk, OnErr, [], true};
+ghost use Rattle.std.specs.Prelude.{◌≡◌, IsTrue, ◌↔◌, IfOk, OnOk, OnErr, []};
 ghost use Rattle.df_label.specs.Ascending.{IsAscending};
 ghost use Rattle.df_label.specs.Privilege.{privilege_cmp};
 ghost use Rattle.df_priv.specs.Held.{holds, grant, grant_all};

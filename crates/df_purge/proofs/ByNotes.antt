@@ -3,14 +3,13 @@ use Rattle.std.proofs.Common.{◌≡◌, Bool, true, false, if◌then◌else◌,
 use Rattle.std.specs.List.{flat_map}
 use Rattle.std.specs.Option.{option_map}
 use Rattle.std.proofs.lemmas.Grind.{flat_map-append}
-use Rattle.df_label.specs.Label.{flows_to}
 use Rattle.df_label.specs.declared.label.Label.{Label}
 use Rattle.df_machine.specs.Journal.{firsts}
 use Rattle.df_rules.proofs.PurgeKeeps.{purge_keeps}
 use Rattle.df_rules.proofs.RowLaws.{row_laws}
 use Rattle.df_rules.specs.Commits.{commit_of}
 use Rattle.df_rules.specs.Own.{own}
-use Rattle.df_rules.specs.Purge.{echo, emitted, is_within, left_of, purge, stays}
+use Rattle.df_rules.specs.Purge.{echo, emitted, is_within, left_of, purge}
 use Rattle.df_rules.specs.Start.{rows}
 use Rattle.df_start.specs.Begun.{begun}
 use Rattle.df_start.specs.declared.start.RootStart.{RootStart}

@@ -1,5 +1,5 @@
 -- A purge, as far as it has come.
-use Rattle.std.proofs.Common.{◌≡◌, Bool, true, false, ℕ, List, [], ◌∷◌, ◌++◌, ◌+◌, ◌<◌, ◌≤◌, Option, Some, None, length, take, drop, get_or, reverse, refl, ap, sym, subst, ◌∙◌}
+use Rattle.std.proofs.Common.{◌≡◌, Bool, true, false, ℕ, List, ◌∷◌, ◌++◌, ◌+◌, ◌<◌, ◌≤◌, Option, Some, None, length, take, drop, get_or, reverse, refl, ap, sym, subst, ◌∙◌}
 use Rattle.std.proofs.lemmas.List.{drop_more, reverse-append, take_all, take-append-drop}
 use Rattle.df_label.specs.declared.label.Label.{Label}
 use Rattle.df_machine.specs.Journal.{State, firsts}
@@ -11,7 +11,7 @@ use Rattle.df_rules.proofs.RowLaws.{row_laws}
 use Rattle.df_rules.specs.Commits.{commit_of}
 use Rattle.df_rules.specs.Legal.{Legal}
 use Rattle.df_rules.specs.Purge.{Keeps, echo, emitted, left_of, purge, stays}
-use Rattle.df_rules.specs.Start.{roots, rows}
+use Rattle.df_rules.specs.Start.{rows}
 use Rattle.df_start.specs.Begun.{begun}
 use Rattle.df_start.specs.declared.start.RootStart.{RootStart}
 use Rattle.df_unit.specs.declared.commit.Commit.{Commit}

@@ -1,5 +1,5 @@
 -- Where a command was read, the words ask for it, and name its files.
-use Rattle.std.proofs.Common.{◌≡◌, ◌<◌, List, ℕ, [], ◌∷◌, length, Ok, ap, refl, sym, subst, arith}
+use Rattle.std.proofs.Common.{◌≡◌, ◌<◌, List, ℕ, length, Ok, refl, sym, subst, arith}
 use Rattle.df_words.specs.Words.{Ask, IsCommandOf, files_of}
 use Rattle.df_words.specs.declared.command.Command.{Command}
 use Rattle.df_words.specs.declared.command.Command.TheVariants.{Steps, Check, Purge, Upgrade, Auction, Lint, Gen, Floor, Load}
@@ -10,12 +10,6 @@ asks words command read = (read command).0 refl
 
 one_is : (a b : ℕ) → files.One a ≡ files.One b → a ≡ b
 one_is a b e = cc
-
-one_is_two : (a b d : ℕ) → files.One a ≡ files.Two b d → ⊥
-one_is_two a b d e = cc
-
-none_is_two : (b d : ℕ) → files.None ≡ files.Two b d → ⊥
-none_is_two b d e = cc
 
 two_is_one : (a b d : ℕ) → files.Two b d ≡ files.One a → ⊥
 two_is_one a b d e = cc
@@ -38,22 +32,3 @@ one_place (Lint place) words file ask is = below 1 place file words _ ask.1 ask.
 one_place (Gen key n) words file ask is = absurd (none_is_one file is)
 one_place (Floor config ticks) words file ask is = absurd (two_is_one file config ticks is)
 one_place (Load key n) words file ask is = absurd (none_is_one file is)
-
--- two files are those of a floor
-pub two_files : (c : Command) (first second : ℕ) → files_of c ≡ files.Two first second → c ≡ Floor first second
-two_files (Floor config ticks) first second is = cc
-two_files (Steps place) first second is = absurd (one_is_two place first second is)
-two_files (Check place) first second is = absurd (one_is_two place first second is)
-two_files (Purge label place) first second is = absurd (one_is_two place first second is)
-two_files (Upgrade place) first second is = absurd (one_is_two place first second is)
-two_files (Auction place) first second is = absurd (one_is_two place first second is)
-two_files (Lint place) first second is = absurd (one_is_two place first second is)
-two_files (Gen key n) first second is = absurd (none_is_two first second is)
-two_files (Load key n) first second is = absurd (none_is_two first second is)
-
--- both have places among the words
-pub two_places : (words : List (List ℕ)) (first second : ℕ) → Ask words (Floor first second) → (first < length words) × (second < length words)
-two_places words first second ask = (
-  below 1 first first words _ ask.2 ask.5 refl (omega (arith)),
-  below 2 second second words _ ask.2 ask.6 refl (omega (arith)),
-)

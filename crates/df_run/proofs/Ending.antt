@@ -1,8 +1,7 @@
 -- The status of a run that made a text.
 use Rattle.std.proofs.Common.{◌≡◌, ◌⊎◌, ℕ, List, Option, ap, inl, inr, refl, sym, subst}
-use Rattle.df_io.specs.Pieces.{HasAll, HasFront}
 use Rattle.df_run.specs.Making.{IsWritten, status_of}
-use Rattle.df_run.specs.Outcome.{BadInputIsDue, BadInputIsExact, BlamesFile, DoesInput, IsCutOff, IsHindered, IsOfACommand, IsTextOfSome, IsToldBad, IsToldLong, OfTold, Reaches, TooLongIsDue, TooLongIsExact, UnsettledIsExact, WereRead, Writes, WrongIsExact}
+use Rattle.df_run.specs.Outcome.{BadInputIsDue, BadInputIsExact, DoesInput, IsHindered, IsOfACommand, IsTextOfSome, IsToldBad, IsToldLong, OfTold, Reaches, TooLongIsDue, TooLongIsExact, UnsettledIsExact, WereRead, WrongIsExact}
 use Rattle.df_run.specs.Tasks.{IsRightInput, IsText, IsUnsettledInput, IsWrongInput}
 use Rattle.df_run.specs.declared.status.Status.{Status}
 use Rattle.df_run.specs.declared.status.Status.TheVariants as status
@@ -60,11 +59,6 @@ module _ (c : Command) (files : List (Option (List ℕ))) (read : List (List ℕ
   does (end.Wrong p) h = if_all_told-read files read (λ r. IsRightInput c r → (status.Wrong p ≡ status.Done) ⊎ IsHindered (status.Wrong p)) were (λ right. absurd (right_or_wrong c read p right (report_wrong c read p text h)))
   does (end.Unsettled s) h = if_all_told-read files read (λ r. IsRightInput c r → (status.Unsettled s ≡ status.Done) ⊎ IsHindered (status.Unsettled s)) were (λ right. absurd (right_or_cut c read s right (cut_unsettled c read s text h)))
 
-  all_written : (e : End) (old new : Option (List ℕ)) → IsText c read e text → HasAll old text new → Writes c files old new (status_of e)
-  all_written end.Done old new h all = (text, (read, were, h), all)
-  all_written (end.Wrong place) old new h all = (text, (read, were, h), all)
-  all_written (end.Unsettled steps) old new h all = (text, (read, were, h), all)
-
 module _ (c : Command) (files : List (Option (List ℕ))) (e : End) (text : List ℕ) (h : IsTextOfSome c files e text) (old new : Option (List ℕ)) (s : Status) (w : IsWritten e text old new s) where
   -- nothing of what was read is told to be bad, or too long
   not_bad : (input : ℕ) → IsToldBad c files input → ⊥
@@ -99,7 +93,3 @@ module _ (c : Command) (files : List (Option (List ℕ))) (e : End) (text : List
 
   pub end_no_read_fault : s ≡ status.ReadFault → ⊥
   end_no_read_fault = written (λ r. r ≡ status.ReadFault → ⊥) e text old new s w (no_read_fault e) (λ same. cc)
-
-pub end_writes : (c : Command) (files : List (Option (List ℕ))) (e : End) (text : List ℕ) (old new : Option (List ℕ)) (s : Status) → IsTextOfSome c files e text → IsWritten e text old new s → Writes c files old new s
-end_writes c files e text old new s h (inl all) = subst (Writes c files old new) (sym all.0) (all_written c files h.0 text h.1 e old new h.2 all.1)
-end_writes c files e text old new s h (inr front) = subst (Writes c files old new) (sym front.0) (text, e, h, front.1)

@@ -8,7 +8,7 @@ use Rattle.df_floor.specs.Starting.{floor_start}
 use Rattle.df_floor_run.specs.FloorRun.{IsFloorRun}
 use Rattle.df_floor_run.specs.declared.run.FloorEnd.{FloorEnd}
 use Rattle.df_floor_run.specs.declared.run.FloorEnd.TheVariants as floor
-use Rattle.df_io.specs.Faults.{Rose, count_more}
+use Rattle.df_io.specs.Faults.{Rose}
 use Rattle.df_ticks.specs.TickFile.{IsTickFile}
 use Rattle.df_ticks.specs.declared.tick.Tick.{Tick}
 use Rattle.df_words.specs.declared.command.Command.{Command}
@@ -58,10 +58,6 @@ second_stops c one other before mid now status.Usage good le h = absurd h
 second_stops c one other before mid now (status.Wrong place) good le h = absurd h
 second_stops c one other before mid now status.WriteFault good le h = absurd h
 second_stops c one other before mid now (status.Unsettled steps) good le h = absurd h
-
--- want of memory stops a run of any files
-pub want_stops : (c : Command) (files : List (Option (List ℕ))) (before now : ℕ) → Stops c files before now status.NoMemory
-want_stops c files before now = record { stop = tt; bad_input = tt; too_long = tt; read_fault = λ e. absurd (let no : ⊥ = cc in no) }
 
 -- a shelf that tells the same tells the same of a file
 same_told : (f g : List ℕ → Option (List ℕ)) (name : Option (List ℕ)) → ((n : List ℕ) → f n ≡ g n) → option_and_then f name ≡ option_and_then g name

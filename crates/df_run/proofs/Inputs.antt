@@ -1,5 +1,5 @@
 -- What is written of what was read tells what it is.
-use Rattle.std.proofs.Common.{◌≡◌, ◌⊎◌, ℕ, suc, List, [], ◌∷◌, Option, refl, ap, sym, subst, inl, inr, ◌∙◌}
+use Rattle.std.proofs.Common.{◌≡◌, ℕ, suc, List, [], ◌∷◌}
 use Rattle.df_audit.proofs.Exact.{one_place, right_is_not_wrong}
 use Rattle.df_audit.specs.Audit.{IsCheckOf, IsPurgeOf, IsRightJournal, IsUpgradeOf, IsWrongAt, OfJournal, TellsPlace}
 use Rattle.df_audit.specs.declared.audit.Finding.TheVariants as finding

@@ -1,5 +1,5 @@
 -- Files make one floor, which has one plain run.
-use Rattle.std.proofs.Common.{◌≡◌, ◌+◌, ℕ, zero, suc, List, [], length, Some, refl, ap, sym, subst, ◌∙◌, arith}
+use Rattle.std.proofs.Common.{◌≡◌, ◌+◌, ℕ, zero, suc, List, Some, refl, ap, sym, subst, ◌∙◌, arith}
 use Rattle.df_config.specs.ConfigFile.{IsConfigFile}
 use Rattle.df_config.specs.ConfigTable.{config_of}
 use Rattle.df_config.specs.declared.config.Config.{Config}
@@ -9,12 +9,10 @@ use Rattle.df_floor_run.specs.declared.run.FloorEnd.{FloorEnd}
 use Rattle.df_floor_run.specs.declared.run.FloorEnd.TheVariants as floor
 use Rattle.df_floor_units.specs.Floor.{Mind}
 use Rattle.df_label.proofs.SetFacts.{same_elements}
-use Rattle.df_machine.specs.Journal.{IsRoll, State}
 use Rattle.df_plain_floor.specs.PlainRun.{IsPass, IsPlainRun, IsTurn, Opened, Repeated, RunsOut, root_name, take_turns}
 use Rattle.df_rules.specs.Follows.{Brain}
 use Rattle.df_settling.specs.Settling.{floor_brain}
 use Rattle.df_ticks.proofs.OneReading.{ticks_are_one}
-use Rattle.df_ticks.specs.TickFile.{IsTickFile}
 use Rattle.df_ticks.specs.declared.tick.Tick.{Tick}
 use Rattle.df_unit.proofs.OrderFacts.{unit_cmp_exact}
 use Rattle.df_unit.specs.UnitOrder.{unit_cmp}

@@ -1,8 +1,8 @@
 -- Which file stops a run.
-use Rattle.std.proofs.Common.{◌≡◌, ◌⊎◌, ◌<◌, ◌≤◌, ℕ, suc, List, [], ◌∷◌, length, Option, None, Some, inl, inr, refl, sym, subst, ◌∙◌, arith}
+use Rattle.std.proofs.Common.{◌≡◌, ◌<◌, ◌≤◌, ℕ, suc, List, [], ◌∷◌, length, Option, None, Some, inl, inr, sym, subst, ◌∙◌, arith}
 use Rattle.std.specs.Prelude.{⊤}
 use Rattle.df_io.specs.Limits.{longest_file}
-use Rattle.df_run.specs.Outcome.{IfAllTold, IfTold, IsToldLong, OfRead, OfTold, Reaches, WasRead, WereRead}
+use Rattle.df_run.specs.Outcome.{IfAllTold, IfTold, IsToldLong, OfRead, OfTold, Reaches, WereRead}
 use Rattle.df_run.specs.Tasks.{BlamesBytes, IsInput}
 use Rattle.df_run.specs.declared.status.BadKind.{BadKind}
 use Rattle.df_words.specs.declared.command.Command.{Command}

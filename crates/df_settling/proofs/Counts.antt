@@ -7,7 +7,7 @@ use Rattle.df_config.specs.declared.config.Config.{Config}
 use Rattle.df_config.specs.declared.pair.PairRow.{PairRow}
 use Rattle.df_config.specs.declared.trader.TraderRow.{TraderRow}
 use Rattle.df_filter.specs.declared.clause.Clause.{Clause}
-use Rattle.df_rules.specs.Commits.{commit_in, commit_of}
+use Rattle.df_rules.specs.Commits.{commit_in}
 use Rattle.df_rules.specs.Deliveries.{deliveries, deliveries_plain, plain_news}
 use Rattle.df_rules.specs.Follows.{Follows}
 use Rattle.df_rules.specs.Legal.{IsUnaided, Legal}

@@ -40,7 +40,7 @@ use Rattle.df_settling.proofs.Players.{all_think, began, players}
 use Rattle.df_settling.proofs.Roles.{Apart, Broker, Exchange, Monitor, Regulator, Role, Trader, Watcher, label_of}
 use Rattle.df_settling.proofs.Steps.{IsNow, unit_step}
 use Rattle.df_settling.proofs.Totals.{In, total}
-use Rattle.df_settling.proofs.Unit.{IsFine, Later, Moves, Outcome, drafts, event_of, mind_of, price, priced, subs_of, watched_filter}
+use Rattle.df_settling.proofs.Unit.{IsFine, Later, Moves, Outcome, drafts, event_of, price, priced, subs_of, watched_filter}
 use Rattle.df_settling.proofs.Worth.{news_worth, sub_worth, watcher_tags, worth}
 
 -- contents

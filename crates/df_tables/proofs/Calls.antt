@@ -17,7 +17,6 @@ use Rattle.std.proofs.lemmas.Slice.Eq.{bytes_eq-Decides}
 use Rattle.df_index.specs.Due.{Pair}
 use Rattle.df_instances.specs.Chosen.{instance_cmp}
 use Rattle.df_instances.specs.Marks as marks
-use Rattle.df_instances.specs.Marks.{has_place}
 use Rattle.df_instances.specs.Named.{AreNumbered, has_name, is_named_at, is_of, kept_in}
 use Rattle.df_instances.specs.declared.instances.Instance.{Instance}
 use Rattle.df_instances.specs.declared.subscription.ManagedSubscription.{ManagedSubscription}

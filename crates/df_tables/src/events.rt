@@ -1,6 +1,6 @@
 //! The parts that each event has. An event is found by its number and its unit in an ordered map.
 
-ghost use Rattle.std.specs.Prelude.{◌≡◌, ℕ, ◌<◌, ◌∷◌, [], ◌++◌, if◌then◌else◌, length, IfOk, IfSome, OnOk, OnErr, Some, option_copied};
+ghost use Rattle.std.specs.Prelude.{◌≡◌, ◌<◌, ◌∷◌, [], ◌++◌, if◌then◌else◌, length, IfOk, OnOk, OnErr, Some};
 ghost use Rattle.std.specs.BTreeMap as tree;
 ghost use Rattle.df_unit.specs.Name.{same_event};
 ghost use Rattle.df_unit.specs.declared.name.EventName.{EventName};

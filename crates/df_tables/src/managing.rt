@@ -1,6 +1,6 @@
 //! Managed subscriptions that units make.
 
-ghost use Rattle.std.specs.Prelude.{◌≡◌, ◌<◌, [], false, length, OnErr, OnOk};
+ghost use Rattle.std.specs.Prelude.{◌≡◌, ◌<◌, false, length, OnErr, OnOk};
 ghost use Rattle.df_rules.specs.Start.{rows};
 ghost use Rattle.df_unit.specs.Rows.{is_instance};
 ghost use Rattle.df_unit.specs.declared.call.Call.TheVariants.{SubscribeManaged};

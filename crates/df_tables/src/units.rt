@@ -1,11 +1,10 @@
 //! The units, each with its own state and what it is to be handed.
 
-ghost use Rattle.std.specs.Prelude.{◌≡◌, ◌<◌, Some, length, IfOk, IfSome, OnOk, OnErr, option_copied};
-ghost use Rattle.df_unit.specs.UnitOrder.{unit_cmp};
+ghost use Rattle.std.specs.Prelude.{◌≡◌, ◌<◌, Some, IfOk, OnOk, OnErr};
 ghost use Rattle.df_unit.specs.declared.name.UnitName.{UnitName};
 ghost use Rattle.df_roll.specs.Roll.{seat_of};
 ghost use Rattle.df_tables.specs.Labels.{AreLabels, inputs};
-ghost use Rattle.df_tables.specs.Table.{IsInOrder, find, first_row, place_of};
+ghost use Rattle.df_tables.specs.Table.{first_row, place_of};
 
 use crate::line::Line;
 use df_label::{Label, NoMemory, Privileges};

@@ -90,6 +90,7 @@ fn compare(core: &mut Core, kept: &Entry) -> Result<Compared, NoMemory>
     }
 }
 
+/// Appends a note of an entry.
 fn add_note(to: &mut Vec<Noted>, entry: Entry, contamination: Option<Label>) -> Result<(), NoMemory>
     ensures { OnOk result (to.new.items ≡
         to.old.items ++ record { entry = entry; contamination = contamination } ∷ []) }

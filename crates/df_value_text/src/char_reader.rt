@@ -1,5 +1,5 @@
 //! Reading the characters of words.
-ghost use Rattle.std.specs.Prelude.{◌≡◌, ◌≤◌, ◌<◌, true, length, drop, IfOk};
+ghost use Rattle.std.specs.Prelude.{◌≡◌, ◌≤◌, ◌<◌, length, drop, IfOk};
 ghost use Rattle.df_format.specs.Reading.{with_front};
 ghost use Rattle.df_value_text.specs.code.Answer.{Gives};
 ghost use Rattle.df_value_text.specs.ReadEscape.{ascii_at, control_at, escape_at, is_high, is_low, is_plain, is_quoted};

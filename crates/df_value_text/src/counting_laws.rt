@@ -1,5 +1,5 @@
 //! What the counts of a walk are, as laws.
-ghost use Rattle.std.specs.Prelude.{ℕ, List, ◌++◌, ◌≡◌, ◌<◌, length};
+ghost use Rattle.std.specs.Prelude.{ℕ, List, ◌++◌, ◌<◌, length};
 ghost use Rattle.df_frozen.specs.Limits.{IsWithinLimits};
 ghost use Rattle.df_frozen.specs.Plain.{Plain};
 ghost use Rattle.df_value_text.specs.Counting.{AreCountsOf, FirstOver, NeverOver, counts_of};

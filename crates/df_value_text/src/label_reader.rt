@@ -1,5 +1,5 @@
 //! Reading labels and privileges.
-ghost use Rattle.std.specs.Prelude.{◌≡◌, ◌≤◌, length, drop};
+ghost use Rattle.std.specs.Prelude.{◌≤◌, length, drop};
 ghost use Rattle.df_format.specs.Reading.{text_at};
 ghost use Rattle.df_value_text.specs.code.Answer.{Gives};
 ghost use Rattle.df_value_text.specs.ReadLabel.{auth_at, auth_word, label_at, privilege_at, right_at};

@@ -1,7 +1,6 @@
 //! Reading tags and sets of tags.
 ghost use Rattle.std.specs.Prelude.{◌≡◌, ◌≤◌, ◌<◌, length, drop, IfOk};
 ghost use Rattle.std.specs.Ordering.{is_lt};
-ghost use Rattle.df_label.specs.Tag.{tag_cmp};
 ghost use Rattle.df_value_text.specs.code.Answer.{EndsAt, Gives};
 ghost use Rattle.df_value_text.specs.ReadTag.{begins_digit, ended, leads_at, longest_at, next_at, numbers_at, some_tags_at, tag_at, tags_at};
 

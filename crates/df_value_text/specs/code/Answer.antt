@@ -1,5 +1,5 @@
 -- What a reader of bytes answers.
-use Rattle.std.specs.Prelude.{◌≡◌, ℕ, ◌≤◌, List, ◌++◌, length, drop, Result, Ok, Err, ⊤, ◌⊎◌}
+use Rattle.std.specs.Prelude.{◌≡◌, ℕ, ◌≤◌, List, length, drop, Result, Ok, Err, ⊤, ◌⊎◌}
 use Rattle.df_format.specs.Reading.{Bad, Low, Read}
 use Rattle.df_format.specs.Grammar.{Stands, FirstBad}
 use Rattle.df_value_text.specs.ReadTag.{ended}

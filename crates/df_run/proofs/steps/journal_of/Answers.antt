@@ -2,7 +2,7 @@ use Rattle.std.proofs.Common.{List, ℕ, [], ◌∷◌, ◌++◌, ap, refl, sym,
 use Rattle.std.proofs.lemmas.Result.{err_from_is_err_and}
 use Rattle.df_journal_text.specs.Start.{head_text}
 use Rattle.df_lines.specs.Refused.{NamesBadLine}
-use Rattle.df_script_text.specs.Script.{IsScriptText, script_text}
+use Rattle.df_script_text.specs.Script.{IsScriptText}
 use Rattle.df_script_text.specs.TooLarge.{IsTooLargeIn}
 use Rattle.df_run.proofs.Journals.{written_more, written_none}
 use Rattle.df_run.proofs.Sound.{journal_is_sound, journal_is_unaided}

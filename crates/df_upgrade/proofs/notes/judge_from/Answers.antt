@@ -1,6 +1,5 @@
 use Rattle.std.proofs.Common.{◌≡◌, ◌∷◌, ◌++◌, [], ◌<◌, ℕ, List, length, drop, ap, sym, subst, ◌∙◌, arith, slice_index_or, append_assoc}
 use Rattle.df_unit.specs.declared.entry.Entry.{Entry}
-use Rattle.df_unit.specs.declared.entry.Noted.{Noted}
 use Rattle.df_check.specs.Check.{IsFirstWrong}
 use Rattle.df_upgrade.proofs.Kept.{first_wrong, so_far_more}
 use Rattle.df_upgrade.proofs.notes.judge_from.Goals as goal

@@ -1,6 +1,5 @@
 use Rattle.std.proofs.Common.{ap, refl, subst, ◌∙◌}
 use Rattle.df_label.specs.Label.{join}
-use Rattle.df_label.specs.declared.label.Label.{Label}
 use Rattle.df_unit.specs.Beginnings.{beginning}
 use Rattle.df_unit.specs.KeptFact.{IsKept}
 use Rattle.df_unit.proofs.KeptRows.{accounted_as}
