@@ -1,16 +1,15 @@
 -- What a unit's entry makes of a crew's journal.
-use Rattle.std.proofs.Common.{◌≡◌, ◌≢◌, ◌⊎◌, inl, inr, ℕ, List, [], ◌∷◌, Bool, true, false, not, refl, sym, ◌∙◌, ap, subst, cond, Option, Some, None, option_map}
+use Rattle.std.proofs.Common.{◌≡◌, ◌≢◌, ◌⊎◌, inl, inr, List, [], ◌∷◌, true, false, not, refl, sym, ◌∙◌, ap, subst, Option, Some, None, option_map}
 use Rattle.std.specs.Prelude.{is_some}
-use Rattle.df_rules.specs.Commits.{commit_in}
 use Rattle.df_rules.specs.Deliveries.{deliveries}
-use Rattle.df_rules.specs.Follows.{Brain, Calls, Last, Replied, Wait, Want, began_with, replies_of}
-use Rattle.df_rules.specs.Legal.{answer, answer_of, answered, left}
-use Rattle.df_rules.specs.Own.{exists, fixed, own}
+use Rattle.df_rules.specs.Follows.{Brain, Calls, Last, Replied, Wait}
+use Rattle.df_rules.specs.Legal.{answer, left}
+use Rattle.df_rules.specs.Own.{exists, own}
 use Rattle.df_rules.specs.Start.{rows}
 use Rattle.df_start.specs.declared.start.RootStart.{RootStart}
 use Rattle.df_unit.specs.Name.{same}
-use Rattle.df_unit.specs.OwnState.{Fixed, OwnState}
-use Rattle.df_unit.specs.Rows.{after, effect, is_nil, reply}
+use Rattle.df_unit.specs.OwnState.{OwnState}
+use Rattle.df_unit.specs.Rows.{after, is_nil}
 use Rattle.df_unit.specs.declared.call.Call.{Call}
 use Rattle.df_unit.specs.declared.call.Call.TheVariants.{Get}
 use Rattle.df_unit.specs.declared.commit.Given.{Given}
@@ -19,7 +18,7 @@ use Rattle.df_unit.specs.declared.entry.Entry.{Entry}
 use Rattle.df_unit.specs.declared.entry.Entry.TheVariants.{Done}
 use Rattle.df_unit.specs.declared.name.UnitName.{UnitName}
 use Rattle.df_unit.specs.declared.reply.Reply.{Reply}
-use Rattle.df_local.specs.Locally.{row_answer, with_own}
+use Rattle.df_local.specs.Locally.{with_own}
 use Rattle.df_local.specs.code.LocalState.{LocalState}
 use Rattle.df_machine.specs.Journal.{State, appended, firsts, has_delivery_in, is_due, local_of}
 use Rattle.df_crew.specs.CrewState.{mind_in, want_by, want_in}

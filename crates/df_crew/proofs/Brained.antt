@@ -1,31 +1,27 @@
 -- What one more entry of a unit makes of its brain, and of the brains of others.
-use Rattle.std.proofs.Common.{◌≡◌, ◌≢◌, ◌⊎◌, inl, inr, ℕ, ◌+◌, ◌<◌, ◌≤◌, List, [], ◌∷◌, Bool, true, false, refl, sym, ◌∙◌, ap, subst, cond, Option, Some, None, arith, eqb-true}
+use Rattle.std.proofs.Common.{◌≡◌, ◌≢◌, ◌⊎◌, inl, inr, ℕ, ◌<◌, List, [], ◌∷◌, Bool, true, false, refl, sym, ◌∙◌, ap, subst, cond, Option, Some, None, arith, eqb-true}
 use Rattle.std.specs.Prelude.{◌==◌, nat_le, option_and_then}
 use Rattle.std.specs.Option.{option_map, option_or}
 use Rattle.df_brain.specs.Brain.{is_child_wanted, makes_child}
 use Rattle.df_filter.specs.declared.clause.Clause.{Clause}
-use Rattle.df_label.specs.Tag.{maker_of, number_of}
 use Rattle.df_rules.specs.Deliveries.{deliveries}
-use Rattle.df_rules.specs.Follows.{Brain, Calls, EntryFollows, Follows, Last, Replied, Wait, Want, began_with, replies_of, wanted}
+use Rattle.df_rules.specs.Follows.{Brain, Calls, EntryFollows, Follows, Last, Replied, Wait, began_with}
 use Rattle.df_rules.specs.Legal.{Legal, answer, answer_of, left}
-use Rattle.df_rules.specs.Own.{exists, fixed, made_by, own, own_plain, stepped}
+use Rattle.df_rules.specs.Own.{fixed, own, own_plain}
 use Rattle.df_rules.specs.Start.{rows}
-use Rattle.df_rules.proofs.Steps.{none_before}
 use Rattle.df_unit.specs.Beginnings.{fixes, makes}
 use Rattle.df_unit.specs.Limits.{most_subs}
 use Rattle.df_unit.specs.Name.{same}
 use Rattle.df_unit.specs.OwnState.{Fixed, OwnState}
-use Rattle.df_unit.specs.Rows.{after, effect, reply, subscribed}
+use Rattle.df_unit.specs.Rows.{after, subscribed}
 use Rattle.df_unit.specs.declared.call.Call.{Call}
 use Rattle.df_unit.specs.declared.call.Call.TheVariants.{Get, Instantiate, SubscribeManaged}
-use Rattle.df_unit.specs.declared.commit.Given.{Given}
 use Rattle.df_unit.specs.declared.entry.Effect.{Effect}
 use Rattle.df_unit.specs.declared.entry.Entry.{Entry}
 use Rattle.df_unit.specs.declared.entry.Entry.TheVariants.{Done, Emitted}
 use Rattle.df_unit.specs.declared.name.UnitName.{UnitName}
-use Rattle.df_unit.specs.declared.name.UnitName.TheVariants.{Managed, Root}
+use Rattle.df_unit.specs.declared.name.UnitName.TheVariants.{Root}
 use Rattle.df_unit.specs.declared.reply.Reply.{Reply}
-use Rattle.df_unit.proofs.SameFacts.{same_name-exact}
 use Rattle.df_crew.specs.Minds.{mind_from, mind_of}
 use Rattle.df_crew.proofs.Entries.{Fixes, began_kept, exists_kept, fixed_or, own_acted, replies_kept, replies_more}
 
@@ -50,6 +46,22 @@ subscribed_is o st n h = go (nat_le most_subs st.subs) h
 pub makes_nothing : (st : OwnState) (k : ℕ) (c : Call) (r : Reply) → makes_child c ≡ false → makes st k c r ≡ None
 makes_nothing st k (Instantiate t privileges) r h = absurd (let z : ⊥ = cc in z)
 makes_nothing st k _ r h = refl
+
+-- an entry that follows a brain which never wants to make a unit makes none
+pub makes_none : {B : Type 0} (brain : Brain B) → ((b : B) (l : Last) → is_child_wanted (brain.next b l).0 ≡ false) → (s : List OwnState) (bs : List B) (past : List Entry) (a : UnitName) (c : Call) (r : Reply) (f : Effect) →
+    EntryFollows brain rows s bs past (Done a c r f) → (b : Bool) (x : Option OwnState) (n : ℕ) → cond b (option_and_then (λ st. makes st n c r) x) None ≡ None
+makes_none brain law s bs past a c r f follows b x n = made b x
+  where
+    childless : makes_child c ≡ false
+    childless = elim follows.2.call [
+      | inl calls ↦ (ap is_child_wanted (sym calls) ∙ law _ _)
+      | inr waits ↦ ap makes_child waits.1
+    ]
+
+    made : (b : Bool) (x : Option OwnState) → cond b (option_and_then (λ st. makes st n c r) x) None ≡ None
+    made true None = refl
+    made true (Some st) = makes_nothing st n c r childless
+    made false x = refl
 
 module _ (s : List OwnState) where
   -- the numbers of managed subscriptions are below the count of their owner's subscriptions
@@ -88,44 +100,6 @@ module _ (s : List OwnState) where
           (after (Root o) new.st (SubscribeManaged filter) (Reply.Sub n) f, moved_reply, omega arith)
 
   module _ {B : Type 0} (brain : Brain B) (bs : List B) where
-    -- who doesn't exist was told nothing
-    pub no_replies : (past : List Entry) (u : UnitName) → Follows brain rows s bs past → own rows s past u ≡ None → replies_of u past ≡ []
-    no_replies [] u follows h = refl
-    no_replies (Emitted c ∷ past) u follows h = no_replies past u follows.0 (none_before rows s (Emitted c) past u h)
-    no_replies (Done a c r f ∷ past) u follows h = go (same a u) refl (no_replies past u follows.0 (none_before rows s (Done a c r f) past u h))
-      where
-        go : (b : Bool) → same a u ≡ b → replies_of u past ≡ [] → cond b (r ∷ replies_of u past) (replies_of u past) ≡ []
-        go true e ih =
-            let here : own rows s past u ≡ Some follows.1.0 = subst (λ (v : UnitName). own rows s past v ≡ Some follows.1.0) (same_name-exact a u e) follows.1.2.own in
-            let absent = none_before rows s (Done a c r f) past u h in cc
-        go false e ih = ih
-
-    -- where no brain wants to make a unit, no child exists
-    pub no_children : ((b : B) (l : Last) → is_child_wanted (brain.next b l).0 ≡ false) → (past : List Entry) → Follows brain rows s bs past → (k m : ℕ) (path : List ℕ) →
-        own_plain rows s past (k ∷ m ∷ path) ≡ None
-    no_children law [] follows k m path = refl
-    no_children law (Emitted c ∷ past) follows k m path = ap (λ (x : Option OwnState). option_or x None) (no_children law past follows.0 k m path)
-    no_children law (Done a c r f ∷ past) follows k m path =
-        let name : List ℕ = k ∷ m ∷ path in
-        ap (λ (x : Option OwnState). option_or (stepped rows (Root name) (Done a c r f) x) (made_by rows (Done a c r f) name (own_plain rows s past (maker_of name)))) (no_children law past follows.0 k m path)
-        ∙ ap (λ (x : Option OwnState). option_or x (made_by rows (Done a c r f) name (own_plain rows s past (maker_of name)))) (nobody (same a (Root name)))
-        ∙ made (same a (Root (maker_of name))) (own_plain rows s past (maker_of name)) (number_of name)
-      where
-        nobody : (b : Bool) → cond b (option_map (λ st. after (Root (k ∷ m ∷ path)) st c r f) None) None ≡ (let x : Option OwnState = None in x)
-        nobody true = refl
-        nobody false = refl
-
-        childless : makes_child c ≡ false
-        childless = elim follows.1.2.call [
-          | inl calls ↦ (ap is_child_wanted (sym calls) ∙ law _ _)
-          | inr waits ↦ ap makes_child waits.1
-        ]
-
-        made : (b : Bool) (x : Option OwnState) (n : ℕ) → cond b (option_and_then (λ st. makes st n c r) x) None ≡ None
-        made true None n = refl
-        made true (Some st) n = makes_nothing st n c r childless
-        made false x n = refl
-
     -- the brain of another unit stays
     pub mind_kept : (past : List Entry) (a : UnitName) (c : Call) (r : Reply) (f : Effect) (u : UnitName) (st : OwnState) → own rows s past u ≡ Some st → same a u ≡ false →
         mind_of brain s bs (Done a c r f ∷ past) u ≡ mind_of brain s bs past u

@@ -1,26 +1,24 @@
 -- What one more entry of a unit makes of units, subscriptions, deliveries and replies.
-use Rattle.std.proofs.Common.{◌≡◌, ◌≢◌, ◌⊎◌, inl, inr, ℕ, ◌+◌, ◌<◌, ◌≤◌, List, [], ◌∷◌, ◌++◌, Bool, true, false, ◌&&◌, refl, sym, ◌∙◌, ap, subst, cond, Option, Some, None, arith}
+use Rattle.std.proofs.Common.{◌≡◌, ◌⊎◌, inl, inr, ℕ, List, [], ◌∷◌, ◌++◌, Bool, true, false, refl, ◌∙◌, ap, subst, cond, Option, Some, None}
 use Rattle.std.proofs.lemmas.List.{append-nil}
-use Rattle.std.specs.Prelude.{◌==◌, is_some, option_and_then}
+use Rattle.std.specs.Prelude.{is_some, option_and_then}
 use Rattle.std.specs.Option.{option_map, option_or}
 use Rattle.df_filter.specs.declared.clause.Clause.{Clause}
-use Rattle.df_label.specs.Tag.{maker_of, number_of}
+use Rattle.df_label.specs.Tag.{maker_of}
 use Rattle.df_rules.specs.Commits.{commit_in, commit_of}
 use Rattle.df_rules.specs.Deliveries.{deliveries, deliveries_instance, deliveries_plain, instance_news, plain_news}
 use Rattle.df_rules.specs.Exercised.{before_fixed}
-use Rattle.df_rules.specs.Follows.{Brain, Follows, began_with, replies_of, root_began, wanted}
+use Rattle.df_rules.specs.Follows.{Brain, began_with, replies_of, root_began, wanted}
 use Rattle.df_rules.specs.Grows.{HasGrown}
-use Rattle.df_rules.specs.Legal.{Legal, answer, left}
-use Rattle.df_rules.specs.Own.{born, exists, fixed, fixed_by, made_by, own, own_instance, own_plain, stepped}
+use Rattle.df_rules.specs.Own.{born, fixed, fixed_by, made_by, own, own_instance, own_plain, stepped}
 use Rattle.df_rules.specs.Start.{rows}
 use Rattle.df_rules.specs.Subscriptions.{subscriptions}
 use Rattle.df_rules.proofs.Growth.{grown_after, own_grows}
 use Rattle.df_unit.specs.Beginnings.{fixes}
 use Rattle.df_unit.specs.Name.{same}
 use Rattle.df_unit.specs.OwnState.{Fixed, OwnState}
-use Rattle.df_unit.specs.Rows.{after, effect, reply}
+use Rattle.df_unit.specs.Rows.{after}
 use Rattle.df_unit.specs.declared.call.Call.{Call}
-use Rattle.df_unit.specs.declared.call.Call.TheVariants.{SubscribeManaged}
 use Rattle.df_unit.specs.declared.commit.Commit.{Commit}
 use Rattle.df_unit.specs.declared.commit.Given.{Given}
 use Rattle.df_unit.specs.declared.entry.Effect.{Effect}

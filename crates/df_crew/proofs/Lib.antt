@@ -2,8 +2,7 @@ pub mod Entries
 pub mod Brained
 pub mod Acting
 pub mod LocalRuns
-pub mod Goings
-pub mod Keeping
 pub mod Minded
 pub mod Manning
+pub mod Rolls
 pub mod Resting

@@ -1,13 +1,12 @@
 -- Where local calls that a brain wants lead, in a journal and apart from it.
-use Rattle.std.proofs.Common.{◌≡◌, ◌⊎◌, inl, inr, ℕ, ◌+◌, zero, suc, List, [], ◌∷◌, ◌++◌, Bool, true, false, not, refl, sym, ◌∙◌, ap, subst, cond, Option, Some, None, length, drop, reverse, arith}
+use Rattle.std.proofs.Common.{◌≡◌, inl, inr, ℕ, ◌+◌, zero, suc, List, [], ◌∷◌, ◌++◌, Bool, true, false, not, refl, sym, ◌∙◌, ap, subst, cond, Option, Some, length, drop, reverse, arith}
 use Rattle.std.proofs.lemmas.List.{append_assoc, reverse-append}
 use Rattle.df_rules.specs.Deliveries.{deliveries}
-use Rattle.df_rules.specs.Follows.{Brain, Calls, Last, Replied, Wait, Want, began_with, replies_of}
-use Rattle.df_rules.specs.Legal.{answer, answer_of, left}
-use Rattle.df_rules.specs.Own.{fixed, own}
+use Rattle.df_rules.specs.Follows.{Brain, Calls, Last, Replied, Want, began_with}
+use Rattle.df_rules.specs.Legal.{answer_of, left}
+use Rattle.df_rules.specs.Own.{fixed}
 use Rattle.df_rules.specs.Start.{rows}
 use Rattle.df_start.specs.declared.start.RootStart.{RootStart}
-use Rattle.df_unit.specs.Beginnings.{fixes}
 use Rattle.df_unit.specs.Name.{same}
 use Rattle.df_unit.specs.OwnState.{Fixed, OwnState}
 use Rattle.df_unit.specs.Rows.{after, changed, effect, is_accepted, is_nil, reply}
@@ -19,14 +18,14 @@ use Rattle.df_unit.specs.declared.entry.Entry.{Entry}
 use Rattle.df_unit.specs.declared.entry.Entry.TheVariants.{Done, Emitted}
 use Rattle.df_unit.specs.declared.name.UnitName.{UnitName}
 use Rattle.df_unit.specs.declared.reply.Reply.{Reply}
-use Rattle.df_local.specs.Locally.{row_answer, with_own}
+use Rattle.df_local.specs.Locally.{row_answer}
 use Rattle.df_local.specs.code.LocalState.{LocalState}
 use Rattle.df_local_run.specs.Runs.{IsLocalEntry, is_local, moved_by}
 use Rattle.df_machine.specs.Journal.{State, firsts, has_delivery_in, is_due, local_of}
 use Rattle.df_crew.specs.CrewState.{mind_in, want_in}
-use Rattle.df_crew.specs.Locally.{RunsTo, moved_want, ready_by, ready_from, told_want}
+use Rattle.df_turn.specs.Locally.{RunsTo}
 use Rattle.df_crew.specs.Manned.{IsFollowed, IsMind, seed_name}
-use Rattle.df_crew.specs.Turns.{asked_by, is_local_want, turn_of, wants_local}
+use Rattle.df_crew.specs.Turns.{asked_by, is_local_want, turn_of}
 use Rattle.df_crew.proofs.Acting.{Acts, acted_appended, acted_followed, acted_mind, acted_others, acted_unit, acted_want, own_of}
 use Rattle.df_crew.proofs.Brained.{made_is}
 use Rattle.df_crew.proofs.Entries.{deliveries_kept, fixed_kept, fixed_or, own_acted, seed_kept}
@@ -193,29 +192,3 @@ module _ {B : Type 0} (brain : Brain B) (bs : List B) (start : List RootStart) (
       ∙ ap (turn_of brain bs n u) (acted_appended brain bs start past u l m c r f x.0)
       ∙ run_turn es (one ∷ past) (moved_by l (Done a c r f)) present ((brain.next m.0 m.1).1, Replied r) now run.2 first.unit first.mind first.followed n k fewer
       ∙ ap (λ (j : List Entry). turn_of brain bs k u (start, j)) (sym (ap (λ (v : UnitName). reverse (Done v c r f ∷ es) ++ past) x.1 ∙ along one es past))
-
--- how a turn ends is seen behind its run
-pub run_ready : {B : Type 0} (brain : Brain B) (es : List Entry) (l present : LocalState) (m now : B × Last) → RunsTo brain es l m present now → (n k : ℕ) → n ≡ length es + k →
-    ready_from brain n l m.0 m.1 ≡ ready_from brain k present now.0 now.1
-run_ready brain [] l present m now run n k e = ap (λ (i : ℕ). ready_from brain i l m.0 m.1) (let z : n ≡ k = omega arith in z)
-    ∙ ap (λ (x : LocalState). ready_from brain k x m.0 m.1) run.0 ∙ ap (λ (p : _ × Last). ready_from brain k present p.0 p.1) run.1
-run_ready brain (Emitted c ∷ es) l present m now run n k e = absurd run
-run_ready brain (Done a c r f ∷ es) l present m now run zero k e = absurd (let z : ⊥ = omega arith in z)
-run_ready brain (Done a c r f ∷ es) l present m now run (suc n) k e =
-    let fewer : n ≡ length es + k = omega arith in
-    let x = (brain.next m.0 m.1).1 in
-    ap (λ (w : Want). cond (wants_local w) (ready_from brain n (moved_want l w) x (told_want l w)) (ready_by w)) run.0
-    ∙ ap (λ (b : Bool). cond b (ready_from brain n (moved_want l (Calls c)) x (told_want l (Calls c))) (ready_by (Calls c))) run.1.1
-    ∙ ap (λ (p : Reply × Effect). ready_from brain n (with_own l (after l.unit l.own c p.0 p.1)) x (Replied p.0)) run.1.2
-    ∙ run_ready brain es (moved_by l (Done a c r f)) present (x, Replied r) now run.2 n k fewer
-
--- a run of one call more
-pub run_more : {B : Type 0} (brain : Brain B) (es : List Entry) (l present : LocalState) (m now : B × Last) (a : UnitName) (c : Call) (r : Reply) (f : Effect) → RunsTo brain es l m present now →
-    (brain.next now.0 now.1).0 ≡ Calls c → IsLocalEntry present (Done a c r f) →
-    RunsTo brain (es ++ Done a c r f ∷ []) l m (moved_by present (Done a c r f)) ((brain.next now.0 now.1).1, Replied r)
-run_more brain [] l present m now a c r f run wants entry =
-    subst (λ (x : LocalState). RunsTo brain (Done a c r f ∷ []) x m (moved_by present (Done a c r f)) ((brain.next now.0 now.1).1, Replied r)) (sym run.0)
-    (subst (λ (p : _ × Last). RunsTo brain (Done a c r f ∷ []) present p (moved_by present (Done a c r f)) ((brain.next now.0 now.1).1, Replied r)) (sym run.1) (wants, entry, (refl, refl)))
-run_more brain (Emitted k ∷ es) l present m now a c r f run wants entry = absurd run
-run_more brain (Done b d q g ∷ es) l present m now a c r f run wants entry =
-    (run.0, run.1, run_more brain es (moved_by l (Done b d q g)) present ((brain.next m.0 m.1).1, Replied q) now a c r f run.2 wants entry)

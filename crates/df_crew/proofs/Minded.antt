@@ -1,68 +1,29 @@
--- The brains of a crew as it starts, and that who exists has a brain.
-use Rattle.std.proofs.Common.{◌≡◌, ◌⊎◌, inl, inr, ℕ, zero, suc, ◌+◌, ◌-◌, ◌<◌, ◌≤◌, List, [], ◌∷◌, ◌++◌, Bool, true, false, ◌&&◌, refl, sym, ◌∙◌, ap, subst, cond, Option, Some, None, length, slice_get, reverse, map, arith, length-append, Bor}
-use Rattle.std.proofs.lemmas.List.{length-reverse}
-use Rattle.std.specs.Prelude.{IsSome, is_some, option_and_then, option_copied}
+-- The brains of a crew as it starts, and that who exists has a brain, and is still where it waits.
+use Rattle.std.proofs.Common.{◌≡◌, ℕ, zero, suc, List, [], ◌∷◌, Bool, true, false, refl, sym, ◌∙◌, ap, subst, cond, Option, Some, None, length, slice_get, map, arith, Bor}
+use Rattle.std.specs.Prelude.{IsSome, is_some, option_copied}
 use Rattle.std.specs.Option.{option_map, option_or}
-use Rattle.df_brain.specs.Brain.{is_child_wanted, last_of, makes_child, want_of}
-use Rattle.df_brain.specs.declared.last.Last.{Last as Told}
-use Rattle.df_brain.specs.declared.last.Last.TheVariants as told
-use Rattle.df_brain.specs.declared.want.Want.{Want as Wish}
-use Rattle.df_brain.specs.declared.want.Want.TheVariants as wish
-use Rattle.df_crew.specs.CrewState.{mind_in, pair_of, want_in}
-use Rattle.df_crew.specs.code.Going.{IsAhead, IsEnded, IsGoing, IsWantedNext}
-use Rattle.df_crew.specs.code.Kept.{KeptState, kept_at}
-use Rattle.df_crew.specs.Manned.{IsFollowed, IsManned, IsMind, seed_name}
-use Rattle.df_crew.specs.Minds.{mind_from}
-use Rattle.df_crew.specs.code.Seeding.{back_of, behind, count_of, next_seed, seed_brain, seed_for, seed_of, seed_of_want, shared_by, shared_by_want}
-use Rattle.df_crew.specs.Turns.{asked_by, is_local_want, most_local, turn_of, wants_local}
-use Rattle.df_crew.specs.declared.booking.Rest.{Rest}
-use Rattle.df_crew.specs.declared.booking.Rest.TheVariants as rest
-use Rattle.df_crew.specs.declared.going.Ahead.{Ahead}
-use Rattle.df_crew.specs.declared.going.Going.{Going}
-use Rattle.df_crew.specs.declared.mind.Mind.{Mind}
-use Rattle.df_crew.proofs.Acting.{Acts, acted_followed, acted_mind, acted_others, acted_unit, local_by, own_of}
-use Rattle.df_crew.proofs.Brained.{fixed_counted, made_is, makes_nothing, subscribed_is}
-use Rattle.df_crew.proofs.Entries.{Fixes, before_new, fixed_kept, fixed_or, recorded, same_self, seed_kept, some_is}
-use Rattle.df_crew.proofs.LocalRuns.{Reached, run_reached, run_turn}
-use Rattle.df_filter.specs.declared.clause.Clause.{Clause}
+use Rattle.df_brain.specs.Brain.{is_child_wanted}
+use Rattle.df_crew.specs.CrewState.{CrewState, mind_in, want_by}
+use Rattle.df_crew.specs.Manned.{IsManned, IsMind, seed_name}
+use Rattle.df_crew.specs.Turns.{asked_by, is_local_want, turn_of, turned}
+use Rattle.df_crew.proofs.Brained.{fixed_counted, makes_none}
+use Rattle.df_crew.proofs.Entries.{recorded, some_is}
+use Rattle.df_kept.specs.Kept.{KeptState, kept_at}
 use Rattle.df_label.specs.Tag.{maker_of, number_of}
-use Rattle.df_local.specs.Locally.{with_own}
 use Rattle.df_local.specs.code.LocalState.{LocalState}
-use Rattle.df_local_run.specs.RunState.{RunState}
-use Rattle.df_machine.specs.Booking as machine
-use Rattle.df_machine.specs.Journal.{State, answer_in, appended, firsts, has_delivery_in, local_of}
-use Rattle.df_rules.specs.Follows.{Brain, Calls, Follows, Last, Replied, Start, Wait, Want, began_with, replies_of, root_began, wanted}
-use Rattle.df_rules.specs.Legal.{answer, answer_of, left}
-use Rattle.df_rules.specs.Deliveries.{deliveries}
-use Rattle.df_rules.specs.Own.{exists, fixed, made_by, own, own_plain, root_at, stepped}
+use Rattle.df_machine.specs.Journal.{State, firsts, has_delivery_in, local_of}
+use Rattle.df_rules.specs.Follows.{Brain, Follows, Last, Wait, Want, began_with, replies_of, root_began, wanted}
+use Rattle.df_rules.specs.Own.{made_by, own, own_plain, root_at, stepped}
 use Rattle.df_rules.specs.Start.{rows}
 use Rattle.df_start.specs.declared.start.RootStart.{RootStart}
-use Rattle.df_unit.specs.Beginnings.{fixes, makes}
+use Rattle.df_turn.specs.Locally.{most_local}
 use Rattle.df_unit.specs.Name.{same}
-use Rattle.df_unit.specs.OwnState.{Fixed, OwnState}
-use Rattle.df_unit.specs.Rows.{after, effect, reply, subscribed}
-use Rattle.df_unit.specs.declared.call.Call.{Call}
-use Rattle.df_unit.specs.declared.call.Call.TheVariants.{Get, SubscribeManaged}
-use Rattle.df_unit.specs.declared.entry.Effect.{Effect}
+use Rattle.df_unit.specs.OwnState.{OwnState}
+use Rattle.df_unit.specs.Rows.{after}
 use Rattle.df_unit.specs.declared.entry.Entry.{Entry}
 use Rattle.df_unit.specs.declared.entry.Entry.TheVariants.{Done, Emitted}
 use Rattle.df_unit.specs.declared.name.UnitName.{UnitName}
 use Rattle.df_unit.specs.declared.name.UnitName.TheVariants.{Managed, Root}
-use Rattle.df_unit.specs.declared.reply.Reply.{Reply}
-use Rattle.df_unit.proofs.SameFacts.{same_name-exact}
-
--- two brains that tell the same are one
-pub pair_same : {B : Type 0} (m n : Mind B) → pair_of m ≡ pair_of n → m ≡ n
-pair_same m n h = by m.last n.last (ap (λ (p : _ × Last). p.0) h) (ap (λ (p : _ × Last). p.1) h)
-  where
-    last : (a b : Told) → last_of a ≡ last_of b → a ≡ b
-    last told.Start told.Start h = refl
-    last told.Start (told.Reply r) h = absurd (let z : ⊥ = cc in z)
-    last (told.Reply r) told.Start h = absurd (let z : ⊥ = cc in z)
-    last (told.Reply r) (told.Reply q) h = let z : r ≡ q = cc in ap told.Reply z
-
-    by : (a b : Told) → m.state ≡ n.state → last_of a ≡ last_of b → (let x : Mind _ = record { state = m.state; last = a } in x) ≡ record { state = n.state; last = b }
-    by a b e f = ap (λ x. let y : Mind _ = record { state = x; last = a } in y) e ∙ ap (λ (t : Told). let y : Mind _ = record { state = n.state; last = t } in y) (last a b f)
 
 long : (xs : List RootStart) → length (map Rattle.df_start.specs.Begun.begun xs) ≡ length xs
 long [] = refl
@@ -76,11 +37,11 @@ there core u h = by (own rows (firsts core.0) core.1 u) refl h
     by (Some st) e k = (st, e)
 
 module _ {B : Type 0} (brain : Brain B) where
-  pub manned_start : (start : List RootStart) (bs : List B) (kept : KeptState (Mind B)) (begun : KeptState B) → length bs ≡ length start → ((u : UnitName) → kept_at u kept ≡ None) →
+  pub manned_start : (start : List RootStart) (bs : List B) (kept : KeptState (B × Last)) (begun : KeptState B) → length bs ≡ length start → ((u : UnitName) → kept_at u kept ≡ None) →
       IsManned brain bs kept begun (start, [])
   manned_start start bs kept begun rooted none = record {
     followed = record { legal = tt; unaided = tt; follows = tt };
-    minds = λ u. subst (λ (o : Option (Mind B)). IsMind brain bs (start, []) u (option_map pair_of o)) (sym (none u)) refl;
+    minds = λ u. subst (λ (o : Option (B × Last)). IsMind brain bs (start, []) u o) (sym (none u)) refl;
     seeds = λ o n f h. absurd (let z : ⊥ = cc in z);
     rooted = rooted;
   }
@@ -93,22 +54,11 @@ module _ {B : Type 0} (brain : Brain B) where
   plain_root law s bs (Done a c r f ∷ past) follows path h =
       ap (λ (x : Option OwnState). option_or (stepped rows (Root path) (Done a c r f) x) (made_by rows (Done a c r f) path (own_plain rows s past (maker_of path)))) (plain_root law s bs past follows.0 path h)
       ∙ ap (λ (x : Option OwnState). option_or x (made_by rows (Done a c r f) path (own_plain rows s past (maker_of path)))) (nobody (same a (Root path)))
-      ∙ made (same a (Root (maker_of path))) (own_plain rows s past (maker_of path)) (number_of path)
+      ∙ makes_none brain law s bs past a c r f follows.1 (same a (Root (maker_of path))) (own_plain rows s past (maker_of path)) (number_of path)
     where
       nobody : (b : Bool) → cond b (option_map (λ st. after (Root path) st c r f) None) None ≡ (let x : Option OwnState = None in x)
       nobody true = refl
       nobody false = refl
-
-      childless : makes_child c ≡ false
-      childless = elim follows.1.2.call [
-        | inl calls ↦ (ap is_child_wanted (sym calls) ∙ law _ _)
-        | inr waits ↦ ap makes_child waits.1
-      ]
-
-      made : (b : Bool) (x : Option OwnState) (n : ℕ) → cond b (option_and_then (λ st. makes st n c r) x) None ≡ None
-      made true None n = refl
-      made true (Some st) n = makes_nothing st n c r childless
-      made false x n = refl
 
   get_both : {A C : Type 0} (f : A → C) (xs : List A) (bs : List B) (k : ℕ) → length bs ≡ length xs → slice_get bs k ≡ None → slice_get (map f xs) k ≡ None
   get_both f [] bs k e h = refl
@@ -116,7 +66,7 @@ module _ {B : Type 0} (brain : Brain B) where
   get_both f (x ∷ xs) (b ∷ bs) zero e h = absurd (let z : ⊥ = cc in z)
   get_both f (x ∷ xs) (b ∷ bs) (suc k) e h = get_both f xs bs k (let z : length bs ≡ length xs = omega arith in z) h
 
-module _ {B : Type 0} (brain : Brain B) (law : (b : B) (l : Last) → is_child_wanted (brain.next b l).0 ≡ false) (bs : List B) (kept : KeptState (Mind B)) (begun : KeptState B) (core : State)
+module _ {B : Type 0} (brain : Brain B) (law : (b : B) (l : Last) → is_child_wanted (brain.next b l).0 ≡ false) (bs : List B) (kept : KeptState (B × Last)) (begun : KeptState B) (core : State)
     (manned : IsManned brain bs kept begun core) where
   -- a plain unit that exists has a brain
   root_there : (o : List ℕ) (st : OwnState) → own_plain rows (firsts core.0) core.1 o ≡ Some st → (x : B) × (root_began bs o ≡ Some x)
@@ -154,17 +104,40 @@ module _ {B : Type 0} (brain : Brain B) (law : (b : B) (l : Last) → is_child_w
       let x = root_there o owner.0 owner.1 in
       ap (λ (y : Option B). is_some (option_map (λ x. brain.instance (wanted brain x (replies_of (Root o) (Rattle.df_rules.specs.Exercised.before_fixed rows (firsts core.0) core.1 o n))).1 n) y)) x.1
 
-module _ {B : Type 0} (brain : Brain B) (bs : List B) (kept : KeptState (Mind B)) (begun : KeptState B) (core : State)
+module _ {B : Type 0} (brain : Brain B) (bs : List B) (kept : KeptState (B × Last)) (begun : KeptState B) (core : State)
     (manned : IsManned brain bs kept begun core) (u : UnitName) where
   -- what is kept of a unit is its brain
-  pub kept_mind : (m : Mind B) → kept_at u kept ≡ Some m → mind_in brain bs core u ≡ Some (pair_of m)
-  kept_mind m h = (subst (λ (o : Option (Mind B)). IsMind brain bs core u (option_map pair_of o)) h (manned.minds u)).1
+  pub kept_mind : (m : B × Last) → kept_at u kept ≡ Some m → mind_in brain bs core u ≡ Some m
+  kept_mind m h = (subst (λ (o : Option (B × Last)). IsMind brain bs core u o) h (manned.minds u)).1
 
 some_of : {A : Type 0} (o : Option (Bor A)) (x : Option A) → option_copied o ≡ x → is_some x ≡ true → IsSome o
 some_of (Some b) x e h = refl
 some_of None x e h = absurd (let z : ⊥ = (let y = ap is_some e in cc) in z)
 
 -- who exists has a brain, where it is looked for
-pub found_there : {B : Type 0} (brain : Brain B) → ((b : B) (l : Last) → is_child_wanted (brain.next b l).0 ≡ false) → (bs : List B) (kept : KeptState (Mind B)) (begun : KeptState B) (core : State) → IsManned brain bs kept begun core →
+pub found_there : {B : Type 0} (brain : Brain B) → ((b : B) (l : Last) → is_child_wanted (brain.next b l).0 ≡ false) → (bs : List B) (kept : KeptState (B × Last)) (begun : KeptState B) (core : State) → IsManned brain bs kept begun core →
     (u : UnitName) → is_some (local_of core u) ≡ true → (o : Option (Bor B)) → option_copied o ≡ began_with brain rows (firsts core.0) bs core.1 u → IsSome o
 found_there brain law bs kept begun core manned u h o e = some_of o (began_with brain rows (firsts core.0) bs core.1 u) e (begun_there brain law bs kept begun core manned u h)
+
+-- a turn has room for a local call
+most_some : (n : ℕ) × (most_local ≡ suc n)
+unfolding most_local
+most_some = (1_023, refl)
+
+-- a unit that waits, with no delivery left, does nothing
+pub still_waiting : {B : Type 0} (brain : Brain B) (crew : CrewState B) (u : UnitName) (m : B × Last) → mind_in brain crew.brains crew.core u ≡ Some m → (brain.next m.0 m.1).0 ≡ Wait →
+    has_delivery_in crew.core u ≡ false → turned brain u crew ≡ crew
+still_waiting brain crew u m mind waits none =
+    ap (λ (n : ℕ). record crew { core = turn_of brain crew.brains n u crew.core }) most_some.1
+    ∙ ap (λ (w : Option Want). record crew { core = cond (is_local_want w) (turn_of brain crew.brains most_some.0 u (asked_by crew.core u w)) (asked_by crew.core u w) })
+    (ap (want_by brain (own rows (firsts crew.core.0) crew.core.1 u)) mind)
+    ∙ by (own rows (firsts crew.core.0) crew.core.1 u)
+  where
+    none_asked : cond (has_delivery_in crew.core u) (Rattle.df_machine.specs.Journal.appended u Rattle.df_unit.specs.declared.call.Call.TheVariants.Get crew.core) crew.core ≡ crew.core
+    none_asked = ap (λ (b : Bool). cond b (Rattle.df_machine.specs.Journal.appended u Rattle.df_unit.specs.declared.call.Call.TheVariants.Get crew.core) crew.core) none
+
+    by : (o : Option OwnState) → (let w : Option Want = want_by brain o (Some m) in
+        record crew { core = cond (is_local_want w) (turn_of brain crew.brains most_some.0 u (asked_by crew.core u w)) (asked_by crew.core u w) }) ≡ crew
+    by None = refl
+    by (Some st) = ap (λ (w : Want). record crew { core = cond (is_local_want (Some w)) (turn_of brain crew.brains most_some.0 u (asked_by crew.core u (Some w))) (asked_by crew.core u (Some w)) }) waits
+        ∙ ap (λ (k : State). record crew { core = k }) none_asked

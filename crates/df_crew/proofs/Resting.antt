@@ -1,5 +1,5 @@
--- The units of a roll, one after another, and when a crew is quiet.
-use Rattle.std.proofs.Common.{◌≡◌, ◌⊎◌, inl, inr, ℕ, zero, suc, ◌<◌, List, [], ◌∷◌, ◌++◌, Bool, true, false, ◌||◌, refl, sym, ◌∙◌, ap, subst, Option, Some, None, length, get_or, slice_get, is_eq, arith}
+-- When a crew is quiet.
+use Rattle.std.proofs.Common.{◌≡◌, ◌⊎◌, inl, inr, ℕ, zero, suc, ◌<◌, List, [], ◌∷◌, Bool, true, false, ◌||◌, refl, sym, ◌∙◌, ap, subst, Option, Some, None, length, get_or, is_eq, arith}
 use Rattle.std.specs.Prelude.{is_some}
 use Rattle.std.specs.Option.{option_map}
 use Rattle.std.proofs.lemmas.Bool.{or_cases}
@@ -10,7 +10,7 @@ use Rattle.df_label.proofs.SetFacts.{contains-itself}
 use Rattle.df_local.specs.code.LocalState.{LocalState}
 use Rattle.df_machine.specs.Journal.{IsRoll, State, firsts, local_of}
 use Rattle.df_rules.specs.Follows.{Brain, Quiet}
-use Rattle.df_rules.specs.Own.{exists, own}
+use Rattle.df_rules.specs.Own.{own}
 use Rattle.df_rules.specs.Start.{rows}
 use Rattle.df_unit.proofs.OrderFacts.{unit_cmp_exact}
 use Rattle.df_unit.proofs.SameFacts.{same_name-exact}
@@ -18,18 +18,6 @@ use Rattle.df_unit.specs.OwnState.{OwnState}
 use Rattle.df_unit.specs.UnitOrder.{unit_cmp}
 use Rattle.df_unit.specs.UnitOrderLaws.{unit_cmp_ties}
 use Rattle.df_unit.specs.declared.name.UnitName.{UnitName}
-
--- what follows a beginning of a list, and the beginning with it
-pub next_named : {A : Type 0} (xs rest : List A) (x : A) → slice_get (xs ++ rest) (length xs) ≡ Some x → (later : List A) × (xs ++ rest ≡ (xs ++ x ∷ []) ++ later)
-next_named [] [] x h = absurd (let z : ⊥ = cc in z)
-next_named [] (y ∷ rest) x h = (rest, (let z : y ≡ x = cc in ap (λ (v : _). v ∷ rest) z))
-next_named (y ∷ xs) rest x h = let n = next_named xs rest x h in (n.0, ap (λ (l : List _). y ∷ l) n.1)
-
--- a beginning behind which nothing follows is the whole list
-pub all_named : {A : Type 0} (xs rest : List A) → slice_get (xs ++ rest) (length xs) ≡ None → xs ++ rest ≡ xs
-all_named [] [] h = refl
-all_named [] (y ∷ rest) h = absurd (let z : ⊥ = cc in z)
-all_named (y ∷ xs) rest h = ap (λ (l : List _). y ∷ l) (all_named xs rest h)
 
 -- a name at a place is one of the names
 named : (names : List UnitName) (k : ℕ) (d : UnitName) → k < length names → contains_by unit_cmp names (get_or names k d) ≡ true

@@ -1,7 +1,7 @@
 -- Booking a turn.
 use Rattle.std.specs.Prelude.{◌≡◌, ⊤, if◌then◌else◌, Some}
 use Rattle.df_crew.specs.CrewState.{CrewState, mind_in}
-use Rattle.df_crew.specs.Locally.{TurnState}
+use Rattle.df_turn.specs.Locally.{TurnState}
 use Rattle.df_crew.specs.Turns.{turned}
 use Rattle.df_crew.specs.declared.crew.TurnCause.{TurnCause}
 use Rattle.df_crew.specs.declared.crew.TurnCause.TheVariants.{NoMemory, Stale}

@@ -1,9 +1,7 @@
 -- What a crew is, and each unit's brain in it.
 use Rattle.std.specs.Prelude.{List, Option, Some, None, refl}
 use Rattle.std.specs.Coded.{Coded, code_by, coded×, coded_list}
-use Rattle.df_brain.specs.Brain as brains
 use Rattle.df_crew.specs.Minds.{mind_of}
-use Rattle.df_crew.specs.declared.mind.Mind.{Mind}
 use Rattle.df_machine.specs.Journal.{State, firsts}
 use Rattle.df_rules.specs.Follows.{Brain, Last, Want}
 use Rattle.df_rules.specs.Own.{own}
@@ -26,10 +24,6 @@ crew_code {B} code =
     (λ c. (c.core, c.brains))
     (λ p. record { core = p.0; brains = p.1 })
     (λ _. refl)
-
--- a brain as it is kept: its state, and what it is told next
-abbrev pub pair_of : {B : Type 0} → Mind B → B × Last
-pair_of m = (m.state, brains.last_of m.last)
 
 -- a unit's brain by the journal, if it has one
 abbrev pub mind_in : {B : Type 0} → Brain B → List B → State → UnitName → Option (B × Last)

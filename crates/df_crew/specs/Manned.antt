@@ -1,9 +1,7 @@
 -- What a crew keeps of its units' brains, and how it agrees with the journal.
 use Rattle.std.specs.Prelude.{◌≡◌, ℕ, true, List, [], Option, Some, None, length}
-use Rattle.std.specs.Option.{option_map}
-use Rattle.df_crew.specs.CrewState.{mind_in, pair_of}
-use Rattle.df_crew.specs.code.Kept.{KeptState, kept_at}
-use Rattle.df_crew.specs.declared.mind.Mind.{Mind}
+use Rattle.df_crew.specs.CrewState.{mind_in}
+use Rattle.df_kept.specs.Kept.{KeptState, kept_at}
 use Rattle.df_machine.specs.Journal.{State, firsts}
 use Rattle.df_rules.specs.Follows.{Brain, Follows, Last, began_with, replies_of}
 use Rattle.df_rules.specs.Legal.{IsUnaided, Legal}
@@ -31,10 +29,10 @@ abbrev pub seed_name : List ℕ → ℕ → UnitName
 seed_name o n = Managed o n []
 
 -- the tables agree with the journal
-pub record IsManned {B : Type 0} (brain : Brain B) (bs : List B) (kept : KeptState (Mind B))
+pub record IsManned {B : Type 0} (brain : Brain B) (bs : List B) (kept : KeptState (B × Last))
     (begun : KeptState B) (core : State) : Type 0 where
   pub followed : IsFollowed brain bs core
-  pub minds : (u : UnitName) → IsMind brain bs core u (option_map pair_of (kept_at u kept))
+  pub minds : (u : UnitName) → IsMind brain bs core u (kept_at u kept)
   pub seeds : (o : List ℕ) (n : ℕ) (f : Fixed) → fixed rows (firsts core.0) core.1 o n ≡ Some f →
       kept_at (seed_name o n) begun
       ≡ began_with brain rows (firsts core.0) bs core.1 (seed_name o n)

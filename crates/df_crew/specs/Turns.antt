@@ -1,17 +1,11 @@
 -- The turn of a unit: its local calls, and then the one call that follows them.
-use Rattle.std.specs.Prelude.{ℕ, zero, suc, Bool, true, false, if◌then◌else◌, List, Option, Some, None}
-use Rattle.df_local_run.specs.Runs.{is_local}
+use Rattle.std.specs.Prelude.{ℕ, zero, suc, Bool, false, if◌then◌else◌, List, Option, Some, None}
 use Rattle.df_machine.specs.Journal.{State, appended, has_delivery_in}
 use Rattle.df_rules.specs.Follows.{Brain, Calls, Wait, Want}
-use Rattle.df_unit.specs.declared.call.Call.{Call}
 use Rattle.df_unit.specs.declared.call.Call.TheVariants.{Get}
 use Rattle.df_unit.specs.declared.name.UnitName.{UnitName}
 use Rattle.df_crew.specs.CrewState.{CrewState, want_in}
-
--- whether a local call is wanted
-abbrev pub wants_local : Want → Bool
-wants_local (Calls c) = is_local c
-wants_local Wait = false
+use Rattle.df_turn.specs.Locally.{most_local, wants_local}
 
 abbrev pub is_local_want : Option Want → Bool
 is_local_want None = false
@@ -34,10 +28,6 @@ abbrev pub turn_of : {B : Type 0} → Brain B → List B → ℕ → UnitName �
 turn_of brain bs zero u core = core
 turn_of brain bs (suc n) u core = if is_local_want (want_in brain bs core u)
     then turn_of brain bs n u (asked brain bs u core) else asked brain bs u core
-
--- the most local calls of a turn
-unfoldable pub most_local : ℕ
-most_local = 1_024
 
 -- a unit takes a turn
 abbrev pub turned : {B : Type 0} → Brain B → UnitName → CrewState B → CrewState B

@@ -1,4 +1,2 @@
-pub mod Kept
-pub mod Going
 pub mod Seeding
 pub mod Renewal

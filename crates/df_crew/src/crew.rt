@@ -1,29 +1,26 @@
 //! A crew: a machine whose units have brains.
 
-ghost use Rattle.std.specs.Prelude.{◌≡◌, ◌↔◌, ◌+◌, [], length, Err, IfErr, IfOk, IsTrue, None, OnErr, OnOk, Some, is_some, option_copied, true, List};
-ghost use Rattle.std.specs.Option.{option_map};
+ghost use Rattle.std.specs.Prelude.{◌≡◌, ◌↔◌, ◌+◌, [], length, Err, IfErr, IfOk, IsTrue, None, OnErr, OnOk, Some, is_some, option_copied, true};
 ghost use Rattle.df_machine.specs.Journal.{IsRoll, firsts, local_of};
 ghost use Rattle.df_rules.specs.Follows.{Quiet, began_with, brain_of, root_began};
 ghost use Rattle.df_crew.specs.Manned.{seed_name};
 ghost use Rattle.df_crew.specs.declared.crew.BeginRefused.TheVariants.{NoSuchUnit};
 ghost use Rattle.df_crew.specs.Booking.{IsCurrent, IsRefused, booked};
-ghost use Rattle.df_crew.specs.CrewState.{mind_in, pair_of};
+ghost use Rattle.df_crew.specs.CrewState.{mind_in};
 ghost use Rattle.df_crew.specs.Resting.{IsResting};
 ghost use Rattle.df_crew.specs.Turns.{turned};
 ghost use Rattle.df_unit.specs.declared.name.UnitName.{UnitName};
 ghost use Rattle.df_rules.specs.Start.{rows};
 
-use crate::going::Going;
-use crate::kept::Kept;
-use crate::mind::Mind;
 use crate::renewal::book_kept;
-use crate::turn::Turn;
+use crate::roster::units;
 use df_brain::{Brain, Last};
+use df_kept::Kept;
 use df_label::{NoMemory, TagSet};
 use df_local::Local;
-use df_local_run::LocalRun;
 use df_machine::Core;
 use df_start::Start;
+use df_turn::{Mind, Shared, Turn, TurnParts};
 use df_unit::{Path, UnitName};
 use std::alloc::Global;
 use std::marker::Model;
@@ -142,27 +139,24 @@ impl<B: Brain> Crew<B> {
         }
     }
 
-    /// A unit's brain.
+    /// A unit's brain. It is copied where the unit has not taken a turn yet.
     fn mind(&self, unit: &UnitName) -> Result<Mind<B>, NoMemory>
         requires { is_some (local_of self.now.core unit.now) ≡ true }
         ensures { IfOk result (λ m. mind_in (brain_of B.next B.instance) self.now.brains
-            self.now.core unit.now ≡ Some (pair_of m)) }
+            self.now.core unit.now ≡ Some m) }
     {
         if let Some(mind) = self.minds.get(unit) {
-            return mind.copy();
+            return mind.share();
         }
         let state = self.first_state(unit)?.unwrap();
-        Ok(Mind {
-            state: state.copy()?,
-            last: Last::Start,
-        })
+        Ok(Mind::new(Shared::new(self.alloc, state.copy()?)?, Last::Start))
     }
 
     /// Whether this is a unit's brain.
     fn has_mind(&self, unit: &UnitName, mind: &Mind<B>) -> Result<bool, NoMemory>
         requires { is_some (local_of self.now.core unit.now) ≡ true }
         ensures { IfOk result (λ b. IsTrue b ↔ (mind_in (brain_of B.next B.instance)
-            self.now.brains self.now.core unit.now ≡ Some (pair_of mind.now))) }
+            self.now.brains self.now.core unit.now ≡ Some mind.now)) }
     {
         if let Some(here) = self.minds.get(unit) {
             return Ok(here.same(mind));
@@ -171,7 +165,8 @@ impl<B: Brain> Crew<B> {
         Ok(mind.is_first(state))
     }
 
-    /// A turn of a unit. It costs two copies of the unit and of its brain.
+    /// A turn of a unit. It costs two copies of the unit; its brain is shared, but for a copy in its
+    /// first turn.
     pub fn begin(&self, unit: &UnitName) -> Result<Turn<B>, BeginRefused>
         ensures begun { IfOk result (λ t. IsBegun (brain_of B.next B.instance) self.now.brains
             self.now.core unit.now t) }
@@ -192,19 +187,8 @@ impl<B: Brain> Crew<B> {
         ensures { IfOk result (λ t. IsBegun (brain_of B.next B.instance) self.now.brains
             self.now.core unit.now t) }
     {
-        let run = LocalRun::begin(self.alloc, local)?;
         let mind = self.mind(unit)?;
-        let base = mind.copy()?;
-        let going = Going {
-            run,
-            mind,
-            ahead: None,
-        };
-        Ok(Turn {
-            base,
-            going,
-            is_ready: false,
-        })
+        Turn::begin(self.alloc, local, mind)
     }
 
     /// Whether the unit and its brain are as the turn began.
@@ -212,14 +196,14 @@ impl<B: Brain> Crew<B> {
         ensures { IfOk result (λ b.
             IsTrue b ↔ IsCurrent (brain_of B.next B.instance) turn.now self.now) }
     {
-        let unit = turn.going.run.base();
+        let unit = turn.unit();
         let Some(local) = self.core.local(unit.name()) else {
             return Ok(false);
         };
         if !local.same(unit) {
             return Ok(false);
         }
-        self.has_mind(unit.name(), &turn.base)
+        self.has_mind(unit.name(), turn.mind())
     }
 
     /// Books a turn that was advanced and is current, or gives it back where there is no memory.
@@ -232,23 +216,42 @@ impl<B: Brain> Crew<B> {
         ensures unchanged { OnErr result (self.new ≡ self.old) }
         ensures back { IfErr result (λ t. t ≡ turn) }
     {
-        let Turn {
+        let TurnParts {
             base,
             going,
             is_ready,
-        } = turn;
+        } = turn.into_parts();
         let (minds, seeds) = (&mut self.minds, &mut self.seeds);
         match book_kept(self.alloc, &mut self.core, minds, seeds, &base, going) {
             Ok(count) => {
                 drop(base);
                 Ok(count)
             }
-            Err(going) => Err(Turn {
-                base,
-                going,
-                is_ready,
-            }),
+            Err(going) => Err(Turn::of_parts(
+                self.alloc,
+                TurnParts {
+                    base,
+                    going,
+                    is_ready,
+                },
+            )),
         }
+    }
+
+    /// Books a turn as `book` does, where the unit and its brain are known to be as the turn began:
+    /// they aren't compared. It gives the turn back where there is no memory.
+    pub fn book_current(&mut self, turn: Turn<B>) -> Result<u64, Turn<B>>
+        requires { IsCurrent (brain_of B.next B.instance) turn self.old }
+        ensures ok { OnOk result (self.new
+            ≡ booked (brain_of B.next B.instance) turn self.old) }
+        ensures count { IfOk result (λ n. length self.new.core.1 ≡ n + length self.old.core.1) }
+        ensures unchanged { OnErr result (self.new ≡ self.old) }
+        ensures back { IfErr result (λ t. t ≡ turn) }
+    {
+        if !turn.is_ready() {
+            return Ok(0);
+        }
+        self.book_ready(turn)
     }
 
     /// Books a turn: its local calls, and then the shared call that is wanted, or a get where the
@@ -276,10 +279,7 @@ impl<B: Brain> Crew<B> {
                 cause: TurnCause::Stale,
             });
         }
-        if !turn.is_ready {
-            return Ok(0);
-        }
-        match self.book_ready(turn) {
+        match self.book_current(turn) {
             Ok(count) => Ok(count),
             Err(turn) => Err(NotTurned {
                 turn,
@@ -288,15 +288,22 @@ impl<B: Brain> Crew<B> {
         }
     }
 
-    /// The units that exist, in their order.
-    fn units(&self) -> Result<Vec<UnitName>, NoMemory>
-        ensures { IfOk result (λ units. IsRoll self.now.core units.items) }
+    /// Whether it is known that a unit waits, and no delivery is left to it. Takes no memory, and
+    /// copies nothing. Where it isn't known, a turn tells.
+    pub fn is_idle(&self, unit: &UnitName) -> bool
+        ensures still { IsTrue result →
+            turned (brain_of B.next B.instance) unit.now self.now ≡ self.now }
+        ensures brain { IsTrue result → is_some (mind_in (brain_of B.next B.instance)
+            self.now.brains self.now.core unit.now) ≡ true }
     {
-        let mut units: Vec<UnitName> = Vec::new(self.alloc);
-        while let Some(unit) = self.core.unit_at(units.as_slice().len()) {
-            units.push(unit.copy()?)?;
+        let Some(mind) = self.minds.get(unit) else {
+            return false;
+        };
+        let is_due = self.core.has_delivery(unit);
+        if is_due {
+            return false;
         }
-        Ok(units)
+        mind.is_known_to_wait()
     }
 
     /// Whether a unit waits, and no delivery is left to it.
@@ -308,7 +315,7 @@ impl<B: Brain> Crew<B> {
         if self.core.has_delivery(unit) {
             return Ok(false);
         }
-        self.mind(unit)?.waits()
+        self.mind(unit)?.waits(self.alloc)
     }
 
     /// Whether each of the units waits, and no delivery is left to it.
@@ -325,13 +332,13 @@ impl<B: Brain> Crew<B> {
         Ok(true)
     }
 
-    /// Whether each unit waits, and no delivery is left to it. It costs a copy of each unit's name
-    /// and brain.
+    /// Whether each unit waits, and no delivery is left to it. It costs a copy of each unit's
+    /// name, and of the brains that are not known to wait.
     pub fn is_quiet(&self) -> Result<bool, NoMemory>
         ensures { IfOk result (λ b. IsTrue b ↔ Quiet (brain_of B.next B.instance) rows
             (firsts self.now.core.0) self.now.brains self.now.core.1) }
     {
-        let units = self.units()?;
+        let units = units(self.alloc, &self.core)?;
         self.are_at_rest(units.as_slice())
     }
 }

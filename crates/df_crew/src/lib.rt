@@ -1,16 +1,10 @@
-//! A machine whose units have brains, and their turns.
+//! A machine whose units have brains, and the turns that they take.
 #![tactic(auto)]
 
 mod booking;
 mod crew;
-mod going;
-mod kept;
-mod mind;
-mod ready;
 mod renewal;
-mod turn;
+mod roster;
 
 pub use crew::{BeginRefused, Crew, NotTurned, TurnCause};
-pub use mind::Mind;
-pub use ready::Ready;
-pub use turn::Turn;
+pub use roster::units;

@@ -2,27 +2,25 @@
 
 ghost use Rattle.std.specs.Prelude.{◌≡◌, ◌+◌, IfErr, IfOk, IfSome, List, OnErr, OnOk, Some, if◌then◌else◌, length};
 ghost use Rattle.std.specs.Option.{option_map};
-ghost use Rattle.df_crew.specs.CrewState.{pair_of};
-ghost use Rattle.df_crew.specs.code.Going.{IsGoing};
-ghost use Rattle.df_crew.specs.code.Kept.{IsPlace, kept_at};
 ghost use Rattle.df_crew.specs.Manned.{IsManned};
 ghost use Rattle.df_crew.specs.code.Renewal.{IsUnderWay, shared_of};
-ghost use Rattle.df_crew.specs.code.Seeding.{IsSeed, IsSeeded, seed_of_want};
+ghost use Rattle.df_crew.specs.code.Seeding.{IsSeed, IsSeeded, seed_of};
+ghost use Rattle.df_kept.specs.Kept.{IsPlace, kept_at};
 ghost use Rattle.df_machine.specs.Booking.{booked};
 ghost use Rattle.df_machine.specs.Journal.{State, local_of};
 ghost use Rattle.df_rules.specs.Follows.{brain_of};
+ghost use Rattle.df_turn.specs.code.Going.{IsEnded, IsGoing};
 ghost use Rattle.df_unit.specs.Name.{same};
 ghost use Rattle.df_unit.specs.declared.name.UnitName.{UnitName};
 
 use crate::booking::book_going;
 use crate::crew::seed_name;
-use crate::going::{Ahead, Going};
-use crate::kept::Kept;
-use crate::mind::Mind;
 use df_brain::{Brain, Want};
+use df_kept::Kept;
 use df_label::NoMemory;
 use df_local::Local;
 use df_machine::Core;
+use df_turn::{Going, Mind, Stage};
 use df_unit::{Call, UnitName};
 use std::alloc::Global;
 
@@ -31,14 +29,15 @@ use std::alloc::Global;
 fn seed_for<B: Brain>(
     alloc: Global,
     unit: &Local,
-    ahead: &Ahead<B>,
+    stage: &Stage,
+    state: &B,
 ) -> Result<Option<(UnitName, B)>, NoMemory>
     ensures name { IfOk result (λ seed. option_map (λ (s : UnitName × B). s.0) seed
-        ≡ seed_of_want unit.now ahead.now.want) }
+        ≡ seed_of unit.now stage.now) }
     ensures brain { IfOk result (λ seed. IfSome seed (λ s.
-        s.1 ≡ B.instance ahead.now.state unit.now.own.subs)) }
+        s.1 ≡ B.instance state.now unit.now.own.subs)) }
 {
-    let Want::Call(Call::SubscribeManaged { .. }) = &ahead.want else {
+    let Stage::Wants(Want::Call(Call::SubscribeManaged { .. })) = stage else {
         return Ok(None);
     };
     let UnitName::Root(owner) = unit.name() else {
@@ -46,20 +45,23 @@ fn seed_for<B: Brain>(
     };
     let sub = unit.subs_made();
     let name = seed_name(alloc, owner, sub)?;
-    let brain = ahead.state.instance(sub)?;
+    let brain = state.instance(sub)?;
     Ok(Some((name, brain)))
 }
 
 /// Keeps that brain.
-fn seed<B: Brain>(alloc: Global, seeds: &mut Kept<B>, going: &Going<B>) -> Result<(), NoMemory>
-    ensures ok { OnOk result (IsSeeded (brain_of B.next B.instance) going.now.run.present
-        going.now.ahead seeds.old seeds.new) }
+fn seed<B: Brain>(
+    alloc: Global,
+    seeds: &mut Kept<B>,
+    unit: &Local,
+    stage: &Stage,
+    state: &B,
+) -> Result<(), NoMemory>
+    ensures ok { OnOk result (IsSeeded (brain_of B.next B.instance) unit.now stage.now state.now
+        seeds.old seeds.new) }
     ensures unchanged { OnErr result (seeds.new ≡ seeds.old) }
 {
-    let Some(ahead) = &going.ahead else {
-        return Ok(());
-    };
-    if let Some((name, brain)) = seed_for(alloc, going.run.present(), ahead)? {
+    if let Some((name, brain)) = seed_for(alloc, unit, stage, state)? {
         seeds.put(&name, brain)?;
     }
     Ok(())
@@ -69,14 +71,14 @@ fn seed<B: Brain>(alloc: Global, seeds: &mut Kept<B>, going: &Going<B>) -> Resul
 fn keep<B: Brain>(
     minds: &mut Kept<Mind<B>>,
     base: &Mind<B>,
-    going: &Going<B>,
+    name: &UnitName,
 ) -> Result<usize, NoMemory>
     ensures ok { OnOk result ((n : UnitName) → kept_at n minds.new
-        ≡ (if same going.now.run.base.unit n then Some base.now else kept_at n minds.old)) }
-    ensures place { IfOk result (λ k. IsPlace going.now.run.base.unit k minds.new) }
+        ≡ (if same name.now n then Some base.now else kept_at n minds.old)) }
+    ensures place { IfOk result (λ k. IsPlace name.now k minds.new) }
     ensures unchanged { OnErr result (minds.new ≡ minds.old) }
 {
-    minds.put(going.run.base().name(), base.copy()?)
+    minds.put(name, base.share()?)
 }
 
 /// Room for what a turn makes of its unit's brain, at the place that is answered, and of a
@@ -94,10 +96,11 @@ fn prepare<B: Brain>(
         IsManned (brain_of B.next B.instance) bs minds.new seeds.new core }
     ensures place { IfOk result (λ k. IsPlace going.now.run.base.unit k minds.new) }
     ensures seeded { OnOk result (IsSeed (brain_of B.next B.instance) going.now.run.present
-        going.now.ahead seeds.new) }
+        going.now.stage going.now.state seeds.new) }
 {
-    let place = keep(minds, base, going)?;
-    seed(alloc, seeds, going)?;
+    let place = keep(minds, base, going.run.base().name())?;
+    let unit = going.run.present();
+    seed(alloc, seeds, unit, &going.stage, going.state.state())?;
     Ok(place)
 }
 
@@ -111,7 +114,8 @@ pub(crate) fn book_kept<B: Brain>(
     base: &Mind<B>,
     going: Going<B>,
 ) -> Result<u64, Going<B>>
-    requires going { IsGoing (brain_of B.next B.instance) (pair_of base.now) going }
+    requires going { IsGoing (brain_of B.next B.instance) base.now going }
+    requires ended { IsEnded going }
     requires unit { local_of core.old going.run.base.unit ≡ Some going.run.base }
     ensures manned { (bs : List B) →
         IsUnderWay (brain_of B.next B.instance) bs base.now going core.old →
@@ -126,7 +130,7 @@ pub(crate) fn book_kept<B: Brain>(
     let Ok(place) = prepare(alloc, minds, seeds, base, &going) else {
         return Err(going);
     };
-    match book_going(core, going) {
+    match book_going(alloc, core, base, going) {
         Ok(booked) => {
             minds.renew(place, booked.mind);
             Ok(booked.count)

@@ -1,7 +1,6 @@
 -- The plain run of a floor opens: each root but the first waits before the first root's first entry.
 use Rattle.std.proofs.Common.{◌≡◌, ℕ, zero, suc, ◌<◌, List, [], ◌∷◌, ◌++◌, Bool, true, false, ◌||◌, refl, ◌∙◌, ap, subst, cond, Option, Some, length, map, arith}
 use Rattle.std.specs.Prelude.{is_some, pred, slice_get}
-use Rattle.std.specs.Option.{option_map}
 use Rattle.std.proofs.lemmas.List.{length-map}
 use Rattle.std.proofs.lemmas.Option.{slice_get_within}
 use Rattle.df_config.specs.ConfigForm.{IsConfig}

@@ -1,7 +1,8 @@
 -- The plain passes begin with the first root, which wants a call where there is a tick.
 use Rattle.std.proofs.Common.{◌≡◌, ◌⊎◌, inl, inr, ℕ, zero, suc, List, [], ◌∷◌, Bool, true, false, ◌||◌, refl, sym, ◌∙◌, ap, subst, cond, Option, Some}
 use Rattle.df_crew.specs.CrewState.{CrewState, want_in}
-use Rattle.df_crew.specs.Turns.{asked, is_local_want, most_local, turn_of, turned}
+use Rattle.df_crew.specs.Turns.{asked, is_local_want, turn_of, turned}
+use Rattle.df_turn.specs.Locally.{most_local}
 use Rattle.df_machine.specs.Journal.{State, appended, firsts}
 use Rattle.df_plain_floor.specs.PlainRun.{IsPass, Repeated, is_full, take_turn, take_turns}
 use Rattle.df_rules.specs.Follows.{Brain, Calls, Opens, OthersWait, Want, has_entry, is_of}

@@ -34,16 +34,22 @@ pub(crate) fn fresh_crew(
     Crew::start(alloc, start, brains)
 }
 
+/// How a run is told that ended so, with so many entries.
+fn told_end(ended: Ended, steps: u64) -> FloorEnd
+    ensures { result ≡ end_of ended steps }
+{
+    match ended {
+        Ended::Quiet => FloorEnd::Quiet,
+        Ended::Limit => FloorEnd::Unsettled { steps },
+    }
+}
+
 /// How a run ended that led to a crew.
 fn end_of(ended: Ended, crew: &Crew<FloorBrain>) -> FloorEnd
     ensures end { result ≡ end_of ended (length crew.now.core.1) }
     ensures followed { IsFollowed floor_brain crew.now.brains crew.now.core }
 {
-    let steps = crew.core().journal().len() as u64;
-    match ended {
-        Ended::Quiet => FloorEnd::Quiet,
-        Ended::Limit => FloorEnd::Unsettled { steps },
-    }
+    told_end(ended, crew.core().journal().len() as u64)
 }
 
 /// Makes the plain run of a crew.

@@ -5,5 +5,4 @@ pub mod Turning
 pub mod Taking
 pub mod Passing
 pub mod Opening
-pub mod Rolls
 pub mod Ending

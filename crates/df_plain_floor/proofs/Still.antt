@@ -4,7 +4,8 @@ use Rattle.std.specs.Prelude.{⊤, is_some, not}
 use Rattle.std.specs.Option.{option_map}
 use Rattle.df_crew.specs.CrewState.{CrewState, mind_in, want_by, want_in}
 use Rattle.df_crew.specs.Minds.{mind_from}
-use Rattle.df_crew.specs.Turns.{asked_by, is_local_want, most_local, turn_of, turned}
+use Rattle.df_crew.specs.Turns.{asked_by, is_local_want, turn_of, turned}
+use Rattle.df_turn.specs.Locally.{most_local}
 use Rattle.df_local_run.specs.Runs.{is_local}
 use Rattle.df_machine.specs.Journal.{State, appended, firsts, has_delivery_in, is_due}
 use Rattle.df_rules.specs.Deliveries.{deliveries}

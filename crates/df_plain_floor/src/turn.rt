@@ -3,15 +3,15 @@
 ghost use Rattle.std.specs.Prelude.{◌≡◌, IfOk, MatchOption, None, OnErr, OnOk, is_some, true};
 ghost use Rattle.df_crew.specs.Booking.{IsCurrent};
 ghost use Rattle.df_crew.specs.CrewState.{mind_in};
-ghost use Rattle.df_crew.specs.Locally.{IsBegun, TurnState};
+ghost use Rattle.df_crew.specs.Locally.{IsBegun};
 ghost use Rattle.df_crew.specs.Turns.{turned};
-ghost use Rattle.df_crew.specs.declared.crew.TurnCause.TheVariants as cause;
 ghost use Rattle.df_machine.specs.Journal.{local_of};
 ghost use Rattle.df_rules.specs.Follows.{brain_of};
 
 use df_brain::Brain;
-use df_crew::{BeginRefused, Crew, NotTurned, Turn};
+use df_crew::{BeginRefused, Crew};
 use df_label::NoMemory;
+use df_turn::Turn;
 use df_unit::UnitName;
 
 /// A turn of a unit, where the unit exists.
@@ -36,15 +36,13 @@ fn advanced<B: Brain>(mut turn: Turn<B>) -> Result<Turn<B>, NoMemory>
     }
 }
 
-/// Lets a turn go that was refused for want of memory.
-fn let_go<B: Brain>(refused: NotTurned<B>) -> NoMemory
-    requires { refused.cause ≡ cause.NoMemory }
-{
-    let _refused = refused;
+/// Lets a turn go that could not be booked.
+fn let_go<B: Brain>(turn: Turn<B>) -> NoMemory {
+    let _turn = turn;
     NoMemory
 }
 
-/// Books a turn that was advanced, in a crew that is as the turn began.
+/// Books a turn that was advanced, in a crew that is as the turn began, so that it isn't stale.
 fn booked<B: Brain>(crew: &mut Crew<B>, turn: Turn<B>) -> Result<(), NoMemory>
     requires current { IsCurrent (brain_of B.next B.instance) turn crew.old }
     requires ready { turn.is_ready ≡ true }
@@ -52,14 +50,39 @@ fn booked<B: Brain>(crew: &mut Crew<B>, turn: Turn<B>) -> Result<(), NoMemory>
         ≡ turned (brain_of B.next B.instance) turn.unit.unit crew.old) }
     ensures unchanged { OnErr result (crew.new ≡ crew.old) }
 {
-    match crew.book(turn) {
+    match crew.book_current(turn) {
         Ok(_) => Ok(()),
-        // Nothing came between, so it isn't stale.
-        Err(refused) => Err(let_go(refused)),
+        Err(turn) => Err(let_go(turn)),
     }
 }
 
-/// Gives a unit a turn. Who doesn't exist does nothing.
+/// Advances and books a turn, in a crew that is as the turn began.
+fn taken<B: Brain>(crew: &mut Crew<B>, turn: Turn<B>) -> Result<(), NoMemory>
+    requires current { IsCurrent (brain_of B.next B.instance) turn crew.old }
+    ensures ok { OnOk result (crew.new
+        ≡ turned (brain_of B.next B.instance) turn.unit.unit crew.old) }
+    ensures unchanged { OnErr result (crew.new ≡ crew.old) }
+{
+    let turn = advanced(turn)?;
+    booked(crew, turn)
+}
+
+/// Begins, advances and books a unit's turn. Who doesn't exist does nothing.
+fn asked<B: Brain>(crew: &mut Crew<B>, unit: &UnitName) -> Result<(), NoMemory>
+    ensures turned { OnOk result (crew.new
+        ≡ turned (brain_of B.next B.instance) unit.now crew.old) }
+    ensures brain { OnOk result (is_some (local_of crew.old.core unit.now) ≡ true →
+        is_some (mind_in (brain_of B.next B.instance) crew.old.brains crew.old.core unit.now)
+        ≡ true) }
+    ensures unchanged { OnErr result (crew.new ≡ crew.old) }
+{
+    match begun(crew, unit)? {
+        Some(turn) => taken(crew, turn),
+        None => Ok(()),
+    }
+}
+
+/// Gives a unit a turn. Who doesn't exist does nothing, and who is idle isn't asked.
 pub(crate) fn make_turn<B: Brain>(crew: &mut Crew<B>, unit: &UnitName) -> Result<(), NoMemory>
     ensures turned { OnOk result (crew.new
         ≡ turned (brain_of B.next B.instance) unit.now crew.old) }
@@ -68,9 +91,8 @@ pub(crate) fn make_turn<B: Brain>(crew: &mut Crew<B>, unit: &UnitName) -> Result
         ≡ true) }
     ensures unchanged { OnErr result (crew.new ≡ crew.old) }
 {
-    let Some(turn) = begun(crew, unit)? else {
+    if crew.is_idle(unit) {
         return Ok(());
-    };
-    let turn = advanced(turn)?;
-    booked(crew, turn)
+    }
+    asked(crew, unit)
 }

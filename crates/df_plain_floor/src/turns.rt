@@ -1,7 +1,6 @@
 //! Turns, and the passes that are made of them.
 
 ghost use Rattle.std.specs.Prelude.{◌≡◌, IfOk, OnOk, Some, false, length, slice_get, ℕ};
-ghost use Rattle.df_machine.specs.Journal.{IsRoll};
 ghost use Rattle.df_plain_floor.specs.Grown.{AreTurns, HasBrain, IsAppending};
 ghost use Rattle.df_plain_floor.specs.PlainRun.{IsPass, IsQuiet, IsTurn, is_full, take_turns};
 ghost use Rattle.df_rules.specs.Follows.{brain_of};
@@ -9,9 +8,8 @@ ghost use Rattle.df_unit.specs.declared.name.UnitName.{UnitName};
 
 use crate::turn::make_turn;
 use df_brain::Brain;
-use df_crew::Crew;
+use df_crew::{Crew, units};
 use df_label::NoMemory;
-use df_machine::Core;
 use df_unit::UnitName;
 use std::alloc::Global;
 
@@ -59,17 +57,6 @@ fn take_turns<B: Brain>(crew: &mut Crew<B>, units: &[UnitName], max: u64) -> Res
         take_turn(crew, unit, max)?;
     }
     Ok(())
-}
-
-/// The units that exist, in their order.
-fn units(alloc: Global, core: &Core) -> Result<Vec<UnitName>, NoMemory>
-    ensures { IfOk result (λ units. IsRoll core.now units.items) }
-{
-    let mut units: Vec<UnitName> = Vec::new(alloc);
-    while let Some(unit) = core.unit_at(units.as_slice().len()) {
-        units.push(unit.copy()?)?;
-    }
-    Ok(units)
 }
 
 /// Makes a pass, and answers whether it appended something.

@@ -1,4 +1,4 @@
-use Rattle.std.proofs.Common.{◌≡◌, true, sym, ap, subst, ◌∙◌}
+use Rattle.std.proofs.Common.{◌≡◌, true, sym, subst}
 use Rattle.std.specs.Prelude.{is_some, option_copied}
 use Rattle.df_crew.specs.CrewState.{CrewState}
 use Rattle.df_crew.proofs.Minded.{found_there}

@@ -1,0 +1,6 @@
+//! What is kept of units, by their names.
+#![tactic(auto)]
+
+mod kept;
+
+pub use kept::Kept;

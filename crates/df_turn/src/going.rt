@@ -1,0 +1,167 @@
+//! A turn under way: a unit's local calls, made by its brain.
+
+ghost use Rattle.std.specs.Prelude.{◌≡◌, ◌<◌, ◌∷◌, [], IfOk, OnErr, OnOk, length, true};
+ghost use Rattle.df_brain.specs.Brain.{last_of};
+ghost use Rattle.df_brain.specs.declared.want.Want.TheVariants.{Wait};
+ghost use Rattle.df_rules.specs.Follows.{Last as Told, brain_of};
+ghost use Rattle.df_turn.specs.Locally.{most_local, ready_from};
+ghost use Rattle.df_turn.specs.code.Going.{IsEnded, IsGoing, IsMade, goes_on, led, steps_left};
+ghost use Rattle.df_turn.specs.declared.stage.Stage.TheVariants.{Wants};
+ghost use Rattle.df_unit.specs.declared.entry.Entry.{Entry};
+
+use crate::mind::Mind;
+use crate::ready::Ready;
+use crate::shared::Shared;
+use crate::stage::{Stage, made};
+use df_brain::{Brain, Last, Want};
+use df_label::NoMemory;
+use df_local::Local;
+use df_local_run::LocalRun;
+use df_unit::Entry;
+use std::alloc::Global;
+use std::mem;
+
+// The most local calls of a turn.
+const MOST_LOCAL: usize = 1_024;
+
+/// The local calls so far, the brain's state, and what the brain does next.
+#[derive(Drop)]
+pub struct Going<B: Brain> {
+    pub run: LocalRun,
+    pub state: Shared<B>,
+    pub stage: Stage,
+}
+
+/// Tells a brain the reply of its entry, and answers what it is told next.
+fn tell<B: Brain>(
+    alloc: Global,
+    state: &mut Shared<B>,
+    last: Last,
+    entry: &Entry,
+) -> Result<Last, NoMemory>
+    ensures { IfOk result (λ l. (state.new, last_of l)
+        ≡ led (brain_of B.next B.instance) (entry.now ∷ []) (state.old, last_of last)) }
+{
+    match entry {
+        Entry::Done { reply, .. } => {
+            let _want = state.next(alloc, &last)?;
+            Ok(Last::Reply(reply.copy()?))
+        }
+        Entry::Emitted { .. } => Ok(last),
+    }
+}
+
+/// Tells a brain the replies of its entries in turn, and answers what it is told next.
+fn tell_all<B: Brain>(
+    alloc: Global,
+    state: &mut Shared<B>,
+    mut last: Last,
+    entries: &[Entry],
+) -> Result<Last, NoMemory>
+    ensures { IfOk result (λ l. (state.new, last_of l)
+        ≡ led (brain_of B.next B.instance) entries.now (state.old, last_of last)) }
+{
+    for entry in entries {
+        last = tell(alloc, state, last, entry)?;
+    }
+    Ok(last)
+}
+
+impl<B: Brain> Going<B> {
+    /// A turn without calls. The brain's state is shared.
+    pub(crate) fn begin(alloc: Global, unit: &Local, mind: &Mind<B>) -> Result<Going<B>, NoMemory>
+        ensures unit { IfOk result (λ g. g.run.base ≡ unit.now) }
+        ensures going { IfOk result (λ g. IsGoing (brain_of B.next B.instance) mind.now g) }
+    {
+        let state = mind.state.share()?;
+        let last = mind.last.copy()?;
+        let run = LocalRun::begin(alloc, unit)?;
+        Ok(Going {
+            run,
+            state,
+            stage: Stage::Told(last),
+        })
+    }
+
+    /// Makes the local call that is wanted.
+    fn make(&mut self) -> Result<(), NoMemory>
+        requires { goes_on self.old.stage ≡ true }
+        ensures ok { OnOk result (IsMade self.old.run self.new.run self.old.stage self.new.stage) }
+        ensures state { self.new.state ≡ self.old.state }
+        ensures unchanged { OnErr result (self.new ≡ self.old) }
+    {
+        let stage = mem::replace(&mut self.stage, Stage::Wants(Want::Wait));
+        match made(&mut self.run, stage) {
+            Ok(stage) => {
+                self.stage = stage;
+                Ok(())
+            }
+            Err(stage) => {
+                self.stage = stage;
+                Err(NoMemory)
+            }
+        }
+    }
+
+    /// Asks the brain, or makes the local call that it wants.
+    fn step(&mut self, alloc: Global) -> Result<(), NoMemory>
+        requires few { length self.old.run.entries < most_local }
+        requires goes_on { goes_on self.old.stage ≡ true }
+        ensures base { self.new.run.base ≡ self.old.run.base }
+        ensures going { (m : B × Told) → IsGoing (brain_of B.next B.instance) m self.old →
+            IsGoing (brain_of B.next B.instance) m self.new }
+        ensures fewer { OnOk result (steps_left self.new < steps_left self.old) }
+    {
+        match &self.stage {
+            Stage::Told(last) => {
+                let want = self.state.next(alloc, last)?;
+                self.stage = Stage::Wants(want);
+                Ok(())
+            }
+            Stage::Wants(_) => self.make(),
+        }
+    }
+
+    /// Makes the local calls that are wanted. Where there is no memory, some are made.
+    pub(crate) fn go_on(&mut self, alloc: Global) -> Result<(), NoMemory>
+        ensures base { self.new.run.base ≡ self.old.run.base }
+        ensures going { (m : B × Told) → IsGoing (brain_of B.next B.instance) m self.old →
+            IsGoing (brain_of B.next B.instance) m self.new }
+        ensures ended { OnOk result ((m : B × Told) →
+            IsGoing (brain_of B.next B.instance) m self.old → IsEnded self.new) }
+    {
+        while self.run.entries().len() < MOST_LOCAL && self.stage.goes_on() {
+            self.step(alloc)?;
+        }
+        Ok(())
+    }
+
+    /// How the turn ends, once no local call is left to make.
+    pub(crate) fn ready(&self) -> Ready
+        ensures { (m : B × Told) → IsGoing (brain_of B.next B.instance) m self.now →
+            IsEnded self.now →
+            result ≡ ready_from (brain_of B.next B.instance) most_local self.now.run.base m.0 m.1 }
+    {
+        match &self.stage {
+            Stage::Told(_) => Ready::Long,
+            Stage::Wants(want) => match want {
+                Want::Call(_) => Ready::Shared,
+                Want::Wait => Ready::Waiting,
+            },
+        }
+    }
+
+    /// The brain before the wait that it wants, which is the one with which the turn began, gone
+    /// on behind the local calls. It costs a copy of its state where there are any.
+    pub fn resting(&self, alloc: Global, base: &Mind<B>) -> Result<Mind<B>, NoMemory>
+        requires going { IsGoing (brain_of B.next B.instance) base.now self.now }
+        requires waits { self.now.stage ≡ Wants Wait }
+        ensures { IfOk result (λ m.
+            m ≡ led (brain_of B.next B.instance) self.now.run.entries base.now) }
+    {
+        let mut state = base.state.share()?;
+        let last = base.last.copy()?;
+        let last = tell_all(alloc, &mut state, last, self.run.entries())?;
+        Ok(Mind::new(state, last).known_to_wait())
+    }
+}
