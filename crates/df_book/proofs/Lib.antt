@@ -1,4 +1,6 @@
 pub mod Arrivals
+pub mod AtFork
+pub mod ByPlace
 pub mod Calm
 pub mod Planned
 pub mod Quantities
@@ -7,3 +9,4 @@ pub mod Settling
 pub mod Sooner
 pub mod Spans
 pub mod Standing
+pub mod Walks

@@ -22,7 +22,7 @@ nothing_left o left [] e = refl
 nothing_left o left (h ∷ t) e =
     ap (λ b. cond b (behind_all (trade_of o h.1 (lesser left h.1.qty) ∷ []) (fill_of left h ∷ []) (plan_of o (left -ℤ lesser left h.1.qty) t)) (record { trades = []; fills = []; left = left })) e
 
-planned_first : (o : Order) (left : ℤ) (h : Arrived) (t : List Arrived) → int_lt (pos 0) left ≡ true →
+pub planned_first : (o : Order) (left : ℤ) (h : Arrived) (t : List Arrived) → int_lt (pos 0) left ≡ true →
     plan_of o left (h ∷ t) ≡ behind_all (trade_of o h.1 (lesser left h.1.qty) ∷ []) (fill_of left h ∷ []) (plan_of o (left -ℤ lesser left h.1.qty) t)
 planned_first o left h t e =
     ap (λ b. cond b (behind_all (trade_of o h.1 (lesser left h.1.qty) ∷ []) (fill_of left h ∷ []) (plan_of o (left -ℤ lesser left h.1.qty) t)) (record { trades = []; fills = []; left = left })) e

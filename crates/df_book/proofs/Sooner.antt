@@ -1,6 +1,5 @@
 -- What came first of all that rests, against the orders in order of arrival.
-use Rattle.std.proofs.Common.{◌≡◌, ℕ, suc, ◌+◌, ◌≤◌, ◌<◌, List, [], ◌∷◌, Bool, true, false, cond, refl, sym, ◌∙◌, ap, ap₂, subst, Some, None, drop, arith}
-use Rattle.std.specs.List.{AllZip}
+use Rattle.std.proofs.Common.{◌≡◌, ℕ, suc, ◌+◌, ◌≤◌, ◌<◌, List, [], ◌∷◌, ◌++◌, Bool, true, false, cond, refl, sym, ◌∙◌, ap, ap₂, subst, Some, None, drop, arith}
 use Rattle.std.specs.Prelude.{Option, nat_lt}
 use Rattle.std.specs.Map.{values_of}
 use Rattle.std.proofs.lemmas.Bool.{ltb-true, ltb-false, lt-ltb, le-ltb}
@@ -8,7 +7,7 @@ use Rattle.std.proofs.lemmas.Option.{none-some, same_Some}
 use Rattle.df_book.specs.declared.order.Order.{Order}
 use Rattle.df_book.specs.declared.place.Place.{Place}
 use Rattle.df_book.specs.declared.place.Rest.{Rest}
-use Rattle.df_book.specs.code.Earliest.{IsSamePlace, due, earliest, since, sooner}
+use Rattle.df_book.specs.code.Earliest.{due, earliest, since, sooner, sooner_of}
 use Rattle.df_book.specs.code.Places.{IsInOrder, arrived, by_arrival, put}
 use Rattle.df_book.proofs.Arrivals.{Arrived, taken}
 
@@ -138,8 +137,37 @@ pub ended : (k n m : ℕ) (es fs : List (Place × Rest)) → IsInOrder 0 k (by_a
 ended k n m es fs i j r e f =
     r.to (ap values_of (none_in (since n (by_arrival es)) (sym (earliest_is k n es i) ∙ e)) ∙ sym (ap values_of (none_in (since m (by_arrival fs)) (sym (earliest_is k m fs j) ∙ f))))
 
-pub cloned : (es fs : List (Place × Rest)) → AllZip (λ p q. IsSamePlace p.0 q.0 × (q.1 ≡ p.1)) es fs → by_arrival fs ≡ by_arrival es
-cloned [] [] z = refl
-cloned [] (f ∷ fs) z = absurd z
-cloned (e ∷ es) [] z = absurd z
-cloned (e ∷ es) (f ∷ fs) z = ap₂ put (ap (λ r. arrived (f.0, r)) z.0.1 ∙ z.0.0 e.1) (cloned es fs z.1)
+-- ---- what came first of several parts
+
+sooner_None : (a : Option Arrived) → sooner a None ≡ a
+sooner_None None = refl
+sooner_None (Some a) = refl
+
+sooner_assoc : (a b c : Option Arrived) → sooner (sooner a b) c ≡ sooner a (sooner b c)
+sooner_assoc None b c = refl
+sooner_assoc (Some a) None c = refl
+sooner_assoc (Some a) (Some b) None = sooner_None (sooner_of a b)
+sooner_assoc (Some a) (Some b) (Some c) = go (nat_lt a.0 b.0) refl (nat_lt b.0 c.0) refl
+  where
+    go : (x : Bool) → nat_lt a.0 b.0 ≡ x → (y : Bool) → nat_lt b.0 c.0 ≡ y → sooner (cond x (Some a) (Some b)) (Some c) ≡ sooner (Some a) (cond y (Some b) (Some c))
+    go true h true k =
+        let l = ltb-true a.0 b.0 h in
+        let m = ltb-true b.0 c.0 k in
+        ap (λ x. cond x (Some a) (Some c)) (lt-ltb a.0 c.0 (omega arith)) ∙ sym (ap (λ x. cond x (Some a) (Some b)) h)
+    go true h false k = refl
+    go false h true k = ap (λ x. cond x (Some b) (Some c)) k ∙ sym (ap (λ x. cond x (Some a) (Some b)) h)
+    go false h false k =
+        let l = ltb-false a.0 b.0 h in
+        let m = ltb-false b.0 c.0 k in
+        ap (λ x. cond x (Some b) (Some c)) k ∙ sym (ap (λ x. cond x (Some a) (Some c)) (le-ltb a.0 c.0 (omega arith)))
+
+earliest_more : (from : ℕ) (es fs : List (Place × Rest)) → earliest from (es ++ fs) ≡ sooner (earliest from es) (earliest from fs)
+earliest_more from [] fs = refl
+earliest_more from (e ∷ es) fs = ap (sooner (due from e)) (earliest_more from es fs) ∙ sym (sooner_assoc (due from e) (earliest from es) (earliest from fs))
+
+-- the best so far, and what came first to the left, at the entry, and to the right
+pub soonest_at : (best : Option Arrived) (from : ℕ) (l : List (Place × Rest)) (e : Place × Rest) (r : List (Place × Rest)) →
+    sooner (sooner (sooner best (earliest from l)) (due from e)) (earliest from r) ≡ sooner best (earliest from (l ++ e ∷ r))
+soonest_at best from l e r =
+    sooner_assoc (sooner best (earliest from l)) (due from e) (earliest from r) ∙ sooner_assoc best (earliest from l) (earliest from (e ∷ r))
+    ∙ ap (sooner best) (sym (earliest_more from l (e ∷ r)))

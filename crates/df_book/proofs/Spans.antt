@@ -4,7 +4,7 @@ use Rattle.std.proofs.lemmas.Int.{ints}
 use Rattle.std.specs.Prelude.{ℤ, pos, negsuc, neg_ℤ, ◌≤ℤ◌, ◌<ℤ◌, int_lt, int_le, nat_lt, ◌==◌, bytes_eq, string_bytes, All}
 use Rattle.std.specs.declared.cmp.Ordering.{Ordering}
 use Rattle.std.specs.declared.cmp.Ordering.TheVariants.{Less, Equal, Greater}
-use Rattle.std.specs.Ordering.{is_eq, is_le, is_lt, is_gt, nat_cmp, int_cmp, bool_cmp, ordering_then}
+use Rattle.std.specs.Ordering.{is_eq, is_le, is_lt, nat_cmp, int_cmp, bool_cmp, ordering_then}
 use Rattle.std.specs.Cmp.Lexicographic.{slice_cmp}
 use Rattle.std.specs.List.Sorted.{IsStrictlySortedBy}
 use Rattle.std.specs.Map.{keys_of}
@@ -243,23 +243,3 @@ spans o first last m (e ∷ es) s k l i =
     go t true q ih =
         ap (λ xs. arrived e ∷ xs) ih ∙ sym (queue_put o (arrived e) (by_arrival es) (sym q) (leads o e es (sym q) (All-after_first place_cmp e.0 (keys_of es) k)))
     go t false q ih = ih ∙ sym (queue_other o (arrived e) (by_arrival es) (sym q))
-
--- the places of a span run forwards
-pub forwards : (o : Order) (first last : Place) → IsSpan o first last → MayRest o → is_gt (place_cmp first last) ≡ false
-forwards o first last s m =
-    ap is_gt (
-    ap₂ ordering_then (ap₂ (slice_cmp nat_cmp) s.first_symbol s.last_symbol ∙ tied_itself nat_list_cmp_total o.symbol)
-    (
-    ap₂ ordering_then (ap₂ bool_cmp s.first_sell s.last_sell ∙ same (not o.sell))
-    (ap₂ ordering_then (ap₂ int_cmp s.first_rank s.last_rank) (ap₂ nat_cmp s.first_arrival s.last_arrival))
-    )
-    )
-    ∙ ap (λ b. is_gt (ordering_then (cond b Less (cond (int_lt (neg_ℤ (rank_of o)) least) Greater Equal)) Less)) (above o.sell)
-  where
-    same : (b : Bool) → bool_cmp b b ≡ Equal
-    same true = refl
-    same false = refl
-
-    above : (b : Bool) → int_lt least (neg_ℤ (cond b o.limit (neg_ℤ o.limit))) ≡ true
-    above true = grind (arith, ints, m.limit, m.limit_fits)
-    above false = grind (arith, ints, m.limit, m.limit_fits)

@@ -6,15 +6,16 @@ use Rattle.std.specs.Prelude.{ℤ, pos, neg_ℤ, int_lt, nat_lt, ◌==◌, strin
 use Rattle.std.specs.declared.cmp.Ordering.{Ordering}
 use Rattle.std.specs.declared.cmp.Ordering.TheVariants.{Less, Equal, Greater}
 use Rattle.std.specs.Ordering.{is_eq, nat_cmp, int_cmp, bool_cmp, ordering_then, match_ordering, MatchOrdering}
-use Rattle.std.specs.Map.{lookup, remove_entry, set_value}
+use Rattle.std.specs.Map.{lookup}
 use Rattle.std.specs.BTreeMap.{insert_entry, is_at}
 use Rattle.std.proofs.lemmas.Bool.{false≢true, eqb-true}
 use Rattle.std.proofs.lemmas.Cmp.{ranked, tied_itself, nat_list_cmp_total, int_cmp_total, nat_cmp_total}
-use Rattle.std.proofs.lemmas.Option.{none-some, same_Some}
+use Rattle.std.proofs.lemmas.Option.{none-some}
 use Rattle.df_book.specs.declared.order.Order.{Order}
 use Rattle.df_book.specs.declared.place.Place.{Place}
 use Rattle.df_book.specs.declared.place.Rest.{Rest}
 use Rattle.df_book.specs.code.Places.{rank_of, order_at, place_cmp, arrived, put, by_arrival, IsInOrder, left_at}
+use Rattle.df_book.specs.code.Trees.{left_here, left_in, with_left}
 use Rattle.df_book.proofs.Arrivals.{Arrived, Apart, Taken, taken, put_last, put_ahead, left_put, left_past}
 use Rattle.df_book.proofs.Queued.{Found}
 
@@ -74,37 +75,23 @@ not_apart p r (e ∷ es) h a =
 other_arrival : (n m : ℕ) (p : Place) (r : Rest) (e : Place × Rest) (es : List (Place × Rest)) → Taken n m (arrived e) (by_arrival es) → lookup (is_at (place_cmp p)) es ≡ Some r → e.0.arrival ≢ p.arrival
 other_arrival n m p r e es t h q = not_apart p r es h (subst (λ a. Apart a (by_arrival es)) q t.apart)
 
--- the order at a place goes
-pub removed : (n m : ℕ) (p : Place) (left : ℤ) (r : Rest) (es : List (Place × Rest)) → IsInOrder n m (by_arrival es) → lookup (is_at (place_cmp p)) es ≡ Some r → int_lt (pos 0) left ≡ false →
-    by_arrival (remove_entry (is_at (place_cmp p)) es) ≡ left_at p.arrival left (by_arrival es)
-removed n m p left r [] i h l = absurd (none-some r h)
-removed n m p left r (e ∷ es) i h l =
-    let t = taken n m (arrived e) (by_arrival es) i in
-    go t (is_eq (place_cmp p e.0)) refl h (λ k. removed n m p left r es t.others k l)
-  where
-    go : Taken n m (arrived e) (by_arrival es) → (b : Bool) → is_eq (place_cmp p e.0) ≡ b → cond b (Some e.1) (lookup (is_at (place_cmp p)) es) ≡ Some r →
-        (lookup (is_at (place_cmp p)) es ≡ Some r → by_arrival (remove_entry (is_at (place_cmp p)) es) ≡ left_at p.arrival left (by_arrival es)) →
-        by_arrival (cond b es (e ∷ remove_entry (is_at (place_cmp p)) es)) ≡ left_at p.arrival left (by_arrival (e ∷ es))
-    go t true k h again =
-        sym (ap (λ b. cond b (put (e.0.arrival, record (order_at e.0 e.1) { qty = left }) (by_arrival es)) (by_arrival es)) l)
-        ∙ sym (left_put e.0.arrival left (order_at e.0 e.1) (by_arrival es) t.apart) ∙ ap (λ a. left_at a left (by_arrival (e ∷ es))) (sym (at_arrivals p e.0 k))
-    go t false k h again =
-        ap (put (arrived e)) (again h) ∙ sym (left_past n m p.arrival left (arrived e) (by_arrival es) (other_arrival n m p r e es t h) t.others)
-
 -- so much is left of the order at a place
-pub changed : (n m : ℕ) (p : Place) (left : ℤ) (r : Rest) (es : List (Place × Rest)) → IsInOrder n m (by_arrival es) → lookup (is_at (place_cmp p)) es ≡ Some r → int_lt (pos 0) left ≡ true →
-    by_arrival (set_value (is_at (place_cmp p)) es (record r { qty = left })) ≡ left_at p.arrival left (by_arrival es)
-changed n m p left r [] i h l = absurd (none-some r h)
-changed n m p left r (e ∷ es) i h l =
+pub left_arrived : (n m : ℕ) (p : Place) (left : ℤ) (r : Rest) (es : List (Place × Rest)) → IsInOrder n m (by_arrival es) → lookup (is_at (place_cmp p)) es ≡ Some r →
+    by_arrival (left_in p left es) ≡ left_at p.arrival left (by_arrival es)
+left_arrived n m p left r [] i h = absurd (none-some r h)
+left_arrived n m p left r (e ∷ es) i h =
     let t = taken n m (arrived e) (by_arrival es) i in
-    go t (is_eq (place_cmp p e.0)) refl h (λ k. changed n m p left r es t.others k l)
+    go t (is_eq (place_cmp p e.0)) refl h (λ k. left_arrived n m p left r es t.others k)
   where
+    here : (c : Bool) → by_arrival (cond c (with_left left e ∷ es) es) ≡ cond c (put (e.0.arrival, record (order_at e.0 e.1) { qty = left }) (by_arrival es)) (by_arrival es)
+    here true = refl
+    here false = refl
+
     go : Taken n m (arrived e) (by_arrival es) → (b : Bool) → is_eq (place_cmp p e.0) ≡ b → cond b (Some e.1) (lookup (is_at (place_cmp p)) es) ≡ Some r →
-        (lookup (is_at (place_cmp p)) es ≡ Some r → by_arrival (set_value (is_at (place_cmp p)) es (record r { qty = left })) ≡ left_at p.arrival left (by_arrival es)) →
-        by_arrival (cond b ((e.0, record r { qty = left }) ∷ es) (e ∷ set_value (is_at (place_cmp p)) es (record r { qty = left }))) ≡ left_at p.arrival left (by_arrival (e ∷ es))
+        (lookup (is_at (place_cmp p)) es ≡ Some r → by_arrival (left_in p left es) ≡ left_at p.arrival left (by_arrival es)) →
+        by_arrival (cond b (left_here left e es) (e ∷ left_in p left es)) ≡ left_at p.arrival left (by_arrival (e ∷ es))
     go t true k h again =
-        ap (λ (v : Rest). put (e.0.arrival, order_at e.0 (record v { qty = left })) (by_arrival es)) (sym (same_Some e.1 r h))
-        ∙ sym (ap (λ b. cond b (put (e.0.arrival, record (order_at e.0 e.1) { qty = left }) (by_arrival es)) (by_arrival es)) l)
+        here (int_lt (pos 0) left)
         ∙ sym (left_put e.0.arrival left (order_at e.0 e.1) (by_arrival es) t.apart) ∙ ap (λ a. left_at a left (by_arrival (e ∷ es))) (sym (at_arrivals p e.0 k))
     go t false k h again =
         ap (put (arrived e)) (again h) ∙ sym (left_past n m p.arrival left (arrived e) (by_arrival es) (other_arrival n m p r e es t h) t.others)
@@ -183,3 +170,10 @@ placed o p r left e f g i q t =
     limit : (b : Bool) → cond b (cond b o.limit (neg_ℤ o.limit)) (neg_ℤ (cond b o.limit (neg_ℤ o.limit))) ≡ o.limit
     limit true = refl
     limit false = grind (arith, ints)
+
+-- one more order rests, the last
+pub came : (o : Order) (p : Place) (r : Rest) (left : ℤ) (arrivals : ℕ) (es fs : List (Place × Rest)) (e : Place × Rest) → fs ≡ insert_entry place_cmp es e.0 e.1 → e ≡ (p, r) →
+    IsInOrder 0 arrivals (by_arrival es) → p.arrival ≡ arrivals → order_at p r ≡ record o { qty = left } → by_arrival fs ≡ by_arrival es ++ (arrivals, record o { qty = left }) ∷ []
+came o p r left arrivals es fs e f g i a h =
+    ap by_arrival (f ∙ ap (λ (e : Place × Rest). insert_entry place_cmp es e.0 e.1) g)
+    ∙ inserted p r es (subst (λ n. IsInOrder 0 n (by_arrival es)) (sym a) i) ∙ ap₂ (λ (n : ℕ) (o : Order). by_arrival es ++ (n, o) ∷ []) a h

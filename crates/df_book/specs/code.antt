@@ -1,2 +1,4 @@
 pub mod Places
 pub mod Earliest
+pub mod Nodes
+pub mod Trees

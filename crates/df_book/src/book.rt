@@ -5,18 +5,18 @@ ghost use Rattle.df_book.specs.Submitting.{submitted};
 
 use crate::compare::same_in_order;
 use crate::order::Order;
-use crate::place::{Place, Rest, Span};
+use crate::place::Span;
 use crate::resting::{plan, rest, settle};
 use crate::trade::Trade;
+use crate::tree::Tree;
 use df_frozen::NoMemory;
 use std::alloc::Global;
-use std::collections::BTreeMap;
 use std::marker::Model;
 
 /// The resting orders of all symbols, each with what is left of it, in order of arrival.
 #[derive(Drop)]
 pub struct Book {
-    orders: BTreeMap<Place, Rest>,
+    orders: Tree,
     /// How many orders have come to rest.
     arrivals: u64,
     alloc: Global,
@@ -27,12 +27,13 @@ impl Model for Book {
     ghost use Rattle.std.specs.Map.{values_of};
     ghost use Rattle.df_book.specs.declared.order.Order.{Order};
     ghost use Rattle.df_book.specs.code.Places.{by_arrival, IsInOrder};
+    ghost use Rattle.df_book.specs.code.Trees.{IsByPlace};
 
     ghost Value = { List Order };
 
-    ghost view = { λ b. values_of (by_arrival b.orders.entries) };
+    ghost view = { λ b. values_of (by_arrival b.orders) };
 
-    ghost invariant = { λ b. IsInOrder 0 b.arrivals (by_arrival b.orders.entries) };
+    ghost invariant = { λ b. IsByPlace b.orders × IsInOrder 0 b.arrivals (by_arrival b.orders) };
 }
 
 impl Book {
@@ -41,7 +42,7 @@ impl Book {
         ensures { result ≡ [] }
     {
         Book {
-            orders: BTreeMap::new(alloc),
+            orders: Tree::new(),
             arrivals: 0,
             alloc,
         }
@@ -58,14 +59,16 @@ impl Book {
     {
         let span = Span::of(self.alloc, &order)?;
         let plan = plan(self.alloc, &self.orders, &order, &span)?;
-        self.arrivals = rest(
+        let orders = settle(
             self.alloc,
-            &mut self.orders,
+            &self.orders,
             &order,
-            plan.left,
-            self.arrivals,
+            span.last,
+            plan.fills.as_slice(),
         )?;
-        settle(&mut self.orders, &order, span.last, plan.fills.as_slice());
+        let arrived = rest(self.alloc, orders, &order, plan.left, self.arrivals)?;
+        self.orders = arrived.orders;
+        self.arrivals = arrived.arrivals;
         Ok(plan.trades)
     }
 
@@ -79,11 +82,12 @@ impl Book {
         same_in_order(&self.orders, &other.orders)
     }
 
+    /// Takes the same time however many orders rest.
     pub fn copy(&self) -> Result<Book, NoMemory>
         ensures { IfOk result (λ b. b ≡ self.now) }
     {
         Ok(Book {
-            orders: self.orders.clone()?,
+            orders: self.orders.share()?,
             arrivals: self.arrivals,
             alloc: self.alloc,
         })

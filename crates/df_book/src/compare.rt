@@ -6,7 +6,7 @@ ghost use Rattle.df_book.specs.code.Earliest.{due, earliest, shown, sooner};
 ghost use Rattle.df_book.specs.code.Places.{by_arrival, order_at, IsInOrder};
 
 use crate::place::{Place, Rest};
-use std::collections::BTreeMap;
+use crate::tree::{Fork, Tree};
 
 /// The one of two that came first.
 fn sooner<'a>(
@@ -26,15 +26,28 @@ fn sooner<'a>(
     }
 }
 
-/// What came first of all that arrived from a number on.
-fn earliest(orders: &BTreeMap<Place, Rest>, from: u64) -> Option<(&Place, &Rest)>
-    ensures { shown result ≡ earliest from orders.now.entries }
+/// What came first of the best so far and all that arrived from a number on.
+fn soonest<'a>(
+    best: Option<(&'a Place, &'a Rest)>,
+    from: u64,
+    orders: &'a Tree,
+) -> Option<(&'a Place, &'a Rest)>
+    ensures { shown result ≡ sooner (shown best.entry) (earliest from orders.now) }
 {
-    let mut best = None;
-    for (place, rest) in orders {
-        best = sooner(best, from, place, rest);
-    }
-    best
+    let Some(fork) = &orders.root else {
+        return best;
+    };
+    let fork: &Fork = fork;
+    let left = soonest(best, from, &fork.left);
+    let here = sooner(left, from, fork.entry.place(), fork.entry.rest());
+    soonest(here, from, &fork.right)
+}
+
+/// What came first of all that arrived from a number on.
+fn earliest(orders: &Tree, from: u64) -> Option<(&Place, &Rest)>
+    ensures { shown result ≡ earliest from orders.now }
+{
+    soonest(None, from, orders)
 }
 
 /// Whether the orders at two places are equal.
@@ -51,11 +64,11 @@ fn same_at(place: &Place, rest: &Rest, other: &Place, other_rest: &Rest) -> bool
 }
 
 /// Whether the same orders rest, in the same order of arrival. The arrivals themselves may differ.
-pub(crate) fn same_in_order(a: &BTreeMap<Place, Rest>, b: &BTreeMap<Place, Rest>) -> bool
-    requires a_in_order { IsInOrder 0 u64.MAX (by_arrival a.now.entries) }
-    requires b_in_order { IsInOrder 0 u64.MAX (by_arrival b.now.entries) }
+pub(crate) fn same_in_order(a: &Tree, b: &Tree) -> bool
+    requires a_in_order { IsInOrder 0 u64.MAX (by_arrival a.now) }
+    requires b_in_order { IsInOrder 0 u64.MAX (by_arrival b.now) }
     ensures { IsTrue result
-        ↔ (values_of (by_arrival a.now.entries) ≡ values_of (by_arrival b.now.entries)) }
+        ↔ (values_of (by_arrival a.now) ≡ values_of (by_arrival b.now)) }
 {
     let mut a_from = 0;
     let mut b_from = 0;

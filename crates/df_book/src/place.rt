@@ -5,7 +5,7 @@ ghost use Rattle.df_book.specs.code.Places.{rank_of, limit_of};
 
 use crate::order::Order;
 use df_frozen::NoMemory;
-use std::alloc::{AllocError, Global};
+use std::alloc::Global;
 
 /// A place in a book. Of the places of a symbol and a side, the one that trades first comes first.
 #[derive(PartialEq, Eq, PartialOrd, Ord, Drop)]
@@ -16,21 +16,6 @@ pub(crate) struct Place {
     pub rank: i64,
     /// The number of the order among all that rest or rested.
     pub arrival: u64,
-}
-
-impl Clone for Place {
-    ghost use Rattle.df_book.specs.code.Earliest.{IsSamePlace};
-
-    ghost is_clone = { IsSamePlace };
-
-    fn clone(&self) -> Result<Place, AllocError> {
-        Ok(Place {
-            symbol: self.symbol.clone()?,
-            sell: self.sell,
-            rank: self.rank,
-            arrival: self.arrival,
-        })
-    }
 }
 
 /// What rests at a place.

@@ -1,5 +1,5 @@
 -- Which resting order came first.
-use Rattle.std.specs.Prelude.{◌≡◌, ℕ, nat_lt, if◌then◌else◌, List, [], ◌∷◌, Option, Some, None}
+use Rattle.std.specs.Prelude.{ℕ, nat_lt, if◌then◌else◌, List, [], ◌∷◌, Option, Some, None}
 use Rattle.std.specs.Borrow.{Bor}
 use Rattle.df_book.specs.declared.order.Order.{Order}
 use Rattle.df_book.specs.declared.place.Place.{Place}
@@ -34,7 +34,3 @@ earliest from (e ∷ es) = sooner (due from e) (earliest from es)
 abbrev pub since : ℕ → List (ℕ × Order) → List (ℕ × Order)
 since from [] = []
 since from (x ∷ xs) = if nat_lt x.0 from then since from xs else x ∷ xs
-
--- whatever rests at them, the two places tell the same
-abbrev pub IsSamePlace : Place → Place → Type 0
-IsSamePlace p q = (r : Rest) → arrived (q, r) ≡ arrived (p, r)
