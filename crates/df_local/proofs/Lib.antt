@@ -1,4 +1,2 @@
-pub mod OpenHandles
 pub mod ReadInTurn
 pub mod Begun
-pub mod NamedInTurn

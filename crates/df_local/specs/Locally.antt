@@ -1,8 +1,5 @@
 -- What the calls of a unit make of it.
-use Rattle.std.specs.Prelude.{Some, ℕ, Bool, ◌≡◌, ◌+◌, ⊤, not, ◌&&◌, if◌then◌else◌, nat_le, length, List, [], ◌∷◌}
-use Rattle.std.specs.List.{filter, list_any}
-use Rattle.df_part.specs.Contents.{is_at, is_deleted}
-use Rattle.df_part.specs.Part.{readable}
+use Rattle.std.specs.Prelude.{Some, ℕ, ◌≡◌, ◌+◌, ⊤, not, ◌&&◌, if◌then◌else◌, nat_le, length, List, [], ◌∷◌}
 use Rattle.df_label.specs.declared.label.Label.{Label}
 use Rattle.df_label.specs.declared.privilege.Privilege.{Privilege}
 use Rattle.df_unit.specs.declared.call.Call.{Call}
@@ -125,15 +122,3 @@ IsRefusal NoMemory r = ⊤
 -- the closing call is refused in this way
 abbrev pub Refuses : Close → ℕ → LocalState → EditRefused → Type 0
 Refuses how h l e = IsRefusal e (reply l.unit l.own [] (closing how h))
-
--- whether a part of a view is readable and isn't named for deletion
-abbrev pub is_visible : Label → List Spot → Part → Bool
-is_visible input named part = readable input part && not (is_deleted part named)
-
--- the parts of a view that are readable and aren't named for deletion
-abbrev pub visible_in : Label → List Spot → List Part → List Part
-visible_in input named parts = filter (is_visible input named) parts
-
--- whether one of these parts is visible and has the name and the exact label of a spot
-abbrev pub has_seen : Label → List Spot → Spot → List Part → Bool
-has_seen input named d parts = list_any (λ part. is_visible input named part && is_at part d) parts

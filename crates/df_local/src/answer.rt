@@ -9,7 +9,6 @@ ghost use Rattle.df_local.specs.Locally.{IsRefusal, closing, done_by};
 
 use crate::Local;
 use crate::close::{Close, EditRefused};
-use crate::handles::{is_full, least_free};
 use df_label::NoMemory;
 use df_unit::{Call, Commit, Effect, Given, Reply};
 
@@ -59,7 +58,6 @@ impl Local {
         }
     }
 
-    #[tactic(auto, using(crate::proofs::OpenHandles::least_free_within))]
     fn get_answer(&self, next: Option<&Given>) -> Result<Answer, NoMemory>
         ensures reply { IfOk result (λ a. a.reply ≡ reply self.now.unit self.now.own
             (option_to_list (option_copied next.entry)) Call.Get) }
@@ -69,16 +67,13 @@ impl Local {
         let Some(given) = next else {
             return Ok(quiet(Reply::Nothing));
         };
-        if is_full(self.handles.as_slice()) {
+        if self.handles.is_full() {
             return Ok(quiet(Reply::TooManyHandles));
         }
-        let h = least_free(self.handles.as_slice());
+        let h = self.handles.least_free();
         let copy = given.copy()?;
         Ok(Answer {
-            reply: Reply::Event {
-                h: h as u32,
-                sub: given.sub,
-            },
+            reply: Reply::Event { h, sub: given.sub },
             effect: Effect::Given(copy),
         })
     }

@@ -8,7 +8,8 @@ ghost use Rattle.df_local.specs.Births.{child_at};
 ghost use Rattle.df_local.specs.Locally.{with_own};
 
 use crate::Local;
-use crate::labels::contaminated;
+use crate::local::begun;
+use crate::standing::{Reading, Writing};
 use df_label::{Label, NoMemory};
 use df_priv::Held;
 use df_unit::{Path, UnitName};
@@ -42,26 +43,10 @@ impl Local {
         let UnitName::Root(path) = &self.name else {
             unreachable!()
         };
-        let path = path_with(self.alloc, path, number)?;
-        let contamination = contaminated(&self.contamination, &input)?;
-        let dropped = self.dropped.copy()?;
-        let endorsed = self.endorsed.copy()?;
-        Ok(Local {
-            name: UnitName::Root(path),
-            input,
-            output,
-            contamination,
-            dropped,
-            endorsed,
-            held,
-            handles: Vec::new(self.alloc),
-            given: 0,
-            events: 0,
-            tags: 0,
-            subs: 0,
-            units: 0,
-            alloc: self.alloc,
-        })
+        let name = UnitName::Root(path_with(self.alloc, path, number)?);
+        let reading = Reading::behind(&self.reading.contamination, input)?;
+        let writing = Writing::behind(output, &self.writing.dropped, &self.writing.endorsed)?;
+        Ok(begun(self.alloc, name, reading, writing, held))
     }
 }
 

@@ -10,8 +10,7 @@ ghost use Rattle.df_local.specs.declared.close.EditRefused.{EditRefused};
 ghost use Rattle.df_local.specs.Locally.{Commits, IsRefusal, Refuses, committed, done_by, edited, publish_reply, release_reply, released_by, with_own};
 
 use crate::Local;
-use crate::handles::{close, handle_at};
-use crate::parts::{copies_of, relabelled};
+use df_handles::{copies_of, relabelled};
 use df_label::{Label, NoMemory};
 use df_part::{Edit, Spot};
 use df_unit::{Commit, Handle};
@@ -49,12 +48,12 @@ impl Local {
         ensures ok { IfOk result (Commits how h self.now) }
         ensures refused { IfErr result (Refuses how h self.now) }
     {
-        let Some(handle) = handle_at(self.handles.as_slice(), h) else {
+        let Some(handle) = self.handles.get(h) else {
             return Err(EditRefused::NoSuchHandle);
         };
         match how {
-            Close::Publish => published(self.alloc, &self.output, handle),
-            Close::Release => released(self.alloc, &self.output, handle),
+            Close::Publish => published(self.alloc, &self.writing.output, handle),
+            Close::Release => released(self.alloc, &self.writing.output, handle),
         }
     }
 
@@ -63,7 +62,7 @@ impl Local {
         ensures { self.new ≡ with_own self.old
             (record self.old.own { handles = closed self.old.own.handles h }) }
     {
-        close(&mut self.handles, h);
+        self.handles.close(h);
     }
 }
 

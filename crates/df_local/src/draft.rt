@@ -7,11 +7,10 @@ ghost use Rattle.df_unit.specs.declared.entry.Effect.{Effect};
 ghost use Rattle.df_local.specs.Locally.{Answers, added_reply, with_own};
 
 use crate::Local;
-use crate::handles::{draft, handle_at, is_full, least_free, open};
 use crate::limits::{MOST_NUMBERS, MOST_PARTS};
-use crate::parts::new_part;
 use crate::take::is_accepted;
 use df_frozen::{Frozen, Name};
+use df_handles::new_part;
 use df_label::{Label, NoMemory};
 use df_part::Parts;
 use df_unit::{Drafts, EventName, Handle, Reply, Spots};
@@ -32,17 +31,16 @@ impl Local {
         }
     }
 
-    #[tactic(auto, using(crate::proofs::OpenHandles::least_free_within))]
     pub(crate) fn create_reply(&self) -> Reply
         ensures { result ≡ reply self.now.unit self.now.own [] Call.CreateEvent }
     {
-        if is_full(self.handles.as_slice()) {
+        if self.handles.is_full() {
             return Reply::TooManyHandles;
         }
         if self.events >= MOST_NUMBERS {
             return Reply::Exhausted;
         }
-        Reply::Handle(least_free(self.handles.as_slice()) as u32)
+        Reply::Handle(self.handles.least_free())
     }
 
     /// Opens a draft of the unit's next event, with these parts.
@@ -68,7 +66,7 @@ impl Local {
             named: Spots::new(Vec::new(self.alloc)),
             drafted,
         };
-        match open(&mut self.handles, handle) {
+        match self.handles.open(handle) {
             Ok(()) => {}
             Err(refused) => return Err(refused),
         }
@@ -101,7 +99,7 @@ impl Local {
     pub(crate) fn add_reply(&self, h: u32) -> Reply
         ensures { result ≡ added_reply self.now.own h }
     {
-        let Some(handle) = handle_at(self.handles.as_slice(), h) else {
+        let Some(handle) = self.handles.get(h) else {
             return Reply::NoSuchHandle;
         };
         if handle.drafted.as_slice().len() >= MOST_PARTS {
@@ -124,8 +122,8 @@ impl Local {
             (Call.AddPart h label.now name.now value.now) Effect.Nothing)) }
         ensures unchanged { OnErr result (self.new ≡ self.old) }
     {
-        match new_part(self.alloc, &self.output, label, name, value) {
-            Ok(part) => draft(&mut self.handles, h, part),
+        match new_part(self.alloc, &self.writing.output, label, name, value) {
+            Ok(part) => self.handles.draft(h, part),
             Err(refused) => Err(refused),
         }
     }
@@ -145,7 +143,7 @@ impl Local {
     pub(crate) fn drop_reply(&self, h: u32) -> Reply
         ensures { result ≡ reply self.now.unit self.now.own [] (Call.DropEvent h) }
     {
-        match handle_at(self.handles.as_slice(), h) {
+        match self.handles.get(h) {
             Some(_) => Reply::Ok,
             None => Reply::NoSuchHandle,
         }

@@ -1,13 +1,15 @@
 //! What a managed subscription keeps of its owner, and the instances that begin by it.
 
 ghost use Rattle.std.specs.Prelude.{◌≡◌, ◌<◌, IfOk, length, true};
-ghost use Rattle.df_label.specs.TagSet.{is_subset};
+ghost use Rattle.df_label.specs.TagSet.{is_subset, meet, union};
 ghost use Rattle.df_unit.specs.Beginnings.{fixed_of};
+ghost use Rattle.df_unit.specs.declared.name.UnitName.TheVariants.{Managed};
 ghost use Rattle.df_local.specs.Births.{IsAccounted, instance_at, record_of};
 
 use crate::Local;
-use crate::labels::contaminated;
 use crate::laws::tags_are_accounted_for;
+use crate::local::begun;
+use crate::standing::{Reading, Writing};
 use df_filter::Filter;
 use df_label::{Label, NoMemory, TagSet};
 use df_priv::Held;
@@ -29,6 +31,22 @@ pub struct Fixed {
     pub endorsed: TagSet,
 }
 
+/// What it keeps of the labels at which the owner reads and writes.
+#[derive(Drop)]
+struct Readable {
+    base: TagSet,
+    input_integrity: TagSet,
+    output_integrity: TagSet,
+}
+
+/// What it keeps of all that the owner read and set aside.
+#[derive(Drop)]
+struct Behind {
+    contamination: Label,
+    dropped: TagSet,
+    endorsed: TagSet,
+}
+
 impl Local {
     /// What a managed subscription with this filter keeps of the unit.
     pub fn fixed(&self, filter: &Filter) -> Result<Fixed, NoMemory>
@@ -47,19 +65,48 @@ impl Local {
         let Ok(filter) = filter.copy() else {
             return Err(NoMemory);
         };
-        let base = self.input.s.union(&self.output.s)?;
-        let input_integrity = self.input.i.copy()?;
-        let output_integrity = self.input.i.meet(&self.output.i)?;
+        let readable = self.readable()?;
+        let behind = self.behind()?;
         let held = self.held.copy()?;
-        let contamination = self.contamination.copy()?;
-        let dropped = self.dropped.copy()?;
-        let endorsed = self.endorsed.copy()?;
         Ok(Fixed {
             filter,
+            base: readable.base,
+            input_integrity: readable.input_integrity,
+            output_integrity: readable.output_integrity,
+            held,
+            contamination: behind.contamination,
+            dropped: behind.dropped,
+            endorsed: behind.endorsed,
+        })
+    }
+
+    fn readable(&self) -> Result<Readable, NoMemory>
+        ensures base { IfOk result (λ r. r.base
+            ≡ union self.now.own.input.s self.now.own.output.s) }
+        ensures input_integrity { IfOk result (λ r. r.input_integrity ≡ self.now.own.input.i) }
+        ensures output_integrity { IfOk result (λ r. r.output_integrity
+            ≡ meet self.now.own.input.i self.now.own.output.i) }
+    {
+        let (input, output) = (self.input(), self.output());
+        let base = input.s.union(&output.s)?;
+        let input_integrity = input.i.copy()?;
+        let output_integrity = input.i.meet(&output.i)?;
+        Ok(Readable {
             base,
             input_integrity,
             output_integrity,
-            held,
+        })
+    }
+
+    fn behind(&self) -> Result<Behind, NoMemory>
+        ensures contamination { IfOk result (λ b. b.contamination ≡ self.now.own.contamination) }
+        ensures dropped { IfOk result (λ b. b.dropped ≡ self.now.own.dropped) }
+        ensures endorsed { IfOk result (λ b. b.endorsed ≡ self.now.own.endorsed) }
+    {
+        let contamination = self.contamination().copy()?;
+        let dropped = self.dropped().copy()?;
+        let endorsed = self.endorsed().copy()?;
+        Ok(Behind {
             contamination,
             dropped,
             endorsed,
@@ -79,34 +126,23 @@ impl Local {
         requires accounted { IsAccounted (record_of fixed.now) }
         ensures { IfOk result (λ l. l ≡ instance_at owner.now sub (record_of fixed.now) s.now) }
     {
-        let name = UnitName::Managed {
-            owner: Path::new(Vec::from_slice(alloc, owner)?),
-            sub,
-            s: s.copy()?,
-        };
+        let name = instance_name(alloc, owner, sub, s)?;
         let input = label_of(s, &fixed.input_integrity)?;
+        let reading = Reading::behind(&fixed.contamination, input)?;
         let output = label_of(s, &fixed.output_integrity)?;
-        let contamination = contaminated(&fixed.contamination, &input)?;
-        let dropped = fixed.dropped.copy()?;
-        let endorsed = fixed.endorsed.copy()?;
-        let held = fixed.held.copy()?;
-        Ok(Local {
-            name,
-            input,
-            output,
-            contamination,
-            dropped,
-            endorsed,
-            held,
-            handles: Vec::new(alloc),
-            given: 0,
-            events: 0,
-            tags: 0,
-            subs: 0,
-            units: 0,
-            alloc,
-        })
+        let writing = Writing::behind(output, &fixed.dropped, &fixed.endorsed)?;
+        Ok(begun(alloc, name, reading, writing, fixed.held.copy()?))
     }
+}
+
+/// The name of an instance of contamination `s`.
+fn instance_name(alloc: Global, owner: &[u32], sub: u32, s: &TagSet) -> Result<UnitName, NoMemory>
+    requires { 0 < length owner.now }
+    ensures { IfOk result (λ name. name ≡ Managed owner.now sub s.now) }
+{
+    let owner = Path::new(Vec::from_slice(alloc, owner)?);
+    let s = s.copy()?;
+    Ok(UnitName::Managed { owner, sub, s })
 }
 
 fn label_of(s: &TagSet, i: &TagSet) -> Result<Label, NoMemory>

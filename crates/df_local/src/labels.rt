@@ -10,32 +10,11 @@ ghost use Rattle.df_unit.specs.declared.reply.Reply.{Reply};
 ghost use Rattle.df_local.specs.Locally.{Answers, with_own};
 
 use crate::Local;
+use crate::standing::{Reading, Writing};
 use crate::take::is_accepted;
 use df_label::{Label, NoMemory, Privilege, Tag, TagSet};
 use df_priv::{Act, Half, needed};
 use df_unit::Reply;
-
-/// What a change makes of an output label and of the tags that are set aside.
-#[derive(Drop)]
-struct OutChange {
-    output: Label,
-    dropped: TagSet,
-    endorsed: TagSet,
-}
-
-/// What a change makes of an input label and of the contamination.
-#[derive(Drop)]
-struct InChange {
-    input: Label,
-    contamination: Label,
-}
-
-/// The contamination of a unit that has this one, once it reads at this input label.
-pub(crate) fn contaminated(contamination: &Label, input: &Label) -> Result<Label, NoMemory>
-    ensures { IfOk result (λ c. c ≡ join contamination.now input.now) }
-{
-    contamination.join(input)
-}
 
 impl Local {
     /// Changes the output label.
@@ -113,9 +92,7 @@ impl Local {
     {
         match self.out_changed(half, act, tag) {
             Ok(out) => {
-                self.output = out.output;
-                self.dropped = out.dropped;
-                self.endorsed = out.endorsed;
+                self.writing = out;
                 Ok(())
             }
             Err(refused) => Err(refused),
@@ -134,54 +111,50 @@ impl Local {
         };
         match self.out_changed(half, act, tag) {
             Ok(out) => {
-                self.input = ins.input;
-                self.contamination = ins.contamination;
-                self.output = out.output;
-                self.dropped = out.dropped;
-                self.endorsed = out.endorsed;
+                self.reading = ins;
+                self.writing = out;
                 Ok(())
             }
             Err(refused) => Err(refused),
         }
     }
 
-    fn out_changed(&self, half: Half, act: Act, tag: &Tag) -> Result<OutChange, NoMemory>
+    fn out_changed(&self, half: Half, act: Act, tag: &Tag) -> Result<Writing, NoMemory>
         ensures output { IfOk result (λ c. c.output ≡ half_changed half act tag.now
             self.now.own.output) }
         ensures dropped { IfOk result (λ c. c.dropped ≡ now_dropped half act tag.now self.now.own) }
         ensures endorsed { IfOk result (λ c. c.endorsed ≡ now_endorsed half act tag.now
             self.now.own) }
     {
-        let output = half_changed(half, act, tag, &self.output)?;
+        let output = half_changed(half, act, tag, &self.writing.output)?;
         let dropped = self.now_dropped(half, act, tag)?;
         let endorsed = self.now_endorsed(half, act, tag)?;
-        Ok(OutChange {
+        Ok(Writing {
             output,
             dropped,
             endorsed,
         })
     }
 
-    fn in_changed(&self, half: Half, act: Act, tag: &Tag) -> Result<InChange, NoMemory>
+    fn in_changed(&self, half: Half, act: Act, tag: &Tag) -> Result<Reading, NoMemory>
         ensures input { IfOk result (λ c. c.input ≡ half_changed half act tag.now
             self.now.own.input) }
         ensures contamination { IfOk result (λ c. c.contamination ≡ join self.now.own.contamination
             (half_changed half act tag.now self.now.own.input)) }
     {
-        let input = half_changed(half, act, tag, &self.input)?;
-        let contamination = contaminated(&self.contamination, &input)?;
-        Ok(InChange {
-            input,
-            contamination,
-        })
+        let input = half_changed(half, act, tag, &self.reading.input)?;
+        Reading::behind(&self.reading.contamination, input)
     }
 
     fn now_dropped(&self, half: Half, act: Act, tag: &Tag) -> Result<TagSet, NoMemory>
         ensures { IfOk result (λ s. s ≡ now_dropped half act tag.now self.now.own) }
     {
         match (half, act) {
-            (Half::S, Act::Del) if self.output.s.contains(tag) => self.dropped.with(tag),
-            _ => self.dropped.copy(),
+            (Half::S, Act::Del) if self.writing.output.s.contains(tag) => self
+                .writing
+                .dropped
+                .with(tag),
+            _ => self.writing.dropped.copy(),
         }
     }
 
@@ -189,8 +162,11 @@ impl Local {
         ensures { IfOk result (λ s. s ≡ now_endorsed half act tag.now self.now.own) }
     {
         match (half, act) {
-            (Half::I, Act::Add) if !self.output.i.contains(tag) => self.endorsed.with(tag),
-            _ => self.endorsed.copy(),
+            (Half::I, Act::Add) if !self.writing.output.i.contains(tag) => self
+                .writing
+                .endorsed
+                .with(tag),
+            _ => self.writing.endorsed.copy(),
         }
     }
 }

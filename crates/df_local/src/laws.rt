@@ -10,5 +10,5 @@ use crate::Local;
 pub fn tags_are_accounted_for(unit: &Local)
     ensures { IsKept unit.now.own }
 {
-    let _contamination = &unit.contamination;
+    let _reading = &unit.reading;
 }

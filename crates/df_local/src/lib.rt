@@ -9,17 +9,16 @@ mod copies;
 mod draft;
 mod edits;
 mod fixed;
-mod handles;
 mod labels;
 pub mod laws;
 mod limits;
 mod local;
 mod named_parts;
-mod parts;
 mod read;
 mod receive;
 mod same;
 mod spawn;
+mod standing;
 mod tags;
 mod take;
 #[cfg(test)]

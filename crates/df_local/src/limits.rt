@@ -1,8 +1,5 @@
 //! How much a unit may have at most.
 
-/// How many handles a unit may have open.
-pub const MOST_HANDLES: usize = 64;
-
 /// How many parts may be drafted at a handle.
 pub const MOST_PARTS: usize = 64;
 

@@ -2,14 +2,17 @@
 
 ghost use Rattle.std.specs.Prelude.{◌≡◌, IfOk, min};
 ghost use Rattle.df_priv.specs.Held.{holds};
+ghost use Rattle.df_unit.specs.Beginnings.{beginning};
 ghost use Rattle.df_unit.specs.Handles.{open_count};
+ghost use Rattle.df_unit.specs.KeptFact.{AreAccounted};
 ghost use Rattle.df_unit.specs.Rows.{is_instance};
 ghost use Rattle.df_local.specs.Locally.{root_at};
 
-use crate::handles::open_count;
+use crate::standing::{Reading, Writing};
+use df_handles::Handles;
 use df_label::{Label, NoMemory, Privilege, Privileges, TagSet};
 use df_priv::Held;
-use df_unit::{Handle, Path, UnitName};
+use df_unit::{Path, UnitName};
 use std::alloc::Global;
 use std::marker::Model;
 
@@ -17,13 +20,10 @@ use std::marker::Model;
 #[derive(Drop)]
 pub struct Local {
     pub(crate) name: UnitName,
-    pub(crate) input: Label,
-    pub(crate) output: Label,
-    pub(crate) contamination: Label,
-    pub(crate) dropped: TagSet,
-    pub(crate) endorsed: TagSet,
+    pub(crate) reading: Reading,
+    pub(crate) writing: Writing,
     pub(crate) held: Held,
-    pub(crate) handles: Vec<Option<Handle>>,
+    pub(crate) handles: Handles,
     pub(crate) given: u64,
     pub(crate) events: u32,
     pub(crate) tags: u32,
@@ -43,22 +43,54 @@ impl Model for Local {
     ghost view = { λ l. record {
       unit = l.name;
       own = record {
-        input = l.input;
-        output = l.output;
-        contamination = l.contamination;
-        dropped = l.dropped;
-        endorsed = l.endorsed;
+        input = l.reading.input;
+        output = l.writing.output;
+        contamination = l.reading.contamination;
+        dropped = l.writing.dropped;
+        endorsed = l.writing.endorsed;
         held = l.held;
         events = l.events;
         tags = l.tags;
         subs = l.subs;
         units = l.units;
         given = l.given;
-        handles = l.handles.items;
+        handles = l.handles;
       };
     } };
 
-    ghost invariant = { λ l. AreAccounted l.input l.output l.contamination l.dropped l.endorsed };
+    ghost invariant = { λ l. AreAccounted l.reading.input l.writing.output l.reading.contamination
+        l.writing.dropped l.writing.endorsed };
+}
+
+/// A unit that begins with these labels and privileges. Takes no memory.
+pub(crate) fn begun(
+    alloc: Global,
+    name: UnitName,
+    reading: Reading,
+    writing: Writing,
+    held: Held,
+) -> Local
+    requires { AreAccounted reading.input writing.output reading.contamination
+        writing.dropped writing.endorsed }
+    ensures { result ≡ record {
+      unit = name;
+      own = beginning reading.input writing.output reading.contamination
+          writing.dropped writing.endorsed held;
+    } }
+{
+    Local {
+        name,
+        reading,
+        writing,
+        held,
+        handles: Handles::new(alloc),
+        given: 0,
+        events: 0,
+        tags: 0,
+        subs: 0,
+        units: 0,
+        alloc,
+    }
 }
 
 impl Local {
@@ -71,24 +103,10 @@ impl Local {
     ) -> Result<Local, NoMemory>
         ensures { IfOk result (λ l. l ≡ root_at number label privileges) }
     {
-        let input = label.copy()?;
-        let output = label.copy()?;
-        Ok(Local {
-            name: UnitName::Root(Path::root(number)),
-            input,
-            output,
-            contamination: label,
-            dropped: TagSet::new(alloc),
-            endorsed: TagSet::new(alloc),
-            held: Held::from(privileges),
-            handles: Vec::new(alloc),
-            given: 0,
-            events: 0,
-            tags: 0,
-            subs: 0,
-            units: 0,
-            alloc,
-        })
+        let reading = Reading::at(&label)?;
+        let writing = Writing::at(alloc, label);
+        let name = UnitName::Root(Path::root(number));
+        Ok(begun(alloc, name, reading, writing, Held::from(privileges)))
     }
 
     pub fn name(&self) -> &UnitName
@@ -100,31 +118,31 @@ impl Local {
     pub fn input(&self) -> &Label
         ensures { result.now ≡ self.now.own.input }
     {
-        &self.input
+        &self.reading.input
     }
 
     pub fn output(&self) -> &Label
         ensures { result.now ≡ self.now.own.output }
     {
-        &self.output
+        &self.writing.output
     }
 
     pub fn contamination(&self) -> &Label
         ensures { result.now ≡ self.now.own.contamination }
     {
-        &self.contamination
+        &self.reading.contamination
     }
 
     pub fn dropped(&self) -> &TagSet
         ensures { result.now ≡ self.now.own.dropped }
     {
-        &self.dropped
+        &self.writing.dropped
     }
 
     pub fn endorsed(&self) -> &TagSet
         ensures { result.now ≡ self.now.own.endorsed }
     {
-        &self.endorsed
+        &self.writing.endorsed
     }
 
     pub fn holds(&self, p: &Privilege) -> bool
@@ -167,7 +185,7 @@ impl Local {
     pub fn handles_used(&self) -> u32
         ensures { result ≡ min (open_count self.now.own.handles) 4294967295 }
     {
-        let count = open_count(self.handles.as_slice());
+        let count = self.handles.count();
         u32::try_from(count).unwrap_or(u32::MAX)
     }
 

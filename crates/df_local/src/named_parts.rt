@@ -3,11 +3,10 @@
 ghost use Rattle.std.specs.Iterator.{YieldsFirstRef, item_count};
 
 use crate::Local;
-use crate::handles::handle_at;
-use crate::read::is_visible;
 use df_frozen::Name;
+use df_handles::is_named;
 use df_label::Label;
-use df_part::{Part, PartRef, Spot};
+use df_part::{PartRef, Spot};
 use df_unit::Handle;
 use std::iter::FusedIterator;
 use std::marker::Model;
@@ -24,7 +23,7 @@ pub struct NamedParts<'a> {
 impl<'a> Model for NamedParts<'a> {
     ghost use Rattle.std.specs.Prelude.{List};
     ghost use Rattle.std.specs.Coded.{coded_list};
-    ghost use Rattle.df_local.specs.Named.{named_in};
+    ghost use Rattle.df_handles.specs.Visible.{named_in};
     ghost use Rattle.df_part.specs.declared.part.Part.{Part};
     ghost use Rattle.df_part.specs.contracts.part.Part as content;
 
@@ -44,10 +43,10 @@ impl Local {
     pub fn parts_named<'a>(&'a self, h: u32, name: &'a Name) -> NamedParts<'a>
         ensures { result ≡ named_at self.now.own.input name.now (handle_at self.now.own.handles h) }
     {
-        match handle_at(self.handles.as_slice(), h) {
-            Some(handle) => NamedParts::of_handle(&self.input, handle, name),
+        match self.handles.get(h) {
+            Some(handle) => NamedParts::of_handle(&self.reading.input, handle, name),
             None => NamedParts {
-                input: &self.input,
+                input: &self.reading.input,
                 named: &[],
                 name,
                 parts: &[],
@@ -91,12 +90,3 @@ impl<'a> Iterator for NamedParts<'a> {
 }
 
 impl<'a> FusedIterator for NamedParts<'a> {}
-
-ghost use Rattle.std.specs.Prelude.{◌≡◌};
-ghost use Rattle.df_local.specs.Named.{is_named};
-
-fn is_named(input: &Label, named: &[Spot], name: &Name, part: &Part) -> bool
-    ensures { result ≡ is_named input.now named.now name.now part.now }
-{
-    is_visible(input, named, part) && *name == part.name
-}

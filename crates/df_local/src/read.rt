@@ -1,20 +1,17 @@
 //! Reading the parts of a handle.
 
 ghost use Rattle.std.specs.Prelude.{◌≡◌, ◌++◌, [], IfOk, OnErr, OnOk};
-ghost use Rattle.df_unit.specs.Drafts.{shown, visible_named};
 ghost use Rattle.df_unit.specs.Rows.{reply};
 ghost use Rattle.df_unit.specs.declared.call.Call.{Call};
-ghost use Rattle.df_local.specs.Locally.{Answers, is_visible, with_own};
-ghost use Rattle.df_local.specs.code.Shown.{brought, holding, is_shown, privileges_of, shown_in};
+ghost use Rattle.df_local.specs.Locally.{Answers, with_own};
+ghost use Rattle.df_local.specs.code.Shown.{brought, holding, privileges_of};
 
 use crate::Local;
-use crate::handles::handle_at;
-use crate::parts::show;
 use crate::take::is_accepted;
 use df_frozen::Name;
-use df_label::{Label, NoMemory, Privilege};
-use df_part::{Part, PartRef, Spot, is_deleted, readable};
-use df_unit::{Handle, PartRead, PartsRead, Reply};
+use df_handles::shown;
+use df_label::{NoMemory, Privilege};
+use df_unit::{PartRead, PartsRead, Reply};
 use std::alloc::Global;
 
 impl Local {
@@ -40,10 +37,10 @@ impl Local {
         ensures { IfOk result (λ r. r ≡ reply self.now.unit self.now.own []
             (Call.ReadPart h name.now)) }
     {
-        let Some(handle) = handle_at(self.handles.as_slice(), h) else {
+        let Some(handle) = self.handles.get(h) else {
             return Ok(Reply::NoSuchHandle);
         };
-        let shown = shown(self.alloc, &self.input, name, handle)?;
+        let shown = shown(self.alloc, &self.reading.input, name, handle)?;
         if shown.is_empty() {
             return Ok(Reply::NoSuchPart);
         }
@@ -85,54 +82,4 @@ fn copy_all(privileges: &[Privilege], to: &mut Vec<Privilege>) -> Result<(), NoM
         to.push(p.copy()?)?;
     }
     Ok(())
-}
-
-/// What a read shows of the visible parts of a name, in order.
-fn shown(
-    alloc: Global,
-    input: &Label,
-    name: &Name,
-    handle: &Handle,
-) -> Result<Vec<PartRead>, NoMemory>
-    ensures { IfOk result (λ v. v.items ≡ shown (visible_named input.now name.now handle.now)) }
-{
-    shown_in(
-        alloc,
-        input,
-        name,
-        handle.named.as_slice(),
-        handle.seen.as_slice(),
-    )
-}
-
-fn shown_in(
-    alloc: Global,
-    input: &Label,
-    name: &Name,
-    named: &[Spot],
-    seen: &[PartRef],
-) -> Result<Vec<PartRead>, NoMemory>
-    ensures { IfOk result (λ v. v.items ≡ shown_in input.now name.now named.now seen.now) }
-{
-    let mut shown = Vec::new(alloc);
-    for part in seen {
-        if is_shown(input, name, named, part.part()) {
-            shown.push(show(part.part())?)?;
-        }
-    }
-    Ok(shown)
-}
-
-/// Whether a part of a view has the name and is visible.
-fn is_shown(input: &Label, name: &Name, named: &[Spot], part: &Part) -> bool
-    ensures { result ≡ is_shown input.now name.now named.now part.now }
-{
-    part.name == *name && is_visible(input, named, part)
-}
-
-/// Whether a part of a view is readable and isn't named for deletion.
-pub fn is_visible(input: &Label, named: &[Spot], part: &Part) -> bool
-    ensures { result ≡ is_visible input.now named.now part.now }
-{
-    readable(input, part) && !is_deleted(part, named)
 }

@@ -7,7 +7,6 @@ ghost use Rattle.df_unit.specs.declared.entry.Effect.{Effect};
 ghost use Rattle.df_local.specs.Locally.{CountsSub, TakesIn, with_own};
 
 use crate::Local;
-use crate::handles::{is_full, least_free, open};
 use crate::limits::MOST_SUBS;
 use crate::take::is_accepted;
 use df_label::NoMemory;
@@ -16,20 +15,16 @@ use std::alloc::Global;
 
 impl Local {
     /// Opens a view of an event that was handed to the unit.
-    #[tactic(auto, using(crate::proofs::OpenHandles::least_free_within))]
     pub fn take_in(&mut self, given: &Given) -> Result<Reply, NoMemory>
         ensures ok { IfOk result (λ r. TakesIn given.now r self.old self.new) }
         ensures unchanged { OnErr result (self.new ≡ self.old) }
     {
-        if is_full(self.handles.as_slice()) {
+        if self.handles.is_full() {
             return Ok(Reply::TooManyHandles);
         }
-        let h = least_free(self.handles.as_slice());
+        let h = self.handles.least_free();
         match self.put_view(given) {
-            Ok(()) => Ok(Reply::Event {
-                h: h as u32,
-                sub: given.sub,
-            }),
+            Ok(()) => Ok(Reply::Event { h, sub: given.sub }),
             Err(refused) => Err(refused),
         }
     }
@@ -47,7 +42,7 @@ impl Local {
             Ok(handle) => handle,
             Err(refused) => return Err(refused),
         };
-        match open(&mut self.handles, handle) {
+        match self.handles.open(handle) {
             Ok(()) => {}
             Err(refused) => return Err(refused),
         }

@@ -25,7 +25,13 @@ impl Local {
         if self.units >= MOST_UNITS {
             return Ok(Reply::TooManyUnits);
         }
-        match lacking(&self.input, &self.output, &self.held, s, privileges)? {
+        match lacking(
+            &self.reading.input,
+            &self.writing.output,
+            &self.held,
+            s,
+            privileges,
+        )? {
             None => Ok(Reply::Unit(self.units)),
             Some(q) => Ok(Reply::Lacks(q)),
         }

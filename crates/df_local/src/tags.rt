@@ -1,6 +1,6 @@
 //! Making tags.
 
-ghost use Rattle.std.specs.Prelude.{◌≡◌, [], IfOk, OnErr, OnOk};
+ghost use Rattle.std.specs.Prelude.{◌≡◌, ◌++◌, ◌∷◌, [], IfOk, OnErr, OnOk};
 ghost use Rattle.df_unit.specs.Held.{all_over};
 ghost use Rattle.df_unit.specs.Rows.{changed, next_tag, path_of, reply};
 ghost use Rattle.df_unit.specs.declared.call.Call.{Call};
@@ -77,11 +77,12 @@ impl Local {
         ensures { IfOk result (λ v. v.items ≡ all_over (next_tag self.now.unit self.now.own)) }
     {
         let tag = self.next_tag()?;
-        let plus = over(&tag, Right::Plus)?;
-        let minus = over(&tag, Right::Minus)?;
-        let plus_auth = over(&tag, Right::PlusAuth)?;
-        let minus_auth = over(&tag, Right::MinusAuth)?;
-        Ok(vec![in self.alloc; plus, minus, plus_auth, minus_auth]?)
+        let mut all = Vec::with_capacity(self.alloc, 4)?;
+        put_over(&tag, Right::Plus, &mut all)?;
+        put_over(&tag, Right::Minus, &mut all)?;
+        put_over(&tag, Right::PlusAuth, &mut all)?;
+        put_over(&tag, Right::MinusAuth, &mut all)?;
+        Ok(all)
     }
 }
 
@@ -95,9 +96,12 @@ fn path_of(unit: &UnitName) -> &Path
     }
 }
 
-fn over(tag: &Tag, right: Right) -> Result<Privilege, NoMemory>
-    ensures { IfOk result (λ p. p ≡ record { tag = tag.now; right = right }) }
+/// Puts a privilege over a tag last.
+fn put_over(tag: &Tag, right: Right, to: &mut Vec<Privilege>) -> Result<(), NoMemory>
+    ensures { OnOk result (to.new.items
+        ≡ to.old.items ++ record { tag = tag.now; right = right } ∷ []) }
 {
     let tag = tag.copy()?;
-    Ok(Privilege { tag, right })
+    to.push(Privilege { tag, right })?;
+    Ok(())
 }

@@ -1,4 +1,4 @@
-use Rattle.std.proofs.Common.{ap, refl, subst, ◌∙◌}
+use Rattle.std.proofs.Common.{ap, subst, ◌∙◌}
 use Rattle.df_label.specs.Label.{join}
 use Rattle.df_unit.specs.Beginnings.{beginning}
 use Rattle.df_unit.specs.KeptFact.{IsKept}
@@ -7,15 +7,17 @@ use Rattle.df_local.specs.code.LocalState.{LocalState}
 use Rattle.df_local.proofs.Begun.{begun_child}
 use Rattle.df_local.proofs.local.Local.of_child.Goals as goal
 
-pub invariant_of-result : goal.invariant_of-result
-invariant_of-result c =
+pub begun-requires : goal.begun-requires
+begun-requires c =
     let maker = c.args.self.now.own in
     let input = c.args.input in
     let output = c.args.output in
     let kept = subst (λ (l : LocalState). IsKept l.own) c.self.view_is c.self.invariant in
+    let reading = c.in_ok-reading.ensures in
+    let writing = c.in_ok-writing.ensures in
     accounted_as (beginning input output (join maker.contamination input) maker.dropped maker.endorsed c.args.held) _ _ _ _ _
     (begun_child maker input output c.args.held kept c.requires.reads c.requires.writes c.requires.read_integrity c.requires.written_integrity)
-    refl refl
-    (c.in_ok-contamination.ensures ∙ ap (λ (l : LocalState). join l.own.contamination input) c.self.view_is)
-    (c.in_ok-dropped.ensures.value ∙ ap (λ (l : LocalState). l.own.dropped) c.self.view_is)
-    (c.in_ok-endorsed.ensures.value ∙ ap (λ (l : LocalState). l.own.endorsed) c.self.view_is)
+    reading.input writing.output
+    (reading.contamination ∙ ap (λ (l : LocalState). join l.own.contamination input) c.self.view_is)
+    (writing.dropped ∙ ap (λ (l : LocalState). l.own.dropped) c.self.view_is)
+    (writing.endorsed ∙ ap (λ (l : LocalState). l.own.endorsed) c.self.view_is)

@@ -7,10 +7,13 @@ use Rattle.df_local.specs.Births.{record_of}
 use Rattle.df_local.proofs.Begun.{begun_instance}
 use Rattle.df_local.proofs.local.Local.of_instance.Goals as goal
 
-pub invariant_of-result : goal.invariant_of-result
-invariant_of-result c =
+pub begun-requires : goal.begun-requires
+begun-requires c =
     let f = record_of c.args.fixed.now in
     let s = c.args.s.now in
+    let reading = c.in_ok-reading.ensures in
+    let writing = c.in_ok-writing.ensures in
     accounted_as (begin f s) _ _ _ _ _ (begun_instance f s c.requires.base c.requires.accounted)
-    c.in_ok-input.ensures c.in_ok-output.ensures (c.in_ok-contamination.ensures ∙ ap (λ (l : Label). join f.contamination l) c.in_ok-input.ensures)
-    c.in_ok-dropped.ensures.value c.in_ok-endorsed.ensures.value
+    (reading.input ∙ c.in_ok-input.ensures) (writing.output ∙ c.in_ok-output.ensures)
+    (reading.contamination ∙ ap (λ (l : Label). join f.contamination l) c.in_ok-input.ensures)
+    writing.dropped writing.endorsed

@@ -1,9 +1,10 @@
-use Rattle.std.proofs.Common.{refl}
 use Rattle.df_unit.proofs.KeptRows.{accounted_as, kept_root}
 use Rattle.df_unit.specs.Beginnings.{root}
 use Rattle.df_local.proofs.local.Local.of_root.Goals as goal
 
-pub invariant_of-result : goal.invariant_of-result
-invariant_of-result c =
+pub begun-requires : goal.begun-requires
+begun-requires c =
     let label = c.args.label in
-    accounted_as (root label c.args.privileges) _ _ _ _ _ (kept_root label c.args.privileges) c.in_ok-input.ensures.value c.in_ok-output.ensures.value refl c.new.ensures c.new-2.ensures
+    let reading = c.in_ok-reading.ensures in
+    let writing = c.at-writing.ensures in
+    accounted_as (root label c.args.privileges) _ _ _ _ _ (kept_root label c.args.privileges) reading.input writing.output reading.contamination writing.dropped writing.endorsed

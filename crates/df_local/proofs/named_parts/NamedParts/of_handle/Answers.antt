@@ -1,5 +1,9 @@
-use Rattle.df_local.proofs.NamedInTurn.{named_once}
+use Rattle.std.proofs.Common.{◌∙◌}
+use Rattle.df_handles.specs.Visible.{named_in}
+use Rattle.df_handles.proofs.Views.{named_once}
 use Rattle.df_local.proofs.named_parts.NamedParts.of_handle.Goals as goal
 
 pub returns : goal.returns
-returns c = named_once c.args.input.now c.args.name.now c.args.handle.now c.as_slice.result.now c.as_slice-2.result.now c.as_slice.ensures c.as_slice-2.ensures
+returns c =
+    (λ i. named_in c.args.input.now (c.as_slice.ensures i) c.args.name.now (c.as_slice-2.ensures i))
+    ∙ named_once c.args.input.now c.args.name.now c.args.handle.now

@@ -1,0 +1,2 @@
+pub mod OpenHandles
+pub mod Views

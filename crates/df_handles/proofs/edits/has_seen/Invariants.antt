@@ -1,0 +1,7 @@
+use Rattle.std.proofs.Common.{◌≡◌, drop}
+use Rattle.df_unit.specs.Drafts.{spot}
+use Rattle.df_handles.specs.code.Views.{has_seen}
+use Rattle.df_handles.proofs.edits.has_seen.Given as goal
+
+abbrev pub invariant-loop-part : goal.invariant-loop-part
+invariant-loop-part l = has_seen l.input l.named (spot l.name l.label) (drop l.part-index l.seen) ≡ has_seen l.input l.named (spot l.name l.label) l.seen

@@ -1,0 +1,150 @@
+//! Deleting parts at a handle, and attaching privileges to drafted ones.
+
+ghost use Rattle.std.specs.Prelude.{◌≡◌, IfOk, OnOk, OnErr, not, map};
+ghost use Rattle.std.specs.List.{filter};
+ghost use Rattle.df_part.specs.Contents.{is_at};
+ghost use Rattle.df_unit.specs.Drafts.{attach, attached_in, deleted_in, has_at, spot, visible};
+ghost use Rattle.df_unit.specs.Handles.{changed_at};
+ghost use Rattle.df_handles.specs.code.Views.{has_seen};
+
+use crate::places::{draft_anew, handle_at};
+use crate::visible::is_visible;
+use df_frozen::Name;
+use df_label::{Label, NoMemory, Privilege};
+use df_part::{Part, PartRef, Spot};
+use df_unit::{Drafts, Handle};
+use std::alloc::Global;
+
+/// Deletes a spot at an open handle.
+pub fn delete_at(handles: &mut Vec<Option<Handle>>, h: u32, spot: Spot) -> Result<(), NoMemory>
+    ensures ok { OnOk result (handles.new.items ≡ changed_at handles.old.items h
+        (deleted_in spot)) }
+    ensures unchanged { OnErr result (handles.new.items ≡ handles.old.items) }
+{
+    let alloc = *handles.allocator();
+    let place = h as usize;
+    if place < handles.len() {
+        if let Some(handle) = &mut handles[place] {
+            let Ok(()) = delete_in(alloc, handle, spot) else {
+                return Err(NoMemory);
+            };
+        }
+    }
+    Ok(())
+}
+
+/// Takes the drafted parts of a spot out. Where there are none, names the spot for deletion.
+fn delete_in(alloc: Global, handle: &mut Handle, spot: Spot) -> Result<(), NoMemory>
+    ensures ok { OnOk result (handle.new ≡ deleted_in spot handle.old) }
+    ensures unchanged { OnErr result (handle.new ≡ handle.old) }
+{
+    if !has_drafted(handle.drafted.as_slice(), &spot.name, &spot.label) {
+        return handle.named.push(spot);
+    }
+    match undrafted(alloc, handle.drafted.as_slice(), &spot.name, &spot.label) {
+        Ok(left) => {
+            handle.drafted = left;
+            Ok(())
+        }
+        Err(refused) => Err(refused),
+    }
+}
+
+/// Attaches a privilege to the drafted parts of a name and label at an open handle.
+#[tactic(auto, using(crate::proofs::OpenHandles::changed_same))]
+pub fn attach_at(
+    handles: &mut Vec<Option<Handle>>,
+    h: u32,
+    name: &Name,
+    label: &Label,
+    p: &Privilege,
+) -> Result<(), NoMemory>
+    ensures ok { OnOk result (handles.new.items ≡ changed_at handles.old.items h
+        (attached_in (spot name.now label.now) p.now)) }
+    ensures unchanged { OnErr result (handles.new.items ≡ handles.old.items) }
+{
+    let alloc = *handles.allocator();
+    let Some(handle) = handle_at(handles.as_slice(), h) else {
+        return Ok(());
+    };
+    match attached(alloc, handle.drafted.as_slice(), name, label, p) {
+        Ok(drafted) => {
+            draft_anew(handles, h, Drafts::new(drafted));
+            Ok(())
+        }
+        Err(refused) => Err(refused),
+    }
+}
+
+/// Whether a part of this name and label is drafted.
+pub fn has_drafted(parts: &[Part], name: &Name, label: &Label) -> bool
+    ensures { result ≡ has_at parts.now (spot name.now label.now) }
+{
+    parts.iter().any(|part| part.is_at(name, label))
+}
+
+/// Whether a visible part has this name and label.
+#[tactic(auto, using(crate::proofs::Views::seen_at))]
+pub fn has_visible(input: &Label, handle: &Handle, name: &Name, label: &Label) -> bool
+    ensures { result ≡ has_at (visible input.now handle.now) (spot name.now label.now) }
+{
+    has_seen(
+        input,
+        handle.named.as_slice(),
+        handle.seen.as_slice(),
+        name,
+        label,
+    )
+}
+
+fn has_seen(input: &Label, named: &[Spot], seen: &[PartRef], name: &Name, label: &Label) -> bool
+    ensures { result ≡ has_seen input.now named.now (spot name.now label.now) seen.now }
+{
+    for part in seen {
+        if part.part().is_at(name, label) {
+            return is_visible(input, named, part.part());
+        }
+    }
+    false
+}
+
+/// The drafted parts without those of a name and label.
+fn undrafted(alloc: Global, parts: &[Part], name: &Name, label: &Label) -> Result<Drafts, NoMemory>
+    ensures { IfOk result (λ d. d ≡ filter
+        (λ part. not (is_at part (spot name.now label.now))) parts.now) }
+{
+    let mut left = Vec::new(alloc);
+    for part in parts {
+        if !part.is_at(name, label) {
+            left.push(part.copy()?)?;
+        }
+    }
+    Ok(Drafts::new(left))
+}
+
+/// The drafted parts with a privilege on each of those of a name and label.
+fn attached(
+    alloc: Global,
+    parts: &[Part],
+    name: &Name,
+    label: &Label,
+    p: &Privilege,
+) -> Result<Vec<Part>, NoMemory>
+    ensures { IfOk result (λ v. v.items ≡ map (attach (spot name.now label.now) p.now) parts.now) }
+{
+    let mut attached = Vec::with_capacity(alloc, parts.len())?;
+    for part in parts {
+        attached.push(attach(part, name, label, p)?)?;
+    }
+    Ok(attached)
+}
+
+fn attach(part: &Part, name: &Name, label: &Label, p: &Privilege) -> Result<Part, NoMemory>
+    ensures { IfOk result (λ q. q ≡ attach (spot name.now label.now) p.now part.now) }
+{
+    let mut copy = part.copy()?;
+    if part.is_at(name, label) {
+        copy.privileges.add(p)?;
+    }
+    Ok(copy)
+}

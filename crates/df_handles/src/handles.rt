@@ -1,0 +1,140 @@
+//! The handles of a unit, each by its number.
+
+use crate::copies::copies;
+use crate::edits::{attach_at, delete_at};
+use crate::limits::MOST_HANDLES;
+use crate::places::{close, draft, handle_at, least_free, open, open_count};
+use crate::same::same;
+use df_frozen::Name;
+use df_label::{Label, NoMemory, Privilege};
+use df_part::{Part, Spot};
+use df_unit::Handle;
+use std::alloc::Global;
+use std::marker::Model;
+
+/// The handles that a unit has open. A handle's number is its place; those of closed ones are free.
+#[derive(Drop)]
+pub struct Handles {
+    places: Vec<Option<Handle>>,
+}
+
+impl Model for Handles {
+    ghost use Rattle.std.specs.Prelude.{List, Option};
+    ghost use Rattle.std.specs.Coded.{coded_list, coded_option};
+    ghost use Rattle.df_unit.specs.declared.handle.Handle.{Handle};
+    ghost use Rattle.df_unit.specs.contracts.handle.Handle as content;
+
+    ghost Value = { List (Option Handle) };
+
+    ghost coded = { coded_list (coded_option content.the_row.coded) };
+
+    ghost view = { λ h. h.places.items };
+}
+
+impl Handles {
+    ghost use Rattle.std.specs.Prelude.{◌≡◌, ◌↔◌, ◌∷◌, ◌++◌, [], false, IfOk, IsTrue, OnErr, OnOk, option_copied};
+    ghost use Rattle.df_unit.specs.Drafts.{attached_in, deleted_in, spot};
+    ghost use Rattle.df_unit.specs.Handles.{changed_at, closed, handle_at, is_full, least_free, open_count, opened};
+
+    /// None. Takes no memory.
+    pub fn new(alloc: Global) -> Handles
+        ensures { result ≡ [] }
+    {
+        Handles {
+            places: Vec::new(alloc),
+        }
+    }
+
+    /// The same handles once more.
+    pub fn copy(&self) -> Result<Handles, NoMemory>
+        ensures { IfOk result (λ h. h ≡ self.now) }
+    {
+        let places = copies(*self.places.allocator(), self.places.as_slice())?;
+        Ok(Handles { places })
+    }
+
+    /// Whether the same handles are open under the same numbers, values by their plain content.
+    pub fn same(&self, other: &Handles) -> bool
+        ensures { IsTrue result ↔ (self.now ≡ other.now) }
+    {
+        same(self.places.as_slice(), other.places.as_slice())
+    }
+
+    /// How many are open.
+    pub fn count(&self) -> usize
+        ensures { result ≡ open_count self.now }
+    {
+        open_count(self.places.as_slice())
+    }
+
+    /// Whether no handle more may be opened.
+    pub fn is_full(&self) -> bool
+        ensures { result ≡ is_full self.now }
+    {
+        self.count() >= MOST_HANDLES
+    }
+
+    /// The number that the next handle gets.
+    #[tactic(auto, using(crate::proofs::OpenHandles::least_free_within))]
+    pub fn least_free(&self) -> u32
+        requires { is_full self.now ≡ false }
+        ensures { result ≡ least_free self.now }
+    {
+        least_free(self.places.as_slice()) as u32
+    }
+
+    /// The open handle of a number.
+    pub fn get(&self, h: u32) -> Option<&Handle>
+        ensures { option_copied result ≡ handle_at self.now h }
+    {
+        handle_at(self.places.as_slice(), h)
+    }
+
+    /// Opens a handle at the least number that isn't open.
+    pub fn open(&mut self, handle: Handle) -> Result<(), NoMemory>
+        ensures ok { OnOk result (self.new ≡ opened handle self.old) }
+        ensures unchanged { OnErr result (self.new ≡ self.old) }
+    {
+        open(&mut self.places, handle)
+    }
+
+    /// Drafts a part at an open handle.
+    pub fn draft(&mut self, h: u32, part: Part) -> Result<(), NoMemory>
+        ensures ok { OnOk result (self.new ≡ changed_at self.old h
+            (λ d. record d { drafted = d.drafted ++ part ∷ [] })) }
+        ensures unchanged { OnErr result (self.new ≡ self.old) }
+    {
+        draft(&mut self.places, h, part)
+    }
+
+    /// Takes the drafted parts of a spot out of an open handle. Where there are none, names the
+    /// spot for deletion.
+    pub fn delete(&mut self, h: u32, spot: Spot) -> Result<(), NoMemory>
+        ensures ok { OnOk result (self.new ≡ changed_at self.old h (deleted_in spot)) }
+        ensures unchanged { OnErr result (self.new ≡ self.old) }
+    {
+        delete_at(&mut self.places, h, spot)
+    }
+
+    /// Attaches a privilege to the drafted parts of a name and label.
+    pub fn attach(
+        &mut self,
+        h: u32,
+        name: &Name,
+        label: &Label,
+        p: &Privilege,
+    ) -> Result<(), NoMemory>
+        ensures ok { OnOk result (self.new ≡ changed_at self.old h
+            (attached_in (spot name.now label.now) p.now)) }
+        ensures unchanged { OnErr result (self.new ≡ self.old) }
+    {
+        attach_at(&mut self.places, h, name, label, p)
+    }
+
+    /// Closes a handle.
+    pub fn close(&mut self, h: u32)
+        ensures { self.new ≡ closed self.old h }
+    {
+        close(&mut self.places, h);
+    }
+}

@@ -1,0 +1,69 @@
+//! Labels and parts as a unit writes and copies them.
+
+ghost use Rattle.std.specs.Prelude.{◌≡◌, IfOk};
+ghost use Rattle.df_unit.specs.Drafts.{new_part, raised, relabel, relabelled};
+
+use df_frozen::{Frozen, Name};
+use df_label::{Label, NoMemory, Privileges};
+use df_part::{Part, PartRef, Spot};
+use std::alloc::Global;
+
+/// A label with the confidentiality of the output label added, and cut to its integrity.
+pub fn raised(output: &Label, label: &Label) -> Result<Label, NoMemory>
+    ensures { IfOk result (λ l. l ≡ raised output.now label.now) }
+{
+    label.join(output)
+}
+
+/// A part as a unit with this output label drafts it, without privileges.
+pub fn new_part(
+    alloc: Global,
+    output: &Label,
+    label: &Label,
+    name: &Name,
+    value: &Frozen,
+) -> Result<Part, NoMemory>
+    ensures { IfOk result (λ p. p ≡ new_part (raised output.now label.now) name.now value.now) }
+{
+    let label = raised(output, label)?;
+    let Ok(value) = value.share() else {
+        return Err(NoMemory);
+    };
+    Ok(Part {
+        name: *name,
+        label,
+        value,
+        privileges: Privileges::new(alloc),
+    })
+}
+
+fn relabel(output: &Label, part: &Part) -> Result<Part, NoMemory>
+    ensures { IfOk result (λ p. p ≡ relabel output.now part.now) }
+{
+    let label = raised(output, &part.label)?;
+    let copy = part.copy()?;
+    Ok(Part { label, ..copy })
+}
+
+/// The parts, each labelled again at the output label.
+pub fn relabelled(alloc: Global, output: &Label, parts: &[Part]) -> Result<Vec<PartRef>, NoMemory>
+    ensures { IfOk result (λ v. v.items ≡ relabelled output.now parts.now) }
+{
+    let mut relabelled = Vec::with_capacity(alloc, parts.len())?;
+    for part in parts {
+        let part = relabel(output, part)?;
+        relabelled.push(PartRef::new(alloc, part)?)?;
+    }
+    Ok(relabelled)
+}
+
+/// The same spots once more.
+pub fn copies_of(alloc: Global, spots: &[Spot]) -> Result<Vec<Spot>, NoMemory>
+    ensures { IfOk result (λ v. v.items ≡ spots.now) }
+{
+    let mut copies = Vec::with_capacity(alloc, spots.len())?;
+    for spot in spots {
+        copies.push(spot.copy()?)?;
+    }
+    Ok(copies)
+}

@@ -1,0 +1,72 @@
+//! Whether two units have the same handles.
+
+ghost use Rattle.std.specs.Prelude.{◌≡◌, ◌↔◌, IsTrue};
+
+use df_part::{Part, Spot};
+use df_unit::Handle;
+
+pub fn same(a: &[Option<Handle>], b: &[Option<Handle>]) -> bool
+    ensures { IsTrue result ↔ (a.now ≡ b.now) }
+{
+    if a.len() != b.len() {
+        return false;
+    }
+    for i in 0..a.len() {
+        let is_same = same_places(&a[i], &b[i]);
+        if !is_same {
+            return false;
+        }
+    }
+    true
+}
+
+/// Whether neither place has a handle, or both have the same.
+fn same_places(a: &Option<Handle>, b: &Option<Handle>) -> bool
+    ensures { IsTrue result ↔ (a.now ≡ b.now) }
+{
+    match (a, b) {
+        (Some(a), Some(b)) => same_handle(a, b),
+        (None, None) => true,
+        _ => false,
+    }
+}
+
+fn same_handle(a: &Handle, b: &Handle) -> bool
+    ensures { IsTrue result ↔ (a.now ≡ b.now) }
+{
+    a.is_view == b.is_view
+        && a.event.same(&b.event)
+        && a.seen.same(&b.seen)
+        && same_spots(a.named.as_slice(), b.named.as_slice())
+        && same_drafts(a.drafted.as_slice(), b.drafted.as_slice())
+}
+
+fn same_spots(a: &[Spot], b: &[Spot]) -> bool
+    ensures { IsTrue result ↔ (a.now ≡ b.now) }
+{
+    if a.len() != b.len() {
+        return false;
+    }
+    for i in 0..a.len() {
+        let is_same = a[i].same(&b[i]);
+        if !is_same {
+            return false;
+        }
+    }
+    true
+}
+
+fn same_drafts(a: &[Part], b: &[Part]) -> bool
+    ensures { IsTrue result ↔ (a.now ≡ b.now) }
+{
+    if a.len() != b.len() {
+        return false;
+    }
+    for i in 0..a.len() {
+        let is_same = a[i].same(&b[i]);
+        if !is_same {
+            return false;
+        }
+    }
+    true
+}

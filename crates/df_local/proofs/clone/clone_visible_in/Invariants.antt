@@ -1,7 +1,0 @@
-use Rattle.std.proofs.Common.{◌≡◌, ◌++◌, take}
-use Rattle.df_unit.specs.Drafts.{cloned}
-use Rattle.df_local.specs.Locally.{visible_in}
-use Rattle.df_local.proofs.clone.clone_visible_in.Given as goal
-
-abbrev pub invariant-loop-part : goal.invariant-loop-part
-invariant-loop-part l = l.to.items ≡ l.fn.to.items ++ cloned l.output l.label (visible_in l.input l.named (take l.part-index l.seen))

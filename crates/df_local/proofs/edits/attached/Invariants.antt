@@ -1,6 +1,0 @@
-use Rattle.std.proofs.Common.{◌≡◌, map, take}
-use Rattle.df_unit.specs.Drafts.{attach, spot}
-use Rattle.df_local.proofs.edits.attached.Given as goal
-
-abbrev pub invariant-loop-part : goal.invariant-loop-part
-invariant-loop-part l = l.attached.items ≡ map (attach (spot l.name l.label) l.p) (take l.part-index l.parts)

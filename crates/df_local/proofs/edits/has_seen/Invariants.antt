@@ -1,7 +1,0 @@
-use Rattle.std.proofs.Common.{◌≡◌, drop}
-use Rattle.df_unit.specs.Drafts.{spot}
-use Rattle.df_local.specs.Locally.{has_seen}
-use Rattle.df_local.proofs.edits.has_seen.Given as goal
-
-abbrev pub invariant-loop-part : goal.invariant-loop-part
-invariant-loop-part l = has_seen l.input l.named (spot l.name l.label) (drop l.part-index l.seen) ≡ has_seen l.input l.named (spot l.name l.label) l.seen

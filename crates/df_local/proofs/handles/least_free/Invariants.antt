@@ -1,6 +1,0 @@
-use Rattle.std.proofs.Common.{◌≡◌, ◌+◌, drop}
-use Rattle.df_unit.specs.Handles.{least_free}
-use Rattle.df_local.proofs.handles.least_free.Given as goal
-
-abbrev pub invariant-loop-h : goal.invariant-loop-h
-invariant-loop-h l = l.h + least_free (drop l.h l.handles) ≡ least_free l.fn.handles
