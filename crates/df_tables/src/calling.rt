@@ -10,7 +10,7 @@ ghost use Rattle.df_unit.specs.declared.name.UnitName.TheVariants.{Managed as In
 ghost use Rattle.df_tables.specs.Births.{IsNewborn, rows_in};
 ghost use Rattle.df_tables.specs.Board.{IsBoard};
 ghost use Rattle.df_tables.specs.Calls.{AreCalled, birth_of, born_instance, pair_of};
-ghost use Rattle.df_tables.specs.Hand.{IsCalm};
+ghost use Rattle.df_tables.specs.Hand.{IsCalm, given_to};
 
 use crate::births::{Newborn, beside_of};
 use crate::board::Board;
@@ -18,7 +18,7 @@ use crate::handing::given_to;
 use crate::line::Line;
 use crate::units::Unit;
 use df_instances::{Instance, ManagedSubscription};
-use df_label::{NoMemory, TagSet};
+use df_label::{Label, NoMemory, TagSet};
 use df_local::Local;
 use df_part::Contents;
 use df_unit::{Commit, EventName, UnitName};
@@ -47,6 +47,26 @@ pub(crate) fn name_of(subscription: &ManagedSubscription, s: &TagSet) -> Result<
     })
 }
 
+/// What is left to an instance that reads at a label, and comes to exist with an event.
+fn first_line(
+    alloc: Global,
+    event: &EventName,
+    after: &Contents,
+    at: &Label,
+    sub: u32,
+) -> Result<Line, NoMemory>
+    ensures { IfOk result (λ line. line ≡ record {
+      left = given_to event.now after.now at.now (0, sub) ∷ [];
+      staged = [];
+    }) }
+{
+    let given = given_to(event, after, at, (0, sub))?;
+    let mut line = Line::new(alloc);
+    line.stage(given)?;
+    line.settle();
+    Ok(line)
+}
+
 /// The row of the instance of contamination `s` of a subscription, with an event as its first
 /// delivery.
 pub(crate) fn born(
@@ -63,10 +83,7 @@ pub(crate) fn born(
 {
     let (owner, sub) = (subscription.owner.as_slice(), subscription.sub);
     let local = Local::of_instance(alloc, owner, sub, &subscription.fixed, s)?;
-    let given = given_to(event, after, local.input(), (0, sub))?;
-    let mut line = Line::new(alloc);
-    line.stage(given)?;
-    line.settle();
+    let line = first_line(alloc, event, after, local.input(), sub)?;
     Ok(Unit { local, line })
 }
 

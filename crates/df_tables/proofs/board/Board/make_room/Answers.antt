@@ -1,4 +1,4 @@
-use Rattle.std.proofs.Common.{List, subst, sym}
+use Rattle.std.proofs.Common.{List, refl, subst, sym}
 use Rattle.df_label.specs.declared.label.Label.{Label}
 use Rattle.df_roll.specs.declared.seat.Seat.{Seat}
 use Rattle.df_tables.specs.Agree.{IsWhole}
@@ -17,3 +17,9 @@ returns-clause-board c =
       labels = subst (λ (us : List Unit). AreLabels (inputs us) c.make_room.new.labels.items old.stale) (sym is.rows)
           (subst (λ (ls : List Label). AreLabels (inputs old.rows.items) ls old.stale) (sym is.labels) c.requires.board.labels);
     }
+
+pub returns-clause-same : goal.returns-clause-same
+returns-clause-same c = let is = c.make_room.ensures in record { rows = is.rows; roll = is.seats; events = refl; index = refl; managed = refl; told = refl }
+
+pub returns-clause-labels : goal.returns-clause-labels
+returns-clause-labels c = c.make_room.ensures.labels
