@@ -6,6 +6,7 @@ ghost use Rattle.df_local_run.specs.Runs.{called, is_local};
 ghost use Rattle.df_turn.specs.code.Going.{IsMade, goes_on};
 
 use df_brain::{Last, Want};
+use df_label::NoMemory;
 use df_local_run::{LocalRun, is_local};
 use df_unit::{Call, Reply};
 
@@ -31,6 +32,27 @@ impl Stage {
     }
 }
 
+/// What a local call is answered.
+fn reply_by(run: &LocalRun, call: &Call) -> Result<Reply, NoMemory>
+    ensures { IfOk result (λ r. r ≡ (row_answer run.now.present [] call.now).0) }
+{
+    let answer = run.present().answer(None, call)?;
+    Ok(answer.reply)
+}
+
+/// Makes a local call, or gives it back where there is no memory.
+fn take(run: &mut LocalRun, call: Call) -> Result<(), Call>
+    requires { is_local call ≡ true }
+    ensures run { OnOk result (run.new ≡ called run.old call) }
+    ensures unchanged { OnErr result (run.new ≡ run.old) }
+    ensures back { IfErr result (λ c. c ≡ call) }
+{
+    match run.call(call) {
+        Ok(()) => Ok(()),
+        Err(refused) => Err(refused.call),
+    }
+}
+
 /// Makes a local call, and answers its reply, or gives it back where there is no memory.
 fn reply_to(run: &mut LocalRun, call: Call) -> Result<Reply, Call>
     requires { is_local call ≡ true }
@@ -39,12 +61,12 @@ fn reply_to(run: &mut LocalRun, call: Call) -> Result<Reply, Call>
     ensures unchanged { OnErr result (run.new ≡ run.old) }
     ensures back { IfErr result (λ c. c ≡ call) }
 {
-    let Ok(answer) = run.present().answer(None, &call) else {
+    let Ok(reply) = reply_by(run, &call) else {
         return Err(call);
     };
-    match run.call(call) {
-        Ok(()) => Ok(answer.reply),
-        Err(refused) => Err(refused.call),
+    match take(run, call) {
+        Ok(()) => Ok(reply),
+        Err(call) => Err(call),
     }
 }
 
