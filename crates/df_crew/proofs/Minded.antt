@@ -3,11 +3,11 @@ use Rattle.std.proofs.Common.{◌≡◌, ℕ, zero, suc, List, [], ◌∷◌, Bo
 use Rattle.std.specs.Prelude.{IsSome, is_some, option_copied}
 use Rattle.std.specs.Option.{option_map, option_or}
 use Rattle.df_brain.specs.Brain.{is_child_wanted}
-use Rattle.df_crew.specs.CrewState.{CrewState, mind_in, want_by}
-use Rattle.df_crew.specs.Manned.{IsManned, IsMind, seed_name}
-use Rattle.df_crew.specs.Turns.{asked_by, is_local_want, turn_of, turned}
-use Rattle.df_crew.proofs.Brained.{fixed_counted, makes_none}
-use Rattle.df_crew.proofs.Entries.{recorded, some_is}
+use Rattle.df_booking.specs.CrewState.{CrewState, mind_in, want_by}
+use Rattle.df_booking.specs.Manned.{IsManned, IsMind, seed_name}
+use Rattle.df_booking.specs.Turns.{asked_by, is_local_want, turn_of, turned}
+use Rattle.df_booking.proofs.Brained.{fixed_counted, makes_none}
+use Rattle.df_booking.proofs.Entries.{recorded, some_is}
 use Rattle.df_kept.specs.Kept.{KeptState, kept_at}
 use Rattle.df_label.specs.Tag.{maker_of, number_of}
 use Rattle.df_local.specs.code.LocalState.{LocalState}

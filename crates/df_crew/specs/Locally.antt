@@ -1,6 +1,6 @@
 -- A turn as it begins in a crew.
 use Rattle.std.specs.Prelude.{◌≡◌, false, List, Some}
-use Rattle.df_crew.specs.CrewState.{mind_in}
+use Rattle.df_booking.specs.CrewState.{mind_in}
 use Rattle.df_machine.specs.Journal.{State, local_of}
 use Rattle.df_rules.specs.Follows.{Brain}
 use Rattle.df_turn.specs.Locally.{TurnState}

@@ -1,6 +1,6 @@
 -- When a unit of a crew is at rest.
 use Rattle.std.specs.Prelude.{◌≡◌, Some}
-use Rattle.df_crew.specs.CrewState.{CrewState}
+use Rattle.df_booking.specs.CrewState.{CrewState}
 use Rattle.df_machine.specs.Journal.{firsts}
 use Rattle.df_rules.specs.Follows.{Brain, IsAtRest}
 use Rattle.df_rules.specs.Own.{own}

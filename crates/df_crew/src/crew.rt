@@ -3,20 +3,20 @@
 ghost use Rattle.std.specs.Prelude.{◌≡◌, ◌↔◌, ◌+◌, [], length, Err, IfErr, IfOk, IsTrue, None, OnErr, OnOk, Some, is_some, option_copied, true};
 ghost use Rattle.df_machine.specs.Journal.{IsRoll, firsts, local_of};
 ghost use Rattle.df_rules.specs.Follows.{Quiet, began_with, brain_of, root_began};
-ghost use Rattle.df_crew.specs.Manned.{seed_name};
 ghost use Rattle.df_crew.specs.declared.crew.BeginRefused.TheVariants.{NoSuchUnit};
-ghost use Rattle.df_crew.specs.Booking.{IsCurrent, IsRefused, booked};
-ghost use Rattle.df_crew.specs.CrewState.{mind_in};
+ghost use Rattle.df_booking.specs.Booked.{IsCurrent, booked};
+ghost use Rattle.df_crew.specs.Booking.{IsRefused};
+ghost use Rattle.df_booking.specs.CrewState.{mind_in};
 ghost use Rattle.df_crew.specs.Resting.{IsResting};
-ghost use Rattle.df_crew.specs.Turns.{turned};
+ghost use Rattle.df_booking.specs.Turns.{turned};
 ghost use Rattle.df_unit.specs.declared.name.UnitName.{UnitName};
 ghost use Rattle.df_rules.specs.Start.{rows};
 
-use crate::renewal::book_kept;
 use crate::roster::units;
+use df_booking::{book_kept, seed_name};
 use df_brain::{Brain, Last};
 use df_kept::Kept;
-use df_label::{NoMemory, TagSet};
+use df_label::NoMemory;
 use df_local::Local;
 use df_machine::Core;
 use df_start::Start;
@@ -59,8 +59,8 @@ pub struct Crew<B: Brain> {
 }
 
 impl<B: Brain> Model for Crew<B> {
-    ghost use Rattle.df_crew.specs.CrewState.{CrewState, crew_code};
-    ghost use Rattle.df_crew.specs.Manned.{IsManned};
+    ghost use Rattle.df_booking.specs.CrewState.{CrewState, crew_code};
+    ghost use Rattle.df_booking.specs.Manned.{IsManned};
     ghost use Rattle.df_rules.specs.Follows.{brain_of};
 
     ghost Value = { CrewState B };
@@ -71,17 +71,6 @@ impl<B: Brain> Model for Crew<B> {
 
     ghost invariant = { λ c. IsManned (brain_of B.next B.instance) c.brains.items c.minds c.seeds
         c.core };
-}
-
-/// The name under which the brain of a subscription's instances is kept.
-pub(crate) fn seed_name(alloc: Global, owner: &Path, sub: u32) -> Result<UnitName, NoMemory>
-    ensures { IfOk result (λ name. name ≡ seed_name owner.now sub) }
-{
-    Ok(UnitName::Managed {
-        owner: owner.copy()?,
-        sub,
-        s: TagSet::new(alloc),
-    })
 }
 
 /// The state with which a root's brain began.
@@ -96,7 +85,7 @@ fn root_state<'a, B: Brain>(brains: &'a [B], path: &Path) -> Option<&'a B>
 
 impl<B: Brain> Crew<B> {
     ghost use Rattle.df_crew.specs.Locally.{IsBegun};
-    ghost use Rattle.df_crew.specs.Manned.{IsFollowed};
+    ghost use Rattle.df_booking.specs.Manned.{IsFollowed};
 
     /// A crew whose journal is empty, with a brain for each root.
     pub fn start(alloc: Global, start: Start, brains: Vec<B>) -> Result<Crew<B>, NoMemory>

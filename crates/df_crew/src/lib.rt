@@ -1,9 +1,7 @@
 //! A machine whose units have brains, and the turns that they take.
 #![tactic(auto)]
 
-mod booking;
 mod crew;
-mod renewal;
 mod roster;
 
 pub use crew::{BeginRefused, Crew, NotTurned, TurnCause};

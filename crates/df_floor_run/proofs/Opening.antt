@@ -3,9 +3,9 @@ use Rattle.std.proofs.Common.{◌≡◌, ◌⊎◌, inl, inr, ℕ, zero, suc, �
 use Rattle.std.specs.Prelude.{is_some, slice_get}
 use Rattle.std.specs.Option.{option_map}
 use Rattle.std.proofs.lemmas.Bool.{le-leb, leb-true}
-use Rattle.df_crew.specs.CrewState.{CrewState}
-use Rattle.df_crew.specs.Minds.{mind_from}
-use Rattle.df_crew.specs.Turns.{turned}
+use Rattle.df_booking.specs.CrewState.{CrewState}
+use Rattle.df_booking.specs.Minds.{mind_from}
+use Rattle.df_booking.specs.Turns.{turned}
 use Rattle.df_machine.specs.Journal.{State, appended, firsts}
 use Rattle.df_plain_floor.specs.Grown.{IsMore}
 use Rattle.df_plain_floor.specs.PlainRun.{IsTurn, Opened, Repeated, is_full, root_name, take_turn}

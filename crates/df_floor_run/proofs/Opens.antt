@@ -5,7 +5,7 @@ use Rattle.std.proofs.lemmas.List.{length-map}
 use Rattle.std.proofs.lemmas.Option.{slice_get_within}
 use Rattle.df_config.specs.ConfigForm.{IsConfig}
 use Rattle.df_config.specs.declared.config.Config.{Config}
-use Rattle.df_crew.specs.CrewState.{CrewState, mind_in, want_by, want_in}
+use Rattle.df_booking.specs.CrewState.{CrewState, mind_in, want_by, want_in}
 use Rattle.df_floor.specs.Brains.{floor_brains}
 use Rattle.df_floor.specs.Starting.{floor_start}
 use Rattle.df_floor.proofs.Paired.{paired}

@@ -1,7 +1,7 @@
 -- The plain passes begin with the first root, which wants a call where there is a tick.
 use Rattle.std.proofs.Common.{◌≡◌, ◌⊎◌, inl, inr, ℕ, zero, suc, List, [], ◌∷◌, Bool, true, false, ◌||◌, refl, sym, ◌∙◌, ap, subst, cond, Option, Some}
-use Rattle.df_crew.specs.CrewState.{CrewState, want_in}
-use Rattle.df_crew.specs.Turns.{asked, is_local_want, turn_of, turned}
+use Rattle.df_booking.specs.CrewState.{CrewState, want_in}
+use Rattle.df_booking.specs.Turns.{asked, is_local_want, turn_of, turned}
 use Rattle.df_turn.specs.Locally.{most_local}
 use Rattle.df_machine.specs.Journal.{State, appended, firsts}
 use Rattle.df_plain_floor.specs.PlainRun.{IsPass, Repeated, is_full, take_turn, take_turns}
@@ -45,7 +45,7 @@ module _ {B : Type 0} (brain : Brain B) (bs : List B) where
   opening_turn n c core wants opens wait = by (is_local_want (want_in brain bs core first))
     where
       is : asked brain bs first core ≡ appended first c core
-      is = ap (λ (w : Option Want). Rattle.df_crew.specs.Turns.asked_by core first w) wants
+      is = ap (λ (w : Option Want). Rattle.df_booking.specs.Turns.asked_by core first w) wants
 
       once : HasOpened (asked brain bs first core)
       once = subst HasOpened (sym is) (opens_now c core opens wait)

@@ -3,9 +3,9 @@ use Rattle.std.proofs.Common.{◌≡◌, ℕ, ◌≤◌, List, refl, sym, ◌∙
 use Rattle.std.specs.Prelude.{◌↔◌}
 use Rattle.df_config.specs.ConfigForm.{IsConfig}
 use Rattle.df_config.specs.declared.config.Config.{Config}
-use Rattle.df_crew.specs.CrewState.{CrewState}
+use Rattle.df_booking.specs.CrewState.{CrewState}
 use Rattle.df_floor_units.specs.Floor.{Mind}
-use Rattle.df_crew.specs.Manned.{IsFollowed}
+use Rattle.df_booking.specs.Manned.{IsFollowed}
 use Rattle.df_gen.specs.Generated.{generated}
 use Rattle.df_machine.specs.Journal.{State}
 use Rattle.df_plain_floor.specs.Grown.{IsMore}

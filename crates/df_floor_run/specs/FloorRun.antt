@@ -1,7 +1,7 @@
 -- The plain run of a trading floor, and what is written of it.
 use Rattle.std.specs.Prelude.{◌≡◌, ◌≤◌, ℕ, List, [], ◌++◌, codes, length, reverse}
 use Rattle.df_config.specs.declared.config.Config.{Config}
-use Rattle.df_crew.specs.CrewState.{CrewState}
+use Rattle.df_booking.specs.CrewState.{CrewState}
 use Rattle.df_floor.specs.Brains.{floor_brains}
 use Rattle.df_floor.specs.Starting.{floor_start}
 use Rattle.df_floor_units.specs.Floor.{Mind}

@@ -3,7 +3,7 @@ use Rattle.std.specs.Prelude.{◌≡◌, ℕ, ℤ, Bool, true, false, List, [], 
 use Rattle.df_config.specs.declared.config.Config.{Config}
 use Rattle.df_config.specs.declared.pair.PairRow.{PairRow}
 use Rattle.df_config.specs.declared.trader.TraderRow.{TraderRow}
-use Rattle.df_crew.specs.CrewState.{CrewState}
+use Rattle.df_booking.specs.CrewState.{CrewState}
 use Rattle.df_floor_units.specs.Floor.{Mind}
 use Rattle.df_gen.specs.Generated.{generated}
 use Rattle.df_plain_floor.specs.PlainRun.{IsQuiet}

@@ -2,7 +2,7 @@
 
 ghost use Rattle.std.specs.Prelude.{◌≡◌, [], All, IfOk, length};
 ghost use Rattle.df_config.specs.ConfigForm.{IsConfig};
-ghost use Rattle.df_crew.specs.Manned.{IsFollowed};
+ghost use Rattle.df_booking.specs.Manned.{IsFollowed};
 ghost use Rattle.df_floor_run.specs.FloorRun.{fresh_crew};
 ghost use Rattle.df_floor_run.specs.code.Running.{Ran, end_of};
 ghost use Rattle.df_settling.specs.Settling.{floor_brain};

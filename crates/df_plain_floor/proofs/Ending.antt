@@ -2,7 +2,7 @@
 use Rattle.std.proofs.Common.{◌≡◌, ◌↔◌, ◌≤◌, ℕ, Bool, true, false, refl, length, Result, Ok, Err}
 use Rattle.std.specs.Prelude.{IfOk}
 use Rattle.std.proofs.lemmas.Bool.{leb-true}
-use Rattle.df_crew.specs.CrewState.{CrewState}
+use Rattle.df_booking.specs.CrewState.{CrewState}
 use Rattle.df_plain_floor.specs.PlainRun.{IsAtLimit, IsQuiet, is_full}
 use Rattle.df_plain_floor.specs.declared.run.Ended.{Ended}
 use Rattle.df_plain_floor.specs.declared.run.Ended.TheVariants.{Limit, Quiet}

@@ -1,7 +1,7 @@
 -- A turn appends entries and changes nothing else.
 use Rattle.std.proofs.Common.{◌≡◌, ℕ, zero, suc, ◌+◌, ◌≤◌, List, [], ◌∷◌, ◌++◌, Bool, true, false, refl, sym, ◌∙◌, ap, cond, Option, Some, None, length, arith, length-append}
-use Rattle.df_crew.specs.CrewState.{CrewState, want_in}
-use Rattle.df_crew.specs.Turns.{asked, asked_by, is_local_want, turn_of, turned}
+use Rattle.df_booking.specs.CrewState.{CrewState, want_in}
+use Rattle.df_booking.specs.Turns.{asked, asked_by, is_local_want, turn_of, turned}
 use Rattle.df_turn.specs.Locally.{most_local}
 use Rattle.df_machine.specs.Journal.{State, appended, has_delivery_in}
 use Rattle.df_plain_floor.specs.Grown.{IsMore}

@@ -1,6 +1,6 @@
 -- One root more has taken its turns.
 use Rattle.std.proofs.Common.{◌≡◌, ℕ, suc, List, [], ◌∷◌, sym, ◌∙◌, ap, subst}
-use Rattle.df_crew.specs.CrewState.{CrewState}
+use Rattle.df_booking.specs.CrewState.{CrewState}
 use Rattle.df_plain_floor.specs.PlainRun.{IsTurn, Opened, RunsOut}
 use Rattle.df_rules.specs.Follows.{Brain}
 use Rattle.df_unit.specs.declared.name.UnitName.TheVariants.{Root}

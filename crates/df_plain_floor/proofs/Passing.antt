@@ -1,6 +1,6 @@
 -- Steps that are made until one appends nothing.
 use Rattle.std.proofs.Common.{◌≡◌, ℕ, ◌<◌, ◌≤◌, Bool, true, false, not, eqb, refl, sym, ◌∙◌, ap, length, arith}
-use Rattle.df_crew.specs.CrewState.{CrewState}
+use Rattle.df_booking.specs.CrewState.{CrewState}
 use Rattle.df_plain_floor.specs.Grown.{AreTurns, IsAppending}
 use Rattle.df_plain_floor.specs.PlainRun.{Repeated, is_full}
 use Rattle.df_rules.specs.Follows.{Brain}

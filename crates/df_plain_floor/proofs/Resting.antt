@@ -3,8 +3,8 @@ use Rattle.std.proofs.Common.{◌≡◌, inl, inr, ℕ, zero, suc, ◌≤◌, Li
 use Rattle.std.specs.Prelude.{is_some, slice_get}
 use Rattle.std.specs.Option.{option_map}
 use Rattle.std.proofs.lemmas.Bool.{or_cases}
-use Rattle.df_crew.specs.CrewState.{CrewState}
-use Rattle.df_crew.specs.Turns.{turned}
+use Rattle.df_booking.specs.CrewState.{CrewState}
+use Rattle.df_booking.specs.Turns.{turned}
 use Rattle.df_label.specs.Ascending.{contains_by}
 use Rattle.df_local.specs.code.LocalState.{LocalState}
 use Rattle.df_machine.specs.Journal.{IsRoll, firsts, local_of}

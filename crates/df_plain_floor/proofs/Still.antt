@@ -2,9 +2,9 @@
 use Rattle.std.proofs.Common.{◌≡◌, ℕ, suc, ◌≤◌, List, [], ◌∷◌, Bool, true, false, refl, sym, ◌∙◌, ap, subst, cond, Option, Some, None, length, arith}
 use Rattle.std.specs.Prelude.{⊤, is_some, not}
 use Rattle.std.specs.Option.{option_map}
-use Rattle.df_crew.specs.CrewState.{CrewState, mind_in, want_by, want_in}
-use Rattle.df_crew.specs.Minds.{mind_from}
-use Rattle.df_crew.specs.Turns.{asked_by, is_local_want, turn_of, turned}
+use Rattle.df_booking.specs.CrewState.{CrewState, mind_in, want_by, want_in}
+use Rattle.df_booking.specs.Minds.{mind_from}
+use Rattle.df_booking.specs.Turns.{asked_by, is_local_want, turn_of, turned}
 use Rattle.df_turn.specs.Locally.{most_local}
 use Rattle.df_local_run.specs.Runs.{is_local}
 use Rattle.df_machine.specs.Journal.{State, appended, firsts, has_delivery_in, is_due}

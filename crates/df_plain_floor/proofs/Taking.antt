@@ -2,7 +2,7 @@
 use Rattle.std.proofs.Common.{◌≡◌, ◌⊎◌, inl, inr, ℕ, suc, ◌+◌, ◌<◌, ◌≤◌, List, ◌∷◌, refl, sym, ◌∙◌, ap, subst, Some, length, get_or, drop, arith, add-one, drop-cons}
 use Rattle.std.specs.Prelude.{slice_get}
 use Rattle.std.proofs.lemmas.Option.{get_or_from_slice_get, slice_get_within}
-use Rattle.df_crew.specs.CrewState.{CrewState}
+use Rattle.df_booking.specs.CrewState.{CrewState}
 use Rattle.df_plain_floor.specs.Grown.{AreTurns, HasBrain}
 use Rattle.df_plain_floor.specs.PlainRun.{take_turn, take_turns}
 use Rattle.df_rules.specs.Follows.{Brain}

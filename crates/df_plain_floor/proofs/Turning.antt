@@ -1,8 +1,8 @@
 -- Turns of some units: they follow one another, append alone, and do nothing at the limit.
 use Rattle.std.proofs.Common.{◌≡◌, ℕ, List, [], ◌∷◌, ◌++◌, Bool, true, false, refl, sym, ◌∙◌, ap, subst, cond, Result, Ok, Err}
 use Rattle.std.specs.Prelude.{OnErr, OnOk}
-use Rattle.df_crew.specs.CrewState.{CrewState}
-use Rattle.df_crew.specs.Turns.{turned}
+use Rattle.df_booking.specs.CrewState.{CrewState}
+use Rattle.df_booking.specs.Turns.{turned}
 use Rattle.df_plain_floor.specs.Grown.{AreTurns, IsMore}
 use Rattle.df_plain_floor.specs.PlainRun.{is_full, take_turn, take_turns}
 use Rattle.df_rules.specs.Follows.{Brain}

@@ -1,6 +1,6 @@
 -- How a crew's journal grows.
 use Rattle.std.specs.Prelude.{◌≡◌, ◌<◌, ◌++◌, ℕ, Bool, true, false, List, is_some, length}
-use Rattle.df_crew.specs.CrewState.{CrewState, mind_in}
+use Rattle.df_booking.specs.CrewState.{CrewState, mind_in}
 use Rattle.df_machine.specs.Journal.{local_of}
 use Rattle.df_plain_floor.specs.PlainRun.{is_full, take_turns}
 use Rattle.df_rules.specs.Follows.{Brain}

@@ -1,8 +1,8 @@
 -- The plain run: the roots but the first take turns until each appends nothing more, one root after
 -- the other. Then all units take one turn each, pass by pass, until a pass appends nothing.
 use Rattle.std.specs.Prelude.{◌≡◌, ◌≤◌, ℕ, zero, suc, pred, Bool, if◌then◌else◌, List, [], ◌∷◌, length, nat_le}
-use Rattle.df_crew.specs.CrewState.{CrewState}
-use Rattle.df_crew.specs.Turns.{turned}
+use Rattle.df_booking.specs.CrewState.{CrewState}
+use Rattle.df_booking.specs.Turns.{turned}
 use Rattle.df_machine.specs.Journal.{IsRoll, firsts}
 use Rattle.df_rules.specs.Follows.{Brain, Quiet}
 use Rattle.df_rules.specs.Start.{rows}

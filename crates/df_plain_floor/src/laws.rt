@@ -1,7 +1,7 @@
 //! What holds of every pass, as a law.
 
 ghost use Rattle.std.specs.Prelude.{◌≡◌, List, Some, false, slice_get, ℕ};
-ghost use Rattle.df_crew.specs.CrewState.{CrewState};
+ghost use Rattle.df_booking.specs.CrewState.{CrewState};
 ghost use Rattle.df_machine.specs.Journal.{IsRoll};
 ghost use Rattle.df_plain_floor.specs.Grown.{HasBrain};
 ghost use Rattle.df_plain_floor.specs.PlainRun.{IsQuiet, is_full, take_turns};

@@ -1,10 +1,10 @@
 //! One turn of a unit.
 
 ghost use Rattle.std.specs.Prelude.{◌≡◌, IfOk, MatchOption, None, OnErr, OnOk, is_some, true};
-ghost use Rattle.df_crew.specs.Booking.{IsCurrent};
-ghost use Rattle.df_crew.specs.CrewState.{mind_in};
+ghost use Rattle.df_booking.specs.Booked.{IsCurrent};
+ghost use Rattle.df_booking.specs.CrewState.{mind_in};
 ghost use Rattle.df_crew.specs.Locally.{IsBegun};
-ghost use Rattle.df_crew.specs.Turns.{turned};
+ghost use Rattle.df_booking.specs.Turns.{turned};
 ghost use Rattle.df_machine.specs.Journal.{local_of};
 ghost use Rattle.df_rules.specs.Follows.{brain_of};
 

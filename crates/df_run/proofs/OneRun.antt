@@ -3,7 +3,7 @@ use Rattle.std.proofs.Common.{◌≡◌, ◌+◌, ℕ, zero, suc, List, Some, re
 use Rattle.df_config.specs.ConfigFile.{IsConfigFile}
 use Rattle.df_config.specs.ConfigTable.{config_of}
 use Rattle.df_config.specs.declared.config.Config.{Config}
-use Rattle.df_crew.specs.CrewState.{CrewState}
+use Rattle.df_booking.specs.CrewState.{CrewState}
 use Rattle.df_floor_run.specs.FloorRun.{EndsWith, IsFloorRun, fresh_crew}
 use Rattle.df_floor_run.specs.declared.run.FloorEnd.{FloorEnd}
 use Rattle.df_floor_run.specs.declared.run.FloorEnd.TheVariants as floor

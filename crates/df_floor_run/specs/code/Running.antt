@@ -1,7 +1,7 @@
 -- A run of a crew of a floor, and what is told of it.
 use Rattle.std.specs.Prelude.{◌≡◌, ℕ, List}
-use Rattle.df_crew.specs.CrewState.{CrewState}
-use Rattle.df_crew.specs.Manned.{IsFollowed}
+use Rattle.df_booking.specs.CrewState.{CrewState}
+use Rattle.df_booking.specs.Manned.{IsFollowed}
 use Rattle.df_floor_units.specs.Floor.{Mind}
 use Rattle.df_plain_floor.specs.PlainRun.{IsPlainRun}
 use Rattle.df_plain_floor.specs.declared.run.Ended.{Ended}

@@ -1,6 +1,6 @@
 use Rattle.std.proofs.Common.{◌≡◌, ℕ, List, false, not, sym, subst, ap, ◌∙◌, length}
 use Rattle.std.specs.Prelude.{nat_eq}
-use Rattle.df_crew.specs.CrewState.{CrewState}
+use Rattle.df_booking.specs.CrewState.{CrewState}
 use Rattle.df_machine.specs.Journal.{IsRoll, State}
 use Rattle.df_plain_floor.specs.PlainRun.{IsQuiet, is_full}
 use Rattle.df_rules.specs.Follows.{brain_of}

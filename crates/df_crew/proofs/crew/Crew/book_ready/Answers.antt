@@ -1,7 +1,7 @@
 use Rattle.std.proofs.Common.{◌≡◌}
-use Rattle.df_crew.specs.CrewState.{CrewState}
-use Rattle.df_crew.specs.Turns.{turned}
-use Rattle.df_crew.proofs.Manning.{turned_is, under_way}
+use Rattle.df_booking.specs.CrewState.{CrewState}
+use Rattle.df_booking.specs.Turns.{turned}
+use Rattle.df_booking.proofs.Manning.{turned_is, under_way}
 use Rattle.df_crew.proofs.crew.Crew.book_ready.Goals as goal
 use Rattle.df_crew.proofs.crew.Crew.book_ready.Goals.{in-Ok, in-Err}
 use Rattle.df_rules.specs.Follows.{brain_of}

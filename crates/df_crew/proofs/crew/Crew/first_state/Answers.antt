@@ -1,6 +1,6 @@
 use Rattle.std.proofs.Common.{◌≡◌, true, ap, sym, subst, ◌∙◌}
 use Rattle.std.specs.Prelude.{is_some, option_copied}
-use Rattle.df_crew.specs.CrewState.{CrewState}
+use Rattle.df_booking.specs.CrewState.{CrewState}
 use Rattle.df_kept.specs.Kept.{kept_at}
 use Rattle.df_crew.proofs.Minded.{seed_began}
 use Rattle.df_crew.proofs.crew.Crew.first_state.Goals as goal

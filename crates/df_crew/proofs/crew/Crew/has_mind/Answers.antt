@@ -1,6 +1,6 @@
 use Rattle.std.proofs.Common.{◌≡◌, Some, true, ap, sym, subst, ◌∙◌}
 use Rattle.std.specs.Prelude.{is_some, option_copied}
-use Rattle.df_crew.specs.CrewState.{CrewState, mind_in}
+use Rattle.df_booking.specs.CrewState.{CrewState, mind_in}
 use Rattle.df_crew.proofs.Minded.{found_there, kept_mind}
 use Rattle.df_crew.proofs.crew.Crew.has_mind.Goals as goal
 use Rattle.df_kept.specs.Kept.{kept_at}

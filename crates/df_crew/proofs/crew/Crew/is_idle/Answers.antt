@@ -1,6 +1,6 @@
 use Rattle.std.proofs.Common.{◌≡◌, Some, false, ap, sym, subst, ◌∙◌}
 use Rattle.std.specs.Prelude.{is_some, Option}
-use Rattle.df_crew.specs.CrewState.{CrewState, mind_in}
+use Rattle.df_booking.specs.CrewState.{CrewState, mind_in}
 use Rattle.df_crew.proofs.Minded.{kept_mind, still_waiting}
 use Rattle.df_crew.proofs.crew.Crew.is_idle.Goals as goal
 use Rattle.df_machine.specs.Journal.{has_delivery_in}

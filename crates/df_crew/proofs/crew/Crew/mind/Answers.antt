@@ -1,6 +1,6 @@
 use Rattle.std.proofs.Common.{◌≡◌, true, sym, subst}
 use Rattle.std.specs.Prelude.{is_some, option_copied}
-use Rattle.df_crew.specs.CrewState.{CrewState}
+use Rattle.df_booking.specs.CrewState.{CrewState}
 use Rattle.df_crew.proofs.Minded.{found_there}
 use Rattle.df_crew.proofs.crew.Crew.mind.Goals as goal
 use Rattle.df_machine.specs.Journal.{firsts, local_of}

@@ -1,5 +1,5 @@
 use Rattle.std.proofs.Common.{sym, subst}
-use Rattle.df_crew.specs.Manned.{IsManned}
+use Rattle.df_booking.specs.Manned.{IsManned}
 use Rattle.df_crew.proofs.Minded.{manned_start}
 use Rattle.df_crew.proofs.crew.Crew.start.Goals as goal
 use Rattle.df_machine.specs.Journal.{State}

@@ -1,8 +1,8 @@
 use Rattle.std.proofs.Common.{◌≡◌, ap, cond, sym, subst, ◌∙◌, Some}
 use Rattle.df_kept.specs.Kept.{kept_at}
-use Rattle.df_crew.specs.code.Seeding.{seed_of}
-use Rattle.df_crew.proofs.Manning.{manned_ready}
-use Rattle.df_crew.proofs.renewal.prepare.Goals as goal
+use Rattle.df_booking.specs.code.Seeding.{seed_of}
+use Rattle.df_booking.proofs.Manning.{manned_ready}
+use Rattle.df_booking.proofs.renewal.prepare.Goals as goal
 use Rattle.df_local.specs.code.LocalState.{LocalState}
 use Rattle.df_rules.specs.Follows.{brain_of}
 use Rattle.df_unit.specs.Name.{same}

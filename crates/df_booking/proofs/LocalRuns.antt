@@ -22,13 +22,13 @@ use Rattle.df_local.specs.Locally.{row_answer}
 use Rattle.df_local.specs.code.LocalState.{LocalState}
 use Rattle.df_local_run.specs.Runs.{IsLocalEntry, is_local, moved_by}
 use Rattle.df_machine.specs.Journal.{State, firsts, has_delivery_in, is_due, local_of}
-use Rattle.df_crew.specs.CrewState.{mind_in, want_in}
+use Rattle.df_booking.specs.CrewState.{mind_in, want_in}
 use Rattle.df_turn.specs.Locally.{RunsTo}
-use Rattle.df_crew.specs.Manned.{IsFollowed, IsMind, seed_name}
-use Rattle.df_crew.specs.Turns.{asked_by, is_local_want, turn_of}
-use Rattle.df_crew.proofs.Acting.{Acts, acted_appended, acted_followed, acted_mind, acted_others, acted_unit, acted_want, own_of}
-use Rattle.df_crew.proofs.Brained.{made_is}
-use Rattle.df_crew.proofs.Entries.{deliveries_kept, fixed_kept, fixed_or, own_acted, seed_kept}
+use Rattle.df_booking.specs.Manned.{IsFollowed, IsMind, seed_name}
+use Rattle.df_booking.specs.Turns.{asked_by, is_local_want, turn_of}
+use Rattle.df_booking.proofs.Acting.{Acts, acted_appended, acted_followed, acted_mind, acted_others, acted_unit, acted_want, own_of}
+use Rattle.df_booking.proofs.Brained.{made_is}
+use Rattle.df_booking.proofs.Entries.{deliveries_kept, fixed_kept, fixed_or, own_acted, seed_kept}
 
 -- the rows of local calls
 

@@ -1,9 +1,9 @@
 use Rattle.std.proofs.Common.{ap, sym, subst, ◌∙◌, ◌≡◌, Some}
 use Rattle.std.specs.Prelude.{IfSome, Option}
 use Rattle.std.specs.Option.{option_map}
-use Rattle.df_crew.specs.code.Seeding.{seed_of}
-use Rattle.df_crew.proofs.Manning.{seeded_is}
-use Rattle.df_crew.proofs.renewal.seed.Goals as goal
+use Rattle.df_booking.specs.code.Seeding.{seed_of}
+use Rattle.df_booking.proofs.Manning.{seeded_is}
+use Rattle.df_booking.proofs.renewal.seed.Goals as goal
 use Rattle.df_rules.specs.Follows.{brain_of}
 use Rattle.df_unit.specs.declared.name.UnitName.{UnitName}
 

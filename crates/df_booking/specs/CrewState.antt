@@ -1,7 +1,7 @@
 -- What a crew is, and each unit's brain in it.
 use Rattle.std.specs.Prelude.{List, Option, Some, None, refl}
 use Rattle.std.specs.Coded.{Coded, code_by, coded×, coded_list}
-use Rattle.df_crew.specs.Minds.{mind_of}
+use Rattle.df_booking.specs.Minds.{mind_of}
 use Rattle.df_machine.specs.Journal.{State, firsts}
 use Rattle.df_rules.specs.Follows.{Brain, Last, Want}
 use Rattle.df_rules.specs.Own.{own}

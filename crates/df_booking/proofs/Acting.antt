@@ -21,10 +21,10 @@ use Rattle.df_unit.specs.declared.reply.Reply.{Reply}
 use Rattle.df_local.specs.Locally.{with_own}
 use Rattle.df_local.specs.code.LocalState.{LocalState}
 use Rattle.df_machine.specs.Journal.{State, appended, firsts, has_delivery_in, is_due, local_of}
-use Rattle.df_crew.specs.CrewState.{mind_in, want_by, want_in}
-use Rattle.df_crew.specs.Manned.{IsFollowed, IsMind}
-use Rattle.df_crew.proofs.Entries.{exists_kept, own_acted, replies_kept, some_is}
-use Rattle.df_crew.proofs.Brained.{entry_follows, mind_acted, mind_kept}
+use Rattle.df_booking.specs.CrewState.{mind_in, want_by, want_in}
+use Rattle.df_booking.specs.Manned.{IsFollowed, IsMind}
+use Rattle.df_booking.proofs.Entries.{exists_kept, own_acted, replies_kept, some_is}
+use Rattle.df_booking.proofs.Brained.{entry_follows, mind_acted, mind_kept}
 
 -- a unit's own state, by what a machine tells of it
 pub own_of : (core : State) (u : UnitName) (l : LocalState) → local_of core u ≡ Some l → (own rows (firsts core.0) core.1 u ≡ Some l.own) × (l.unit ≡ u)

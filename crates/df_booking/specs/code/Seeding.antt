@@ -3,9 +3,9 @@ use Rattle.std.specs.Prelude.{◌≡◌, ℕ, Bool, if◌then◌else◌, Option,
 use Rattle.df_brain.specs.Brain.{last_of}
 use Rattle.df_brain.specs.declared.want.Want.{Want}
 use Rattle.df_brain.specs.declared.want.Want.TheVariants as want
-use Rattle.df_crew.specs.Manned.{seed_name}
-use Rattle.df_crew.specs.declared.booking.Rest.{Rest}
-use Rattle.df_crew.specs.declared.booking.Rest.TheVariants as rest
+use Rattle.df_booking.specs.Manned.{seed_name}
+use Rattle.df_booking.specs.declared.booking.Rest.{Rest}
+use Rattle.df_booking.specs.declared.booking.Rest.TheVariants as rest
 use Rattle.df_kept.specs.Kept.{KeptState, kept_at}
 use Rattle.df_local.specs.code.LocalState.{LocalState}
 use Rattle.df_rules.specs.Follows.{Brain, Last, Replied, Start}

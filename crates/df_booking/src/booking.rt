@@ -1,8 +1,8 @@
 //! A turn is booked in the machine, and the brain behind it.
 
 ghost use Rattle.std.specs.Prelude.{◌≡◌, ◌+◌, IfErr, IfOk, IfSome, IsSome, None, OnErr, OnOk, false, length};
-ghost use Rattle.df_crew.specs.code.Renewal.{is_rest, left_by, mind_behind, shared_of};
-ghost use Rattle.df_crew.specs.code.Seeding.{back_of, behind, count_of, shared_by};
+ghost use Rattle.df_booking.specs.code.Renewal.{is_rest, left_by, mind_behind, shared_of};
+ghost use Rattle.df_booking.specs.code.Seeding.{back_of, behind, count_of, shared_by};
 ghost use Rattle.df_local_run.specs.Runs.{is_local};
 ghost use Rattle.df_brain.specs.declared.want.Want.TheVariants.{Wait};
 ghost use Rattle.df_machine.specs.Booking.{booked, reply_booked};

@@ -1,5 +1,5 @@
-use Rattle.df_crew.proofs.Manning.{shared_apart}
-use Rattle.df_crew.proofs.booking.book_going.Goals as goal
+use Rattle.df_booking.proofs.Manning.{shared_apart}
+use Rattle.df_booking.proofs.booking.book_going.Goals as goal
 use Rattle.df_rules.specs.Follows.{brain_of}
 
 pub book_calls-requires-clause-shared : goal.book_calls-requires-clause-shared

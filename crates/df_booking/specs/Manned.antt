@@ -1,6 +1,6 @@
 -- What a crew keeps of its units' brains, and how it agrees with the journal.
 use Rattle.std.specs.Prelude.{◌≡◌, ℕ, true, List, [], Option, Some, None, length}
-use Rattle.df_crew.specs.CrewState.{mind_in}
+use Rattle.df_booking.specs.CrewState.{mind_in}
 use Rattle.df_kept.specs.Kept.{KeptState, kept_at}
 use Rattle.df_machine.specs.Journal.{State, firsts}
 use Rattle.df_rules.specs.Follows.{Brain, Follows, Last, began_with, replies_of}

@@ -2,8 +2,8 @@
 use Rattle.std.specs.Prelude.{◌≡◌, Bool, false, not, List, Option, Some, None}
 use Rattle.df_brain.specs.Brain.{last_of}
 use Rattle.df_brain.specs.declared.want.Want.TheVariants as want
-use Rattle.df_crew.specs.CrewState.{mind_in}
-use Rattle.df_crew.specs.code.Seeding.{shared_by}
+use Rattle.df_booking.specs.CrewState.{mind_in}
+use Rattle.df_booking.specs.code.Seeding.{shared_by}
 use Rattle.df_machine.specs.Booking.{reply_booked}
 use Rattle.df_machine.specs.Journal.{State, has_delivery_in, local_of}
 use Rattle.df_rules.specs.Follows.{Brain, Last, Replied, Start}

@@ -2,9 +2,9 @@
 
 ghost use Rattle.std.specs.Prelude.{◌≡◌, ◌+◌, IfErr, IfOk, IfSome, List, OnErr, OnOk, Some, if◌then◌else◌, length};
 ghost use Rattle.std.specs.Option.{option_map};
-ghost use Rattle.df_crew.specs.Manned.{IsManned};
-ghost use Rattle.df_crew.specs.code.Renewal.{IsUnderWay, shared_of};
-ghost use Rattle.df_crew.specs.code.Seeding.{IsSeed, IsSeeded, seed_of};
+ghost use Rattle.df_booking.specs.Manned.{IsManned, seed_name};
+ghost use Rattle.df_booking.specs.code.Renewal.{IsUnderWay, shared_of};
+ghost use Rattle.df_booking.specs.code.Seeding.{IsSeed, IsSeeded, seed_of};
 ghost use Rattle.df_kept.specs.Kept.{IsPlace, kept_at};
 ghost use Rattle.df_machine.specs.Booking.{booked};
 ghost use Rattle.df_machine.specs.Journal.{State, local_of};
@@ -14,15 +14,25 @@ ghost use Rattle.df_unit.specs.Name.{same};
 ghost use Rattle.df_unit.specs.declared.name.UnitName.{UnitName};
 
 use crate::booking::book_going;
-use crate::crew::seed_name;
 use df_brain::{Brain, Want};
 use df_kept::Kept;
-use df_label::NoMemory;
+use df_label::{NoMemory, TagSet};
 use df_local::Local;
 use df_machine::Core;
 use df_turn::{Going, Mind, Stage};
-use df_unit::{Call, UnitName};
+use df_unit::{Call, Path, UnitName};
 use std::alloc::Global;
+
+/// The name under which the brain of a subscription's instances is kept.
+pub fn seed_name(alloc: Global, owner: &Path, sub: u32) -> Result<UnitName, NoMemory>
+    ensures { IfOk result (λ name. name ≡ seed_name owner.now sub) }
+{
+    Ok(UnitName::Managed {
+        owner: owner.copy()?,
+        sub,
+        s: TagSet::new(alloc),
+    })
+}
 
 /// The brain of the instances of a subscription that a turn is to make, with the name under which
 /// it is kept.
@@ -104,9 +114,10 @@ fn prepare<B: Brain>(
     Ok(place)
 }
 
-/// Books a turn and renews its unit's brain, or gives it back where there is no memory. The tables
-/// agree with the journal as before.
-pub(crate) fn book_kept<B: Brain>(
+/// Books a turn's local calls and then the shared call that is wanted, or a get where the turn
+/// waits and a delivery is left, and renews its unit's brain; or gives the turn back where there is
+/// no memory. The tables agree with the journal as before.
+pub fn book_kept<B: Brain>(
     alloc: Global,
     core: &mut Core,
     minds: &mut Kept<Mind<B>>,

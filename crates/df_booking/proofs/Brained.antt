@@ -22,8 +22,8 @@ use Rattle.df_unit.specs.declared.entry.Entry.TheVariants.{Done, Emitted}
 use Rattle.df_unit.specs.declared.name.UnitName.{UnitName}
 use Rattle.df_unit.specs.declared.name.UnitName.TheVariants.{Root}
 use Rattle.df_unit.specs.declared.reply.Reply.{Reply}
-use Rattle.df_crew.specs.Minds.{mind_from, mind_of}
-use Rattle.df_crew.proofs.Entries.{Fixes, began_kept, exists_kept, fixed_or, own_acted, replies_kept, replies_more}
+use Rattle.df_booking.specs.Minds.{mind_from, mind_of}
+use Rattle.df_booking.proofs.Entries.{Fixes, began_kept, exists_kept, fixed_or, own_acted, replies_kept, replies_more}
 
 -- who makes a record makes a managed subscription, and is answered its number
 pub made_is : (st : OwnState) (n : ℕ) (c : Call) (r : Reply) (fx : Fixed) → fixes st n c r ≡ Some fx → (filter : List Clause) × (c ≡ SubscribeManaged filter) × (r ≡ Reply.Sub n)

@@ -4,7 +4,7 @@ use Rattle.df_machine.specs.Journal.{State, appended, has_delivery_in}
 use Rattle.df_rules.specs.Follows.{Brain, Calls, Wait, Want}
 use Rattle.df_unit.specs.declared.call.Call.TheVariants.{Get}
 use Rattle.df_unit.specs.declared.name.UnitName.{UnitName}
-use Rattle.df_crew.specs.CrewState.{CrewState, want_in}
+use Rattle.df_booking.specs.CrewState.{CrewState, want_in}
 use Rattle.df_turn.specs.Locally.{most_local, wants_local}
 
 abbrev pub is_local_want : Option Want → Bool

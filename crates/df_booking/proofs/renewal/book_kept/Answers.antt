@@ -1,7 +1,7 @@
 use Rattle.std.proofs.Common.{Some, cond, ap, sym, subst, ◌∙◌}
-use Rattle.df_crew.specs.Manned.{IsManned}
-use Rattle.df_crew.proofs.Manning.{manned_booked}
-use Rattle.df_crew.proofs.renewal.book_kept.Goals as goal
+use Rattle.df_booking.specs.Manned.{IsManned}
+use Rattle.df_booking.proofs.Manning.{manned_booked}
+use Rattle.df_booking.proofs.renewal.book_kept.Goals as goal
 use Rattle.df_kept.specs.Kept.{kept_at}
 use Rattle.df_machine.specs.Journal.{State}
 use Rattle.df_rules.specs.Follows.{Last, brain_of}

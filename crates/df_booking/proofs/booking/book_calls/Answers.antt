@@ -1,9 +1,9 @@
 use Rattle.std.proofs.Common.{◌≡◌, ◌+◌, length, ap, ◌∙◌}
 use Rattle.std.specs.Prelude.{List, Option}
-use Rattle.df_crew.specs.code.Renewal.{left_by}
-use Rattle.df_crew.specs.code.Seeding.{count_of}
-use Rattle.df_crew.proofs.Manning.{behind_is, longer}
-use Rattle.df_crew.proofs.booking.book_calls.Goals as goal
+use Rattle.df_booking.specs.code.Renewal.{left_by}
+use Rattle.df_booking.specs.code.Seeding.{count_of}
+use Rattle.df_booking.proofs.Manning.{behind_is, longer}
+use Rattle.df_booking.proofs.booking.book_calls.Goals as goal
 use Rattle.df_machine.specs.Booking.{reply_booked}
 use Rattle.df_machine.specs.Journal.{State}
 use Rattle.df_turn.specs.declared.stage.Stage.{Stage}

@@ -6,19 +6,19 @@ use Rattle.std.specs.Option.{option_map}
 use Rattle.df_brain.specs.Brain.{want_of}
 use Rattle.df_brain.specs.declared.want.Want.{Want as Wish}
 use Rattle.df_brain.specs.declared.want.Want.TheVariants as wish
-use Rattle.df_crew.specs.Booking.{IsCurrent}
-use Rattle.df_crew.specs.CrewState.{CrewState, mind_in, want_by, want_in}
-use Rattle.df_crew.specs.Manned.{IsFollowed, IsManned, IsMind, seed_name}
-use Rattle.df_crew.specs.Minds.{mind_from}
-use Rattle.df_crew.specs.code.Renewal.{IsUnderWay, left_by, mind_after, mind_behind, shared_of}
-use Rattle.df_crew.specs.code.Seeding.{IsSeed, IsSeeded, back_of, behind, count_of, next_seed, seed_for, seed_of, seed_of_want, shared_by, shared_by_want}
-use Rattle.df_crew.specs.Turns.{asked_by, is_local_want, turn_of, turned}
-use Rattle.df_crew.specs.declared.booking.Rest.{Rest}
-use Rattle.df_crew.specs.declared.booking.Rest.TheVariants as rest
-use Rattle.df_crew.proofs.Acting.{Acts, acted_followed, acted_mind, acted_others, acted_unit, own_of}
-use Rattle.df_crew.proofs.Brained.{fixed_counted, made_is, subscribed_is}
-use Rattle.df_crew.proofs.Entries.{Fixes, before_new, fixed_kept, fixed_or, same_self, seed_kept, some_is}
-use Rattle.df_crew.proofs.LocalRuns.{Reached, run_reached, run_turn}
+use Rattle.df_booking.specs.Booked.{IsCurrent}
+use Rattle.df_booking.specs.CrewState.{CrewState, mind_in, want_by, want_in}
+use Rattle.df_booking.specs.Manned.{IsFollowed, IsManned, IsMind, seed_name}
+use Rattle.df_booking.specs.Minds.{mind_from}
+use Rattle.df_booking.specs.code.Renewal.{IsUnderWay, left_by, mind_after, mind_behind, shared_of}
+use Rattle.df_booking.specs.code.Seeding.{IsSeed, IsSeeded, back_of, behind, count_of, next_seed, seed_for, seed_of, seed_of_want, shared_by, shared_by_want}
+use Rattle.df_booking.specs.Turns.{asked_by, is_local_want, turn_of, turned}
+use Rattle.df_booking.specs.declared.booking.Rest.{Rest}
+use Rattle.df_booking.specs.declared.booking.Rest.TheVariants as rest
+use Rattle.df_booking.proofs.Acting.{Acts, acted_followed, acted_mind, acted_others, acted_unit, own_of}
+use Rattle.df_booking.proofs.Brained.{fixed_counted, made_is, subscribed_is}
+use Rattle.df_booking.proofs.Entries.{Fixes, before_new, fixed_kept, fixed_or, same_self, seed_kept, some_is}
+use Rattle.df_booking.proofs.LocalRuns.{Reached, run_reached, run_turn}
 use Rattle.df_filter.specs.declared.clause.Clause.{Clause}
 use Rattle.df_kept.specs.Kept.{KeptState, kept_at}
 use Rattle.df_local.specs.Locally.{with_own}

@@ -1,0 +1,5 @@
+pub mod Entries
+pub mod Brained
+pub mod Acting
+pub mod LocalRuns
+pub mod Manning

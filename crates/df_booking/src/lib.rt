@@ -1,0 +1,7 @@
+//! Booking a turn: its calls in the machine, and its unit's brain behind them.
+#![tactic(auto)]
+
+mod booking;
+mod renewal;
+
+pub use renewal::{book_kept, seed_name};
