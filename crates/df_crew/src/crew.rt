@@ -238,6 +238,7 @@ impl<B: Brain> Crew<B> {
         ensures back { IfErr result (λ t. t ≡ turn) }
     {
         if !turn.is_ready() {
+            turn.let_go();
             return Ok(0);
         }
         self.book_ready(turn)

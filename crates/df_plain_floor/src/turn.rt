@@ -32,13 +32,13 @@ fn advanced<B: Brain>(mut turn: Turn<B>) -> Result<Turn<B>, NoMemory>
 {
     match turn.advance() {
         Ok(_) => Ok(turn),
-        Err(NoMemory) => Err(NoMemory),
+        Err(NoMemory) => Err(let_go(turn)),
     }
 }
 
-/// Lets a turn go that could not be booked.
+/// Lets a turn go for which there is no memory.
 fn let_go<B: Brain>(turn: Turn<B>) -> NoMemory {
-    let _turn = turn;
+    turn.let_go();
     NoMemory
 }
 

@@ -105,6 +105,13 @@ impl<B: Brain> Turn<B> {
         Ok(self.going.ready())
     }
 
+    /// Lets the turn go.
+    pub fn let_go(self) {
+        let parts = self.into_parts();
+        drop(parts.base);
+        parts.going.let_go();
+    }
+
     /// The turn's parts. Takes no memory.
     pub fn into_parts(self) -> TurnParts<B>
         ensures unit { result.going.run.base ≡ self.unit }
