@@ -107,7 +107,7 @@ fn each_write_may_fail(rt: HostRuntime) -> Result<(), Fail> {
 #[test]
 fn real_files_are_read(rt: HostRuntime) -> Result<(), Fail> {
     let alloc = rt.alloc();
-    let mut shelf = FileShelf::new(rt);
+    let mut shelf = FileShelf::new(rt.alloc(), rt);
     for len in [0, 1, PIECE, PIECE + 1] {
         let bytes = text(alloc, len)?;
         let mut file = OutSink::new(fs::create(&rt, "df_io_test_file")?);
@@ -148,7 +148,11 @@ fn a_byte_too_many_is_too_long(rt: HostRuntime) -> Result<(), Fail> {
         (LONGEST_FILE + 1, Err(NotRead::TooLong)),
     ] {
         file.set_len(len as u64)?;
-        let read = read_file(rt.alloc(), &mut FileShelf::new(rt), "df_io_long_file");
+        let read = read_file(
+            rt.alloc(),
+            &mut FileShelf::new(rt.alloc(), rt),
+            "df_io_long_file",
+        );
         assert_eq!(rt; read.map(|bytes| bytes.len()), result, "{len}");
     }
     fs::remove_file(&rt, "df_io_long_file")?;

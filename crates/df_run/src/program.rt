@@ -96,7 +96,7 @@ fn done<R: AllocGlobal + Files + Print + Clone + Drop>(rt: &R, words: &[String])
     let Ok(files) = rt.clone() else {
         return Status::NoMemory;
     };
-    let mut shelf = FileShelf::new(files);
+    let mut shelf = FileShelf::new(rt.alloc(), files);
     let mut out = OutSink::new(io::writer(rt));
     run_main(rt.alloc(), words, &mut shelf, &mut out)
 }
