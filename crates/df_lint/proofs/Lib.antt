@@ -1,5 +1,6 @@
 pub mod Cells
 pub mod CellRows
+pub mod Attaching
 pub mod Steps
 pub mod Growing
 pub mod Least

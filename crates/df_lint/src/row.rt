@@ -1,6 +1,7 @@
 //! What a root's family may hold, as far as it is found: a cell for each tag.
 ghost use Rattle.std.specs.Prelude.{◌≡◌, ◌<◌, IfOk, OnOk, false, length, slice_set, true};
-ghost use Rattle.df_lint.specs.code.Cells.{Grows, cell_at, cells_at, no_bar, pass_row};
+ghost use Rattle.std.specs.List.{list_any};
+ghost use Rattle.df_lint.specs.code.Cells.{Grows, attaches, cell_at, cells_at, no_bar, pass_row};
 
 use crate::cell::{Cell, pass_on, reaches};
 use df_label::NoMemory;
@@ -34,6 +35,15 @@ impl Row {
         ensures { result.now ≡ self.now }
     {
         self.cells.as_slice()
+    }
+
+    /// Whether something of it may be passed on.
+    fn attaches(&self) -> bool
+        ensures { result ≡ list_any attaches self.now }
+    {
+        self.cells
+            .iter()
+            .any(|cell| cell.plus_auth || cell.minus_auth)
     }
 
     /// Takes what the giver may attach. Whether that was anything new.
@@ -81,6 +91,14 @@ pub fn pass_between(
     let gained = taker.take(rows[from].cells());
     rows[to] = taker;
     Ok(gained)
+}
+
+/// Whether something of the row at a place may be passed on.
+pub fn attaches_at(rows: &Vec<Row>, place: usize) -> bool
+    requires { place < length rows.now.items }
+    ensures { result ≡ list_any attaches (cells_at rows.now.items place) }
+{
+    rows[place].attaches()
 }
 
 /// Whether no tag bars one row's family from what the other's writes.

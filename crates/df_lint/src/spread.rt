@@ -1,10 +1,11 @@
 ghost use Rattle.std.specs.Prelude.{◌≡◌, ◌<◌, ℕ, IfOk, OnOk, false, length, slice_set, true};
-ghost use Rattle.std.specs.List.{Contains};
+ghost use Rattle.std.specs.List.{Contains, list_any};
+ghost use Rattle.df_lint.specs.code.Cells.{attaches, cells_at};
 ghost use Rattle.df_lint.specs.code.Passing.{Gains};
 ghost use Rattle.df_lint.specs.code.Rows.{IsGivenBy, IsTable, Settles, row_at, rows_of};
 ghost use Rattle.df_lint.specs.code.Spread.{Extends, IsSeenBy, IsSpread};
 
-use crate::row::{Row, pass_between, reaches_between};
+use crate::row::{Row, attaches_at, pass_between, reaches_between};
 use df_label::{NoMemory, Tag};
 use df_start::RootStart;
 use std::alloc::Global;
@@ -22,21 +23,25 @@ pub fn spread(
     ensures spread { OnOk result (IsSpread roots.now (rows_of tags.now rows.old.items)
         (rows_of tags.now rows.new.items)) }
 {
-    let mut waiting = places(alloc, roots.len())?;
+    let mut waiting = givers(alloc, rows)?;
     while let Some(root) = waiting.pop() {
         settle_all(alloc, roots, tags, rows, &mut waiting, root)?;
     }
     Ok(())
 }
 
-/// The numbers below this one.
-fn places(alloc: Global, count: usize) -> Result<Vec<usize>, NoMemory>
-    ensures all { IfOk result (λ places. (k : ℕ) → k < count → Contains places.items k) }
-    ensures only { IfOk result (λ places. (k : ℕ) → Contains places.items k → k < count) }
+/// The places of the rows of which something may be passed on. Between the others nothing may.
+fn givers(alloc: Global, rows: &Vec<Row>) -> Result<Vec<usize>, NoMemory>
+    ensures all { IfOk result (λ places. (k : ℕ) → list_any attaches (cells_at rows.now.items k) ≡ true →
+        Contains places.items k) }
+    ensures only { IfOk result (λ places. (k : ℕ) → Contains places.items k →
+        k < length rows.now.items) }
 {
-    let mut places = Vec::with_capacity(alloc, count)?;
-    for place in 0..count {
-        places.push(place)?;
+    let mut places = Vec::new(alloc);
+    for place in 0..rows.len() {
+        if attaches_at(rows, place) {
+            places.push(place)?;
+        }
     }
     Ok(places)
 }

@@ -46,6 +46,10 @@ abbrev pub gives : Cell → Cell → Bool
 gives giver c = (giver.plus_auth && not (c.plus && c.plus_auth))
     || (giver.minus_auth && not (c.minus && c.minus_auth))
 
+-- whether something over the tag may be passed on
+abbrev pub attaches : Cell → Bool
+attaches c = c.plus_auth || c.minus_auth
+
 -- so with each cell of a row
 abbrev pub pass_row : List Cell → List Cell → List Cell
 pass_row [] cells = cells

@@ -1,8 +1,9 @@
-use Rattle.std.proofs.Common.{inl, ◌≡◌, ℕ, List, [], ◌∷◌, ◌++◌, Option, option_to_list, ap, sym, subst, ◌∙◌, length, arith}
+use Rattle.std.proofs.Common.{inl, ◌≡◌, ℕ, ◌<◌, List, [], ◌∷◌, ◌++◌, Option, option_to_list, ap, sym, subst, ◌∙◌, length, arith}
 use Rattle.std.specs.List.{Contains}
 use Rattle.std.proofs.lemmas.List.Elements.{Contains-append_left, Contains-push}
 use Rattle.df_lint.specs.code.Rows.{rows_of}
 use Rattle.df_lint.specs.code.Spread.{IsSeen}
+use Rattle.df_lint.proofs.Attaching.{seen_first}
 use Rattle.df_lint.proofs.Growing.{all_over_rows, rows_within, seen_popped, settled_at_end, nothing_left}
 use Rattle.df_lint.proofs.spread.spread.Goals as goal
 
@@ -12,9 +13,9 @@ loop-root-init c = record {
   count = (λ i. length (rows_of c.args.tags.now c.args.rows.now.items));
   had = λ k p m. m;
   least = λ g passes has. has;
-  in_range = c.in_ok-waiting.ensures.only;
+  in_range = λ k m. let lt = c.in_ok-waiting.ensures.only k m in subst (λ n. k < n) c.requires.count lt;
   within = rows_within (rows_of c.args.tags.now c.args.rows.now.items);
-  seen = λ j k j_lt k_lt. inl (c.in_ok-waiting.ensures.all j j_lt);
+  seen = λ j k j_lt k_lt. seen_first c.args.roots.now c.args.tags.now c.args.rows.now.items c.in_ok-waiting.waiting.items c.in_ok-waiting.ensures.all j k;
 }
 
 pub settle_all-requires-clause-root : goal.settle_all-requires-clause-root
