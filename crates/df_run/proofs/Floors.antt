@@ -1,18 +1,29 @@
 -- A run of one file, and of a floor's two files.
-use Rattle.std.proofs.Common.{◌≡◌, ◌≤◌, ℕ, List, [], ◌∷◌, Option, None, Some, refl, sym, subst, inl, inr, slice_get, arith}
+use Rattle.std.proofs.Common.{◌≡◌, ◌≤◌, ℕ, List, [], ◌∷◌, Option, None, Some, refl, sym, subst, inl, inr, map, slice_get, arith}
 use Rattle.std.specs.Option.{option_and_then}
 use Rattle.df_audit.proofs.Sound.{legal_is_sound}
 use Rattle.df_config.specs.ConfigFile.{IsConfigFile}
+use Rattle.df_config.specs.ConfigForm.{IsConfig}
 use Rattle.df_config.specs.declared.config.Config.{Config}
+use Rattle.df_floor.specs.Brains.{floor_brains}
 use Rattle.df_floor.specs.Starting.{floor_start}
 use Rattle.df_floor_run.specs.FloorRun.{IsFloorRun}
 use Rattle.df_floor_run.specs.declared.run.FloorEnd.{FloorEnd}
 use Rattle.df_floor_run.specs.declared.run.FloorEnd.TheVariants as floor
 use Rattle.df_io.specs.Faults.{Rose}
+use Rattle.df_label.specs.declared.label.Label.{Label}
+use Rattle.df_rules.proofs.FollowsAgain.{purge_follows}
+use Rattle.df_rules.proofs.RowLaws.{row_laws}
+use Rattle.df_rules.specs.Start.{rows}
+use Rattle.df_settling.proofs.Bound.{settles}
+use Rattle.df_settling.specs.Settling.{IsFloorJournal, first_states, floor_brain}
+use Rattle.df_start.specs.Begun.{begun}
 use Rattle.df_ticks.specs.TickFile.{IsTickFile}
 use Rattle.df_ticks.specs.declared.tick.Tick.{Tick}
+use Rattle.df_unit.specs.declared.entry.Entry.{Entry}
 use Rattle.df_words.specs.declared.command.Command.{Command}
 use Rattle.df_words.specs.declared.command.Command.TheVariants.{Floor}
+use Rattle.df_run.specs.Floor.{FollowsPurged, RunsFloor}
 use Rattle.df_run.specs.Making.{Stops, StopsAt, TellsFloor, end_of_floor}
 use Rattle.df_run.specs.Outcome.{IsTextOfSome, OfRead, told_at}
 use Rattle.df_run.specs.Tasks.{BlamesBytes, IsInput, IsText}
@@ -69,12 +80,25 @@ told_again f g words place same = same_told f g (slice_get words place) same
 
 -- ---- the text of a floor
 
-run_tells : (config : Config) (ticks : List Tick) (text : List ℕ) (e : FloorEnd) → IsFloorRun config ticks text e → TellsFloor config ticks (end_of_floor e) text
-run_tells config ticks text floor.Quiet h = record { run = h; sound = legal_is_sound (floor_start config) h.after.core.1 h.runs.journal.legal }
-run_tells config ticks text (floor.Unsettled steps) h = record { run = h; sound = legal_is_sound (floor_start config) h.after.core.1 h.runs.journal.legal }
+-- a purge of a journal of the floor follows its units
+purge_of_floor : (config : Config) (ticks : List Tick) (past : List Entry) → IsFloorJournal config ticks past → (l : Label) → FollowsPurged config ticks past l
+purge_of_floor config ticks past j l =
+    purge_follows floor_brain rows (first_states config) (floor_brains config ticks) (row_laws (map begun (floor_start config))) l past j.follows
 
-pub run_told : (config : Config) (ticks : List Tick) (text out : List ℕ) (e : FloorEnd) (d : End) → IsFloorRun config ticks text e → d ≡ end_of_floor e → out ≡ text → TellsFloor config ticks d out
-run_told config ticks text out e d h ends same = subst (λ (x : End). TellsFloor config ticks x out) (sym ends) (subst (TellsFloor config ticks (end_of_floor e)) (sym same) (run_tells config ticks text e h))
+runs_floor : (config : Config) (ticks : List Tick) (text : List ℕ) (e : FloorEnd) → IsConfig config → IsFloorRun config ticks text e → RunsFloor config ticks e text
+runs_floor config ticks text e form h = record {
+  run = h;
+  sound = legal_is_sound (floor_start config) h.after.core.1 h.runs.journal.legal;
+  purged = purge_of_floor config ticks h.after.core.1 h.runs.journal;
+  bounded = settles config ticks h.after.core.1 form h.runs.journal;
+}
+
+run_tells : (config : Config) (ticks : List Tick) (text : List ℕ) (e : FloorEnd) → IsConfig config → IsFloorRun config ticks text e → TellsFloor config ticks (end_of_floor e) text
+run_tells config ticks text floor.Quiet form h = runs_floor config ticks text floor.Quiet form h
+run_tells config ticks text (floor.Unsettled steps) form h = runs_floor config ticks text (floor.Unsettled steps) form h
+
+pub run_told : (config : Config) (ticks : List Tick) (text out : List ℕ) (e : FloorEnd) (d : End) → IsConfig config → IsFloorRun config ticks text e → d ≡ end_of_floor e → out ≡ text → TellsFloor config ticks d out
+run_told config ticks text out e d form h ends same = subst (λ (x : End). TellsFloor config ticks x out) (sym ends) (subst (TellsFloor config ticks (end_of_floor e)) (sym same) (run_tells config ticks text e form h))
 
 floor_text : (first second : ℕ) (one other : List ℕ) (config : Config) (ticks : List Tick) (e : End) (text : List ℕ) → IsConfigFile one config → IsTickFile other ticks → TellsFloor config ticks e text → IsText (Floor first second) (one ∷ other ∷ []) e text
 floor_text first second one other config ticks end.Done text c t h = (config, ticks, c, t, h)

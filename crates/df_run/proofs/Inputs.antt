@@ -1,5 +1,5 @@
 -- What is written of what was read tells what it is.
-use Rattle.std.proofs.Common.{◌≡◌, ℕ, suc, List, [], ◌∷◌}
+use Rattle.std.proofs.Common.{◌≡◌, ◌≤◌, ℕ, suc, List, [], ◌∷◌, subst, sym}
 use Rattle.df_audit.proofs.Exact.{one_place, right_is_not_wrong}
 use Rattle.df_audit.specs.Audit.{IsCheckOf, IsPurgeOf, IsRightJournal, IsUpgradeOf, IsWrongAt, OfJournal, TellsPlace}
 use Rattle.df_audit.specs.declared.audit.Finding.TheVariants as finding
@@ -11,6 +11,7 @@ use Rattle.df_journal_file.specs.Either.{IsEitherText}
 use Rattle.df_journal_file.specs.declared.file.Journal.{Journal}
 use Rattle.df_journal_file.specs.declared.file.Journal.TheVariants.{First, Second}
 use Rattle.df_script_text.specs.Script.{IsScriptText}
+use Rattle.df_settling.specs.Settling.{settling_bound}
 use Rattle.df_ticks.specs.declared.tick.Tick.{Tick}
 use Rattle.df_words.specs.declared.command.Command.{Command}
 use Rattle.df_words.specs.declared.command.Command.TheVariants.{Steps, Check, Purge, Upgrade, Auction, Lint, Gen, Floor, Load}
@@ -123,8 +124,13 @@ audit_right read P f h = of_one-map read (λ bytes. OfJournal bytes P) (λ bytes
 audit_wrong : (read : List (List ℕ)) (place : ℕ) (P : Journal → Type 0) → ((j : Journal) → P j → IsWrongAt j place) → OfOne read (λ bytes. OfJournal bytes P) → OfOne read (λ bytes. OfJournal bytes (λ j. IsWrongAt j place))
 audit_wrong read place P f h = of_one-map read (λ bytes. OfJournal bytes P) (λ bytes. OfJournal bytes (λ j. IsWrongAt j place)) (λ bytes p. (p.0, p.1, f p.0 p.2)) h
 
+-- a run that was cut off has so many entries as its journal, which is bounded
+cut_of : (config : Config) (ticks : List Tick) (steps : ℕ) (text : List ℕ) → RunsFloor config ticks (floor.Unsettled steps) text → IsCutAt steps config ticks
+cut_of config ticks steps text h =
+    (text, h.run, subst (λ n. n ≤ settling_bound config ticks) (sym h.run.ends.counted) h.bounded)
+
 cut_run : (read : List (List ℕ)) (steps : ℕ) (text : List ℕ) → OfTwo read (λ one other. OfFloor one other (λ c t. RunsFloor c t (floor.Unsettled steps) text)) → OfTwo read (λ one other. OfFloor one other (IsCutAt steps))
-cut_run read steps text h = of_two-map read (λ one other. OfFloor one other (λ c t. RunsFloor c t (floor.Unsettled steps) text)) (λ one other. OfFloor one other (IsCutAt steps)) (λ one other p. (p.0, p.1, p.2, p.3, (text, p.4.run))) h
+cut_run read steps text h = of_two-map read (λ one other. OfFloor one other (λ c t. RunsFloor c t (floor.Unsettled steps) text)) (λ one other. OfFloor one other (IsCutAt steps)) (λ one other p. (p.0, p.1, p.2, p.3, cut_of p.0 p.1 steps text p.4)) h
 
 pub report_wrong : (c : Command) (read : List (List ℕ)) (place : ℕ) (text : List ℕ) → IsReport c read place text → IsWrongInput c read place
 report_wrong (Check journal) read place text h = audit_wrong read place (λ j. IsCheckOf j (finding.Wrong place) text) (λ j p. check_wrong j place text p) h
