@@ -15,6 +15,3 @@ pub use market::{auction, certified};
 pub use orders::{OrdersRefused, read_orders};
 pub use outcome::Auction;
 pub use text::{auction_text, write_auctions};
-
-#[cfg(test)]
-mod tests;

@@ -12,6 +12,3 @@ pub use audit::{Audit, Finding};
 pub use check::check_text;
 pub use laws::{a_journal_is_right_or_wrong, a_wrong_journal_has_one_place};
 pub use right::{purge_text, upgrade_text};
-
-#[cfg(test)]
-mod tests;

@@ -18,6 +18,3 @@ mod walk;
 pub use book::Book;
 pub use order::{Order, Orders};
 pub use trade::{Trade, Trades};
-
-#[cfg(test)]
-mod tests;

@@ -9,6 +9,3 @@ mod want;
 pub use brain::Brain;
 pub use last::Last;
 pub use want::Want;
-
-#[cfg(test)]
-mod tests;

@@ -3,8 +3,6 @@
 
 mod noted;
 mod plain;
-#[cfg(test)]
-mod tests;
 
 pub use noted::{NotedVerdict, check_noted};
 pub use plain::{Verdict, check, other_than};

@@ -16,6 +16,3 @@ pub use numbers::PairNumbers;
 pub use pair::{PairRow, PairRows};
 pub use read::{ConfigRefused, read_config};
 pub use trader::{TraderRow, TraderRows};
-
-#[cfg(test)]
-mod tests;

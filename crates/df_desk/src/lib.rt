@@ -12,8 +12,6 @@ pub mod laws;
 mod pass;
 mod plays;
 mod rule;
-#[cfg(test)]
-mod tests;
 mod view;
 
 pub use desk::Desk;

@@ -11,6 +11,3 @@ pub use clause::{Clause, Test};
 pub use field_test::FieldTest;
 pub use filter::{Filter, FilterRefused, MOST_CLAUSES};
 pub use memory::NoMemory;
-
-#[cfg(test)]
-mod tests;

@@ -5,8 +5,6 @@ mod clause_reader;
 mod field_test_reader;
 mod read;
 mod refused;
-#[cfg(test)]
-mod tests;
 mod write;
 
 pub use read::{filter_at, read_filter};

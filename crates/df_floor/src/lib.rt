@@ -7,6 +7,3 @@ mod start;
 
 pub use brains::floor_brains;
 pub use start::floor_start;
-
-#[cfg(test)]
-mod tests;

@@ -18,6 +18,3 @@ mod trades;
 
 pub use brain::FloorBrain;
 pub use ticks::Ticks;
-
-#[cfg(test)]
-mod tests;

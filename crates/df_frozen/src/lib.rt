@@ -16,8 +16,6 @@ mod put;
 mod row;
 mod same;
 mod step;
-#[cfg(test)]
-mod tests;
 mod value;
 mod words;
 

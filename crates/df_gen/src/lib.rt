@@ -4,6 +4,3 @@
 mod generate;
 
 pub use generate::gen_ticks;
-
-#[cfg(test)]
-mod tests;

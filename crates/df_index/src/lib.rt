@@ -20,6 +20,3 @@ pub use receivers::Receivers;
 pub use steps::Steps;
 pub use subscription::Subscription;
 pub use tester::Tester;
-
-#[cfg(test)]
-mod tests;

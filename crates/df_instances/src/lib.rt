@@ -14,6 +14,3 @@ pub use instances::{Instance, Instances};
 pub use managed::Managed;
 pub use marks::Marks;
 pub use subscription::ManagedSubscription;
-
-#[cfg(test)]
-mod tests;

@@ -8,8 +8,6 @@ mod read;
 mod shelf;
 mod sink;
 mod sure;
-#[cfg(test)]
-mod tests;
 mod write;
 
 pub use disk::{FileShelf, OutSink};

@@ -8,6 +8,3 @@ mod place;
 mod word_line;
 
 pub use file::{Journal, read_either, read_journal, read_noted};
-
-#[cfg(test)]
-mod tests;

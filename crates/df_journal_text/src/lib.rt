@@ -29,8 +29,3 @@ pub use word_reader::are_ascending;
 pub use writers::{
     write_entry, write_event, write_head, write_noted, write_noting, write_start, write_unit,
 };
-
-#[cfg(test)]
-mod reader_tests;
-#[cfg(test)]
-mod tests;

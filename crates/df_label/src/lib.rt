@@ -15,6 +15,3 @@ pub use privilege::{Privilege, Right};
 pub use privileges::Privileges;
 pub use tag::Tag;
 pub use tag_set::TagSet;
-
-#[cfg(test)]
-mod tests;

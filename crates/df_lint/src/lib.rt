@@ -8,8 +8,6 @@ mod row;
 mod spread;
 mod table;
 mod tags;
-#[cfg(test)]
-mod tests;
 mod text;
 
 pub use find::lint;

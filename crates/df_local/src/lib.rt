@@ -21,8 +21,6 @@ mod spawn;
 mod standing;
 mod tags;
 mod take;
-#[cfg(test)]
-mod tests;
 
 pub use answer::Answer;
 pub use close::{Close, EditRefused};

@@ -2,7 +2,5 @@
 #![tactic(auto)]
 
 mod local_run;
-#[cfg(test)]
-mod tests;
 
 pub use local_run::{LocalRun, NotCalled, RunParts, is_local};

@@ -5,6 +5,3 @@ mod machine;
 mod taking;
 
 pub use machine::{BookCause, Core, NotBooked, NotEmitted, NotStepped};
-
-#[cfg(test)]
-mod tests;

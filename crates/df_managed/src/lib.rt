@@ -8,6 +8,3 @@ mod tag_sets;
 
 pub use managed::contaminations;
 pub use tag_sets::TagSets;
-
-#[cfg(test)]
-mod tests;

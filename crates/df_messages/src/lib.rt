@@ -17,6 +17,3 @@ pub use part::{
 };
 pub use read::{TickRead, read_match, read_number, read_offer, read_parties, read_tick};
 pub use symbol::Symbol;
-
-#[cfg(test)]
-mod tests;

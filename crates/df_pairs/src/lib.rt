@@ -6,8 +6,6 @@ mod no_memory;
 mod pair;
 mod recent;
 mod signal;
-#[cfg(test)]
-mod tests;
 
 pub use no_memory::NoMemory;
 pub use pair::Pair;

@@ -14,6 +14,3 @@ pub use part::{Part, readable};
 pub use part_ref::PartRef;
 pub use parts::Parts;
 pub use readable_parts::ReadableParts;
-
-#[cfg(test)]
-mod tests;

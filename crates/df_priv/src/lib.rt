@@ -7,6 +7,3 @@ mod need;
 
 pub use held::Held;
 pub use need::{Act, Half, needed, needed_to_attach};
-
-#[cfg(test)]
-mod tests;

@@ -11,6 +11,3 @@ mod text;
 pub use report::Summary;
 pub use summing::summary;
 pub use text::write_summary;
-
-#[cfg(test)]
-mod tests;

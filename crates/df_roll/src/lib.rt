@@ -8,6 +8,3 @@ mod seat;
 
 pub use roll::Roll;
 pub use seat::Seat;
-
-#[cfg(test)]
-mod tests;

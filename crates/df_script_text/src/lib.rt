@@ -15,6 +15,3 @@ pub use laws::{a_script_is_read_back, a_text_is_one_script};
 pub use line::{ReadLine, ScriptLine};
 pub use reader::ScriptReader;
 pub use root::roots_at;
-
-#[cfg(test)]
-mod tests;

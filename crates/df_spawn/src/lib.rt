@@ -4,6 +4,3 @@
 mod child;
 
 pub use child::{ChildLabels, SpawnRefused, child_labels, lacking};
-
-#[cfg(test)]
-mod tests;

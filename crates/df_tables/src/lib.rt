@@ -18,6 +18,3 @@ pub use board::Board;
 pub use events::{EventRow, Events};
 pub use line::Line;
 pub use units::{Unit, first_unit};
-
-#[cfg(test)]
-mod tests;

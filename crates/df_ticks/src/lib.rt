@@ -11,6 +11,3 @@ pub use record::is_symbol;
 pub use text::write_ticks;
 pub use tick::Tick;
 pub use ticks::{TicksRefused, read_ticks};
-
-#[cfg(test)]
-mod tests;

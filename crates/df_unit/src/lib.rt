@@ -9,8 +9,6 @@ mod name;
 mod parts;
 mod path;
 mod reply;
-#[cfg(test)]
-mod tests;
 
 pub use call::Call;
 pub use commit::{Commit, Given};

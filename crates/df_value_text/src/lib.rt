@@ -42,10 +42,3 @@ pub use value::{append_value, append_words};
 pub use words_reader::words_at;
 pub use writers::{write_label, write_privilege, write_tag, write_value};
 pub use written::what_is_written_stands;
-
-#[cfg(test)]
-mod tests;
-#[cfg(test)]
-mod value_tests;
-#[cfg(test)]
-mod words_tests;

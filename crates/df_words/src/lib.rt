@@ -8,6 +8,3 @@ mod words;
 
 pub use command::{Command, Files, WordsRefused};
 pub use words::read_words;
-
-#[cfg(test)]
-mod tests;

@@ -1,5 +1,0 @@
-use Rattle.df_desk.specs.Pass.{IsFree}
-use Rattle.df_desk.proofs.tests.Writer.write.Given as goal
-
-abbrev pub invariant-loop-number : goal.invariant-loop-number
-invariant-loop-number g l = IsFree l.desk l.self.pass
