@@ -36,8 +36,9 @@ use Rattle.df_settling.proofs.Bound.{World, actor_member, cost_of, first_pot, me
 use Rattle.df_settling.proofs.Entries.{no_weight}
 use Rattle.df_settling.proofs.Members.{Inv, Lives, Member, deliveries_grow, members, news, plays, pot, root_member, the_mind, watcher, watcher_member}
 use Rattle.df_settling.proofs.Others.{others}
-use Rattle.df_settling.proofs.Players.{Player, broker, exchange, monitor_player, monitor_players, players, regulator, role, trader_player, trader_players, watching_players}
+use Rattle.df_settling.proofs.Players.{Player, exchange, monitor_player, monitor_players, players, regulator, role, trader_player, trader_players, watching_players}
 use Rattle.df_settling.proofs.Roles.{Trader}
+use Rattle.df_settling.proofs.Sales.{broker_keeps, trades_keep}
 use Rattle.df_settling.proofs.Settles.{Does, actor_moves, fresh_commit}
 use Rattle.df_settling.proofs.Totals.{In, times_suc, total, total-append}
 use Rattle.df_settling.proofs.Unit.{paid, price, priced, subs_of}
@@ -267,8 +268,8 @@ exchange_cost n = omega arith
 pub keep_counts : (c : Config) (ticks : List Tick) (past : List Entry) → IsConfig c → IsFloorJournal c ticks past → KeepCounts c ticks past
 keep_counts c ticks past form j = record {
   exchange = let k = silent_at c ticks form past j 0 (exchange ticks) refl refl in let e = exchange_cost (length ticks) in omega arith;
-  broker = let k = at_place c ticks form past j 1 (broker (length c.traders)) refl in let b =
-      all_alike 9 (deliveries rows (first_states c) past (root_name 1)) in omega arith;
+  broker = broker_keeps c ticks form past j;
+  trades = trades_keep c ticks form past j;
   regulator = let k = silent_at c ticks form past j 2 regulator refl refl in omega arith;
   traders = trader_keeps c ticks form past j;
   monitors = monitor_keeps c ticks form past j;

@@ -12,7 +12,7 @@ use Rattle.df_unit.specs.declared.call.Call.TheVariants.{Get, Publish, Subscribe
 use Rattle.df_unit.specs.declared.entry.Entry.{Entry}
 use Rattle.df_unit.specs.declared.entry.Entry.TheVariants.{Done, Emitted}
 use Rattle.df_unit.specs.declared.name.UnitName.{UnitName}
-use Rattle.df_settling.specs.Counts.{instance_name, root_name}
+use Rattle.df_settling.specs.Counts.{entries_of, handed_to, instance_name, orders_resting, root_name, trades_made}
 use Rattle.df_settling.specs.Running.{asked, run_of}
 use Rattle.df_settling.specs.Settling.{first_states, settling_bound}
 
@@ -113,8 +113,20 @@ counts past = (
   published_by instance_name past,
 )
 
--- the whole run, after which nobody wants anything more
-whole : counts (passes 60 opened) ≡ (220, 4, 8, 5, 1)
+-- the broker's entries, the orders that it is handed, the trades that its book makes of them, and the orders that rest
+abbrev sales : List Entry → ℕ × ℕ × ℕ × ℕ
+sales past = (
+  entries_of (root_name 1) past,
+  length (handed_to small past (root_name 1)),
+  trades_made small past,
+  length (orders_resting small past),
+)
+
+abbrev both : List Entry → (ℕ × ℕ × ℕ × ℕ × ℕ) × (ℕ × ℕ × ℕ × ℕ)
+both past = (counts past, sales past)
+
+-- the whole run, after which nobody wants anything more: the broker's 56 entries are 2, 3 for each order and 6 for each trade
+whole : both (passes 60 opened) ≡ ((220, 4, 8, 5, 1), (56, 8, 5, 2))
 whole = refl
 
 ended : length (passes 61 opened) ≡ 220

@@ -2,6 +2,11 @@ pub mod Totals
 pub mod Balanced
 pub mod Roles
 pub mod Unit
+pub mod Wanted
+pub mod Still
+pub mod Openings
+pub mod Hearings
+pub mod Events
 pub mod Steps
 pub mod Players
 pub mod Worth
@@ -12,6 +17,9 @@ pub mod Entries
 pub mod Only
 pub mod Bound
 pub mod Others
+pub mod Orders
+pub mod Selling
+pub mod Sales
 pub mod Counts
 pub mod Runs
 pub mod ExampleFloor

@@ -54,7 +54,7 @@ use Rattle.df_settling.proofs.Members.{FixedOk, InstancesOk, Inv, IsFresh, IsWat
 use Rattle.df_settling.proofs.Players.{Player, blank, broker, exchange, monitor_player, monitor_players, players, role, trader_player, trader_players, watching_players}
 use Rattle.df_settling.proofs.Roles.{Broker, Exchange, Monitor, Regulator, Role, Trader, label_of, opening_by, opening_is, out_label, role_of}
 use Rattle.df_settling.proofs.Settles.{Acts, Does, is_given_watched}
-use Rattle.df_settling.proofs.Steps.{IsNow}
+use Rattle.df_settling.proofs.Wanted.{IsNow}
 use Rattle.df_settling.proofs.Totals.{In}
 use Rattle.df_settling.proofs.Unit.{At, IsOpening, drop_more, mind_of, outed, published_parts, watched_filter}
 use Rattle.df_settling.proofs.Worth.{given_tags, watcher_tags}

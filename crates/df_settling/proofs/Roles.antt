@@ -140,7 +140,7 @@ good_size Watcher ds g = ap length g.1
 
 -- how many events are to be told
 
-abbrev broker_tells : Heard → ℕ
+abbrev pub broker_tells : Heard → ℕ
 broker_tells (heard.Trades ts from) = length ts - from
 broker_tells _ = 0
 

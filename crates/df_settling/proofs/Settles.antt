@@ -38,9 +38,10 @@ use Rattle.df_settling.proofs.Members.{FixedOk, Inv, IsFresh, IsWatched, Lives, 
 use Rattle.df_settling.proofs.Paid.{AllApart}
 use Rattle.df_settling.proofs.Players.{all_think, began, players}
 use Rattle.df_settling.proofs.Roles.{Apart, Broker, Exchange, Monitor, Regulator, Role, Trader, Watcher, label_of}
-use Rattle.df_settling.proofs.Steps.{IsNow, unit_step}
+use Rattle.df_settling.proofs.Steps.{unit_step}
 use Rattle.df_settling.proofs.Totals.{In, total}
 use Rattle.df_settling.proofs.Unit.{IsFine, Later, Moves, Outcome, drafts, event_of, price, priced, subs_of, watched_filter}
+use Rattle.df_settling.proofs.Wanted.{IsNow}
 use Rattle.df_settling.proofs.Worth.{news_worth, sub_worth, watcher_tags, worth}
 
 -- contents
@@ -202,6 +203,7 @@ pub record Acts (w : Role → ℕ) (s : List OwnState) (past : List Entry) (v : 
   pub lives : Lives v (the_mind v past) past (subscriptions rows s past v.name) (Some st)
   pub now : IsNow (the_mind v past).kind (the_mind v past).heard (the_mind v past).stage st (deliveries rows s past v.name) call
   pub replies : reply v.name st (left st (deliveries rows s past v.name)) call ≡ r
+  pub effects : effect v.name st (left st (deliveries rows s past v.name)) call ≡ f
   pub moves : ActorMoves w s past v call r f st
 
 pub actor_moves : (w : Role → ℕ) (c : Config) (ticks : List Tick) → IsConfig c → (past : List Entry) (v : Member) → In v (members c ticks) →
@@ -230,6 +232,7 @@ actor_moves w c ticks form past v i inv call r f does =
       lives = lives;
       now = now;
       replies = er;
+      effects = ef;
       moves = moves_of w (plays v) v.player.number b v.name st subs ds call o r f er ef;
     }
 
