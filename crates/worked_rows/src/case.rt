@@ -2,7 +2,7 @@
 
 use crate::runs::{Run, most_of};
 use crate::stop::Stop;
-use crate::table::{Fault, Line, Source, texts_of};
+use crate::table::{Fault, Line, Share, Source, texts_of};
 use crate::tell::tell;
 use crate::text::{Text, append_body, append_line};
 use df_io::{FileShelf, MemoryShelf, MemorySink, read_file};
@@ -67,15 +67,36 @@ fn path_bytes(rt: HostRuntime, path: &str, fill: Option<&[u8]>) -> Result<Vec<u8
     }
 }
 
-/// The bytes of this source, where these lines follow.
+/// How many bytes a run may write that makes a file or the output of another.
+const RUN_ROOM: usize = 8_388_608;
+
+/// What the run of these words writes, over this shelf.
+fn run_bytes(
+    alloc: Global,
+    line: &str,
+    fill: Option<&[u8]>,
+    shelf: &mut MemoryShelf,
+) -> Result<Vec<u8>, Stop> {
+    let mut words = Vec::new(alloc);
+    append_line_words(&mut words, &Line::Words(line), fill)?;
+    let mut sink = MemorySink::new(alloc, RUN_ROOM, usize::MAX)?;
+    run_main(alloc, words.as_slice(), shelf, &mut sink);
+    let mut bytes = Vec::new(alloc);
+    bytes.extend_from_slice(sink.bytes())?;
+    Ok(bytes)
+}
+
+/// The bytes of this source, where these lines follow, and the files before it are on the shelf.
 fn source_bytes(
     rt: HostRuntime,
     source: Source<'_>,
     behind: &[Line<'_>],
     fill: Option<&[u8]>,
+    shelf: &mut MemoryShelf,
 ) -> Result<Vec<u8>, Stop> {
     match source {
         Source::Path(path) => path_bytes(rt, path, fill),
+        Source::Run(words) => run_bytes(rt.alloc(), words, fill, shelf),
         Source::Lines(times) => texts_bytes(rt.alloc(), texts_of(behind), times, fill),
     }
 }
@@ -162,29 +183,51 @@ fn put_files(
 ) -> Result<(), Stop> {
     for (place, line) in case.row.iter().enumerate() {
         if let Line::File(name, source) = line {
-            let bytes = source_bytes(rt, *source, behind(case.row, place), fill)?;
+            let bytes = source_bytes(rt, *source, behind(case.row, place), fill, shelf)?;
             shelf.put(name, front(bytes.as_slice(), case.run.front))?;
         }
-    }
-    if let Some(Fault::Read(call)) = case.run.fault {
-        shelf.fail(call)?;
     }
     Ok(())
 }
 
-/// All that the row writes, where nothing fails.
-fn output_of(rt: HostRuntime, case: Case<'_>, fill: Option<&[u8]>) -> Result<Vec<u8>, Stop> {
+/// What the row tells of what is written, and how much of it that is, where nothing fails.
+fn output_of(
+    rt: HostRuntime,
+    case: Case<'_>,
+    fill: Option<&[u8]>,
+    shelf: &mut MemoryShelf,
+) -> Result<(Share, Vec<u8>), Stop> {
     for (place, line) in case.row.iter().enumerate() {
-        if let Line::Output(source) = line {
-            return source_bytes(rt, *source, behind(case.row, place), fill);
+        if let Line::Output(share, source) = line {
+            let bytes = source_bytes(rt, *source, behind(case.row, place), fill, shelf)?;
+            return Ok((*share, bytes));
         }
     }
-    Ok(Vec::new(rt.alloc()))
+    Ok((Share::Whole, Vec::new(rt.alloc())))
+}
+
+/// This share of a text, as long as so many bytes.
+fn share_of(text: &[u8], share: Share, length: usize) -> &[u8] {
+    match share {
+        Share::Whole => text,
+        Share::Beginning => front(text, Some(length)),
+        Share::End => text
+            .get(text.len().saturating_sub(length)..)
+            .unwrap_or(text),
+    }
 }
 
 /// How many bytes may be written beyond what is wanted, so that a text that is too long is told as
 /// one.
 const ROOM: usize = 65_536;
+
+/// How many bytes may be written of which this many are told.
+fn room_of(share: Share, told: usize) -> usize {
+    match share {
+        Share::Whole => told.saturating_add(ROOM),
+        Share::Beginning | Share::End => told.saturating_add(RUN_ROOM),
+    }
+}
 
 /// Whether the run on this shelf comes out as told, with this output.
 fn is_told_on(
@@ -192,12 +235,15 @@ fn is_told_on(
     case: Case<'_>,
     words: &[String],
     shelf: &mut MemoryShelf,
+    share: Share,
     output: &[u8],
 ) -> Result<bool, Stop> {
     let alloc = rt.alloc();
-    let mut sink = MemorySink::new(alloc, output.len().saturating_add(ROOM), most_of(case.row))?;
-    if let Some(Fault::Write(call)) = case.run.fault {
-        sink.fail(call)?;
+    let mut sink = MemorySink::new(alloc, room_of(share, output.len()), most_of(case.row))?;
+    match case.run.fault {
+        Some(Fault::Read(call)) => shelf.fail(call)?,
+        Some(Fault::Write(call)) => sink.fail(call)?,
+        None => {}
     }
     let status = run_main(alloc, words, shelf, &mut sink);
     tell(
@@ -205,38 +251,27 @@ fn is_told_on(
         case,
         status,
         front(output, case.run.written),
-        sink.bytes(),
+        share_of(sink.bytes(), share, output.len()),
     )
 }
 
-/// Whether the run with these words comes out as told, with this output.
+/// Whether the run with these words comes out as told.
 fn is_told_by(
     rt: HostRuntime,
     case: Case<'_>,
     fill: Option<&[u8]>,
     words: &[String],
-    output: &[u8],
 ) -> Result<bool, Stop> {
     let mut shelf = MemoryShelf::new(rt.alloc());
     put_files(rt, case, fill, &mut shelf)?;
-    is_told_on(rt, case, words, &mut shelf, output)
-}
-
-/// Whether the run with these words comes out as told.
-fn is_told_asked(
-    rt: HostRuntime,
-    case: Case<'_>,
-    fill: Option<&[u8]>,
-    words: &[String],
-) -> Result<bool, Stop> {
-    let output = output_of(rt, case, fill)?;
-    is_told_by(rt, case, fill, words, output.as_slice())
+    let (share, output) = output_of(rt, case, fill, &mut shelf)?;
+    is_told_on(rt, case, words, &mut shelf, share, output.as_slice())
 }
 
 /// Whether the run with its holes so filled comes out as told.
 fn is_told_filled(rt: HostRuntime, case: Case<'_>, fill: Option<&[u8]>) -> Result<bool, Stop> {
     let words = words_of(rt.alloc(), case.row, fill)?;
-    is_told_asked(rt, case, fill, words.as_slice())
+    is_told_by(rt, case, fill, words.as_slice())
 }
 
 /// Whether the run comes out as told. What comes out otherwise is printed.

@@ -6,10 +6,13 @@
 //! - `words W W`: words of the command, which stand apart by one space. `word TEXT`: one word, which
 //!   may have spaces, or be empty.
 //! - `file NAME from PATH`: the file NAME has the bytes of the file PATH of data/. `file NAME`: it has
-//!   the text lines that follow. `file NAME repeats COUNT`: it has them so many times. Other files are
-//!   missing.
+//!   the text lines that follow. `file NAME repeats COUNT`: it has them so many times.
+//!   `file NAME written by W W`: it has what the words W write, over the files above, whose reads
+//!   count as the row's first. Other files are missing.
 //! - `status TEXT`: how the run ends, as the program prints it. With no such line `defcon: done`.
-//! - `output from PATH`, or `output` and text lines: all that is written. With no such line nothing.
+//! - `output from PATH`, `output written by W W`, or `output` and text lines: all that is written. With
+//!   no such line nothing. `output_begins` and `output_ends` in place of `output`: its beginning, or
+//!   its end.
 //! - `read_fails N`, `write_fails N`: the Nth read or write fails. `takes N`: a write takes at most N
 //!   bytes.
 //!

@@ -9,8 +9,18 @@ use std::alloc::Global;
 pub enum Source<'a> {
     /// In this file beside the table.
     Path(&'a str),
+    /// In what the run of these words writes, over the files of the row up to there.
+    Run(&'a str),
     /// In the text lines that follow, so many times.
     Lines(usize),
+}
+
+/// How much of what is written the output tells.
+#[derive(Clone, Copy, Debug)]
+pub enum Share {
+    Whole,
+    Beginning,
+    End,
 }
 
 /// Which read or write fails.
@@ -28,7 +38,7 @@ pub enum Line<'a> {
     Word(&'a str),
     File(&'a str, Source<'a>),
     Status(&'a str),
-    Output(Source<'a>),
+    Output(Share, Source<'a>),
     /// The most bytes that a write takes.
     Takes(usize),
     Fails(Fault),
@@ -50,7 +60,7 @@ impl<'a> Line<'a> {
         matches!(
             self,
             Line::File(_, Source::Lines(_))
-                | Line::Output(Source::Lines(_))
+                | Line::Output(_, Source::Lines(_))
                 | Line::Each(_)
                 | Line::Text(_)
         )
@@ -62,18 +72,24 @@ fn file_line(rest: &str) -> Option<Line<'_>> {
     if let Some((name, path)) = rest.split_once(" from ") {
         return Some(Line::File(name, Source::Path(path)));
     }
+    if let Some((name, words)) = rest.split_once(" written by ") {
+        return Some(Line::File(name, Source::Run(words)));
+    }
     if let Some((name, times)) = rest.split_once(" repeats ") {
         return Some(Line::File(name, Source::Lines(times.parse().ok()?)));
     }
     Some(Line::File(rest, Source::Lines(1)))
 }
 
-/// What stands behind `output`.
-fn output_line(rest: &str) -> Option<Line<'_>> {
+/// What stands behind `output` and its like.
+fn output_line(share: Share, rest: &str) -> Option<Line<'_>> {
     if rest.is_empty() {
-        return Some(Line::Output(Source::Lines(1)));
+        return Some(Line::Output(share, Source::Lines(1)));
     }
-    Some(Line::Output(Source::Path(rest.strip_prefix("from ")?)))
+    if let Some(words) = rest.strip_prefix("written by ") {
+        return Some(Line::Output(share, Source::Run(words)));
+    }
+    Some(Line::Output(share, Source::Path(rest.strip_prefix("from ")?)))
 }
 
 /// What stands behind `fronts`.
@@ -95,7 +111,9 @@ fn line_of<'a>(word: &'a str, rest: &'a str) -> Option<Line<'a>> {
         "word" => Some(Line::Word(rest)),
         "file" => file_line(rest),
         "status" => Some(Line::Status(rest)),
-        "output" => output_line(rest),
+        "output" => output_line(Share::Whole, rest),
+        "output_begins" => output_line(Share::Beginning, rest),
+        "output_ends" => output_line(Share::End, rest),
         "takes" => Some(Line::Takes(rest.parse().ok()?)),
         "read_fails" => Some(Line::Fails(Fault::Read(rest.parse().ok()?))),
         "write_fails" => Some(Line::Fails(Fault::Write(rest.parse().ok()?))),
