@@ -1,12 +1,11 @@
 -- What each entry of the broker does to what it may have done: 3 entries for each delivery, and 6 for each trade.
-use Rattle.std.proofs.Common.{◌≡◌, ◌≢◌, ℕ, zero, suc, ◌+◌, ◌-◌, ◌*◌, ◌≤◌, ◌<◌, List, [], ◌∷◌, ◌++◌, Bool, true, false, true≢false, refl, sym, ◌∙◌, ap, subst, cond, Option, Some, None, length, append-nil, arith, codes, ltb-true, pos}
-use Rattle.std.specs.Prelude.{◌&&◌, int_le, int_lt, nat_lt}
+use Rattle.std.proofs.Common.{◌≡◌, ◌≢◌, ℕ, zero, suc, ◌+◌, ◌-◌, ◌*◌, ◌≤◌, List, [], ◌∷◌, ◌++◌, Bool, true, false, true≢false, refl, sym, ◌∙◌, ap, subst, cond, Option, Some, None, length, append-nil, arith, codes, ltb-true, pos}
+use Rattle.std.specs.Prelude.{nat_lt}
 use Rattle.df_book.specs.Submitting.{submitted}
 use Rattle.df_filter.specs.declared.clause.Clause.{Clause}
 use Rattle.df_label.specs.declared.label.Label.{Label}
 use Rattle.df_messages.specs.Drafts.{broker_tag, secret}
 use Rattle.df_messages.specs.Messages.{offer_in}
-use Rattle.df_messages.specs.declared.draft.Draft.{Draft}
 use Rattle.df_messages.specs.declared.message.Offer.{Offer}
 use Rattle.df_part.specs.declared.part.Part.{Part}
 use Rattle.df_rules.specs.Commits.{given_in}

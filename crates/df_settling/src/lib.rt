@@ -24,7 +24,8 @@ pub fn floors_settle()
 {}
 
 /// In a journal of a floor each unit has as many entries at most as its kind and what it is handed
-/// allow.
+/// allow, and the broker as the trades of its book allow. As these are no more than the orders that
+/// it is handed, it has at most 2, and 9 for each of them.
 pub fn units_keep_their_counts()
     ensures { (c : Config) (ticks : List Tick) (past : List Entry) → IsConfig c →
         IsFloorJournal c ticks past → KeepCounts c ticks past }
