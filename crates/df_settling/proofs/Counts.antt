@@ -268,8 +268,8 @@ exchange_cost n = omega arith
 pub keep_counts : (c : Config) (ticks : List Tick) (past : List Entry) → IsConfig c → IsFloorJournal c ticks past → KeepCounts c ticks past
 keep_counts c ticks past form j = record {
   exchange = let k = silent_at c ticks form past j 0 (exchange ticks) refl refl in let e = exchange_cost (length ticks) in omega arith;
-  broker = broker_keeps c ticks form past j;
-  trades = trades_keep c ticks form past j;
+  broker = let k = broker_keeps c ticks form past j in omega arith;
+  trades = let k = trades_keep c ticks form past j in omega arith;
   regulator = let k = silent_at c ticks form past j 2 regulator refl refl in omega arith;
   traders = trader_keeps c ticks form past j;
   monitors = monitor_keeps c ticks form past j;

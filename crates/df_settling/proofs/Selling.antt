@@ -70,6 +70,7 @@ Sold new b x (stage.Publishes h) st ds n = (n + 1 + 6 * broker_tells (passed_hea
 Sold new b x stage.Stopped st ds n = n ≤ most new ds
 Sold new b x (stage.StoppedDrops h) st ds n = n + 1 ≤ most new ds
 
+-- what stands of a unit that is a broker
 abbrev pub Sells : Books → Kind → Heard → Stage → OwnState → List Given → ℕ → Type 0
 Sells new (kind.Broker b) x g st ds n = Sold new b x g st ds n
 Sells new _ x g st ds n = ⊥

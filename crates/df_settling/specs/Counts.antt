@@ -48,7 +48,7 @@ abbrev pub fill_count : List Given → ℕ
 fill_count [] = 0
 fill_count (d ∷ ds) = if d.sub == 0 then fill_count ds else suc (fill_count ds)
 
--- what a trader may do: 9 entries for each match, which it answers by two orders, and 3 for each fill
+-- what a trader may do: 9 entries for each match, answered by two orders, and 3 for each fill
 abbrev pub trader_entries : List Given → ℕ
 trader_entries ds = 3 + 9 * match_count ds + 3 * fill_count ds
 
