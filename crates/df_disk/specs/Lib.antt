@@ -1,0 +1,4 @@
+pub mod Disk
+pub mod Found
+pub mod MemoryDisk
+pub mod Records
