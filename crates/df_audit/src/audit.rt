@@ -3,6 +3,8 @@
 pub enum Finding {
     Right,
     Wrong { place: u64 },
+    /// The journal is right, and has so many entries: the place that was asked for isn't below that.
+    NoPlace { entries: u64 },
 }
 
 /// What an audit finds, and what it tells.
