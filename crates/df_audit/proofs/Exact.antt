@@ -74,14 +74,14 @@ pub right_is_not_wrong : (bytes : List ℕ) (p : ℕ) (i j : Journal) → IsJour
 right_is_not_wrong bytes p (First r es) (First s ds) a b right wrong =
     let same = one_plain bytes r s es.items ds.items a b in
     let legal = subst (λ (x : List RootStart × List Entry). Legal rows (firsts x.0) (reverse x.1))
-        (ap (λ (x : List RootStart). (x, es.items)) same.0 ∙ ap (λ (x : List Entry). (s, x)) same.1) right in
+    (ap (λ (x : List RootStart). (x, es.items)) same.0 ∙ ap (λ (x : List Entry). (s, x)) same.1) right in
     legal_not_wrong s ds.items p wrong.0 legal wrong.1
 right_is_not_wrong bytes p (First r es) (Second s ns) a b right wrong = not_both bytes r s es.items ns.items a b
 right_is_not_wrong bytes p (Second r ns) (First s es) a b right wrong = not_both bytes s r es.items ns.items b a
 right_is_not_wrong bytes p (Second r ns) (Second s ms) a b right wrong =
     let same = one_noted bytes r s ns.items ms.items a b in
     let are = subst (λ (x : List RootStart × List Noted). AreRight x.0 x.1)
-        (ap (λ (x : List RootStart). (x, ns.items)) same.0 ∙ ap (λ (x : List Noted). (s, x)) same.1) right in
+    (ap (λ (x : List RootStart). (x, ns.items)) same.0 ∙ ap (λ (x : List Noted). (s, x)) same.1) right in
     noted_not_wrong s ms.items p wrong.0 are wrong.1
 
 -- bytes are a journal of so many entries
@@ -95,12 +95,12 @@ pub one_place : (bytes : List ℕ) (p q : ℕ) (i j : Journal) → IsJournalOf i
 one_place bytes p q (First r es) (First s ds) a b v w =
     let same = one_plain bytes r s es.items ds.items a b in
     let moved = subst (λ (x : List RootStart × List Entry). plain.IsFirstWrong x.0 x.1 p v.0)
-        (ap (λ (x : List RootStart). (x, es.items)) same.0 ∙ ap (λ (x : List Entry). (s, x)) same.1) v.1 in
+    (ap (λ (x : List RootStart). (x, es.items)) same.0 ∙ ap (λ (x : List Entry). (s, x)) same.1) v.1 in
     one_plain_place s ds.items p q v.0 w.0 moved w.1
 one_place bytes p q (First r es) (Second s ns) a b v w = absurd (not_both bytes r s es.items ns.items a b)
 one_place bytes p q (Second r ns) (First s es) a b v w = absurd (not_both bytes s r es.items ns.items b a)
 one_place bytes p q (Second r ns) (Second s ms) a b v w =
     let same = one_noted bytes r s ns.items ms.items a b in
     let moved = subst (λ (x : List RootStart × List Noted). with_notes.IsFirstWrong x.0 x.1 p v.0)
-        (ap (λ (x : List RootStart). (x, ns.items)) same.0 ∙ ap (λ (x : List Noted). (s, x)) same.1) v.1 in
+    (ap (λ (x : List RootStart). (x, ns.items)) same.0 ∙ ap (λ (x : List Noted). (s, x)) same.1) v.1 in
     one_noted_place s ms.items p q v.0 w.0 moved w.1

@@ -1,5 +1,5 @@
 -- Why an entry of a right journal stands, by what is noted of it.
-use Rattle.std.proofs.Common.{◌≡◌, ℕ, suc, ◌+◌, ◌<◌, ◌≤◌, List, [], ◌∷◌, ◌++◌, Bool, true, false, ◌||◌, Result, Ok, Err, IfOk, Some, get_or, length, map, reverse, take, refl, ap, sym, subst, ◌∙◌, arith}
+use Rattle.std.proofs.Common.{◌≡◌, ℕ, ◌+◌, ◌<◌, List, [], ◌∷◌, ◌++◌, Bool, true, false, ◌||◌, Result, Ok, Err, IfOk, Some, get_or, length, map, reverse, take, refl, ap, sym, subst, ◌∙◌, arith}
 use Rattle.std.specs.Prelude.{nat_le, ◌==◌, slice_get}
 use Rattle.std.specs.List.{All, flat_map}
 use Rattle.std.proofs.lemmas.Bool.{eq-eqb, le-leb, leb-true}
@@ -7,12 +7,11 @@ use Rattle.std.proofs.lemmas.List.{flat_map_more, length-append, length-map, rev
 use Rattle.std.proofs.lemmas.List.Elements.{All-cons, All-nil, filter_map-append}
 use Rattle.std.proofs.lemmas.Option.{slice_get_read}
 use Rattle.df_machine.specs.Journal.{firsts}
-use Rattle.df_rules.specs.Legal.{Legal}
 use Rattle.df_rules.specs.Start.{rows}
 use Rattle.df_start.specs.declared.start.RootStart.{RootStart}
 use Rattle.df_unit.specs.declared.entry.Entry.{Entry}
 use Rattle.df_unit.specs.declared.entry.Noted.{Noted}
-use Rattle.df_replay.specs.Noted.{noted, past_of}
+use Rattle.df_replay.specs.Noted.{noted}
 use Rattle.df_why.specs.Grounds.{IsClosed, IsGrounds, at_places, set_of}
 use Rattle.df_journal_text.specs.Entry.{noted_text}
 use Rattle.df_journal_text.specs.Start.{head_text, journal_text}

@@ -1,5 +1,5 @@
 -- What is told of a journal whose notes are known.
-use Rattle.std.proofs.Common.{◌≡◌, ℕ, List, [], Result, Ok, Err, IfOk, reverse, ap, sym, subst, ◌∙◌}
+use Rattle.std.proofs.Common.{◌≡◌, ℕ, List, Result, Ok, Err, IfOk, reverse, ap, sym, subst, ◌∙◌}
 use Rattle.df_label.specs.declared.label.Label.{Label}
 use Rattle.df_machine.specs.Journal.{firsts}
 use Rattle.df_rules.specs.Legal.{Legal}
@@ -17,7 +17,7 @@ use Rattle.df_audit.specs.Audit.{IsPurgeOf, IsRightJournal, IsUpgradeOf, IsWrong
 use Rattle.df_audit.specs.code.Noting.{IsNotedOf}
 use Rattle.df_audit.specs.declared.audit.Audit.{Audit}
 use Rattle.df_audit.specs.declared.audit.Finding.{Finding}
-use Rattle.df_audit.specs.declared.audit.Finding.TheVariants.{Right, Wrong}
+use Rattle.df_audit.specs.declared.audit.Finding.TheVariants.{Right}
 use Rattle.df_audit.specs.declared.right.Noting.{Noting}
 use Rattle.df_audit.specs.declared.right.Noting.TheVariants as noting
 use Rattle.df_audit.proofs.Sound.{legal_is_sound, legal_separates}
@@ -47,8 +47,13 @@ knows (First roots entries) (noting.Noted start notes) h =
     record { same = h.0; right = h.1; are = made.0; past = made.1 }
 knows (First roots entries) (noting.Wrong place) h = h
 knows (Second roots kept) (noting.Noted start notes) h =
-    record { same = h.0; right = h.1; are = subst (λ (r : List RootStart). AreRight r notes.items) (sym h.0) (subst (AreRight roots) (sym h.2) h.1); past = ap
-        past_of h.2 }
+    record {
+      same = h.0;
+      right = h.1;
+      are = subst (λ (r : List RootStart). AreRight r notes.items) (sym h.0) (subst (AreRight roots) (sym h.2) h.1);
+      past = ap
+          past_of h.2;
+    }
 knows (Second roots kept) (noting.Wrong place) h = h
 
 -- a right journal is legal

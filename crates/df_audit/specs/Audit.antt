@@ -9,7 +9,7 @@ use Rattle.df_rules.specs.Start.{rows}
 use Rattle.df_start.specs.declared.start.RootStart.{RootStart}
 use Rattle.df_unit.specs.declared.entry.Entry.{Entry}
 use Rattle.df_unit.specs.declared.entry.Noted.{Noted}
-use Rattle.df_replay.specs.Noted.{AreRight, noted, past_of}
+use Rattle.df_replay.specs.Noted.{AreRight, noted}
 use Rattle.df_why.specs.Grounds.{IsGrounds, at_places}
 use Rattle.df_check.specs.Check as plain
 use Rattle.df_check.specs.CheckNoted as with_notes

@@ -3,7 +3,7 @@
 pub enum Finding {
     Right,
     Wrong { place: u64 },
-    /// The journal is right, and has so many entries: the place that was asked for isn't below that.
+    /// The journal is right, has so many entries, and not the place that was asked for.
     NoPlace { entries: u64 },
 }
 

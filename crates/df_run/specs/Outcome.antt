@@ -198,7 +198,7 @@ NoPlaceIsDue command files (status.NoPlace count) =
     OfAllRead files (λ read. IsNoPlaceInput command read count)
 NoPlaceIsDue command files _ = ⊤
 
--- NoPlace comes exactly where the file, read whole, is a right journal in which the place isn't that
+-- NoPlace comes exactly where the file, read whole, is a right journal that hasn't the place that
 -- the command names, with the number of its entries; a fault may come in its place
 abbrev pub NoPlaceIsExact : Command → List (Option (List ℕ)) → Status → Type 0
 NoPlaceIsExact command files result =

@@ -92,7 +92,8 @@ IsWrongInput (Why journal asked) read place =
     OfOne read (λ bytes. OfJournal bytes (λ j. IsWrongAt j place))
 IsWrongInput command read place = ⊥
 
--- what was read is a right journal of so many entries, which hasn't the place that the command names
+-- what was read is a right journal of so many entries, which hasn't the place that the command
+-- names
 abbrev pub IsNoPlaceInput : Command → List (List ℕ) → ℕ → Type 0
 IsNoPlaceInput (Why journal place) read count =
     OfOne read (λ bytes. OfJournal bytes (LacksPlace place count))

@@ -22,7 +22,7 @@ pub record AreGrounds (roots : List RootStart) (entries : List Entry) (place : �
   pub noted : noted roots (reverse (at_places places entries))
       ≡ at_places places (noted roots (reverse entries))
 
--- what is told of a place, by the right notes of a journal: the entries on which the one at the place
+-- what is told of a place, by the right notes of a journal: the entries on which the one there
 -- rests, or how many entries there are
 abbrev pub ExplainsNoted : ℕ → List RootStart → List Noted → Finding → List ℕ → Type 0
 ExplainsNoted place roots notes Right text =

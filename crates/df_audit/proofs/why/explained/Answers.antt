@@ -20,5 +20,5 @@ returns-in-Noted c =
     let given = rw c.in-Noted.is at c.in_ok-start.ensures in
     let k = knows c.args.journal (noting.Noted start c.in-Noted.notes) given in
     let told = subst (λ (ns : List Noted). IfOk c.explain_noted.result (λ a. ExplainsNoted c.args.place start ns a.finding a.text.items))
-        c.as_slice.ensures.value c.explain_noted.ensures in
+    c.as_slice.ensures.value c.explain_noted.ensures in
     why_ok c.args.journal start c.in-Noted.notes.items k c.args.place c.explain_noted.result told
