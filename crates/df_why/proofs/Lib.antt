@@ -1,0 +1,10 @@
+pub mod Sets
+pub mod Units
+pub mod Records
+pub mod News
+pub mod Handed
+pub mod Again
+pub mod MeetingRows
+pub mod Leads
+pub mod Walking
+pub mod Picked
