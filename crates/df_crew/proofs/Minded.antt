@@ -1,6 +1,6 @@
 -- The brains of a crew as it starts, and that who exists has a brain, and is still where it waits.
-use Rattle.std.proofs.Common.{◌≡◌, ℕ, zero, suc, List, [], ◌∷◌, Bool, true, false, refl, sym, ◌∙◌, ap, subst, cond, Option, Some, None, length, slice_get, map, arith, Bor}
-use Rattle.std.specs.Prelude.{IsSome, is_some, option_copied}
+use Rattle.std.proofs.Common.{◌≡◌, ℕ, zero, suc, List, [], ◌∷◌, Bool, true, false, refl, sym, ◌∙◌, ap, subst, cond, Option, Some, None, length, slice_get, map, arith, Bor, Result, Ok, Err}
+use Rattle.std.specs.Prelude.{IsSome, OnErr, is_some, option_copied}
 use Rattle.std.specs.Option.{option_map, option_or}
 use Rattle.df_brain.specs.Brain.{is_child_wanted}
 use Rattle.df_booking.specs.CrewState.{CrewState, mind_in, want_by}
@@ -109,6 +109,15 @@ module _ {B : Type 0} (brain : Brain B) (bs : List B) (kept : KeptState (B × La
   -- what is kept of a unit is its brain
   pub kept_mind : (m : B × Last) → kept_at u kept ≡ Some m → mind_in brain bs core u ≡ Some m
   kept_mind m h = (subst (λ (o : Option (B × Last)). IsMind brain bs core u o) h (manned.minds u)).1
+
+  -- a unit of which nothing is kept was told nothing
+  pub none_told : kept_at u kept ≡ None → replies_of u core.1 ≡ []
+  none_told h = subst (λ (o : Option (B × Last)). IsMind brain bs core u o) h (manned.minds u)
+
+-- what holds anyhow holds where there is an error
+pub on_err : {T E P : Type 0} (r : Result T E) → P → OnErr r P
+on_err (Ok t) p = tt
+on_err (Err e) p = p
 
 some_of : {A : Type 0} (o : Option (Bor A)) (x : Option A) → option_copied o ≡ x → is_some x ≡ true → IsSome o
 some_of (Some b) x e h = refl

@@ -1,9 +1,15 @@
 -- The names of a roll, one after another.
-use Rattle.std.proofs.Common.{◌≡◌, inl, inr, ℕ, List, [], ◌∷◌, ◌++◌, sym, ◌∙◌, ap, Some, None, length, take, length-append}
+use Rattle.std.proofs.Common.{◌≡◌, inl, inr, ℕ, suc, true, List, [], ◌∷◌, ◌++◌, sym, ◌∙◌, ap, Some, None, length, take, length-append}
 use Rattle.std.specs.Prelude.{slice_get}
+use Rattle.std.proofs.lemmas.Bool.{or_cases}
 use Rattle.std.proofs.lemmas.Grind.{take_at_read}
 use Rattle.std.proofs.lemmas.List.{take_all}
 use Rattle.std.proofs.lemmas.Option.{get_or_from_slice_get, slice_get_cases, slice_get_within}
+use Rattle.df_label.specs.Ascending.{contains_by}
+use Rattle.df_unit.proofs.SameFacts.{same_name-exact}
+use Rattle.df_unit.specs.UnitOrder.{unit_cmp}
+use Rattle.df_unit.specs.UnitOrderLaws.{unit_cmp_ties}
+use Rattle.df_unit.specs.declared.name.UnitName.{UnitName}
 
 module _ {A : Type 0} (xs all : List A) (begins : xs ≡ take (length xs) all) where
   -- a beginning of a list, with what follows it
@@ -20,3 +26,11 @@ module _ {A : Type 0} (xs all : List A) (begins : xs ≡ take (length xs) all) w
     | inl here ↦ absurd (let e = here.2 in let z : ⊥ = cc in z)
     | inr past ↦ begins ∙ take_all (length xs) all past.0
   ]
+
+-- what is one of the names stands at a place
+pub placed : (names : List UnitName) (u : UnitName) → contains_by unit_cmp names u ≡ true → (k : ℕ) × (slice_get names k ≡ Some u)
+placed [] u h = absurd (let z : ⊥ = cc in z)
+placed (v ∷ names) u h = elim (or_cases _ _ h) [
+  | inl e ↦ (0, ap Some (same_name-exact v u (unit_cmp_ties v u ∙ e)))
+  | inr there ↦ (let p = placed names u there in (suc p.0, p.1))
+]

@@ -1,3 +1,5 @@
 pub mod Locally
 pub mod Booking
+pub mod Growing
 pub mod Resting
+pub mod Seen

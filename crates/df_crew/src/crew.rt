@@ -2,13 +2,15 @@
 
 ghost use Rattle.std.specs.Prelude.{◌≡◌, ◌↔◌, ◌+◌, [], length, Err, IfErr, IfOk, IsTrue, None, OnErr, OnOk, Some, is_some, option_copied, true};
 ghost use Rattle.df_machine.specs.Journal.{IsRoll, firsts, local_of};
-ghost use Rattle.df_rules.specs.Follows.{Quiet, began_with, brain_of, root_began};
+ghost use Rattle.df_rules.specs.Follows.{Quiet, began_with, brain_of, replies_of, root_began};
 ghost use Rattle.df_crew.specs.declared.crew.BeginRefused.TheVariants.{NoSuchUnit};
 ghost use Rattle.df_booking.specs.Booked.{IsCurrent, booked};
-ghost use Rattle.df_crew.specs.Booking.{IsRefused};
+ghost use Rattle.df_crew.specs.Booking.{IsRefused, IsUntold};
+ghost use Rattle.df_crew.specs.Growing.{IsMore};
 ghost use Rattle.df_booking.specs.CrewState.{mind_in};
 ghost use Rattle.df_crew.specs.Resting.{IsResting};
 ghost use Rattle.df_booking.specs.Turns.{turned};
+ghost use Rattle.df_unit.specs.Rows.{is_instance};
 ghost use Rattle.df_unit.specs.declared.name.UnitName.{UnitName};
 ghost use Rattle.df_rules.specs.Start.{rows};
 
@@ -34,7 +36,7 @@ pub enum BeginRefused {
 
 /// Why a turn was not booked.
 #[derive(Clone, Copy, Debug, PartialEq, Eq)]
-pub enum TurnCause {
+pub enum BookCause {
     /// The unit doesn't exist, or its own state or its brain is not as the turn began.
     Stale,
     NoMemory,
@@ -44,7 +46,7 @@ pub enum TurnCause {
 #[derive(Drop)]
 pub struct NotTurned<B: Brain> {
     pub turn: Turn<B>,
-    pub cause: TurnCause,
+    pub cause: BookCause,
 }
 
 /// A machine whose units have brains. A contract sees it as the machine's start and journal, and
@@ -113,12 +115,13 @@ impl<B: Brain> Crew<B> {
         &self.core
     }
 
-    /// The state with which a unit's brain began.
+    /// The state with which a unit's brain began. It takes memory for an instance alone.
     fn first_state(&self, unit: &UnitName) -> Result<Option<&B>, NoMemory>
         requires { is_some (local_of self.now.core unit.now) ≡ true }
-        ensures { IfOk result (λ state. option_copied state
+        ensures state { IfOk result (λ state. option_copied state
             ≡ began_with (brain_of B.next B.instance) rows (firsts self.now.core.0)
             self.now.brains self.now.core.1 unit.now) }
+        ensures instance { OnErr result (is_instance unit.now ≡ true) }
     {
         match unit {
             UnitName::Root(path) => Ok(root_state(self.brains.as_slice(), path)),
@@ -144,8 +147,10 @@ impl<B: Brain> Crew<B> {
     /// Whether this is a unit's brain.
     fn has_mind(&self, unit: &UnitName, mind: &Mind<B>) -> Result<bool, NoMemory>
         requires { is_some (local_of self.now.core unit.now) ≡ true }
-        ensures { IfOk result (λ b. IsTrue b ↔ (mind_in (brain_of B.next B.instance)
+        ensures is { IfOk result (λ b. IsTrue b ↔ (mind_in (brain_of B.next B.instance)
             self.now.brains self.now.core unit.now ≡ Some mind.now)) }
+        ensures instance { OnErr result (is_instance unit.now ≡ true) }
+        ensures untold { OnErr result (replies_of unit.now self.now.core.1 ≡ []) }
     {
         if let Some(here) = self.minds.get(unit) {
             return Ok(here.same(mind));
@@ -182,8 +187,9 @@ impl<B: Brain> Crew<B> {
 
     /// Whether the unit and its brain are as the turn began.
     fn is_current(&self, turn: &Turn<B>) -> Result<bool, NoMemory>
-        ensures { IfOk result (λ b.
+        ensures is { IfOk result (λ b.
             IsTrue b ↔ IsCurrent (brain_of B.next B.instance) turn.now self.now) }
+        ensures untold { OnErr result (IsUntold turn.now self.now) }
     {
         let unit = turn.unit();
         let Some(local) = self.core.local(unit.name()) else {
@@ -247,9 +253,11 @@ impl<B: Brain> Crew<B> {
     /// Books a turn: its local calls, and then the shared call that is wanted, or a get where the
     /// turn waits and a delivery is left. It answers the number of entries. A turn that was not
     /// advanced has none.
+    #[tactic(auto, using(crate::proofs::Growing::more_refl))]
     pub fn book(&mut self, turn: Turn<B>) -> Result<u64, NotTurned<B>>
         ensures ok { OnOk result (self.new
             ≡ booked (brain_of B.next B.instance) turn self.old) }
+        ensures more { IsMore self.old self.new }
         ensures count { IfOk result (λ n. length self.new.core.1 ≡ n + length self.old.core.1) }
         ensures current { OnOk result (IsCurrent (brain_of B.next B.instance) turn self.old) }
         ensures refused { IfErr result (λ e.
@@ -260,20 +268,20 @@ impl<B: Brain> Crew<B> {
         let Ok(current) = self.is_current(&turn) else {
             return Err(NotTurned {
                 turn,
-                cause: TurnCause::NoMemory,
+                cause: BookCause::NoMemory,
             });
         };
         if !current {
             return Err(NotTurned {
                 turn,
-                cause: TurnCause::Stale,
+                cause: BookCause::Stale,
             });
         }
         match self.book_current(turn) {
             Ok(count) => Ok(count),
             Err(turn) => Err(NotTurned {
                 turn,
-                cause: TurnCause::NoMemory,
+                cause: BookCause::NoMemory,
             }),
         }
     }

@@ -2,7 +2,10 @@
 #![tactic(auto)]
 
 mod crew;
+mod journaled;
+mod origin;
 mod roster;
 
-pub use crew::{BeginRefused, Crew, NotTurned, TurnCause};
+pub use crew::{BeginRefused, Crew, NotTurned, BookCause};
+pub use origin::Origin;
 pub use roster::units;

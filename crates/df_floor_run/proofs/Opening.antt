@@ -6,11 +6,12 @@ use Rattle.std.proofs.lemmas.Bool.{le-leb, leb-true}
 use Rattle.df_booking.specs.CrewState.{CrewState}
 use Rattle.df_booking.specs.Minds.{mind_from}
 use Rattle.df_booking.specs.Turns.{turned}
+use Rattle.df_crew.proofs.Growing.{more_longer, more_refl, more_trans}
+use Rattle.df_crew.proofs.Still.{at_rest}
+use Rattle.df_crew.specs.Growing.{IsMore}
 use Rattle.df_machine.specs.Journal.{State, appended, firsts}
-use Rattle.df_plain_floor.specs.Grown.{IsMore}
 use Rattle.df_plain_floor.specs.PlainRun.{IsTurn, Opened, Repeated, is_full, root_name, take_turn}
-use Rattle.df_plain_floor.proofs.More.{more_longer, more_refl, more_trans, take_more}
-use Rattle.df_plain_floor.proofs.Still.{at_rest}
+use Rattle.df_plain_floor.proofs.More.{take_more}
 use Rattle.df_rules.specs.Follows.{Brain, Opens, has_entry, is_of, replies_of, wanted, Wait}
 use Rattle.df_rules.specs.Legal.{answer}
 use Rattle.df_rules.specs.Own.{own}

@@ -12,7 +12,7 @@ use Rattle.df_floor.proofs.Paired.{paired}
 use Rattle.df_floor_units.specs.Floor.{Mind, begins}
 use Rattle.df_floor_units.specs.declared.kind.Kind.TheVariants as kind
 use Rattle.df_machine.specs.Journal.{State, firsts}
-use Rattle.df_plain_floor.specs.Grown.{IsMore}
+use Rattle.df_crew.specs.Growing.{IsMore}
 use Rattle.df_plain_floor.specs.PlainRun.{ArePasses, IsOpening, IsPlainRun, is_full, root_name}
 use Rattle.df_rules.specs.Follows.{Calls, Opens, OthersWait, Start, has_entry, is_of, last_of, state_after}
 use Rattle.df_rules.specs.Own.{own}

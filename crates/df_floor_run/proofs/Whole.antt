@@ -8,7 +8,7 @@ use Rattle.df_floor_units.specs.Floor.{Mind}
 use Rattle.df_booking.specs.Manned.{IsFollowed}
 use Rattle.df_gen.specs.Generated.{generated}
 use Rattle.df_machine.specs.Journal.{State}
-use Rattle.df_plain_floor.specs.Grown.{IsMore}
+use Rattle.df_crew.specs.Growing.{IsMore}
 use Rattle.df_plain_floor.specs.PlainRun.{IsAtLimit, IsPlainRun, IsQuiet}
 use Rattle.df_plain_floor.specs.declared.run.Ended.{Ended}
 use Rattle.df_plain_floor.specs.declared.run.Ended.TheVariants as ended

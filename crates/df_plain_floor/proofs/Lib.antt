@@ -1,5 +1,4 @@
 pub mod More
-pub mod Still
 pub mod Resting
 pub mod Turning
 pub mod Taking

@@ -4,7 +4,7 @@ use Rattle.df_booking.specs.CrewState.{CrewState}
 use Rattle.df_plain_floor.specs.Grown.{AreTurns, IsAppending}
 use Rattle.df_plain_floor.specs.PlainRun.{Repeated, is_full}
 use Rattle.df_rules.specs.Follows.{Brain}
-use Rattle.df_plain_floor.proofs.More.{more_longer, more_same}
+use Rattle.df_crew.proofs.Growing.{more_longer, more_same}
 use Rattle.df_plain_floor.proofs.Turning.{turns_full, turns_more}
 
 -- some steps lead from the one to the other

@@ -1,33 +1,22 @@
 -- Where a pass appends nothing, and the run goes on, each unit is at rest.
-use Rattle.std.proofs.Common.{◌≡◌, inl, inr, ℕ, zero, suc, ◌≤◌, List, [], ◌∷◌, Bool, true, false, ◌∙◌, ap, subst, cond, Option, Some, length, arith}
+use Rattle.std.proofs.Common.{◌≡◌, ℕ, zero, suc, ◌≤◌, List, [], ◌∷◌, Bool, true, false, ◌∙◌, ap, subst, cond, Option, Some, length, arith}
 use Rattle.std.specs.Prelude.{is_some, slice_get}
 use Rattle.std.specs.Option.{option_map}
-use Rattle.std.proofs.lemmas.Bool.{or_cases}
 use Rattle.df_booking.specs.CrewState.{CrewState}
 use Rattle.df_booking.specs.Turns.{turned}
-use Rattle.df_label.specs.Ascending.{contains_by}
+use Rattle.df_crew.proofs.Growing.{more_longer, more_same}
+use Rattle.df_crew.proofs.Rolls.{placed}
+use Rattle.df_crew.proofs.Still.{at_rest}
 use Rattle.df_local.specs.code.LocalState.{LocalState}
 use Rattle.df_machine.specs.Journal.{IsRoll, firsts, local_of}
 use Rattle.df_rules.specs.Follows.{Brain}
 use Rattle.df_rules.specs.Own.{exists}
 use Rattle.df_rules.specs.Start.{rows}
 use Rattle.df_unit.specs.OwnState.{OwnState}
-use Rattle.df_unit.specs.UnitOrder.{unit_cmp}
-use Rattle.df_unit.specs.UnitOrderLaws.{unit_cmp_ties}
 use Rattle.df_unit.specs.declared.name.UnitName.{UnitName}
-use Rattle.df_unit.proofs.SameFacts.{same_name-exact}
 use Rattle.df_plain_floor.specs.Grown.{HasBrain}
 use Rattle.df_plain_floor.specs.PlainRun.{IsQuiet, is_full, take_turn, take_turns}
-use Rattle.df_plain_floor.proofs.More.{more_longer, more_same, take_more, takes_more}
-use Rattle.df_plain_floor.proofs.Still.{at_rest}
-
--- what is one of the names stands at a place
-placed : (names : List UnitName) (u : UnitName) → contains_by unit_cmp names u ≡ true → (k : ℕ) × (slice_get names k ≡ Some u)
-placed [] u h = absurd (let z : ⊥ = cc in z)
-placed (v ∷ names) u h = elim (or_cases _ _ h) [
-  | inl e ↦ (0, ap Some (same_name-exact v u (unit_cmp_ties v u ∙ e)))
-  | inr there ↦ (let p = placed names u there in (suc p.0, p.1))
-]
+use Rattle.df_plain_floor.proofs.More.{take_more, takes_more}
 
 module _ {B : Type 0} (brain : Brain B) (max : ℕ) where
   takes : (u : UnitName) (crew : CrewState B) → is_full max crew ≡ false → take_turn brain max u crew ≡ turned brain u crew

@@ -3,11 +3,11 @@ use Rattle.std.proofs.Common.{◌≡◌, ◌⊎◌, inl, inr, ℕ, suc, ◌+◌,
 use Rattle.std.specs.Prelude.{slice_get}
 use Rattle.std.proofs.lemmas.Option.{get_or_from_slice_get, slice_get_within}
 use Rattle.df_booking.specs.CrewState.{CrewState}
+use Rattle.df_crew.proofs.Growing.{more_longer, more_same}
 use Rattle.df_plain_floor.specs.Grown.{AreTurns, HasBrain}
 use Rattle.df_plain_floor.specs.PlainRun.{take_turn, take_turns}
 use Rattle.df_rules.specs.Follows.{Brain}
 use Rattle.df_unit.specs.declared.name.UnitName.{UnitName}
-use Rattle.df_plain_floor.proofs.More.{more_longer, more_same}
 use Rattle.df_plain_floor.proofs.Turning.{no_turns, one_turn, turns_more, turns_trans}
 
 -- so many of the units have taken their turns

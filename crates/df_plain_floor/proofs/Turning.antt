@@ -3,7 +3,8 @@ use Rattle.std.proofs.Common.{◌≡◌, ℕ, List, [], ◌∷◌, ◌++◌, Boo
 use Rattle.std.specs.Prelude.{OnErr, OnOk}
 use Rattle.df_booking.specs.CrewState.{CrewState}
 use Rattle.df_booking.specs.Turns.{turned}
-use Rattle.df_plain_floor.specs.Grown.{AreTurns, IsMore}
+use Rattle.df_crew.specs.Growing.{IsMore}
+use Rattle.df_plain_floor.specs.Grown.{AreTurns}
 use Rattle.df_plain_floor.specs.PlainRun.{is_full, take_turn, take_turns}
 use Rattle.df_rules.specs.Follows.{Brain}
 use Rattle.df_unit.specs.declared.name.UnitName.{UnitName}

@@ -1,18 +1,10 @@
--- How a crew's journal grows.
-use Rattle.std.specs.Prelude.{◌≡◌, ◌<◌, ◌++◌, ℕ, Bool, true, false, List, is_some, length}
+-- How turns lead from one crew to another.
+use Rattle.std.specs.Prelude.{◌≡◌, ◌<◌, ℕ, Bool, true, false, List, is_some, length}
 use Rattle.df_booking.specs.CrewState.{CrewState, mind_in}
 use Rattle.df_machine.specs.Journal.{local_of}
 use Rattle.df_plain_floor.specs.PlainRun.{is_full, take_turns}
 use Rattle.df_rules.specs.Follows.{Brain}
-use Rattle.df_unit.specs.declared.entry.Entry.{Entry}
 use Rattle.df_unit.specs.declared.name.UnitName.{UnitName}
-
--- entries were appended, and nothing else has changed; the newest stand first
-pub record IsMore {B : Type 0} (old new : CrewState B) : Type 0 where
-  pub start : new.core.0 ≡ old.core.0
-  pub brains : new.brains ≡ old.brains
-  pub more : List Entry
-  pub journal : new.core.1 ≡ more ++ old.core.1
 
 -- turns of some units lead from the one to the other
 pub record AreTurns {B : Type 0} (brain : Brain B) (max : ℕ) (old new : CrewState B) :

@@ -1,7 +1,8 @@
 //! The plain opening, the plain passes, and the plain run of both.
 
 ghost use Rattle.std.specs.Prelude.{◌≡◌, ◌↔◌, [], IfOk, OnOk, false, length, true};
-ghost use Rattle.df_plain_floor.specs.Grown.{AreTurns, IsAppending, IsMore};
+ghost use Rattle.df_crew.specs.Growing.{IsMore};
+ghost use Rattle.df_plain_floor.specs.Grown.{AreTurns, IsAppending};
 ghost use Rattle.df_plain_floor.specs.PlainRun.{ArePasses, IsAtLimit, IsOpening, IsPlainRun, IsQuiet, IsTurn, RunsOut, is_full};
 ghost use Rattle.df_plain_floor.specs.declared.run.Ended.TheVariants.{Limit, Quiet};
 ghost use Rattle.df_rules.specs.Follows.{brain_of};

@@ -9,8 +9,8 @@ use Rattle.df_rules.specs.Follows.{began_with, brain_of}
 use Rattle.df_rules.specs.Start.{rows}
 use Rattle.df_unit.specs.declared.name.UnitName.{UnitName}
 
-pub returns-in_ok-seed_name-in-Managed : goal.returns-in_ok-seed_name-in-Managed
-returns-in_ok-seed_name-in-Managed g c =
+pub returns-in_ok-seed_name-in-Managed-clause-state : goal.returns-in_ok-seed_name-in-Managed-clause-state
+returns-in_ok-seed_name-in-Managed-clause-state g c =
     let brain = brain_of g.B.StepFunction.next g.B.StepFunction.instance in
     let u = c.args.unit.now in
     let core = c.self.inside.core in

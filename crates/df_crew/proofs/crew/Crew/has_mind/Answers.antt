@@ -1,15 +1,15 @@
-use Rattle.std.proofs.Common.{◌≡◌, Some, true, ap, sym, subst, ◌∙◌}
+use Rattle.std.proofs.Common.{◌≡◌, [], None, Some, true, ap, sym, subst, ◌∙◌}
 use Rattle.std.specs.Prelude.{is_some, option_copied}
 use Rattle.df_booking.specs.CrewState.{CrewState, mind_in}
-use Rattle.df_crew.proofs.Minded.{found_there, kept_mind}
+use Rattle.df_crew.proofs.Minded.{found_there, kept_mind, none_told, on_err}
 use Rattle.df_crew.proofs.crew.Crew.has_mind.Goals as goal
 use Rattle.df_kept.specs.Kept.{kept_at}
 use Rattle.df_machine.specs.Journal.{firsts, local_of}
-use Rattle.df_rules.specs.Follows.{Last, began_with, brain_of}
+use Rattle.df_rules.specs.Follows.{Last, began_with, brain_of, replies_of}
 use Rattle.df_rules.specs.Start.{rows}
 
-pub returns-in-Some : goal.returns-in-Some
-returns-in-Some g c =
+pub returns-in-Some-clause-is : goal.returns-in-Some-clause-is
+returns-in-Some-clause-is g c =
     let brain = brain_of g.B.StepFunction.next g.B.StepFunction.instance in
     let u = c.args.unit.now in
     let here : _ × Last = c.in-Some.here.now in
@@ -27,5 +27,13 @@ unwrap-state-requires g c =
     let u = c.args.unit.now in
     let core = c.self.inside.core in
     let here = subst (λ (x : CrewState _). is_some (local_of x.core u) ≡ true) (sym c.self.view_is) c.requires in
-    let state = subst (λ (x : CrewState _). option_copied c.in_ok-first_state.field-0 ≡ began_with brain rows (firsts x.core.0) x.brains x.core.1 u) (sym c.self.view_is) c.in_ok-first_state.ensures in
+    let state = subst (λ (x : CrewState _). option_copied c.in_ok-first_state.field-0 ≡ began_with brain rows (firsts x.core.0) x.brains x.core.1 u) (sym c.self.view_is) c.in_ok-first_state.ensures.state in
     found_there brain g.met.B.Brain.makes_no_unit c.self.inside.brains.items c.self.inside.minds c.self.inside.seeds core c.self.invariant u here c.in_ok-first_state.field-0 state
+
+pub returns-in_err-first_state-clause-untold : goal.returns-in_err-first_state-clause-untold
+returns-in_err-first_state-clause-untold g c =
+    let brain = brain_of g.B.StepFunction.next g.B.StepFunction.instance in
+    let u = c.args.unit.now in
+    let none : kept_at u c.self.inside.minds ≡ None = sym c.get.ensures ∙ ap option_copied c.in_default.is in
+    let told = none_told brain c.self.inside.brains.items c.self.inside.minds c.self.inside.seeds c.self.inside.core c.self.invariant u none in
+    on_err c.from_residual.result (subst (λ (x : CrewState _). replies_of u x.core.1 ≡ []) c.self.view_is told)

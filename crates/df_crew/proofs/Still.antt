@@ -18,7 +18,7 @@ use Rattle.df_unit.specs.declared.call.Call.{Call}
 use Rattle.df_unit.specs.declared.commit.Given.{Given}
 use Rattle.df_unit.specs.declared.entry.Entry.{Entry}
 use Rattle.df_unit.specs.declared.name.UnitName.{UnitName}
-use Rattle.df_plain_floor.proofs.More.{more_longer, run_more}
+use Rattle.df_crew.proofs.Growing.{more_longer, run_more}
 
 -- who wants this appends nothing
 abbrev Rests : State → UnitName → Option Want → Type 0
