@@ -6,6 +6,6 @@ mod journaled;
 mod origin;
 mod roster;
 
-pub use crew::{BeginRefused, Crew, NotTurned, BookCause};
+pub use crew::{BeginRefused, BookCause, Crew, NotTurned};
 pub use origin::Origin;
 pub use roster::units;

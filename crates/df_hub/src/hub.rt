@@ -78,11 +78,7 @@ fn next_turn<B: Brain>(
 }
 
 /// What is answered of a turn of a unit that was booked in this crew.
-fn answer<B: Brain>(
-    crew: &Crew<B>,
-    unit: Result<UnitName, NoMemory>,
-    appended: u64,
-) -> Stepped<B>
+fn answer<B: Brain>(crew: &Crew<B>, unit: Result<UnitName, NoMemory>, appended: u64) -> Stepped<B>
     ensures turn { (name : UnitName) → IfOk unit (λ known. known ≡ name) → IfOk result.turn (λ t.
         IsBegun (brain_of B.next B.instance) crew.now.brains crew.now.core name t) }
     ensures appended { result.appended ≡ appended }
@@ -123,10 +119,7 @@ fn book<B: Brain>(
 impl<B: Brain> Hub<B> {
     /// A hub with this crew, and its first pass. There is an error only where there is no memory.
     #[tactic(auto, using(crate::proofs::At::journal_here))]
-    pub fn new(
-        alloc: Global,
-        crew: Crew<B>,
-    ) -> Result<(Hub<B>, Pass<Crew<B>>), NotMade<Crew<B>>>
+    pub fn new(alloc: Global, crew: Crew<B>) -> Result<(Hub<B>, Pass<Crew<B>>), NotMade<Crew<B>>>
         ensures origin { IfOk result (λ made. made.0.origin ≡ origin_of crew) }
         ensures free { IfOk result (λ made. IsFree made.0 made.1) }
         ensures new { IfOk result (λ made. IsNew made.1 (seen_of crew)) }

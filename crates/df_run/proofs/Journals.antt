@@ -56,7 +56,7 @@ written_more roots ls l old new before now w a =
           ∙ ap (λ (t : List ℕ). t ++ noted_text (noted_in (roots, past) e)) w.text
           ∙ append_assoc (head_text roots) (flat_map noted_text (noted roots past)) (noted_text (noted_in (roots, past) e))
           ∙ ap (λ (t : List ℕ). head_text roots ++ t)
-              (sym (flat_map-append noted_text (noted roots past) (noted_in (roots, past) e ∷ [])
-              ∙ ap (λ (t : List ℕ). flat_map noted_text (noted roots past) ++ t) (append-nil (noted_text (noted_in (roots, past) e)))))
+          (sym (flat_map-append noted_text (noted roots past) (noted_in (roots, past) e ∷ [])
+          ∙ ap (λ (t : List ℕ). flat_map noted_text (noted roots past) ++ t) (append-nil (noted_text (noted_in (roots, past) e)))))
           ∙ ap (λ (j : List Entry). head_text roots ++ flat_map noted_text (noted roots j)) (sym (journal_more roots ls l));
     }

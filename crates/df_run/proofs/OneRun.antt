@@ -41,7 +41,7 @@ module _ {S : Type 0} (step : S → S → Type 0) (one : IsFunctional step) wher
   one_end x y z p q =
       let same : p.count + q.count ≡ q.count + p.count = omega (arith) in
       one_repeated (q.count + p.count) x y z (again q.count p.count x y p.steps p.last)
-          (subst (λ (n : ℕ). Repeated step n x z) same (again p.count q.count x z q.steps q.last))
+      (subst (λ (n : ℕ). Repeated step n x z) same (again p.count q.count x z q.steps q.last))
 
 module _ {B : Type 0} (brain : Brain B) (max : ℕ) where
   one_turn : (u : UnitName) → IsFunctional (IsTurn brain max u)
@@ -50,7 +50,7 @@ module _ {B : Type 0} (brain : Brain B) (max : ℕ) where
   one_pass : IsFunctional (IsPass brain max)
   one_pass x y z p q =
       let names : p.names ≡ q.names = same_elements unit_cmp unit_cmp_exact p.names q.names p.roll.order q.roll.order
-          (λ u. p.roll.units u ∙ sym (q.roll.units u)) in
+      (λ u. p.roll.units u ∙ sym (q.roll.units u)) in
       p.turns ∙ ap (λ (us : List UnitName). take_turns brain max us x) names ∙ sym q.turns
 
   one_opening : (k : ℕ) (x y z : CrewState B) → Opened brain max k x y → Opened brain max k x z → y ≡ z
@@ -58,7 +58,7 @@ module _ {B : Type 0} (brain : Brain B) (max : ℕ) where
   one_opening (suc k) x y z p q =
       let mid : p.0 ≡ q.0 = one_opening k x p.0 q.0 p.1 q.1 in
       one_end (IsTurn brain max (root_name (suc k))) (one_turn (root_name (suc k))) q.0 y z
-          (subst (λ (m : CrewState B). RunsOut (IsTurn brain max (root_name (suc k))) m y) mid p.2) q.2
+      (subst (λ (m : CrewState B). RunsOut (IsTurn brain max (root_name (suc k))) m y) mid p.2) q.2
 
   pub one_run : (x y z : CrewState B) → IsPlainRun brain max x y → IsPlainRun brain max x z → y ≡ z
   one_run x y z p q =

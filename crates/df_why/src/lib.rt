@@ -4,8 +4,6 @@
 mod walk;
 mod why;
 
-pub use why::grounds;
-
 ghost use Rattle.std.specs.Prelude.{true, ◌≡◌, ◌+◌, ◌<◌, ◌∷◌, ◌++◌, ℕ, Bool, List, length};
 ghost use Rattle.df_rules.specs.Always.{InEach, InEachLegal};
 ghost use Rattle.df_rules.specs.Legal.{Legal};
@@ -21,6 +19,8 @@ ghost use Rattle.df_why.specs.Grounds.{IsClosed, IsLeast, chosen, set_of};
 ghost use Rattle.df_why.specs.code.Leads.{IsLed};
 ghost use Rattle.df_why.specs.code.Walk.{IsKnown, link_at, walked};
 ghost use Rattle.df_why.specs.declared.walk.Link.{Link};
+
+pub use why::grounds;
 
 /// The entries of a closed set of a legal journal are a legal journal, each with its reply and
 /// effect. The unit of each is before it as it was. Of the least set that has a place, the last

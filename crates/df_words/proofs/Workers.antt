@@ -40,6 +40,6 @@ module _ (one other count : List ℕ) (w : ℕ) (is : IsCountIn 16 count (Some w
     λ same.
         let spelled = (is w).0 refl in
         subst (Ask words) same
-            (one, other, ap (λ (d : List ℕ). codes "floor" ∷ one ∷ other ∷ codes "--workers" ∷ d ∷ []) spelled.0, long, long_too, refl, refl, spelled.1),
+        (one, other, ap (λ (d : List ℕ). codes "floor" ∷ one ∷ other ∷ codes "--workers" ∷ d ∷ []) spelled.0, long, long_too, refl, refl, spelled.1),
     asked_back c,
   )

@@ -19,16 +19,16 @@ pub returns-in-len2 : goal.returns-in-len2
 returns-in-len2 c =
     let words = two_items c.word-item.result c.name-item.result c.args.words.now c.in-len2.len_at_least c.in-len2.len_below c.word-item.is c.name-item.is in
     let told = two_texts c.word-item.result c.name-item.result c.as_str.result.now c.as_str-in-len2.result.now c.as_str.ensures.value
-        c.as_str-in-len2.ensures.value in
+    c.as_str-in-len2.ensures.value in
     subst (λ ws. IsCommandOf ws c.file_command.result) (sym (ap texts words ∙ told)) c.file_command.ensures
 
 pub returns-in-len3 : goal.returns-in-len3
 returns-in-len3 c =
     let words = three_items c.word-item-then-words-lt4.result c.first-item.result c.second-item.result c.args.words.now c.in-len3.len_at_least
-        c.in-len3.len_below c.word-item-then-words-lt4.is c.first-item.is c.second-item.is in
+    c.in-len3.len_below c.word-item-then-words-lt4.is c.first-item.is c.second-item.is in
     let told = three_texts c.word-item-then-words-lt4.result c.first-item.result c.second-item.result c.as_str-in-len3.result.now
-        c.as_str-in-len3-2.result.now c.as_str-in-len3-3.result.now c.as_str-in-len3.ensures.value c.as_str-in-len3-2.ensures.value
-        c.as_str-in-len3-3.ensures.value in
+    c.as_str-in-len3-2.result.now c.as_str-in-len3-3.result.now c.as_str-in-len3.ensures.value c.as_str-in-len3-2.ensures.value
+    c.as_str-in-len3-3.ensures.value in
     subst (λ ws. IsCommandOf ws c.pair_command.result) (sym (ap texts words ∙ told)) c.pair_command.ensures
 
 pub returns-in-len5 : goal.returns-in-len5
@@ -39,8 +39,8 @@ returns-in-len5 c =
     let option = c.option-item in
     let count = c.count-item in
     let words = five_items word.result first.result second.result option.result count.result c.args.words.now c.in-len5.len_at_least c.in-len5.len_below
-        word.is first.is second.is option.is count.is in
+    word.is first.is second.is option.is count.is in
     let told = five_texts word.result first.result second.result option.result count.result c.as_str-in-len5.result.now c.as_str-in-len5-2.result.now
-        c.as_str-in-len5-3.result.now c.as_str-in-len5-4.result.now c.as_str-in-len5-5.result.now c.as_str-in-len5.ensures.value
-        c.as_str-in-len5-2.ensures.value c.as_str-in-len5-3.ensures.value c.as_str-in-len5-4.ensures.value c.as_str-in-len5-5.ensures.value in
+    c.as_str-in-len5-3.result.now c.as_str-in-len5-4.result.now c.as_str-in-len5-5.result.now c.as_str-in-len5.ensures.value
+    c.as_str-in-len5-2.ensures.value c.as_str-in-len5-3.ensures.value c.as_str-in-len5-4.ensures.value c.as_str-in-len5-5.ensures.value in
     subst (λ ws. IsCommandOf ws c.option_command.result) (sym (ap texts words ∙ told)) c.option_command.ensures

@@ -29,7 +29,7 @@ pub returns-clause-booked : goal.returns-clause-booked
 returns-clause-booked g c =
     rw c.give.ensures.found (rw c.give.ensures.seen (on_both c.book-stepped.result
     (λ current made. booked_at (brain_of g.B.StepFunction.next g.B.StepFunction.instance) c.args.self.now.origin c.take-crew.new.pass.found c.take-crew.result c.take-crew.ensures.origin c.take-crew.ensures.found
-        c.args.turn c.book-stepped.new.crew _ current made refl)
+    c.args.turn c.book-stepped.new.crew _ current made refl)
     c.book-stepped.ensures.current c.book-stepped.ensures.booked))
 
 pub returns-clause-counted : goal.returns-clause-counted
