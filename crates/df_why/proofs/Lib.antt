@@ -8,3 +8,17 @@ pub mod MeetingRows
 pub mod Leads
 pub mod Walking
 pub mod Picked
+pub mod Turning
+pub mod Numbering
+pub mod Existing
+pub mod Origins
+pub mod Arising
+pub mod Knowing
+pub mod Ascents
+pub mod Tracking
+pub mod Making
+pub mod Queueing
+pub mod Finding
+pub mod Growing
+pub mod Enough
+pub mod Grounding

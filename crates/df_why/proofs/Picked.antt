@@ -1,5 +1,5 @@
 -- What the walk picks is led to from its last place, where the links tell to what entries lead.
-use Rattle.std.proofs.Common.{◌≡◌, ◌⊎◌, inl, inr, ℕ, zero, suc, ◌+◌, ◌-◌, ◌<◌, ◌≤◌, List, [], ◌∷◌, ◌++◌, Bool, true, false, ◌&&◌, ◌||◌, length, refl, sym, ◌∙◌, ap, subst, cond, arith}
+use Rattle.std.proofs.Common.{◌≡◌, ◌⊎◌, inl, inr, ℕ, zero, suc, ◌+◌, ◌-◌, ◌<◌, ◌≤◌, List, [], ◌∷◌, ◌++◌, Bool, true, false, ◌||◌, length, refl, sym, ◌∙◌, ap, subst, cond, arith}
 use Rattle.std.specs.Prelude.{◌==◌}
 use Rattle.std.specs.List.{list_any}
 use Rattle.std.proofs.lemmas.Bool.{cases_eq, cases_lt, eqb-false, eqb-true}
@@ -8,14 +8,14 @@ use Rattle.std.proofs.lemmas.List.Folds.{list_any-append}
 use Rattle.df_rules.specs.Rules.{Rules}
 use Rattle.df_unit.specs.OwnState.{OwnState}
 use Rattle.df_unit.specs.declared.entry.Entry.{Entry}
-use Rattle.df_why.specs.Grounds.{HasEach, set_of}
-use Rattle.df_why.specs.code.Leads.{FollowsLeads, IsLed, IsLedTo, leads}
+use Rattle.df_why.specs.Grounds.{set_of}
+use Rattle.df_why.specs.code.Leads.{IsLed, IsLedTo, leads}
 use Rattle.df_why.specs.code.Walk.{IsKnown, leads_to, link_at, walked}
 use Rattle.df_why.specs.declared.walk.Link.{Link}
 use Rattle.df_why.proofs.Leads.{by_or}
-use Rattle.df_why.proofs.Sets.{clash, or_left, or_right}
+use Rattle.df_why.proofs.Sets.{or_left, or_right}
 
-eq_refl : (n : ℕ) → (n == n) ≡ true
+pub eq_refl : (n : ℕ) → (n == n) ≡ true
 eq_refl n = refl_at (n == n) refl
   where
     refl_at : (b : Bool) → (n == n) ≡ b → b ≡ true
@@ -70,7 +70,7 @@ module _ (link : ℕ → Link) (last : ℕ) where
       go false h = absurd (let z : ⊥ = cc in z)
 
   -- the places that were gone over are the last ones
-  gone_over : (n q : ℕ) → n ≤ last + 1 → set_of (walked link last n) q ≡ true → (q ≤ last) × (last < q + n)
+  pub gone_over : (n q : ℕ) → n ≤ last + 1 → set_of (walked link last n) q ≡ true → (q ≤ last) × (last < q + n)
   gone_over zero q le h = absurd (let z : ⊥ = cc in z)
   gone_over (suc n) q le h = by (cases n q h) (gone_over n q (omega (arith, le)))
     where
@@ -123,7 +123,7 @@ module _ (link : ℕ → Link) (last : ℕ) where
                   go (inr l) = absurd (apart (omega (arith, l, over, le)))
 
 -- the entry at a place
-split_at : (j : List Entry) (p : ℕ) → p < length j → (newer : List Entry) × (e : Entry) × (older : List Entry) × (j ≡ newer ++ e ∷ older) × (length older ≡ p)
+pub split_at : (j : List Entry) (p : ℕ) → p < length j → (newer : List Entry) × (e : Entry) × (older : List Entry) × (j ≡ newer ++ e ∷ older) × (length older ≡ p)
 split_at [] p lt = absurd (omega (arith, lt))
 split_at (e ∷ j) p lt = by (cases_eq p (length j)) (λ below. split_at j p below)
   where

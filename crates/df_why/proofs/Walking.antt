@@ -1,9 +1,9 @@
 -- A walk, as far as it has come.
-use Rattle.std.proofs.Common.{◌≡◌, ℕ, zero, suc, ◌+◌, ◌-◌, ◌<◌, ◌≤◌, List, [], ◌∷◌, ◌++◌, Bool, true, false, ◌&&◌, ◌||◌, length, get_or, refl, sym, ◌∙◌, ap, subst, cond, Option, Some, None, arith}
+use Rattle.std.proofs.Common.{◌≡◌, ℕ, suc, ◌+◌, ◌-◌, ◌<◌, List, [], ◌∷◌, ◌++◌, Bool, true, false, ◌&&◌, ◌||◌, length, get_or, refl, sym, ◌∙◌, ap, subst, cond, Option, Some, None, arith}
 use Rattle.std.specs.Prelude.{◌==◌, IfSome}
 use Rattle.std.specs.List.{list_any}
 use Rattle.std.proofs.lemmas.List.Folds.{list_any-append}
-use Rattle.df_why.specs.code.Walk.{AreWithin, Fits, HasSizes, IsWithin, SameSizes, StandsFor, add_places, add_units, blank, flag_at, leads_to, link_at, points, same_number, walked, wants}
+use Rattle.df_why.specs.code.Walk.{Fits, HasSizes, IsWithin, SameSizes, StandsFor, add_places, add_units, flag_at, leads_to, link_at, points, same_number, walked, wants}
 use Rattle.df_why.specs.declared.walk.Link.{Link}
 use Rattle.df_why.specs.declared.walk.Wanted.{Wanted}
 

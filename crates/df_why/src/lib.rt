@@ -1,10 +1,19 @@
 //! The entries of a journal on which an entry rests.
 #![tactic(auto)]
 
+mod firsts;
+mod found;
+mod links;
+mod listeners;
+mod names;
+mod numbers;
+mod queue;
+mod queues;
+mod tracks;
 mod walk;
 mod why;
 
-ghost use Rattle.std.specs.Prelude.{true, ◌≡◌, ◌+◌, ◌<◌, ◌∷◌, ◌++◌, ℕ, Bool, List, length};
+ghost use Rattle.std.specs.Prelude.{true, ◌≡◌, ◌∷◌, ◌++◌, ℕ, Bool, List, length};
 ghost use Rattle.df_rules.specs.Always.{InEach, InEachLegal};
 ghost use Rattle.df_rules.specs.Legal.{Legal};
 ghost use Rattle.df_rules.specs.Own.{own};
@@ -15,10 +24,7 @@ ghost use Rattle.df_unit.specs.declared.entry.Entry.{Entry};
 ghost use Rattle.df_unit.specs.declared.entry.Entry.TheVariants.{Done};
 ghost use Rattle.df_unit.specs.declared.name.UnitName.{UnitName};
 ghost use Rattle.df_unit.specs.declared.reply.Reply.{Reply};
-ghost use Rattle.df_why.specs.Grounds.{IsClosed, IsLeast, chosen, set_of};
-ghost use Rattle.df_why.specs.code.Leads.{IsLed};
-ghost use Rattle.df_why.specs.code.Walk.{IsKnown, link_at, walked};
-ghost use Rattle.df_why.specs.declared.walk.Link.{Link};
+ghost use Rattle.df_why.specs.Grounds.{IsClosed, IsLeast, chosen};
 
 pub use why::grounds;
 
@@ -35,19 +41,4 @@ pub fn grounds_are_legal()
     ensures last { InEach (λ s j. (set : ℕ → Bool) (place : ℕ) → IsLeast rows s j place set →
         (newer past : List Entry) (e : Entry) → j ≡ newer ++ e ∷ past → length past ≡ place →
         chosen set j ≡ e ∷ chosen set past) }
-{}
-
-/// A set that has a place, the places to which its entries lead and no other is the least closed
-/// one that has the place.
-pub fn leads_are_enough()
-    ensures { InEach (λ s j. (set : ℕ → Bool) (place : ℕ) → IsLed rows s j place set →
-        IsLeast rows s j place set) }
-{}
-
-/// Where the links tell which entry leads to which, the places of a walk back from a place are the
-/// least closed set that has it.
-pub fn walks_are_enough()
-    ensures { InEach (λ s j. (links : List Link) (place : ℕ) → length links ≡ place + 1 →
-        place < length j → IsKnown rows s links j →
-        IsLeast rows s j place (set_of (walked (link_at links) place (place + 1)))) }
 {}

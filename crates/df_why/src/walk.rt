@@ -10,7 +10,7 @@ use std::alloc::Global;
 /// the delivery arose that it was to take, and where its unit's subscription or the unit itself was
 /// made and where the unit began.
 #[derive(Clone, Copy, Drop)]
-pub struct Link {
+pub(crate) struct Link {
     pub actor: Option<usize>,
     pub is_there: bool,
     pub event: Option<usize>,

@@ -5,6 +5,9 @@ ghost use Rattle.df_rules.specs.Legal.{Legal};
 ghost use Rattle.df_rules.specs.Start.{rows};
 ghost use Rattle.df_why.specs.Grounds.{IsGrounds, at_places};
 
+use crate::links::links_of;
+use crate::tracks::track_all;
+use crate::walk::walk_back;
 use df_label::NoMemory;
 use df_start::Start;
 use df_unit::Entry;
@@ -32,5 +35,24 @@ pub fn grounds(
         noted start.now (reverse (at_places places.items journal.now))
         ≡ at_places places.items (noted start.now (reverse journal.now))) }
 {
-    Err(NoMemory)
+    let till = &journal[..place + 1];
+    let all = track_all(alloc, till)?;
+    let links = links_of(alloc, start, till, &all)?;
+    let units = all.tables.units.len();
+    let events = all.tables.events.len();
+    let picked = walk_back(alloc, links.as_slice(), units, events)?;
+    let places = ascending(alloc, picked.as_slice())?;
+    Ok(places)
+}
+
+/// The places, of which the last one stood first.
+fn ascending(alloc: Global, picked: &[usize]) -> Result<Vec<u64>, NoMemory>
+    ensures { IfOk result (λ places. places.items ≡ reverse picked.now) }
+{
+    let mut places = Vec::new(alloc);
+    for place in picked {
+        places.push(*place as u64)?;
+    }
+    places.reverse();
+    Ok(places)
 }

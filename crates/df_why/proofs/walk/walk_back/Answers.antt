@@ -1,6 +1,5 @@
-use Rattle.std.proofs.Common.{◌≡◌, ◌-◌, ◌++◌, [], ◌∷◌, ℕ, List, length, get_or, refl, sym, ap, subst, ◌∙◌, true, false, ◌+◌}
-use Rattle.df_why.specs.code.Walk.{blank, link_at, wants}
-use Rattle.df_why.specs.declared.walk.Link.{Link}
+use Rattle.std.proofs.Common.{◌≡◌, ◌-◌, ◌++◌, [], ◌∷◌, length, get_or, refl, sym, subst, ◌∙◌, ◌+◌}
+use Rattle.df_why.specs.code.Walk.{blank, wants}
 use Rattle.df_why.specs.declared.walk.Wanted.{Wanted}
 use Rattle.df_why.proofs.Walking.{IsSoFar, so_far_passed, so_far_taken}
 use Rattle.df_why.proofs.walk.walk_back.Goals as goal

@@ -1,4 +1,3 @@
-use Rattle.std.proofs.Common.{◌≡◌}
 use Rattle.df_why.proofs.Walking.{IsSoFar}
 use Rattle.df_why.proofs.walk.walk_back.Given as goal
 
