@@ -59,7 +59,8 @@ size_extended xs n o le =
     omega (arith, a, b, le)
 
 -- an element of the extended list is an old one, or this
-extended_cases : (xs : List (Option ℕ)) (n : ℕ) (o : Option ℕ) (m p : ℕ) → get_or (extended xs n o) m None ≡ Some p → (get_or xs m None ≡ Some p) ⊎ ((o ≡ Some p) × (length xs ≤ m) × (m < n))
+extended_cases : (xs : List (Option ℕ)) (n : ℕ) (o : Option ℕ) (m p : ℕ) → get_or (extended xs n o) m None ≡ Some p
+    → (get_or xs m None ≡ Some p) ⊎ ((o ≡ Some p) × (length xs ≤ m) × (m < n))
 extended_cases xs n o m p h = go (cases_lt m (length xs))
   where
     go : (m < length xs) ⊎ (length xs ≤ m) → (get_or xs m None ≡ Some p) ⊎ ((o ≡ Some p) × (length xs ≤ m) × (m < n))
@@ -71,7 +72,8 @@ extended_cases xs n o m p h = go (cases_lt m (length xs))
         let lt : m < n = omega (arith, within, a, b, le) in
         inr (sym (at_end xs (n - length xs) m o None le (omega (arith, lt, le))) ∙ h, le, lt)
 
-extended_all : (xs : List (Option ℕ)) (n p : ℕ) → ((m : ℕ) → m < length xs → is_some (get_or xs m None) ≡ true) → length xs ≤ n → (m : ℕ) → m < length (extended xs n (Some p)) → is_some (get_or (extended xs n (Some p)) m None) ≡ true
+extended_all : (xs : List (Option ℕ)) (n p : ℕ) → ((m : ℕ) → m < length xs → is_some (get_or xs m None) ≡ true) → length xs ≤ n → (m : ℕ)
+    → m < length (extended xs n (Some p)) → is_some (get_or (extended xs n (Some p)) m None) ≡ true
 extended_all xs n p known le m lt = go (cases_lt m (length xs))
   where
     go : (m < length xs) ⊎ (length xs ≤ m) → is_some (get_or (extended xs n (Some p)) m None) ≡ true
@@ -107,7 +109,8 @@ module _ (R : Rules) (s : List OwnState) (u : UnitName) where
   brought m older e le lt = ap (λ (b : Bool). b && nat_lt m (count (e ∷ older))) (le-leb (count older) m le) ∙ lt-ltb m (count (e ∷ older)) lt
 
   -- an older place stays the answer
-  answer_later : (past : List Entry) (e : Entry) (m p : ℕ) → m < count past → p < length past → IsAnswer R s past u m (Some p) → IsAnswer R s (e ∷ past) u m (Some p)
+  answer_later : (past : List Entry) (e : Entry) (m p : ℕ) → m < count past → p < length past → IsAnswer R s past u m (Some p)
+      → IsAnswer R s (e ∷ past) u m (Some p)
   answer_later past e m p lt before answer [] older x split =
       let here : older ≡ past = (let y = split in cc) in
       let le : count past ≡ count older = ap count (sym here) in
@@ -127,7 +130,8 @@ module _ (R : Rules) (s : List OwnState) (u : UnitName) where
       let grows = count_grows newer (x ∷ older) in
       let total : count past ≡ count (newer ++ x ∷ older) = ap count rest in
       let size : length past ≡ length newer + suc (length older) = ap (λ (l : List Entry). length l) rest ∙ length-append newer (x ∷ older) in
-      not_brought m older x (λ below above. omega (arith, le, grows, total, above)) ∙ sym (apart (length past) (length older) (λ same. omega (arith, same, size)))
+      not_brought m older x (λ below above. omega (arith, le, grows, total, above))
+      ∙ sym (apart (length past) (length older) (λ same. omega (arith, same, size)))
 
   -- no place where it didn't arise
   answer_none : (past : List Entry) (m : ℕ) → count past ≤ m → IsAnswer R s past u m None
@@ -137,7 +141,8 @@ module _ (R : Rules) (s : List OwnState) (u : UnitName) where
       not_brought m older x (λ below above. omega (arith, le, grows, total, above))
 
   -- all is known
-  pub whole_answers : (past : List Entry) (q : QueueState) → IsQueue R s past u q → IsWhole R s past u q → (m : ℕ) → IsAnswer R s past u m (get_or q.places m None)
+  pub whole_answers : (past : List Entry) (q : QueueState) → IsQueue R s past u q → IsWhole R s past u q → (m : ℕ)
+      → IsAnswer R s past u m (get_or q.places m None)
   whole_answers past q queue whole m = go (cases_lt m (length q.places))
     where
       known : (o : Option ℕ) → get_or q.places m None ≡ o → is_some o ≡ true → IsAnswer R s past u m o
@@ -149,10 +154,12 @@ module _ (R : Rules) (s : List OwnState) (u : UnitName) where
       go (inr le) = subst (IsAnswer R s past u m) (sym (beyond q.places m None le)) (answer_none past m (let size = whole.count in omega (arith, le, size)))
 
   -- the queue with one more entry, before what it brings is known
-  pub queue_later : (past : List Entry) (e : Entry) (q q' : QueueState) → IsQueue R s past u q → q'.taken ≡ length (received u (e ∷ past)) → q'.places ≡ q.places → IsQueue R s (e ∷ past) u q'
+  pub queue_later : (past : List Entry) (e : Entry) (q q' : QueueState) → IsQueue R s past u q → q'.taken ≡ length (received u (e ∷ past))
+      → q'.places ≡ q.places → IsQueue R s (e ∷ past) u q'
   queue_later past e q q' queue taken places = record {
     taken = taken;
-    short = (let grows = count_grows (e ∷ []) past in let short = queue.short in let size = ap (λ (l : List (Option ℕ)). length l) places in omega (arith, grows, short, size));
+    short = (let grows = count_grows (e ∷ []) past in let short = queue.short in let size = ap (λ (l : List (Option ℕ)). length l) places in omega
+        (arith, grows, short, size));
     before = λ m p h. (let below = queue.before m p (old m p h) in omega (arith, below));
     known = λ m p h. answer_later past e m p (within m p (old m p h)) (queue.before m p (old m p h)) (queue.known m p (old m p h));
   }
@@ -164,7 +171,8 @@ module _ (R : Rules) (s : List OwnState) (u : UnitName) where
       within m p h = let inside = found_within q.places m p h in let short = queue.short in omega (arith, inside, short)
 
   -- the queue with places that aren't known
-  pub queue_padded : (past : List Entry) (q q' : QueueState) → IsQueue R s past u q → q'.taken ≡ q.taken → q'.places ≡ extended q.places (count past) None → IsQueue R s past u q'
+  pub queue_padded : (past : List Entry) (q q' : QueueState) → IsQueue R s past u q → q'.taken ≡ q.taken → q'.places ≡ extended q.places (count past) None
+      → IsQueue R s past u q'
   queue_padded past q q' queue taken places = record {
     taken = taken ∙ queue.taken;
     short = (let size = ap (λ (l : List (Option ℕ)). length l) places ∙ size_extended q.places (count past) None queue.short in omega (arith, size));
@@ -180,10 +188,12 @@ module _ (R : Rules) (s : List OwnState) (u : UnitName) where
           go (inr is) = let no = is.0 in absurd (let z : ⊥ = cc in z)
 
   -- the queue with the places of what the newest entry brought
-  pub queue_filled : (past : List Entry) (e : Entry) (q q' : QueueState) → IsQueue R s (e ∷ past) u q → count past ≤ length q.places → q'.taken ≡ q.taken → q'.places ≡ extended q.places (count (e ∷ past)) (Some (length past)) → IsQueue R s (e ∷ past) u q'
+  pub queue_filled : (past : List Entry) (e : Entry) (q q' : QueueState) → IsQueue R s (e ∷ past) u q → count past ≤ length q.places → q'.taken ≡ q.taken
+      → q'.places ≡ extended q.places (count (e ∷ past)) (Some (length past)) → IsQueue R s (e ∷ past) u q'
   queue_filled past e q q' queue long taken places = record {
     taken = taken ∙ queue.taken;
-    short = (let size = ap (λ (l : List (Option ℕ)). length l) places ∙ size_extended q.places (count (e ∷ past)) (Some (length past)) queue.short in omega (arith, size));
+    short = (let size = ap (λ (l : List (Option ℕ)). length l) places
+        ∙ size_extended q.places (count (e ∷ past)) (Some (length past)) queue.short in omega (arith, size));
     before = λ m p h. before m p (cases m p h);
     known = λ m p h. known m p (cases m p h);
   }
@@ -212,22 +222,26 @@ module _ (R : Rules) (s : List OwnState) (u : UnitName) where
         known = λ m lt. ap (λ (l : List (Option ℕ)). is_some (get_or l m None)) kept ∙ whole.known m (subst (λ (l : List (Option ℕ)). m < length l) kept lt);
       }
 
-  pub whole_filled : (past : List Entry) (e : Entry) (q q' : QueueState) → IsWhole R s past u q → q'.places ≡ extended q.places (count (e ∷ past)) (Some (length past)) → IsWhole R s (e ∷ past) u q'
+  pub whole_filled : (past : List Entry) (e : Entry) (q q' : QueueState) → IsWhole R s past u q
+      → q'.places ≡ extended q.places (count (e ∷ past)) (Some (length past)) → IsWhole R s (e ∷ past) u q'
   whole_filled past e q q' whole places =
       let size = whole.count in
       let grows = count_grows (e ∷ []) past in
       record {
         count = ap (λ (l : List (Option ℕ)). length l) places ∙ size_extended q.places (count (e ∷ past)) (Some (length past)) (omega (arith, size, grows));
         known = λ m lt. ap (λ (l : List (Option ℕ)). is_some (get_or l m None)) places
-            ∙ extended_all q.places (count (e ∷ past)) (length past) whole.known (omega (arith, size, grows)) m (subst (λ (l : List (Option ℕ)). m < length l) places lt);
+            ∙ extended_all q.places (count (e ∷ past)) (length past) whole.known (omega (arith, size, grows)) m
+            (subst (λ (l : List (Option ℕ)). m < length l) places lt);
       }
 
   -- an entry without a commit brings nothing
   pub quiet_count : (past : List Entry) (e : Entry) → commit_of e ≡ None → count (e ∷ past) ≡ count past
-  quiet_count past e none = ap (λ (ds : List Given). length ds) (deliveries_more R s e past u ∙ ap (λ (more : List Given). deliveries R s past u ++ more) (quiet u) ∙ append-nil (deliveries R s past u))
+  quiet_count past e none = ap (λ (ds : List Given). length ds)
+      (deliveries_more R s e past u ∙ ap (λ (more : List Given). deliveries R s past u ++ more) (quiet u) ∙ append-nil (deliveries R s past u))
     where
       quiet : (u : UnitName) → news R s past e u ≡ []
-      quiet (Root path) = ap (plain_news (own_plain R s past path) (subscriptions R s past (Root path)) (deliveries R s past (Root path)) past) none ∙ go (own_plain R s past path)
+      quiet (Root path) = ap (plain_news (own_plain R s past path) (subscriptions R s past (Root path)) (deliveries R s past (Root path)) past) none
+          ∙ go (own_plain R s past path)
         where
           go : (o : Option OwnState) → plain_news o (subscriptions R s past (Root path)) (deliveries R s past (Root path)) past None ≡ []
           go None = refl

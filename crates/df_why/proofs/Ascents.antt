@@ -54,15 +54,19 @@ set_reverse (p ∷ ps) q =
 -- a walk goes down
 pub walk_ascends : (link : ℕ → Link) (last n : ℕ) → n ≤ last + 1 → Ascends (reverse (walked link last n))
 walk_ascends link last zero le = tt
-walk_ascends link last (suc n) le = go ((last - n == last) || list_any (λ q. leads_to (link q) (last - n) (link (last - n))) before) (walk_ascends link last n (omega (arith, le)))
+walk_ascends link last (suc n) le = go ((last - n == last) || list_any (λ q. leads_to (link q) (last - n) (link (last - n))) before)
+    (walk_ascends link last n (omega (arith, le)))
   where
     before : List ℕ
     before = walked link last n
 
     go : (b : Bool) → Ascends (reverse before) → Ascends (reverse (cond b (before ++ (last - n) ∷ []) before))
     go false ih = ih
-    go true ih = subst Ascends (sym (reverse-append before ((last - n) ∷ [])))
-        (above_by (last - n) (reverse before) (λ q has. let at = gone_over link last n q (omega (arith, le)) (sym (set_reverse before q) ∙ has) in omega (arith, at.0, at.1, le)), ih)
+    go true ih = subst Ascends (sym (reverse-append before ((last - n) ∷ []))) (
+      above_by (last - n) (reverse before)
+          (λ q has. let at = gone_over link last n q (omega (arith, le)) (sym (set_reverse before q) ∙ has) in omega (arith, at.0, at.1, le)),
+      ih,
+    )
 
 -- what stands at places
 
@@ -88,14 +92,16 @@ none_past (q ∷ ps) xs p above le =
 
 not_in : (ps : List ℕ) (p n : ℕ) → IsAbove p ps → n ≤ p → set_of ps n ≡ false
 not_in [] p n above le = refl
-not_in (q ∷ ps) p n above le = let lt = above.0 in ap (λ (b : Bool). b || set_of ps n) (apart q n (λ same. omega (arith, same, lt, le))) ∙ not_in ps p n above.1 le
+not_in (q ∷ ps) p n above le = let lt = above.0 in ap (λ (b : Bool). b || set_of ps n) (apart q n (λ same. omega (arith, same, lt, le)))
+    ∙ not_in ps p n above.1 le
 
 cons_append : {A : Type 0} (o : Option A) (xs ys : List A) → cons_option o xs ++ ys ≡ cons_option o (xs ++ ys)
 cons_append None xs ys = refl
 cons_append (Some x) xs ys = refl
 
 -- one more element at the end
-at_places_more : {A : Type 0} (ps : List ℕ) → Ascends ps → (xs : List A) (x : A) → at_places ps (xs ++ x ∷ []) ≡ at_places ps xs ++ cond (set_of ps (length xs)) (x ∷ []) []
+at_places_more : {A : Type 0} (ps : List ℕ) → Ascends ps → (xs : List A) (x : A)
+    → at_places ps (xs ++ x ∷ []) ≡ at_places ps xs ++ cond (set_of ps (length xs)) (x ∷ []) []
 at_places_more [] up xs x = refl
 at_places_more {A} (p ∷ ps) up xs x = go (cases_eq p (length xs)) (at_places_more ps up.1 xs x)
   where
@@ -121,7 +127,8 @@ at_places_more {A} (p ∷ ps) up xs x = go (cases_eq p (length xs)) (at_places_m
         ap (λ o. cons_option o (at_places ps (xs ++ x ∷ []))) (ap (slice_get (xs ++ x ∷ [])) is ∙ get_end xs x)
         ∙ ap (λ (l : List A). x ∷ l) (none_past ps (xs ++ x ∷ []) p up.0 (omega (arith, size, is)))
         ∙ ap (λ (b : Bool). cond (b || set_of ps (length xs)) (x ∷ []) []) (sym (ap (λ (n : ℕ). n == length xs) is ∙ eq_refl (length xs)))
-        ∙ ap (λ (l : List A). l ++ cond (set_of (p ∷ ps) (length xs)) (x ∷ []) []) (sym (ap (λ o. cons_option o (at_places ps xs)) (get_past xs p (omega (arith, is))) ∙ none_past ps xs p up.0 (omega (arith, is))))
+        ∙ ap (λ (l : List A). l ++ cond (set_of (p ∷ ps) (length xs)) (x ∷ []) [])
+        (sym (ap (λ o. cons_option o (at_places ps xs)) (get_past xs p (omega (arith, is))) ∙ none_past ps xs p up.0 (omega (arith, is))))
     go (inr differs) ih =
         ap (λ o. cons_option o (at_places ps (xs ++ x ∷ []))) (same_there differs)
         ∙ ap (cons_option (slice_get xs p)) ih

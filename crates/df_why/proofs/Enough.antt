@@ -32,7 +32,8 @@ module _ (R : Rules) (s : List OwnState) (past : List Entry) (u : UnitName) (t :
   First o = IsAnswer R s past u 0 o
 
   no_next : t.is_met ≡ true → f.next ≡ None → is_lacking t f ≡ true
-  no_next met none = or_left (t.is_met && is_none f.next) (t.is_there && (t.is_instance && is_none f.first)) (and_both t.is_met (is_none f.next) met (none_is f.next none))
+  no_next met none = or_left (t.is_met && is_none f.next) (t.is_there && (t.is_instance && is_none f.first))
+      (and_both t.is_met (is_none f.next) met (none_is f.next none))
 
   no_first : t.is_there ≡ true → t.is_instance ≡ true → f.first ≡ None → is_lacking t f ≡ true
   no_first there instance none = or_right (t.is_met && is_none f.next) (t.is_there && (t.is_instance && is_none f.first))
@@ -42,7 +43,8 @@ module _ (R : Rules) (s : List OwnState) (past : List Entry) (u : UnitName) (t :
   pub enough_alone : is_lacking t f ≡ false → IsEnough R s past u t f
   enough_alone lacks = record {
     next = λ met. some_or_none f.next found.next (λ none. absurd (let z : true ≡ false = sym (no_next met none) ∙ lacks in let w : ⊥ = cc in w));
-    first = λ there instance. some_or_none f.first found.first (λ none. absurd (let z : true ≡ false = sym (no_first there instance none) ∙ lacks in let w : ⊥ = cc in w));
+    first = λ there instance. some_or_none f.first found.first
+        (λ none. absurd (let z : true ≡ false = sym (no_first there instance none) ∙ lacks in let w : ⊥ = cc in w));
   }
 
   -- where all of the rest is found
@@ -84,25 +86,32 @@ module _ (R : Rules) (s : List OwnState) (past : List Entry) (u : UnitName) (t :
 module _ (R : Rules) (s : List OwnState) (j : List Entry) (tracks : List Track) (finds : List Found) (found : AreFound R s (reverse j) finds) where
   pub all_enough : ((p : ℕ) → p < length j → is_lacking (track_at tracks p) (found_at finds p) ≡ false) → AreEnough R s (reverse j) tracks finds
   all_enough none newer past u c r f split =
-      enough_alone R s past u (track_at tracks (length past)) (found_at finds (length past)) (found_at finds (length past)) (found newer past u c r f split) (none (length past) (entry_at j newer past (Done u c r f) split).0)
+      enough_alone R s past u (track_at tracks (length past)) (found_at finds (length past)) (found_at finds (length past)) (found newer past u c r f split)
+      (none (length past) (entry_at j newer past (Done u c r f) split).0)
 
   module _ (more all : List Found) (found_more : AreFound R s (reverse j) more)
-      (rest : OfEntries (reverse j) (λ u past. is_lacking (track_at tracks (length past)) (found_at finds (length past)) ≡ true → IsAllFound R s past u (found_at more (length past))))
+      (rest : OfEntries (reverse j)
+      (λ u past. is_lacking (track_at tracks (length past)) (found_at finds (length past)) ≡ true → IsAllFound R s past u (found_at more (length past))))
       (each : (p : ℕ) → p < length j → found_at all p ≡ merged (found_at finds p) (found_at more p)) where
     pub all_found_merged : AreFound R s (reverse j) all
     all_found_merged newer past u c r f split =
         subst (IsFound R s past u) (sym (each (length past) (entry_at j newer past (Done u c r f) split).0))
-        (found_merged R s past u (track_at tracks (length past)) (found_at finds (length past)) (found_at more (length past)) (found newer past u c r f split) (found_more newer past u c r f split) (rest newer past u c r f split))
+        (found_merged R s past u (track_at tracks (length past)) (found_at finds (length past)) (found_at more (length past)) (found newer past u c r f split)
+        (found_more newer past u c r f split) (rest newer past u c r f split))
 
     pub all_enough_merged : AreEnough R s (reverse j) tracks all
     all_enough_merged newer past u c r f split =
         subst (IsEnough R s past u (track_at tracks (length past))) (sym (each (length past) (entry_at j newer past (Done u c r f) split).0))
-        (enough_merged R s past u (track_at tracks (length past)) (found_at finds (length past)) (found_at more (length past)) (found newer past u c r f split) (found_more newer past u c r f split) (rest newer past u c r f split))
+        (enough_merged R s past u (track_at tracks (length past)) (found_at finds (length past)) (found_at more (length past))
+        (found newer past u c r f split) (found_more newer past u c r f split) (rest newer past u c r f split))
 
 -- what is told of slices is so of what they stand for
-pub told_lacking : (R : Rules) (s : List OwnState) (j : List Entry) (tracks ts : List Track) (finds fs more : List Found) (places : List ℕ) → length tracks ≡ length j → ts ≡ tracks → fs ≡ finds →
-    ((p : ℕ) → p < length ts → set_of places p ≡ is_lacking (track_at ts p) (found_at fs p)) → OfEntries (reverse j) (λ u past. set_of places (length past) ≡ true → IsAllFound R s past u (found_at more (length past))) →
-    OfEntries (reverse j) (λ u past. is_lacking (track_at tracks (length past)) (found_at finds (length past)) ≡ true → IsAllFound R s past u (found_at more (length past)))
+pub told_lacking : (R : Rules) (s : List OwnState) (j : List Entry) (tracks ts : List Track) (finds fs more : List Found) (places : List ℕ)
+    → length tracks ≡ length j → ts ≡ tracks → fs ≡ finds →
+    ((p : ℕ) → p < length ts → set_of places p ≡ is_lacking (track_at ts p) (found_at fs p)) → OfEntries (reverse j)
+    (λ u past. set_of places (length past) ≡ true → IsAllFound R s past u (found_at more (length past))) →
+    OfEntries (reverse j)
+    (λ u past. is_lacking (track_at tracks (length past)) (found_at finds (length past)) ≡ true → IsAllFound R s past u (found_at more (length past)))
 told_lacking R s j tracks ts finds fs more places count is_ts is_fs each all newer past u c r f split lacks =
     let at = (entry_at j newer past (Done u c r f) split).0 in
     all newer past u c r f split
@@ -111,7 +120,8 @@ told_lacking R s j tracks ts finds fs more places count is_ts is_fs each all new
     ∙ ap (λ (l : List Found). is_lacking (track_at tracks (length past)) (found_at l (length past))) is_fs
     ∙ lacks)
 
-pub told_merged : (j : List Entry) (finds fs more ms all : List Found) → length finds ≡ length j → fs ≡ finds → ms ≡ more → ((p : ℕ) → p < length fs → found_at all p ≡ merged (found_at fs p) (found_at ms p)) →
+pub told_merged : (j : List Entry) (finds fs more ms all : List Found) → length finds ≡ length j → fs ≡ finds → ms ≡ more
+    → ((p : ℕ) → p < length fs → found_at all p ≡ merged (found_at fs p) (found_at ms p)) →
     (p : ℕ) → p < length j → found_at all p ≡ merged (found_at finds p) (found_at more p)
 told_merged j finds fs more ms all count is_fs is_ms each p lt =
     each p (subst (λ (l : List Found). p < length l) (sym is_fs) (omega (arith, lt, count)))

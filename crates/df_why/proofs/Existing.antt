@@ -76,19 +76,30 @@ numbering : (u : UnitName) (st : OwnState) → ok (subscribed u st) ≡ true
 numbering u st = two (is_instance u) (nat_le most_subs st.subs) Reply.NotInManaged Reply.TooManySubs (Reply.Sub st.subs) refl refl refl
 
 pub replies : (u : UnitName) (st : OwnState) (ds : List Given) (c : Call) → ok (reply u st ds c) ≡ true
-replies u st ds CreateEvent = two (is_full st.handles) (nat_le most_numbers st.events) Reply.TooManyHandles Reply.Exhausted (Reply.Handle (least_free st.handles)) refl refl refl
-replies u st ds (AddPart h label name value) = at_open (handle_at st.handles h) (λ d. cond (nat_le most_parts (length d.drafted)) (Reply.TooManyParts (most_parts + 1)) Reply.Ok)
+replies u st ds CreateEvent = two (is_full st.handles) (nat_le most_numbers st.events) Reply.TooManyHandles Reply.Exhausted
+    (Reply.Handle (least_free st.handles)) refl refl refl
+replies u st ds (AddPart h label name value) = at_open (handle_at st.handles h)
+    (λ d. cond (nat_le most_parts (length d.drafted)) (Reply.TooManyParts (most_parts + 1)) Reply.Ok)
     (λ d. either (nat_le most_parts (length d.drafted)) (Reply.TooManyParts (most_parts + 1)) Reply.Ok refl refl)
 replies u st ds (DelPart h label name) = at_open (handle_at st.handles h)
-    (λ d. cond (has_at d.drafted (spot name label)) Reply.Ok (cond (not (has_at (visible st.input d) (spot name label))) Reply.NoSuchPart (cond (not (flows_to st.output label)) (Reply.CannotWrite st.output label) Reply.Ok)))
-    (λ d. three (has_at d.drafted (spot name label)) (not (has_at (visible st.input d) (spot name label))) (not (flows_to st.output label)) Reply.Ok Reply.NoSuchPart (Reply.CannotWrite st.output label) Reply.Ok refl refl refl refl)
-replies u st ds (ReadPart h name) = at_open (handle_at st.handles h) (λ d. cond (is_nil (visible_named st.input name d)) Reply.NoSuchPart (Reply.Parts (shown (visible_named st.input name d))))
+    (λ d. cond (has_at d.drafted (spot name label)) Reply.Ok
+    (cond (not (has_at (visible st.input d) (spot name label))) Reply.NoSuchPart
+    (cond (not (flows_to st.output label)) (Reply.CannotWrite st.output label) Reply.Ok)))
+    (λ d. three (has_at d.drafted (spot name label)) (not (has_at (visible st.input d) (spot name label))) (not (flows_to st.output label)) Reply.Ok
+    Reply.NoSuchPart (Reply.CannotWrite st.output label) Reply.Ok refl refl refl refl)
+replies u st ds (ReadPart h name) = at_open (handle_at st.handles h)
+    (λ d. cond (is_nil (visible_named st.input name d)) Reply.NoSuchPart (Reply.Parts (shown (visible_named st.input name d))))
     (λ d. either (is_nil (visible_named st.input name d)) Reply.NoSuchPart (Reply.Parts (shown (visible_named st.input name d))) refl refl)
 replies u st ds (CloneEvent h label) = at_open (handle_at st.handles h)
-    (λ d. cond (is_full st.handles) Reply.TooManyHandles (cond (nat_lt most_parts (length (source st.input d))) (Reply.TooManyParts (length (source st.input d))) (cond (nat_le most_numbers st.events) Reply.Exhausted (Reply.Handle (least_free st.handles)))))
-    (λ d. three (is_full st.handles) (nat_lt most_parts (length (source st.input d))) (nat_le most_numbers st.events) Reply.TooManyHandles (Reply.TooManyParts (length (source st.input d))) Reply.Exhausted (Reply.Handle (least_free st.handles)) refl refl refl refl)
-replies u st ds (AttachPrivilege h label name p) = at_open (handle_at st.handles h) (λ d. cond (not (has_at d.drafted (spot name label))) Reply.NoSuchPart (where_held st (needed_to_attach p) Reply.Ok))
-    (λ d. either (not (has_at d.drafted (spot name label))) Reply.NoSuchPart (where_held st (needed_to_attach p) Reply.Ok) refl (held_or st (needed_to_attach p)))
+    (λ d. cond (is_full st.handles) Reply.TooManyHandles
+    (cond (nat_lt most_parts (length (source st.input d))) (Reply.TooManyParts (length (source st.input d)))
+    (cond (nat_le most_numbers st.events) Reply.Exhausted (Reply.Handle (least_free st.handles)))))
+    (λ d. three (is_full st.handles) (nat_lt most_parts (length (source st.input d))) (nat_le most_numbers st.events) Reply.TooManyHandles
+    (Reply.TooManyParts (length (source st.input d))) Reply.Exhausted (Reply.Handle (least_free st.handles)) refl refl refl refl)
+replies u st ds (AttachPrivilege h label name p) = at_open (handle_at st.handles h)
+    (λ d. cond (not (has_at d.drafted (spot name label))) Reply.NoSuchPart (where_held st (needed_to_attach p) Reply.Ok))
+    (λ d. either (not (has_at d.drafted (spot name label))) Reply.NoSuchPart (where_held st (needed_to_attach p) Reply.Ok) refl
+    (held_or st (needed_to_attach p)))
 replies u st ds (ChangeOutLabel half act tag) = held_or st (needed act tag)
 replies u st ds CreateTag = two (is_instance u) (nat_le most_numbers st.tags) Reply.NotInManaged Reply.Exhausted (Reply.Tag (next_tag u st)) refl refl refl
 replies u st ds (DropEvent h) = at_open (handle_at st.handles h) (λ d. Reply.Ok) (λ d. refl)
@@ -97,11 +108,15 @@ replies u st ds (SubscribeManaged filter) = numbering u st
 replies u st ds Get = handing st ds
 replies u st ds (Publish h) = at_open (handle_at st.handles h) (λ d. cond d.is_view Reply.NotDraft (cond (is_nil d.drafted) Reply.EmptyEvent Reply.Ok))
     (λ d. two d.is_view (is_nil d.drafted) Reply.NotDraft Reply.EmptyEvent Reply.Ok refl refl refl)
-replies u st ds (Release h) = at_open (handle_at st.handles h) (λ d. cond (not d.is_view) Reply.NotReceived (refused_write st.output (unwritable st.output d.named)))
-    (λ d. either (not d.is_view) Reply.NotReceived (refused_write st.output (unwritable st.output d.named)) refl (writing st.output (unwritable st.output d.named)))
-replies u st ds (ChangeInOut half act tag) = either (is_instance u) Reply.NotInManaged (where_held st (needed act tag) Reply.Ok) refl (held_or st (needed act tag))
+replies u st ds (Release h) = at_open (handle_at st.handles h)
+    (λ d. cond (not d.is_view) Reply.NotReceived (refused_write st.output (unwritable st.output d.named)))
+    (λ d. either (not d.is_view) Reply.NotReceived (refused_write st.output (unwritable st.output d.named)) refl
+    (writing st.output (unwritable st.output d.named)))
+replies u st ds (ChangeInOut half act tag) = either (is_instance u) Reply.NotInManaged (where_held st (needed act tag) Reply.Ok) refl
+    (held_or st (needed act tag))
 replies u st ds (Instantiate s privileges) =
-    three (is_instance u) (nat_le most_path (length (path_of u))) (nat_le most_units st.units) Reply.NotInManaged Reply.TooDeep Reply.TooManyUnits (unless_lacking (option_or (lacking_tag st s) (lacking_authority st privileges)) (Reply.Unit st.units))
+    three (is_instance u) (nat_le most_path (length (path_of u))) (nat_le most_units st.units) Reply.NotInManaged Reply.TooDeep Reply.TooManyUnits
+    (unless_lacking (option_or (lacking_tag st s) (lacking_authority st privileges)) (Reply.Unit st.units))
     refl refl refl (lacking (option_or (lacking_tag st s) (lacking_authority st privileges)) (Reply.Unit st.units) refl)
 
 module _ (s : List OwnState) (past : List Entry) (u : UnitName) (c : Call) (r : Reply) (f : Effect) (right : IsRight rows s past (Done u c r f)) where
@@ -148,7 +163,8 @@ module _ (R : Rules) (s : List OwnState) where
   nil_append [] more = refl
   nil_append (d ∷ ds) more = refl
 
-  news_first : (fx : Option Fixed) (n : ℕ) (t : List (List ℕ)) (past : List Entry) (oc : Option Commit) → not (is_nil (instance_news fx n t [] past oc)) ≡ is_given fx t past oc
+  news_first : (fx : Option Fixed) (n : ℕ) (t : List (List ℕ)) (past : List Entry) (oc : Option Commit)
+      → not (is_nil (instance_news fx n t [] past oc)) ≡ is_given fx t past oc
   news_first None n t past oc = refl
   news_first (Some f) n t past None = refl
   news_first (Some f) n t past (Some k) = go (is_given (Some f) t past (Some k)) _
@@ -157,11 +173,13 @@ module _ (R : Rules) (s : List OwnState) where
       go true d = refl
       go false d = refl
 
-  pub instance_there : (past : List Entry) (o : List ℕ) (n : ℕ) (t : List (List ℕ)) → exists R s past (Managed o n t) ≡ not (is_nil (deliveries R s past (Managed o n t)))
+  pub instance_there : (past : List Entry) (o : List ℕ) (n : ℕ) (t : List (List ℕ))
+      → exists R s past (Managed o n t) ≡ not (is_nil (deliveries R s past (Managed o n t)))
   instance_there [] o n t = refl
   instance_there (e ∷ past) o n t =
       is_some_or (stepped R (Managed o n t) e (own_instance R s past o n t)) (born R fx t past (commit_of e))
-      ∙ ap (λ (b : Bool). b || is_some (born R fx t past (commit_of e))) (stepped_some (Managed o n t) e (own_instance R s past o n t) ∙ instance_there past o n t)
+      ∙ ap (λ (b : Bool). b || is_some (born R fx t past (commit_of e)))
+      (stepped_some (Managed o n t) e (own_instance R s past o n t) ∙ instance_there past o n t)
       ∙ ap (λ (b : Bool). not (is_nil (deliveries_instance R s past o n t)) || b) (born_some fx t past (commit_of e))
       ∙ go (deliveries_instance R s past o n t)
       ∙ sym (nil_append (deliveries_instance R s past o n t) (instance_news fx n t (deliveries_instance R s past o n t) past (commit_of e)))
@@ -169,7 +187,8 @@ module _ (R : Rules) (s : List OwnState) where
       fx : Option Fixed
       fx = fixed R s past o n
 
-      go : (ds : List Given) → (not (is_nil ds) || is_given fx t past (commit_of e)) ≡ (not (is_nil ds) || not (is_nil (instance_news fx n t ds past (commit_of e))))
+      go : (ds : List Given)
+          → (not (is_nil ds) || is_given fx t past (commit_of e)) ≡ (not (is_nil ds) || not (is_nil (instance_news fx n t ds past (commit_of e))))
       go [] = sym (news_first fx n t past (commit_of e))
       go (d ∷ ds) = refl
 
@@ -182,18 +201,26 @@ module _ (R : Rules) (s : List OwnState) where
       go (d ∷ ds) h = absurd (let z : ⊥ = cc in z)
   absent_nothing [] (Root path) h = refl
   absent_nothing (e ∷ past) (Root path) h =
-      ap (λ (ds : List Given). ds ++ plain_news (own_plain R s past path) (subscriptions R s past (Root path)) ds past (commit_of e)) (absent_nothing past (Root path) gone)
+      ap (λ (ds : List Given). ds ++ plain_news (own_plain R s past path) (subscriptions R s past (Root path)) ds past (commit_of e))
+      (absent_nothing past (Root path) gone)
       ∙ ap (λ (x : Option OwnState). plain_news x (subscriptions R s past (Root path)) [] past (commit_of e)) gone
     where
       gone : own_plain R s past path ≡ None
-      gone = go (own_plain R s past path) (stepped_some (Root path) e (own_plain R s past path)) (sym (is_some_or (stepped R (Root path) e (own_plain R s past path)) (made_by R e path (own_plain R s past (maker_of path)))) ∙ ap (λ (x : Option OwnState). is_some x) h)
+      gone = go (own_plain R s past path) (stepped_some (Root path) e (own_plain R s past path))
+          (sym (is_some_or (stepped R (Root path) e (own_plain R s past path)) (made_by R e path (own_plain R s past (maker_of path))))
+          ∙ ap (λ (x : Option OwnState). is_some x) h)
         where
-          go : (x : Option OwnState) → is_some (stepped R (Root path) e (own_plain R s past path)) ≡ is_some x → (is_some (stepped R (Root path) e (own_plain R s past path)) || is_some (made_by R e path (own_plain R s past (maker_of path)))) ≡ false → x ≡ None
+          go : (x : Option OwnState) → is_some (stepped R (Root path) e (own_plain R s past path)) ≡ is_some x
+              → (is_some (stepped R (Root path) e (own_plain R s past path)) || is_some (made_by R e path (own_plain R s past (maker_of path)))) ≡ false
+              → x ≡ None
           go None same none = refl
-          go (Some st) same none = absurd (let z : (true || is_some (made_by R e path (own_plain R s past (maker_of path)))) ≡ false = subst (λ (b : Bool). (b || is_some (made_by R e path (own_plain R s past (maker_of path)))) ≡ false) same none in let y : ⊥ = cc in y)
+          go (Some st) same none = absurd
+              (let z : (true || is_some (made_by R e path (own_plain R s past (maker_of path)))) ≡ false = subst
+              (λ (b : Bool). (b || is_some (made_by R e path (own_plain R s past (maker_of path)))) ≡ false) same none in let y : ⊥ = cc in y)
 
   -- an instance begins where its first delivery arises
-  pub begins_brings : (o : List ℕ) (n : ℕ) (t : List (List ℕ)) (older : List Entry) (e : Entry) → begins R s (Managed o n t) older e ≡ brings R s (Managed o n t) 0 older e
+  pub begins_brings : (o : List ℕ) (n : ℕ) (t : List (List ℕ)) (older : List Entry) (e : Entry)
+      → begins R s (Managed o n t) older e ≡ brings R s (Managed o n t) 0 older e
   begins_brings o n t older e =
       ap (λ (b : Bool). not b && exists R s (e ∷ older) (Managed o n t)) (instance_there older o n t)
       ∙ ap (λ (b : Bool). not (not (is_nil (deliveries R s older (Managed o n t)))) && b) (instance_there (e ∷ older) o n t)

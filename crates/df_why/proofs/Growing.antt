@@ -29,13 +29,16 @@ pub record IsAdded (old : QueueState) (place : Option ℕ) (n taken : ℕ) (plac
   pub taken_is : taken ≡ old.taken
   pub places_are : places ≡ old.places ++ replicate n place
 
-pub added_more : (old : QueueState) (place : Option ℕ) (n taken : ℕ) (places more : List (Option ℕ)) → IsAdded old place n taken places → more ≡ places ++ place ∷ [] → IsAdded old place (n + 1) taken more
+pub added_more : (old : QueueState) (place : Option ℕ) (n taken : ℕ) (places more : List (Option ℕ)) → IsAdded old place n taken places
+    → more ≡ places ++ place ∷ [] → IsAdded old place (n + 1) taken more
 added_more old place n taken places more so pushed = record {
   taken_is = so.taken_is;
-  places_are = pushed ∙ ap (λ (l : List (Option ℕ)). l ++ place ∷ []) so.places_are ∙ append_assoc old.places (replicate n place) (place ∷ []) ∙ ap (λ (l : List (Option ℕ)). old.places ++ l) (replicate_more n place);
+  places_are = pushed ∙ ap (λ (l : List (Option ℕ)). l ++ place ∷ []) so.places_are ∙ append_assoc old.places (replicate n place) (place ∷ [])
+      ∙ ap (λ (l : List (Option ℕ)). old.places ++ l) (replicate_more n place);
 }
 
-pub added_all : (old : QueueState) (place : Option ℕ) (left n taken : ℕ) (places : List (Option ℕ)) → old.taken ≤ length old.places → n ≡ left - (length old.places - old.taken) → IsAdded old place n taken places →
+pub added_all : (old : QueueState) (place : Option ℕ) (left n taken : ℕ) (places : List (Option ℕ)) → old.taken ≤ length old.places
+    → n ≡ left - (length old.places - old.taken) → IsAdded old place n taken places →
     places ≡ extended old.places (old.taken + left) place
 added_all old place left n taken places le is so =
     so.places_are ∙ ap (λ (m : ℕ). old.places ++ replicate m place) (let e : n ≡ (old.taken + left) - length old.places = omega (arith, is, le) in e)
@@ -45,7 +48,9 @@ pub extended_twice : (xs : List (Option ℕ)) (t l : ℕ) (place : Option ℕ) �
 extended_twice xs t l place =
     append_assoc xs (replicate (t - length xs) place) (replicate ((t + l) - length (extended xs t place)) place)
     ∙ ap (λ (ys : List (Option ℕ)). xs ++ ys) (replicate-append-replicate (t - length xs) ((t + l) - length (extended xs t place)) place
-    ∙ ap (λ (m : ℕ). replicate m place) (let a = length-append xs (replicate (t - length xs) place) in let b = size (t - length xs) in let e : (t - length xs) + ((t + l) - length (extended xs t place)) ≡ (t + l) - length xs = omega (arith, a, b) in e))
+    ∙ ap (λ (m : ℕ). replicate m place)
+    (let a = length-append xs (replicate (t - length xs) place) in let b = size
+    (t - length xs) in let e : (t - length xs) + ((t + l) - length (extended xs t place)) ≡ (t + l) - length xs = omega (arith, a, b) in e))
   where
     size : (n : ℕ) → length (replicate n place) ≡ n
     size zero = refl
@@ -80,7 +85,8 @@ pub taken_none : (t : Track) (queues : List QueueState) → t.is_given ≡ false
 taken_none t queues given = ap (λ (b : Bool). cond b (taken_by t.actor queues) queues) given
 
 pub grown_of : (core : State) (e : Entry) (u : UnitName) (c : Call) (r : Reply) (f : Effect) (n : Option ℕ) (k : ℕ) (here : Option ℕ) (queues : List QueueState) → e ≡ Done u c r f → n ≡ Some k → grown_at core e n here queues ≡ modify k (grown core u here) queues
-grown_of core e u c r f n k here queues is at = ap (λ (x : Entry). grown_at core x n here queues) is ∙ ap (λ (m : Option ℕ). grown_at core (Done u c r f) m here queues) at
+grown_of core e u c r f n k here queues is at = ap (λ (x : Entry). grown_at core x n here queues) is
+    ∙ ap (λ (m : Option ℕ). grown_at core (Done u c r f) m here queues) at
 
 -- the queues of the first units are grown
 abbrev pub IsGrownSoFar : State → List Entry → List Track → List ℕ → Option ℕ → List QueueState → ℕ → List QueueState → Type 0
@@ -96,14 +102,18 @@ grown_more core j tracks asked here first i p queues now lt is so grown =
 pub grown_all : (core : State) (j : List Entry) (tracks : List Track) (asked : List ℕ) (here : Option ℕ) (first : List QueueState) (i : ℕ) (queues : List QueueState) → length asked ≤ i → IsGrownSoFar core j tracks asked here first i queues → queues ≡ all_grown core j tracks asked here first
 grown_all core j tracks asked here first i queues done so = ap (λ (l : List ℕ). all_grown core j tracks l here queues) (sym (drop_all i asked done)) ∙ so
 
-pub grown_within : (core : State) (j : List Entry) (tracks : List Track) (here : Option ℕ) (queues : List QueueState) (p : ℕ) (e : Entry) → p < length j → p < length tracks → e ≡ get_or j p e → grown_for core (slice_get j p) (slice_get tracks p) here queues ≡ grown_at core e (track_at tracks p).actor here queues
+pub grown_within : (core : State) (j : List Entry) (tracks : List Track) (here : Option ℕ) (queues : List QueueState) (p : ℕ) (e : Entry) → p < length j
+    → p < length tracks → e ≡ get_or j p e
+    → grown_for core (slice_get j p) (slice_get tracks p) here queues ≡ grown_at core e (track_at tracks p).actor here queues
 grown_within core j tracks here queues p e lt lt' is =
     ap (λ (oe : Option Entry). grown_for core oe (slice_get tracks p) here queues) (slice_get-get_or j p e lt ∙ ap Some (sym is))
     ∙ ap (λ (ot : Option Track). grown_for core (Some e) ot here queues) (slice_get-get_or tracks p no_track lt')
 
-pub grown_outside : (core : State) (j : List Entry) (tracks : List Track) (here : Option ℕ) (queues : List QueueState) (p : ℕ) → (length j ≤ p) ⊎ (length tracks ≤ p) → grown_for core (slice_get j p) (slice_get tracks p) here queues ≡ queues
+pub grown_outside : (core : State) (j : List Entry) (tracks : List Track) (here : Option ℕ) (queues : List QueueState) (p : ℕ)
+    → (length j ≤ p) ⊎ (length tracks ≤ p) → grown_for core (slice_get j p) (slice_get tracks p) here queues ≡ queues
 grown_outside core j tracks here queues p (inl le) = ap (λ (oe : Option Entry). grown_for core oe (slice_get tracks p) here queues) (slice_get_past j p le)
-grown_outside core j tracks here queues p (inr le) = ap (λ (ot : Option Track). grown_for core (slice_get j p) ot here queues) (slice_get_past tracks p le) ∙ go (slice_get j p)
+grown_outside core j tracks here queues p (inr le) = ap (λ (ot : Option Track). grown_for core (slice_get j p) ot here queues) (slice_get_past tracks p le)
+    ∙ go (slice_get j p)
   where
     go : (oe : Option Entry) → grown_for core oe None here queues ≡ queues
     go None = refl
@@ -140,14 +150,17 @@ set_more places n p = list_any-append (λ q. q == p) places (n ∷ []) ∙ ap (�
     go true = refl
     go false = refl
 
-pub sifted_taken : (test : ℕ → Bool) (i : ℕ) (places more : List ℕ) → IsSifted test i places → more ≡ places ++ i ∷ [] → test i ≡ true → IsSifted test (i + 1) more
+pub sifted_taken : (test : ℕ → Bool) (i : ℕ) (places more : List ℕ) → IsSifted test i places → more ≡ places ++ i ∷ [] → test i ≡ true
+    → IsSifted test (i + 1) more
 sifted_taken test i places more so pushed passes = record {
   inside = λ p lt. ap (λ (l : List ℕ). set_of l p) pushed ∙ set_more places i p ∙ inner p lt (cases_lt p i);
-  outside = λ p le. ap (λ (l : List ℕ). set_of l p) pushed ∙ set_more places i p ∙ ap (λ (b : Bool). b || (i == p)) (so.outside p (omega (arith, le))) ∙ apart i p (λ same. omega (arith, same, le));
+  outside = λ p le. ap (λ (l : List ℕ). set_of l p) pushed ∙ set_more places i p ∙ ap (λ (b : Bool). b || (i == p)) (so.outside p (omega (arith, le)))
+      ∙ apart i p (λ same. omega (arith, same, le));
 }
   where
     inner : (p : ℕ) → p < i + 1 → (p < i) ⊎ (i ≤ p) → (set_of places p || (i == p)) ≡ test p
-    inner p lt (inl before) = ap (λ (b : Bool). set_of places p || b) (apart i p (λ same. omega (arith, same, before))) ∙ or_none (set_of places p) ∙ so.inside p before
+    inner p lt (inl before) = ap (λ (b : Bool). set_of places p || b) (apart i p (λ same. omega (arith, same, before))) ∙ or_none (set_of places p)
+        ∙ so.inside p before
     inner p lt (inr after) =
         let at : i ≡ p = omega (arith, lt, after) in
         or_right (set_of places p) (i == p) (ap (λ (k : ℕ). i == k) (sym at) ∙ eq_refl i) ∙ sym (ap test (sym at) ∙ passes)

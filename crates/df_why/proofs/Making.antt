@@ -18,7 +18,8 @@ pub made_none : (count : ℕ) (tracks : List Track) (made : List (Option ℕ)) �
 made_none count tracks made is size = record { size = size; places = λ k lt. ap (λ (l : List (Option ℕ)). get_or l k None) is ∙ none_in count k }
 
 pub made_more : (count : ℕ) (tracks : List Track) (i : ℕ) (old new : List (Option ℕ)) → IsMadeSoFar count tracks i old → length new ≡ length old →
-    ((k : ℕ) → k < length old → get_or new k None ≡ option_or (get_or old k None) (cond (points (track_at tracks i).makes k) (Some i) None)) → IsMadeSoFar count tracks (i + 1) new
+    ((k : ℕ) → k < length old → get_or new k None ≡ option_or (get_or old k None) (cond (points (track_at tracks i).makes k) (Some i) None)) → IsMadeSoFar
+    count tracks (i + 1) new
 made_more count tracks i old new so size noted = record {
   size = size ∙ so.size;
   places = λ k lt.

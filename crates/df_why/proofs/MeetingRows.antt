@@ -16,7 +16,9 @@ met_or_full : (st : OwnState) (d : Given) (b : Bool) → is_met Get (cond b Repl
 met_or_full st d true = refl
 met_or_full st d false = refl
 
-looks : (u : UnitName) (st : OwnState) (c : Call) → ((ds ds' : List Given) → rows.answer u st ds c ≡ rows.answer u st ds' c) ⊎ ((d : Given) (ds : List Given) → is_met c (rows.answer u st (d ∷ ds) c).0 ≡ true)
+looks : (u : UnitName) (st : OwnState) (c : Call)
+    → ((ds ds' : List Given) → rows.answer u st ds c ≡ rows.answer u st ds' c) ⊎ ((d : Given) (ds : List Given)
+    → is_met c (rows.answer u st (d ∷ ds) c).0 ≡ true)
 looks u st CreateEvent = inl (λ ds ds'. refl)
 looks u st (AddPart h label name value) = inl (λ ds ds'. refl)
 looks u st (DelPart h label name) = inl (λ ds ds'. refl)

@@ -35,14 +35,17 @@ HandedAlike ds ds' oc = (k : Commit) (n : ℕ) → oc ≡ Some k → was_handed 
 abbrev pub ContentsAlike : List Entry → List Entry → Option Commit → Type 0
 ContentsAlike past past' oc = (k : Commit) → oc ≡ Some k → contents past' k.event ≡ contents past k.event
 
-offers_same : (ds ds' : List Given) (event : EventName) (parts : List Part) (subs : List (ℕ × List Clause)) → ((n : ℕ) → was_handed ds' event n ≡ was_handed ds event n) →
+offers_same : (ds ds' : List Given) (event : EventName) (parts : List Part) (subs : List (ℕ × List Clause))
+    → ((n : ℕ) → was_handed ds' event n ≡ was_handed ds event n) →
     flat_map (λ sub. offer ds' event parts sub) subs ≡ flat_map (λ sub. offer ds event parts sub) subs
 offers_same ds ds' event parts [] h = refl
 offers_same ds ds' event parts (x ∷ xs) h =
-    ap (λ (b : Bool). cond (matches x.1 parts && not b) (record { event = event; sub = x.0; parts = parts } ∷ []) [] ++ flat_map (λ sub. offer ds' event parts sub) xs) (h x.0)
+    ap (λ (b : Bool). cond (matches x.1 parts && not b) (record { event = event; sub = x.0; parts = parts } ∷ []) [] ++ flat_map
+    (λ sub. offer ds' event parts sub) xs) (h x.0)
     ∙ ap (λ (gs : List Given). offer ds event parts x ++ gs) (offers_same ds ds' event parts xs h)
 
-plain_news_same : (o : Option OwnState) (subs : List (ℕ × List Clause)) (ds ds' : List Given) (past past' : List Entry) (oc : Option Commit) → HandedAlike ds ds' oc → ContentsAlike past past' oc →
+plain_news_same : (o : Option OwnState) (subs : List (ℕ × List Clause)) (ds ds' : List Given) (past past' : List Entry) (oc : Option Commit)
+    → HandedAlike ds ds' oc → ContentsAlike past past' oc →
     plain_news o subs ds' past' oc ≡ plain_news o subs ds past oc
 plain_news_same None subs ds ds' past past' oc h k = refl
 plain_news_same (Some st) subs ds ds' past past' None h k = refl
@@ -51,20 +54,27 @@ plain_news_same (Some st) subs ds ds' past past' (Some c) h k =
     ap (λ (parts : List Part). cond none [] (flat_map (λ sub. offer ds' c.event (cut st.input (apply c.edit parts)) sub) subs)) (k c refl)
     ∙ ap (λ (gs : List Given). cond none [] gs) (offers_same ds ds' c.event (cut st.input (apply c.edit (contents past c.event))) subs (λ n. h c n refl))
 
-instance_news_same : (fx : Option Fixed) (n : ℕ) (t : List (List ℕ)) (ds ds' : List Given) (past past' : List Entry) (oc : Option Commit) → HandedAlike ds ds' oc → ContentsAlike past past' oc →
+instance_news_same : (fx : Option Fixed) (n : ℕ) (t : List (List ℕ)) (ds ds' : List Given) (past past' : List Entry) (oc : Option Commit)
+    → HandedAlike ds ds' oc → ContentsAlike past past' oc →
     instance_news fx n t ds' past' oc ≡ instance_news fx n t ds past oc
 instance_news_same None n t ds ds' past past' oc h k = refl
 instance_news_same (Some f) n t ds ds' past past' None h k = refl
 instance_news_same (Some f) n t ds ds' past past' (Some c) h k =
-    ap (λ (b : Bool). cond (b && not (was_handed ds' c.event n)) (record { event = c.event; sub = n; parts = cut (readable_at f t) (apply c.edit (contents past' c.event)) } ∷ []) []) (is_given_same past past' (Some f) t (Some c) k)
-    ∙ ap (λ (b : Bool). cond (is_given (Some f) t past (Some c) && not b) (record { event = c.event; sub = n; parts = cut (readable_at f t) (apply c.edit (contents past' c.event)) } ∷ []) []) (h c n refl)
-    ∙ ap (λ (parts : List Part). cond (is_given (Some f) t past (Some c) && not (was_handed ds c.event n)) (record { event = c.event; sub = n; parts = cut (readable_at f t) (apply c.edit parts) } ∷ []) []) (k c refl)
+    ap (λ (b : Bool). cond (b && not (was_handed ds' c.event n))
+    (record { event = c.event; sub = n; parts = cut (readable_at f t) (apply c.edit (contents past' c.event)) } ∷ []) [])
+    (is_given_same past past' (Some f) t (Some c) k)
+    ∙ ap (λ (b : Bool). cond (is_given (Some f) t past (Some c) && not b)
+    (record { event = c.event; sub = n; parts = cut (readable_at f t) (apply c.edit (contents past' c.event)) } ∷ []) []) (h c n refl)
+    ∙ ap (λ (parts : List Part). cond (is_given (Some f) t past (Some c) && not (was_handed ds c.event n))
+    (record { event = c.event; sub = n; parts = cut (readable_at f t) (apply c.edit parts) } ∷ []) []) (k c refl)
 
-instance_news_none : (fx : Option Fixed) (n : ℕ) (t : List (List ℕ)) (ds : List Given) (past : List Entry) (oc : Option Commit) → is_given fx t past oc ≡ false → instance_news fx n t ds past oc ≡ []
+instance_news_none : (fx : Option Fixed) (n : ℕ) (t : List (List ℕ)) (ds : List Given) (past : List Entry) (oc : Option Commit)
+    → is_given fx t past oc ≡ false → instance_news fx n t ds past oc ≡ []
 instance_news_none None n t ds past oc h = refl
 instance_news_none (Some f) n t ds past None h = refl
 instance_news_none (Some f) n t ds past (Some c) h =
-    ap (λ (b : Bool). cond (b && not (was_handed ds c.event n)) (record { event = c.event; sub = n; parts = cut (readable_at f t) (apply c.edit (contents past c.event)) } ∷ []) []) h
+    ap (λ (b : Bool). cond (b && not (was_handed ds c.event n))
+    (record { event = c.event; sub = n; parts = cut (readable_at f t) (apply c.edit (contents past c.event)) } ∷ []) []) h
 
 -- what is brought is of the commit's event
 offers_elsewhere : (ds : List Given) (event other : EventName) (parts : List Part) (n : ℕ) (subs : List (ℕ × List Clause)) → same_event event other ≡ false →
@@ -117,9 +127,12 @@ module _ (R : Rules) (s : List OwnState) where
   deliveries_more e past (Root path) = refl
   deliveries_more e past (Managed o n t) = refl
 
-  news_elsewhere : (e : Entry) (past : List Entry) (u : UnitName) (event : EventName) (n : ℕ) → is_on event (commit_of e) ≡ false → was_handed (news past e u) event n ≡ false
-  news_elsewhere e past (Root path) event n h = plain_news_elsewhere (own_plain R s past path) (subscriptions R s past (Root path)) (deliveries_plain R s past path) past (commit_of e) event n h
-  news_elsewhere e past (Managed o m t) event n h = instance_news_elsewhere (fixed R s past o m) m t (deliveries_instance R s past o m t) past (commit_of e) event n h
+  news_elsewhere : (e : Entry) (past : List Entry) (u : UnitName) (event : EventName) (n : ℕ) → is_on event (commit_of e) ≡ false
+      → was_handed (news past e u) event n ≡ false
+  news_elsewhere e past (Root path) event n h = plain_news_elsewhere (own_plain R s past path) (subscriptions R s past (Root path))
+      (deliveries_plain R s past path) past (commit_of e) event n h
+  news_elsewhere e past (Managed o m t) event n h = instance_news_elsewhere (fixed R s past o m) m t (deliveries_instance R s past o m t) past (commit_of e)
+      event n h
 
   handed_append : (ds more : List Given) (event : EventName) (n : ℕ) → was_handed (ds ++ more) event n ≡ (was_handed ds event n || was_handed more event n)
   handed_append ds more event n = list_any-append (λ (d : Given). same_event d.event event && (d.sub == n)) ds more
@@ -130,9 +143,12 @@ module _ (R : Rules) (s : List OwnState) (set : ℕ → Bool) where
   news_same e past closed has (Root path) g alike =
       let before = closed_before R s set e past closed in
       let founded = founded_before R s set e past (Root path) g in
-      ap (λ (o : Option OwnState). plain_news o (subscriptions R s (chosen set past) (Root path)) (deliveries_plain R s (chosen set past) path) (chosen set past) (commit_of e)) (plain_same R s set past before path founded)
-      ∙ ap (λ (subs : List (ℕ × List Clause)). plain_news (own_plain R s past path) subs (deliveries_plain R s (chosen set past) path) (chosen set past) (commit_of e)) (subscriptions_same R s set past before (Root path) founded)
-      ∙ plain_news_same (own_plain R s past path) (subscriptions R s past (Root path)) (deliveries_plain R s past path) (deliveries_plain R s (chosen set past) path) past (chosen set past) (commit_of e) alike (contents_here R s set e past closed has)
+      ap (λ (o : Option OwnState). plain_news o (subscriptions R s (chosen set past) (Root path)) (deliveries_plain R s (chosen set past) path)
+      (chosen set past) (commit_of e)) (plain_same R s set past before path founded)
+      ∙ ap (λ (subs : List (ℕ × List Clause)). plain_news (own_plain R s past path) subs (deliveries_plain R s (chosen set past) path) (chosen set past)
+      (commit_of e)) (subscriptions_same R s set past before (Root path) founded)
+      ∙ plain_news_same (own_plain R s past path) (subscriptions R s past (Root path)) (deliveries_plain R s past path)
+      (deliveries_plain R s (chosen set past) path) past (chosen set past) (commit_of e) alike (contents_here R s set e past closed has)
   news_same e past closed has (Managed o n t) g alike = by (given_alike R s set e past closed o n t g)
     where
       ds : List Given
@@ -141,39 +157,49 @@ module _ (R : Rules) (s : List OwnState) (set : ℕ → Bool) where
       ds' : List Given
       ds' = deliveries_instance R s (chosen set past) o n t
 
-      by : GivenAlike R s set past o n t (commit_of e) → instance_news (fixed R s (chosen set past) o n) n t ds' (chosen set past) (commit_of e) ≡ instance_news (fixed R s past o n) n t ds past (commit_of e)
-      by (inl h) = ap (λ (fx : Option Fixed). instance_news fx n t ds' (chosen set past) (commit_of e)) h.0 ∙ sym (instance_news_none (fixed R s past o n) n t ds past (commit_of e) h.1)
+      by : GivenAlike R s set past o n t (commit_of e)
+          → instance_news (fixed R s (chosen set past) o n) n t ds' (chosen set past) (commit_of e) ≡ instance_news (fixed R s past o n) n t ds past (commit_of e)
+      by (inl h) = ap (λ (fx : Option Fixed). instance_news fx n t ds' (chosen set past) (commit_of e)) h.0
+          ∙ sym (instance_news_none (fixed R s past o n) n t ds past (commit_of e) h.1)
       by (inr kept) =
           ap (λ (fx : Option Fixed). instance_news fx n t ds' (chosen set past) (commit_of e)) kept
           ∙ instance_news_same (fixed R s past o n) n t ds ds' past (chosen set past) (commit_of e) alike (contents_here R s set e past closed has)
 
   -- where the set has all commits on an event, the same subscriptions were handed it
-  pub handed_same : (past : List Entry) → IsClosed R s set past → (u : UnitName) → Founded R s set past u → (event : EventName) → HasEach set (λ older x. is_on event (commit_of x)) past → (n : ℕ) →
+  pub handed_same : (past : List Entry) → IsClosed R s set past → (u : UnitName) → Founded R s set past u → (event : EventName)
+      → HasEach set (λ older x. is_on event (commit_of x)) past → (n : ℕ) →
       was_handed (deliveries R s (chosen set past) u) event n ≡ was_handed (deliveries R s past u) event n
   handed_same [] closed u g event h n = refl
-  handed_same (e ∷ past) closed u g event h n = go (set (length past)) refl (handed_same past (closed_before R s set e past closed) u (founded_before R s set e past u g))
+  handed_same (e ∷ past) closed u g event h n = go (set (length past)) refl
+      (handed_same past (closed_before R s set e past closed) u (founded_before R s set e past u g))
     where
       kept : List Entry
       kept = chosen set past
 
       Before : Type 0
-      Before = (event : EventName) → HasEach set (λ older x. is_on event (commit_of x)) past → (n : ℕ) → was_handed (deliveries R s (chosen set past) u) event n ≡ was_handed (deliveries R s past u) event n
+      Before = (event : EventName) → HasEach set (λ older x. is_on event (commit_of x)) past → (n : ℕ) → was_handed (deliveries R s (chosen set past) u) event
+          n ≡ was_handed (deliveries R s past u) event n
 
       here : Before → was_handed (deliveries R s kept u) event n ≡ was_handed (deliveries R s past u) event n
       here ih = ih event (has_before set (λ older x. is_on event (commit_of x)) e past h) n
 
       more : was_handed (deliveries R s (e ∷ past) u) event n ≡ (was_handed (deliveries R s past u) event n || was_handed (news R s past e u) event n)
-      more = ap (λ (ds : List Given). was_handed ds event n) (deliveries_more R s e past u) ∙ handed_append R s (deliveries R s past u) (news R s past e u) event n
+      more = ap (λ (ds : List Given). was_handed ds event n) (deliveries_more R s e past u)
+          ∙ handed_append R s (deliveries R s past u) (news R s past e u) event n
 
       none_more : set (length past) ≡ false → (b : Bool) → is_on event (commit_of e) ≡ b → was_handed (news R s past e u) event n ≡ false
       none_more out true on = clash (set (length past)) (has_here set (λ older x. is_on event (commit_of x)) e past h on) out
       none_more out false off = news_elsewhere R s e past u event n off
 
-      go : (b : Bool) → set (length past) ≡ b → Before → was_handed (deliveries R s (cond b (e ∷ chosen set past) (chosen set past)) u) event n ≡ was_handed (deliveries R s (e ∷ past) u) event n
+      go : (b : Bool) → set (length past) ≡ b → Before
+          → was_handed (deliveries R s (cond b (e ∷ chosen set past) (chosen set past)) u) event n ≡ was_handed (deliveries R s (e ∷ past) u) event n
       go true has ih =
           ap (λ (ds : List Given). was_handed ds event n) (deliveries_more R s e kept u)
           ∙ handed_append R s (deliveries R s kept u) (news R s kept e u) event n
           ∙ ap (λ (b : Bool). b || was_handed (news R s kept e u) event n) (here ih)
-          ∙ ap (λ (ds : List Given). was_handed (deliveries R s past u) event n || was_handed ds event n) (news_same e past closed has u g (λ k m is. ih k.event (committed_here R s set e past k closed has is) m))
+          ∙ ap (λ (ds : List Given). was_handed (deliveries R s past u) event n || was_handed ds event n)
+          (news_same e past closed has u g (λ k m is. ih k.event (committed_here R s set e past k closed has is) m))
           ∙ sym more
-      go false out ih = here ih ∙ sym (more ∙ or_false (was_handed (deliveries R s past u) event n) (was_handed (news R s past e u) event n) (none_more out (is_on event (commit_of e)) refl))
+      go false out ih = here ih
+          ∙ sym (more ∙ or_false (was_handed (deliveries R s past u) event n) (was_handed (news R s past e u) event n)
+          (none_more out (is_on event (commit_of e)) refl))

@@ -14,7 +14,9 @@ use Rattle.std.specs.BTreeMap.{BTreeMap, btree_map_len, get, is_at}
 use Rattle.std.specs.declared.cmp.Ordering.{Ordering}
 use Rattle.df_why.specs.code.Numbers.{Finds, IsNumbering, KeepsNumbers}
 
-module _ {K : Type 0} (cmp : K → K → Ordering) (old new : BTreeMap K ℕ) (key : K) (numbered : IsNumbering cmp old) (none : get cmp old key ≡ None) (updates : (q : K) → get cmp new q ≡ cond (is_at (cmp key) q) (Some (btree_map_len old)) (get cmp old q)) (len : btree_map_len new ≡ btree_map_len old + 1) where
+module _ {K : Type 0} (cmp : K → K → Ordering) (old new : BTreeMap K ℕ) (key : K) (numbered : IsNumbering cmp old) (none : get cmp old key ≡ None)
+    (updates : (q : K) → get cmp new q ≡ cond (is_at (cmp key) q) (Some (btree_map_len old)) (get cmp old q))
+    (len : btree_map_len new ≡ btree_map_len old + 1) where
   -- a number is the new one, or an old one
   cases : {P : Type 0} (q : K) (n : ℕ) → get cmp new q ≡ Some n → (key ≡ q → btree_map_len old ≡ n → P) → (get cmp old q ≡ Some n → P) → P
   cases {P} q n h at_key elsewhere = go (is_at (cmp key) q) refl (sym (updates q) ∙ h)
@@ -40,12 +42,14 @@ module _ {K : Type 0} (cmp : K → K → Ordering) (old new : BTreeMap K ℕ) (k
   }
 
 -- a name keeps its number
-pub finds_kept : {K : Type 0} (cmp : K → K → Ordering) (old new : BTreeMap K ℕ) (q : Option K) (n : Option ℕ) → KeepsNumbers cmp old new → Finds cmp old q n → Finds cmp new q n
+pub finds_kept : {K : Type 0} (cmp : K → K → Ordering) (old new : BTreeMap K ℕ) (q : Option K) (n : Option ℕ) → KeepsNumbers cmp old new → Finds cmp old q n
+    → Finds cmp new q n
 finds_kept cmp old new None n kept h = h
 finds_kept cmp old new (Some q) n kept h = (h.0, h.1, kept q h.0 h.2)
 
 -- numbers are equal exactly where names are
-pub numbers_tie : {K : Type 0} (cmp : K → K → Ordering) (numbers : BTreeMap K ℕ) → IsNumbering cmp numbers → (u a : K) (j k : ℕ) → get cmp numbers u ≡ Some j → get cmp numbers a ≡ Some k → (b : Bool) → (b ≡ true → u ≡ a) → (u ≡ a → b ≡ true) → (j == k) ≡ b
+pub numbers_tie : {K : Type 0} (cmp : K → K → Ordering) (numbers : BTreeMap K ℕ) → IsNumbering cmp numbers → (u a : K) (j k : ℕ) → get cmp numbers u ≡ Some j
+    → get cmp numbers a ≡ Some k → (b : Bool) → (b ≡ true → u ≡ a) → (u ≡ a → b ≡ true) → (j == k) ≡ b
 numbers_tie {K} cmp numbers numbered u a j k hu ha true is into =
     let one : Some j ≡ Some k = sym hu ∙ ap (get cmp numbers) (is refl) ∙ ha in
     eq-eqb j k (let z = one in cc)
@@ -60,7 +64,8 @@ numbers_tie {K} cmp numbers numbered u a j k hu ha false is into = not_equal j k
         go false e = refl
 
 -- nothing has a number yet
-pub none_numbered : {K : Type 0} (cmp : K → K → Ordering) (numbers : BTreeMap K ℕ) → ((a b : K) → is_at (cmp a) b ≡ true → a ≡ b) → numbers.entries ≡ [] → IsNumbering cmp numbers
+pub none_numbered : {K : Type 0} (cmp : K → K → Ordering) (numbers : BTreeMap K ℕ) → ((a b : K) → is_at (cmp a) b ≡ true → a ≡ b) → numbers.entries ≡ []
+    → IsNumbering cmp numbers
 none_numbered {K} cmp numbers exact empty = record {
   exact = exact;
   below = λ q n h. absurd (none q n h);
@@ -75,5 +80,6 @@ units_exact a b h = same_name-exact a b (unit_cmp_ties a b ∙ h)
 
 pub keys_exact : (a b : Key) → is_at (key_cmp a) b ≡ true → a ≡ b
 keys_exact a b h =
-    let both = and_parts (a.0 == b.0) (same a.1 b.1) (both_tied (a.0 == b.0) (same a.1 b.1) (nat_cmp a.0 b.0) (unit_cmp a.1 b.1) (unsigned_ties a.0 b.0) (unit_cmp_ties a.1 b.1) ∙ h) in
+    let both = and_parts (a.0 == b.0) (same a.1 b.1)
+    (both_tied (a.0 == b.0) (same a.1 b.1) (nat_cmp a.0 b.0) (unit_cmp a.1 b.1) (unsigned_ties a.0 b.0) (unit_cmp_ties a.1 b.1) ∙ h) in
     ap (λ (n : ℕ). (n, a.1)) (eqb-true a.0 b.0 both.0) ∙ ap (λ (u : UnitName). (b.0, u)) (same_name-exact a.1 b.1 both.1)

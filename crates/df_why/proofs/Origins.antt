@@ -78,7 +78,8 @@ no_record true (Some st) = refl
 no_record false x = refl
 
 -- each entry of a legal journal is the answer after those before it
-pub right_at : (s : List OwnState) (past : List Entry) → Legal rows s past → (newer older : List Entry) (e : Entry) → past ≡ newer ++ e ∷ older → IsRight rows s older e
+pub right_at : (s : List OwnState) (past : List Entry) → Legal rows s past → (newer older : List Entry) (e : Entry) → past ≡ newer ++ e ∷ older
+    → IsRight rows s older e
 right_at s past h [] older e same = (subst (Legal rows s) same h).1
 right_at s [] h (n ∷ newer) older e same = absurd (let z : ⊥ = cc in z)
 right_at s (x ∷ past) h (n ∷ newer) older e same = right_at s past h.0 newer older e (let y : past ≡ newer ++ e ∷ older = cc in y)
@@ -94,7 +95,8 @@ module _ (s : List OwnState) where
   nobody : (past : List Entry) → own_plain rows s past [] ≡ None
   nobody [] = refl
   nobody (e ∷ past) =
-      ap (λ (x : Option OwnState). option_or x (made_by rows e [] (own_plain rows s past []))) (step_none rows s (Root []) e (own_plain rows s past []) (nobody past))
+      ap (λ (x : Option OwnState). option_or x (made_by rows e [] (own_plain rows s past [])))
+      (step_none rows s (Root []) e (own_plain rows s past []) (nobody past))
       ∙ ap (λ (x : Option OwnState). made_by rows e [] x) (nobody past)
       ∙ none e
     where
@@ -107,7 +109,8 @@ module _ (s : List OwnState) where
           go false = refl
 
   -- a child is made by the entry that says so
-  module _ (past : List Entry) (p : List ℕ) (t : List (List ℕ)) (ps : List Privilege) (n : ℕ) (st : OwnState) (there : own_plain rows s past p ≡ Some st) (path : List ℕ) where
+  module _ (past : List Entry) (p : List ℕ) (t : List (List ℕ)) (ps : List Privilege) (n : ℕ) (st : OwnState) (there : own_plain rows s past p ≡ Some st)
+      (path : List ℕ) where
     abbrev test : Bool → Bool → Option OwnState → Bool
     test b c x = is_some (cond b (option_and_then (λ (st : OwnState). cond c (Some (child st t ps)) None) x) None)
 
@@ -132,18 +135,22 @@ module _ (s : List OwnState) where
     by_unit : test (same (Root p) (Root (maker_of path))) (n == number_of path) (own_plain rows s past (maker_of path)) ≡ same (Root (p ++ n ∷ [])) (Root path)
     by_unit = go (same (Root (p ++ n ∷ [])) (Root path)) refl
       where
-        go : (d : Bool) → same (Root (p ++ n ∷ [])) (Root path) ≡ d → test (same (Root p) (Root (maker_of path))) (n == number_of path) (own_plain rows s past (maker_of path)) ≡ d
+        go : (d : Bool) → same (Root (p ++ n ∷ [])) (Root path) ≡ d
+            → test (same (Root p) (Root (maker_of path))) (n == number_of path) (own_plain rows s past (maker_of path)) ≡ d
         go true g =
             let is : p ++ n ∷ [] ≡ path = ap path_in (same_name-exact (Root (p ++ n ∷ [])) (Root path) g) in
             let maker : p ≡ maker_of path = sym (maker_of-push p n) ∙ ap maker_of is in
             passes_all (same (Root p) (Root (maker_of path))) (n == number_of path) (own_plain rows s past (maker_of path))
-            (root_same p (maker_of path) maker) (eq-eqb n (number_of path) (sym (number_of-push p n) ∙ ap number_of is)) (ap (own_plain rows s past) (sym maker) ∙ there)
+            (root_same p (maker_of path) maker) (eq-eqb n (number_of path) (sym (number_of-push p n) ∙ ap number_of is))
+            (ap (own_plain rows s past) (sym maker) ∙ there)
         go false g = passes_none (same (Root p) (Root (maker_of path))) (n == number_of path) (own_plain rows s past (maker_of path)) (λ b c y maker.
-            let is : p ++ n ∷ [] ≡ path = is_child path (ap path_in (same_name-exact (Root p) (Root (maker_of path)) b)) (eqb-true n (number_of path) c) y maker in
+            let is : p ++ n ∷ [] ≡ path = is_child path (ap path_in (same_name-exact (Root p) (Root (maker_of path)) b)) (eqb-true n (number_of path) c) y
+            maker in
             let one : same (Root (p ++ n ∷ [])) (Root path) ≡ true = root_same (p ++ n ∷ []) path is in
             let z : true ≡ false = sym one ∙ g in let w : ⊥ = cc in w)
 
-  pub child_made : (e : Entry) (past : List Entry) → IsRight rows s past e → (path : List ℕ) → is_some (made_by rows e path (own_plain rows s past (maker_of path))) ≡ is_made (Root path) e
+  pub child_made : (e : Entry) (past : List Entry) → IsRight rows s past e → (path : List ℕ)
+      → is_some (made_by rows e path (own_plain rows s past (maker_of path))) ≡ is_made (Root path) e
   child_made (Emitted k) past right path = refl
   child_made (Done (Managed o n t) c r f) past right path = refl
   child_made (Done (Root p) c r f) past right path = by c r right
@@ -154,8 +161,10 @@ module _ (s : List OwnState) where
       maker : Option OwnState
       maker = own_plain rows s past (maker_of path)
 
-      by : (c : Call) (r : Reply) → IsRight rows s past (Done (Root p) c r f) → is_some (cond here (option_and_then (λ st. rows.makes st (number_of path) c r) maker) None) ≡ is_name (made_at p c r) (Root path)
-      by (Instantiate t ps) (Reply.Unit n) right = let st = state_by_reply s past (Root p) (Instantiate t ps) (Reply.Unit n) f right refl in by_unit past p t ps n st.0 st.1 path
+      by : (c : Call) (r : Reply) → IsRight rows s past (Done (Root p) c r f)
+          → is_some (cond here (option_and_then (λ st. rows.makes st (number_of path) c r) maker) None) ≡ is_name (made_at p c r) (Root path)
+      by (Instantiate t ps) (Reply.Unit n) right = let st = state_by_reply s past (Root p) (Instantiate t ps) (Reply.Unit n) f right refl in by_unit past p t
+          ps n st.0 st.1 path
       by (Instantiate t ps) _ right = no_child here maker
       by (SubscribeManaged fl) (Reply.Sub n) right = no_child here maker
       by (SubscribeManaged fl) _ right = no_child here maker
@@ -163,7 +172,8 @@ module _ (s : List OwnState) where
 
   child_start : (older : List Entry) (e : Entry) → IsRight rows s older e → (path : List ℕ) → is_some (root_at s path) ≡ true → is_made (Root path) e ≡ false
   child_start older e right [] h = absurd (let z : ⊥ = cc in z)
-  child_start older e right (k ∷ []) h = sym (child_made e older right (k ∷ [])) ∙ ap (λ (x : Option OwnState). is_some (made_by rows e (k ∷ []) x)) (nobody older) ∙ none e
+  child_start older e right (k ∷ []) h = sym (child_made e older right (k ∷ []))
+      ∙ ap (λ (x : Option OwnState). is_some (made_by rows e (k ∷ []) x)) (nobody older) ∙ none e
     where
       none : (e : Entry) → is_some (made_by rows e (k ∷ []) None) ≡ false
       none (Emitted c) = refl
@@ -175,7 +185,8 @@ module _ (s : List OwnState) where
   child_start older e right (k ∷ m ∷ path) h = absurd (let z : ⊥ = cc in z)
 
   -- a managed subscription is made by the entry that says so
-  pub record_made : (e : Entry) (past : List Entry) → IsRight rows s past e → (o : List ℕ) (n : ℕ) → not (is_none (fixed_by rows e o n (own_plain rows s past o))) ≡ is_made (Managed o n []) e
+  pub record_made : (e : Entry) (past : List Entry) → IsRight rows s past e → (o : List ℕ) (n : ℕ)
+      → not (is_none (fixed_by rows e o n (own_plain rows s past o))) ≡ is_made (Managed o n []) e
   record_made (Emitted k) past right o n = refl
   record_made (Done (Managed q m t) c r f) past right o n = refl
   record_made (Done (Root p) c r f) past right o n = by c r right
@@ -188,13 +199,16 @@ module _ (s : List OwnState) where
       by_owner fl m st there false is = refl
       by_owner fl m st there true is = go (m == n) owner (ap (own_plain rows s past) (sym ((bytes_decides p o).0 is)) ∙ there)
         where
-          go : (c : Bool) (x : Option OwnState) → x ≡ Some st → not (is_none (option_and_then (λ (st : OwnState). cond c (Some (fixed_of st fl)) None) x)) ≡ (c && true)
+          go : (c : Bool) (x : Option OwnState) → x ≡ Some st
+              → not (is_none (option_and_then (λ (st : OwnState). cond c (Some (fixed_of st fl)) None) x)) ≡ (c && true)
           go true (Some y) h = refl
           go false (Some y) h = refl
           go c None h = absurd (let z : ⊥ = cc in z)
 
-      by : (c : Call) (r : Reply) → IsRight rows s past (Done (Root p) c r f) → not (is_none (cond (same (Root p) (Root o)) (option_and_then (λ st. rows.fixes st n c r) owner) None)) ≡ is_name (made_at p c r) (Managed o n [])
-      by (SubscribeManaged fl) (Reply.Sub m) right = let st = state_by_reply s past (Root p) (SubscribeManaged fl) (Reply.Sub m) f right refl in by_owner fl m st.0 st.1 (pointwise nat_eq p o) refl
+      by : (c : Call) (r : Reply) → IsRight rows s past (Done (Root p) c r f)
+          → not (is_none (cond (same (Root p) (Root o)) (option_and_then (λ st. rows.fixes st n c r) owner) None)) ≡ is_name (made_at p c r) (Managed o n [])
+      by (SubscribeManaged fl) (Reply.Sub m) right = let st = state_by_reply s past (Root p) (SubscribeManaged fl) (Reply.Sub m) f right refl in by_owner fl m
+          st.0 st.1 (pointwise nat_eq p o) refl
       by (SubscribeManaged fl) _ right = no_record (same (Root p) (Root o)) owner
       by (Instantiate t ps) (Reply.Unit m) right = no_record (same (Root p) (Root o)) owner
       by (Instantiate t ps) _ right = no_record (same (Root p) (Root o)) owner
@@ -216,13 +230,15 @@ module _ (s : List OwnState) where
   -- it is the first that makes it
   pub arises_first : (past : List Entry) → Legal rows s past → (u : UnitName) (newer older : List Entry) (e : Entry) → past ≡ newer ++ e ∷ older →
       arises u older e ≡ points (first (is_made (origin_of u)) past) (length older)
-  arises_first past legal (Root path) newer older e at = turns_first (is_made (Root path)) (λ l. exists rows s l (Root path)) (is_some (root_at s path)) refl past comes newer older e at
+  arises_first past legal (Root path) newer older e at = turns_first (is_made (Root path)) (λ l. exists rows s l (Root path)) (is_some (root_at s path)) refl
+      past comes newer older e at
     where
       comes : Comes (is_made (Root path)) (λ l. exists rows s l (Root path)) (is_some (root_at s path)) refl past
       comes newer older e at =
           let right = right_at s past legal newer older e at in (
             is_some_or (stepped rows (Root path) e (own_plain rows s older path)) (made_by rows e path (own_plain rows s older (maker_of path)))
-                ∙ ap (λ (b : Bool). b || is_some (made_by rows e path (own_plain rows s older (maker_of path)))) (stepped_some rows s (Root path) e (own_plain rows s older path))
+                ∙ ap (λ (b : Bool). b || is_some (made_by rows e path (own_plain rows s older (maker_of path))))
+                (stepped_some rows s (Root path) e (own_plain rows s older path))
                 ∙ ap (λ (b : Bool). exists rows s older (Root path) || b) (child_made e older right path),
             λ start. child_start older e right path start,
           )

@@ -27,7 +27,8 @@ some_of : (f : ℕ → Bool) (ps : List ℕ) → list_any f ps ≡ true → (q :
 some_of f [] h = absurd (let z : ⊥ = cc in z)
 some_of f (p ∷ ps) h = go (f p) refl h (λ more. some_of f ps more)
   where
-    go : (b : Bool) → f p ≡ b → (b || list_any f ps) ≡ true → (list_any f ps ≡ true → (q : ℕ) × (set_of ps q ≡ true) × (f q ≡ true)) → (q : ℕ) × (set_of (p ∷ ps) q ≡ true) × (f q ≡ true)
+    go : (b : Bool) → f p ≡ b → (b || list_any f ps) ≡ true → (list_any f ps ≡ true → (q : ℕ) × (set_of ps q ≡ true) × (f q ≡ true))
+        → (q : ℕ) × (set_of (p ∷ ps) q ≡ true) × (f q ≡ true)
     go true is h rest = (p, or_left (p == p) (list_any (λ q. q == p) ps) (eq_refl p), is)
     go false is h rest = let r = rest h in (r.0, or_right (p == r.0) (list_any (λ q. q == r.0) ps) r.1, r.2)
 
@@ -48,7 +49,8 @@ module _ (link : ℕ → Link) (last : ℕ) where
   cases : (n q : ℕ) → set_of (walked link last (suc n)) q ≡ true → (set_of (walked link last n) q ≡ true) ⊎ ((q ≡ last - n) × (tests n ≡ true))
   cases n q h = go (tests n) refl h
     where
-      go : (b : Bool) → tests n ≡ b → set_of (cond b (walked link last n ++ (last - n) ∷ []) (walked link last n)) q ≡ true → (set_of (walked link last n) q ≡ true) ⊎ ((q ≡ last - n) × (tests n ≡ true))
+      go : (b : Bool) → tests n ≡ b → set_of (cond b (walked link last n ++ (last - n) ∷ []) (walked link last n)) q ≡ true
+          → (set_of (walked link last n) q ≡ true) ⊎ ((q ≡ last - n) × (tests n ≡ true))
       go true is h = by_or (set_of (walked link last n) q) ((last - n == q) || false) (sym (has_append (walked link last n) (last - n) q) ∙ h)
           (λ old. inl old)
           (λ new. by_or (last - n == q) false new (λ e. inr (sym (eqb-true (last - n) q e), is)) (λ no_way. absurd (let z : ⊥ = cc in z)))
@@ -74,11 +76,13 @@ module _ (link : ℕ → Link) (last : ℕ) where
   gone_over zero q le h = absurd (let z : ⊥ = cc in z)
   gone_over (suc n) q le h = by (cases n q h) (gone_over n q (omega (arith, le)))
     where
-      by : (set_of (walked link last n) q ≡ true) ⊎ ((q ≡ last - n) × (tests n ≡ true)) → (set_of (walked link last n) q ≡ true → (q ≤ last) × (last < q + n)) → (q ≤ last) × (last < q + suc n)
+      by : (set_of (walked link last n) q ≡ true) ⊎ ((q ≡ last - n) × (tests n ≡ true)) → (set_of (walked link last n) q ≡ true → (q ≤ last) × (last < q + n))
+          → (q ≤ last) × (last < q + suc n)
       by (inl old) ih = let r = ih old in (r.0, omega (arith, r.1))
       by (inr new) ih = let is = new.0 in (omega (arith, is), omega (arith, is, le))
 
-  pub only_led : (n q : ℕ) → n ≤ last + 1 → set_of (walked link last n) q ≡ true → (q ≡ last) ⊎ ((r : ℕ) × (set_of (walked link last n) r ≡ true) × (q < r) × (r ≤ last) × (leads_to (link r) q (link q) ≡ true))
+  pub only_led : (n q : ℕ) → n ≤ last + 1 → set_of (walked link last n) q ≡ true
+      → (q ≡ last) ⊎ ((r : ℕ) × (set_of (walked link last n) r ≡ true) × (q < r) × (r ≤ last) × (leads_to (link r) q (link q) ≡ true))
   only_led zero q le h = absurd (let z : ⊥ = cc in z)
   only_led (suc n) q le h = by (cases n q h) (only_led n q (omega (arith, le)))
     where
@@ -89,7 +93,8 @@ module _ (link : ℕ → Link) (last : ℕ) where
       more (inl is) = inl is
       more (inr l) = inr (l.0, stays_in n l.0 l.1, l.2, l.3, l.4)
 
-      by : (set_of (walked link last n) q ≡ true) ⊎ ((q ≡ last - n) × (tests n ≡ true)) → (set_of (walked link last n) q ≡ true → (q ≡ last) ⊎ Led n) → (q ≡ last) ⊎ Led (suc n)
+      by : (set_of (walked link last n) q ≡ true) ⊎ ((q ≡ last - n) × (tests n ≡ true)) → (set_of (walked link last n) q ≡ true → (q ≡ last) ⊎ Led n)
+          → (q ≡ last) ⊎ Led (suc n)
       by (inl old) ih = more (ih old)
       by (inr new) ih = by_or (last - n == last) (list_any (λ r. leads_to (link r) (last - n) (link (last - n))) (walked link last n)) new.1
           (λ e. inl (new.0 ∙ eqb-true (last - n) last e))
@@ -99,11 +104,13 @@ module _ (link : ℕ → Link) (last : ℕ) where
           let is = new.0 in
           inr (r.0, stays_in n r.0 r.1, omega (arith, is, g.1, le), g.0, subst (λ (p : ℕ). leads_to (link r.0) p (link p) ≡ true) (sym new.0) r.2))
 
-  pub follows_led : (n r p : ℕ) → n ≤ last + 1 → set_of (walked link last n) r ≡ true → p < r → last < p + n → leads_to (link r) p (link p) ≡ true → set_of (walked link last n) p ≡ true
+  pub follows_led : (n r p : ℕ) → n ≤ last + 1 → set_of (walked link last n) r ≡ true → p < r → last < p + n → leads_to (link r) p (link p) ≡ true
+      → set_of (walked link last n) p ≡ true
   follows_led zero r p le h lt over led = absurd (let z : ⊥ = cc in z)
   follows_led (suc n) r p le h lt over led = by (cases n r h) (λ old before. follows_led n r p (omega (arith, le)) old lt before led)
     where
-      by : (set_of (walked link last n) r ≡ true) ⊎ ((r ≡ last - n) × (tests n ≡ true)) → (set_of (walked link last n) r ≡ true → last < p + n → set_of (walked link last n) p ≡ true) → set_of (walked link last (suc n)) p ≡ true
+      by : (set_of (walked link last n) r ≡ true) ⊎ ((r ≡ last - n) × (tests n ≡ true))
+          → (set_of (walked link last n) r ≡ true → last < p + n → set_of (walked link last n) p ≡ true) → set_of (walked link last (suc n)) p ≡ true
       by (inr new) ih = let is = new.0 in absurd (omega (arith, is, lt, over, le))
       by (inl old) ih = at (p == last - n) refl
         where
@@ -112,7 +119,8 @@ module _ (link : ℕ → Link) (last : ℕ) where
               let is : p ≡ last - n = eqb-true p (last - n) e in
               subst (λ (q : ℕ). set_of (walked link last (suc n)) q ≡ true) (sym is)
               (comes_in n (or_right (last - n == last) (list_any (λ q. leads_to (link q) (last - n) (link (last - n))) (walked link last n))
-              (passes (λ q. leads_to (link q) (last - n) (link (last - n))) (walked link last n) r old (subst (λ (q : ℕ). leads_to (link r) q (link q) ≡ true) is led))))
+              (passes (λ q. leads_to (link q) (last - n) (link (last - n))) (walked link last n) r old
+              (subst (λ (q : ℕ). leads_to (link r) q (link q) ≡ true) is led))))
           at false e = let apart : p ≡ last - n → ⊥ = eqb-false p (last - n) e in stays_in n p (ih old (before apart))
             where
               before : (p ≡ last - n → ⊥) → last < p + n
@@ -123,7 +131,8 @@ module _ (link : ℕ → Link) (last : ℕ) where
                   go (inr l) = absurd (apart (omega (arith, l, over, le)))
 
 -- the entry at a place
-pub split_at : (j : List Entry) (p : ℕ) → p < length j → (newer : List Entry) × (e : Entry) × (older : List Entry) × (j ≡ newer ++ e ∷ older) × (length older ≡ p)
+pub split_at : (j : List Entry) (p : ℕ) → p < length j
+    → (newer : List Entry) × (e : Entry) × (older : List Entry) × (j ≡ newer ++ e ∷ older) × (length older ≡ p)
 split_at [] p lt = absurd (omega (arith, lt))
 split_at (e ∷ j) p lt = by (cases_eq p (length j)) (λ below. split_at j p below)
   where
@@ -134,7 +143,8 @@ split_at (e ∷ j) p lt = by (cases_eq p (length j)) (λ below. split_at j p bel
     by (inl is) ih = ([], e, j, refl, sym is)
     by (inr apart) ih = let r = ih (omega (arith, lt, apart)) in (e ∷ r.0, r.1, r.2, ap (λ (l : List Entry). e ∷ l) r.3, r.4)
 
-module _ (R : Rules) (s : List OwnState) (links : List Link) (j : List Entry) (place : ℕ) (count : length links ≡ place + 1) (inside : place < length j) (known : IsKnown R s links j) where
+module _ (R : Rules) (s : List OwnState) (links : List Link) (j : List Entry) (place : ℕ) (count : length links ≡ place + 1) (inside : place < length j)
+    (known : IsKnown R s links j) where
   abbrev pub set : ℕ → Bool
   set = set_of (walked (link_at links) place (place + 1))
 
@@ -154,17 +164,30 @@ module _ (R : Rules) (s : List OwnState) (links : List Link) (j : List Entry) (p
       leads R s (middle ++ to ∷ older) from older to ≡ leads_to (link_at links (length (middle ++ to ∷ older))) (length older) (link_at links (length older))
   leads_known newer middle older from to split le = known newer middle older from to split (omega (arith, count, le))
 
-  follow : (newer past : List Entry) (e : Entry) → j ≡ newer ++ e ∷ past → set (length past) ≡ true → (middle older : List Entry) (under : Entry) → past ≡ middle ++ under ∷ older → leads R s past e older under ≡ true → set (length older) ≡ true
+  follow : (newer past : List Entry) (e : Entry) → j ≡ newer ++ e ∷ past → set (length past) ≡ true → (middle older : List Entry) (under : Entry)
+      → past ≡ middle ++ under ∷ older → leads R s past e older under ≡ true → set (length older) ≡ true
   follow newer past e split has middle older under inner led =
       let has_inner = subst (λ (l : List Entry). set (length l) ≡ true) inner has in
       let led_inner = subst (λ (l : List Entry). leads R s l e older under ≡ true) inner led in
       let within = gone_over (link_at links) place (place + 1) (length (middle ++ under ∷ older)) (omega arith) has_inner in
       let size = length-append middle (under ∷ older) in
-      follows_led (link_at links) place (place + 1) (length (middle ++ under ∷ older)) (length older) (omega arith) has_inner (omega (arith, size)) (omega arith)
+      follows_led (link_at links) place (place + 1) (length (middle ++ under ∷ older)) (length older) (omega arith) has_inner (omega (arith, size))
+      (omega arith)
       (sym (leads_known newer middle older e under (split ∙ ap (λ (l : List Entry). newer ++ e ∷ l) inner) within.0) ∙ led_inner)
 
   led_to : (p r : ℕ) → set r ≡ true → p < r → r ≤ place → leads_to (link_at links r) p (link_at links p) ≡ true → IsLedTo R s j set p
-  led_to p r has lt le led = record { newer = a.0; middle = b.0; older = b.2; from = a.1; to = b.1; split = split; has = subst (λ (n : ℕ). set n ≡ true) (sym size) has; led = leads_known a.0 b.0 b.2 a.1 b.1 split (omega (arith, size, le)) ∙ known_led; here = b.4 }
+  led_to p r has lt le led = record {
+    newer = a.0;
+    middle = b.0;
+    older = b.2;
+    from = a.1;
+    to = b.1;
+    split = split;
+    has = subst (λ (n : ℕ). set n ≡ true) (sym size) has;
+    led = leads_known
+        a.0 b.0 b.2 a.1 b.1 split (omega (arith, size, le)) ∙ known_led;
+    here = b.4;
+  }
     where
       a : (newer : List Entry) × (e : Entry) × (older : List Entry) × (j ≡ newer ++ e ∷ older) × (length older ≡ r)
       a = split_at j r (omega (arith, le, inside))

@@ -52,20 +52,29 @@ OfQueues units queues P = (u : UnitName) (k : ℕ) → get unit_cmp units u ≡ 
 
 module _ (tables : Tables) (numbered : AreNumbered tables) where
   -- one unit's queue is changed
-  pub changed : (P Q : UnitName → QueueState → Type 0) (queues : List QueueState) (f : QueueState → QueueState) (a : UnitName) (k : ℕ) → get unit_cmp tables.units a ≡ Some k → OfQueues tables.units queues P →
+  pub changed : (P Q : UnitName → QueueState → Type 0) (queues : List QueueState) (f : QueueState → QueueState) (a : UnitName) (k : ℕ)
+      → get unit_cmp tables.units a ≡ Some k → OfQueues tables.units queues P →
       ((u : UnitName) (q : QueueState) → (u ≡ a → ⊥) → P u q → Q u q) → ((q : QueueState) → P a q → Q a (f q)) → OfQueues tables.units (modify k f queues) Q
   changed P Q queues f a k here all other mine u m h = go (cases_eq m k) (all u m h)
     where
-      go : (m ≡ k) ⊎ (m ≡ k → ⊥) → (q : QueueState) × (slice_get queues m ≡ Some q) × P u q → (q : QueueState) × (slice_get (modify k f queues) m ≡ Some q) × Q u q
+      go : (m ≡ k) ⊎ (m ≡ k → ⊥) → (q : QueueState) × (slice_get queues m ≡ Some q) × P u q
+          → (q : QueueState) × (slice_get (modify k f queues) m ≡ Some q) × Q u q
       go (inl is) old =
           let who : a ≡ u = numbered.units.apart a u k here (subst (λ (n : ℕ). get unit_cmp tables.units u ≡ Some n) is h) in (
             f old.0,
             ap (slice_get (modify k f queues)) is ∙ modified k f queues old.0 (ap (slice_get queues) (sym is) ∙ old.1),
             subst (λ (v : UnitName). Q v (f old.0)) who (mine old.0 (subst (λ (v : UnitName). P v old.0) (sym who) old.2)),
           )
-      go (inr differs) old = (old.0, unmodified k m f queues differs ∙ old.1, other u old.0 (λ who. differs (let z : Some m ≡ Some k = sym h ∙ ap (get unit_cmp tables.units) who ∙ here in let n : m ≡ k = cc in n)) old.2)
+      go (inr differs) old = (
+        old.0,
+        unmodified k m f queues differs
+            ∙ old.1,
+        other u old.0 (λ who. differs (let z : Some m ≡ Some k = sym h ∙ ap (get unit_cmp tables.units) who ∙ here in let n : m ≡ k = cc in n))
+            old.2,
+      )
 
-  pub same_each : (P Q : UnitName → QueueState → Type 0) (queues : List QueueState) → OfQueues tables.units queues P → ((u : UnitName) (q : QueueState) → P u q → Q u q) → OfQueues tables.units queues Q
+  pub same_each : (P Q : UnitName → QueueState → Type 0) (queues : List QueueState) → OfQueues tables.units queues P
+      → ((u : UnitName) (q : QueueState) → P u q → Q u q) → OfQueues tables.units queues Q
   same_each P Q queues all weaker u k h = let old = all u k h in (old.0, old.1, weaker u old.0 old.2)
 
   module _ (j : List Entry) (tracks : List Track) (tracked : AreTracked tables tracks j) (core : State) (here : Option ℕ) where
@@ -76,22 +85,27 @@ module _ (tables : Tables) (numbered : AreNumbered tables) where
 
     -- the queue of the entry at a place is grown
     one : (P Q : UnitName → QueueState → Type 0) (p : ℕ) (queues : List QueueState) → OfQueues tables.units queues P →
-        ((u : UnitName) (q : QueueState) → (IsOf j p u → ⊥) → P u q → Q u q) → ((a : UnitName) (q : QueueState) → IsOf j p a → P a q → Q a (grown core a here q)) → OfQueues tables.units (grown_for core (slice_get j p) (slice_get tracks p) here queues) Q
+        ((u : UnitName) (q : QueueState) → (IsOf j p u → ⊥) → P u q → Q u q)
+        → ((a : UnitName) (q : QueueState) → IsOf j p a → P a q → Q a (grown core a here q)) → OfQueues tables.units
+        (grown_for core (slice_get j p) (slice_get tracks p) here queues) Q
     one P Q p queues all other mine = go (slice_get j p) refl (slice_get tracks p) refl
       where
         Goal : Option Entry → Option Track → Type 0
         Goal oe ot = OfQueues tables.units (grown_for core oe ot here queues) Q
 
         nobody : slice_get j p ≡ None → OfQueues tables.units queues Q
-        nobody is = same_each P Q queues all (λ u q. other u q (λ of. let w = of.3 in let z : None ≡ Some (Done u of.0 of.1 of.2) = sym is ∙ w in let y : ⊥ = cc in y))
+        nobody is = same_each P Q queues all
+            (λ u q. other u q (λ of. let w = of.3 in let z : None ≡ Some (Done u of.0 of.1 of.2) = sym is ∙ w in let y : ⊥ = cc in y))
 
         by_entry : (e : Entry) → slice_get j p ≡ Some e → (t : Track) → slice_get tracks p ≡ Some t → Goal (Some e) (Some t)
-        by_entry (Emitted k) is t ht = same_each P Q queues all (λ u q. other u q (λ of. let w = of.3 in let z : Some (Emitted k) ≡ Some (Done u of.0 of.1 of.2) = sym is ∙ w in let y : ⊥ = cc in y))
+        by_entry (Emitted k) is t ht = same_each P Q queues all
+            (λ u q. other u q (λ of. let w = of.3 in let z : Some (Emitted k) ≡ Some (Done u of.0 of.1 of.2) = sym is ∙ w in let y : ⊥ = cc in y))
         by_entry (Done a c r f) is t ht =
             let tr = (track_is p (Done a c r f) t is ht).actor in
             subst (λ (n : Option ℕ). OfQueues tables.units (grown_at core (Done a c r f) n here queues) Q) (sym tr.1)
             (changed P Q queues (grown core a here) a tr.0 tr.2 all
-            (λ u q differs. other u q (λ of. let w = of.3 in let z : Some (Done a c r f) ≡ Some (Done u of.0 of.1 of.2) = sym is ∙ w in differs (let y : u ≡ a = cc in y)))
+            (λ u q differs. other u q
+            (λ of. let w = of.3 in let z : Some (Done a c r f) ≡ Some (Done u of.0 of.1 of.2) = sym is ∙ w in differs (let y : u ≡ a = cc in y)))
             (λ q. mine a q (c, r, f, is)))
 
         go : (oe : Option Entry) → slice_get j p ≡ oe → (ot : Option Track) → slice_get tracks p ≡ ot → Goal oe ot
@@ -133,19 +147,29 @@ module _ (tables : Tables) (numbered : AreNumbered tables) where
     in_first p ps = or_left (p == p) (set_of ps p) (eq_refl p)
 
     -- what each step keeps, all keep
-    pub all_keep : (P : UnitName → QueueState → Type 0) (asked : List ℕ) → ((p : ℕ) (a : UnitName) (q : QueueState) → set_of asked p ≡ true → IsOf j p a → P a q → P a (grown core a here q)) → (queues : List QueueState) → OfQueues tables.units queues P → OfQueues tables.units (all_grown core j tracks asked here queues) P
+    pub all_keep : (P : UnitName → QueueState → Type 0) (asked : List ℕ)
+        → ((p : ℕ) (a : UnitName) (q : QueueState) → set_of asked p ≡ true → IsOf j p a → P a q → P a (grown core a here q)) → (queues : List QueueState)
+        → OfQueues tables.units queues P → OfQueues tables.units (all_grown core j tracks asked here queues) P
     all_keep P [] keeps queues all = all
     all_keep P (p ∷ ps) keeps queues all =
         all_keep P ps (λ p' a q has. keeps p' a q (in_rest p p' ps has)) (grown_for core (slice_get j p) (slice_get tracks p) here queues)
         (one P P p queues all (λ u q no was. was) (λ a q of. keeps p a q (in_first p ps) of))
 
     -- what one step brings to the units that are asked, all bring
-    pub all_bring : (A : UnitName → Type 0) (P Q : UnitName → QueueState → Type 0) → ((a : UnitName) (q : QueueState) → A a → P a q → P a (grown core a here q)) → ((a : UnitName) (q : QueueState) → A a → P a q → Q a (grown core a here q)) → ((a : UnitName) (q : QueueState) → A a → Q a q → Q a (grown core a here q)) →
-        (asked : List ℕ) → ((p : ℕ) (a : UnitName) → set_of asked p ≡ true → IsOf j p a → A a) → (queues : List QueueState) → OfQueues tables.units queues P → (p : ℕ) (u : UnitName) → set_of asked p ≡ true → IsOf j p u →
+    pub all_bring : (A : UnitName → Type 0) (P Q : UnitName → QueueState → Type 0)
+        → ((a : UnitName) (q : QueueState) → A a → P a q → P a (grown core a here q))
+        → ((a : UnitName) (q : QueueState) → A a → P a q → Q a (grown core a here q))
+        → ((a : UnitName) (q : QueueState) → A a → Q a q → Q a (grown core a here q)) →
+        (asked : List ℕ) → ((p : ℕ) (a : UnitName) → set_of asked p ≡ true → IsOf j p a → A a) → (queues : List QueueState) → OfQueues tables.units queues P
+        → (p : ℕ) (u : UnitName) → set_of asked p ≡ true → IsOf j p u →
         OfQueues tables.units (all_grown core j tracks asked here queues) (λ v q. v ≡ u → Q v q)
     all_bring A P Q pp pq qq [] cover queues all p u has of = absurd (let z : ⊥ = cc in z)
     all_bring A P Q pp pq qq (p0 ∷ ps) cover queues all p u has of = by_or (p0 == p) (set_of ps p) has
-        (λ e. all_keep (λ v q. v ≡ u → Q v q) ps (λ p' a q in_ps of_a was is. qq a q (cover p' a (in_rest p0 p' ps in_ps) of_a) (was is)) (grown_for core (slice_get j p0) (slice_get tracks p0) here queues)
-        (one P (λ v q. v ≡ u → Q v q) p0 queues all (λ v q no was is. absurd (no (subst (λ (w : UnitName). IsOf j p0 w) (sym is) (subst (λ (n : ℕ). IsOf j n u) (sym (eqb-true p0 p e)) of)))) (λ a q of_a was is. pq a q (cover p0 a (in_first p0 ps) of_a) was)))
-        (λ more. all_bring A P Q pp pq qq ps (λ p' a in_ps of_a. cover p' a (in_rest p0 p' ps in_ps) of_a) (grown_for core (slice_get j p0) (slice_get tracks p0) here queues)
+        (λ e. all_keep (λ v q. v ≡ u → Q v q) ps (λ p' a q in_ps of_a was is. qq a q (cover p' a (in_rest p0 p' ps in_ps) of_a) (was is))
+        (grown_for core (slice_get j p0) (slice_get tracks p0) here queues)
+        (one P (λ v q. v ≡ u → Q v q) p0 queues all
+        (λ v q no was is. absurd (no (subst (λ (w : UnitName). IsOf j p0 w) (sym is) (subst (λ (n : ℕ). IsOf j n u) (sym (eqb-true p0 p e)) of))))
+        (λ a q of_a was is. pq a q (cover p0 a (in_first p0 ps) of_a) was)))
+        (λ more. all_bring A P Q pp pq qq ps (λ p' a in_ps of_a. cover p' a (in_rest p0 p' ps in_ps) of_a)
+        (grown_for core (slice_get j p0) (slice_get tracks p0) here queues)
         (one P P p0 queues all (λ v q no was. was) (λ a q of_a was. pp a q (cover p0 a (in_first p0 ps) of_a) was)) p u more of)

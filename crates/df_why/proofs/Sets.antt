@@ -53,13 +53,15 @@ module _ (set : ℕ → Bool) (wanted : List Entry → Entry → Bool) where
       go [] older x split want =
           let who : x ≡ e = (let y = split in cc) in
           let which : older ≡ past = (let y = split in cc) in
-          let wanted_here : wanted past e ≡ true = (subst (λ (z : Entry). wanted past z ≡ true) who (subst (λ (l : List Entry). wanted l x ≡ true) which want)) in
+          let wanted_here : wanted past
+          e ≡ true = (subst (λ (z : Entry). wanted past z ≡ true) who (subst (λ (l : List Entry). wanted l x ≡ true) which want)) in
           subst (λ (l : List Entry). set (length l) ≡ true) (sym which) (here wanted_here)
       go (y ∷ newer) older x split want =
           let rest : past ≡ newer ++ x ∷ older = (let z = split in cc) in
           h newer older x rest want
 
-  pub has_weaker : (other : List Entry → Entry → Bool) → ((older : List Entry) (e : Entry) → wanted older e ≡ true → other older e ≡ true) → (past : List Entry) → HasEach set other past → HasEach set wanted past
+  pub has_weaker : (other : List Entry → Entry → Bool) → ((older : List Entry) (e : Entry) → wanted older e ≡ true → other older e ≡ true)
+      → (past : List Entry) → HasEach set other past → HasEach set wanted past
   has_weaker other weaker past h = λ newer older x split want. h newer older x split (weaker older x want)
 
   pub has_none : (past : List Entry) → ((newer older : List Entry) (e : Entry) → past ≡ newer ++ e ∷ older → wanted older e ≡ false) → HasEach set wanted past
@@ -77,26 +79,33 @@ module _ (R : Rules) (s : List OwnState) (set : ℕ → Bool) where
   Founded past u = exists R s past u ≡ true → HasEach set (founds R s u) past
 
   -- what a set has with an entry that it has
-  module _ (past : List Entry) (a : UnitName) (c : Call) (r : Reply) (f : Effect) (closed : IsClosed R s set (Done a c r f ∷ past)) (has : set (length past) ≡ true) where
+  module _ (past : List Entry) (a : UnitName) (c : Call) (r : Reply) (f : Effect) (closed : IsClosed R s set (Done a c r f ∷ past))
+      (has : set (length past) ≡ true) where
     pub founded_here : Founded past a
     founded_here = λ there. has_weaker set (founds R s a) (rests R s past (Done a c r f)) (λ older x h.
-        or_left (exists R s past a && founds R s a older x) (is_met c r && brings R s a (length (received a past)) older x || on_one (commit_in f) (commit_of x)) (and_both (exists R s past a) (founds R s a older x) there h))
+        or_left (exists R s past a && founds R s a older x)
+        (is_met c r && brings R s a (length (received a past)) older x || on_one (commit_in f) (commit_of x))
+        (and_both (exists R s past a) (founds R s a older x) there h))
         past (closed_here (Done a c r f) past closed has)
 
     pub brought_here : is_met c r ≡ true → HasEach set (brings R s a (length (received a past))) past
     brought_here met = has_weaker set (brings R s a (length (received a past))) (rests R s past (Done a c r f)) (λ older x h.
-        or_right (exists R s past a && founds R s a older x) (is_met c r && brings R s a (length (received a past)) older x || on_one (commit_in f) (commit_of x))
-        (or_left (is_met c r && brings R s a (length (received a past)) older x) (on_one (commit_in f) (commit_of x)) (and_both (is_met c r) (brings R s a (length (received a past)) older x) met h)))
+        or_right (exists R s past a && founds R s a older x)
+        (is_met c r && brings R s a (length (received a past)) older x || on_one (commit_in f) (commit_of x))
+        (or_left (is_met c r && brings R s a (length (received a past)) older x) (on_one (commit_in f) (commit_of x))
+        (and_both (is_met c r) (brings R s a (length (received a past)) older x) met h)))
         past (closed_here (Done a c r f) past closed has)
 
   on_one_of : (oc : Option Commit) (k : Commit) → oc ≡ Some k → (under : Option Commit) → is_on k.event under ≡ true → on_one oc under ≡ true
   on_one_of None k h under on = absurd (let z : ⊥ = cc in z)
   on_one_of (Some l) k h under on = let same_commit : l ≡ k = (let y = h in cc) in rw same_commit on
 
-  pub committed_here : (e : Entry) (past : List Entry) (k : Commit) → IsClosed R s set (e ∷ past) → set (length past) ≡ true → commit_of e ≡ Some k → HasEach set (λ older x. is_on k.event (commit_of x)) past
+  pub committed_here : (e : Entry) (past : List Entry) (k : Commit) → IsClosed R s set (e ∷ past) → set (length past) ≡ true → commit_of e ≡ Some k
+      → HasEach set (λ older x. is_on k.event (commit_of x)) past
   committed_here (Done a c r f) past k closed has is = has_weaker set (λ older x. is_on k.event (commit_of x)) (rests R s past (Done a c r f)) (λ older x h.
       or_right (exists R s past a && founds R s a older x) (is_met c r && brings R s a (length (received a past)) older x || on_one (commit_in f) (commit_of x))
-      (or_right (is_met c r && brings R s a (length (received a past)) older x) (on_one (commit_in f) (commit_of x)) (on_one_of (commit_in f) k is (commit_of x) h)))
+      (or_right (is_met c r && brings R s a (length (received a past)) older x) (on_one (commit_in f) (commit_of x))
+      (on_one_of (commit_in f) k is (commit_of x) h)))
       past (closed_here (Done a c r f) past closed has)
   committed_here (Emitted l) past k closed has is = has_weaker set (λ older x. is_on k.event (commit_of x)) (rests R s past (Emitted l)) (λ older x h.
       on_one_of (Some l) k is (commit_of x) h)

@@ -30,7 +30,8 @@ track_kept old new kept e t is = record {
   given = is.given;
 }
 
-pub so_far_more : (journal : List Entry) (i : ℕ) (d : Entry) (old new : Tables) (tracks now : List Track) (t : Track) → i < length journal → IsSoFar old tracks journal i → AreNumbered new → KeepNumbers old new → IsTrack new (get_or journal i d) t → now ≡ tracks ++ t ∷ [] →
+pub so_far_more : (journal : List Entry) (i : ℕ) (d : Entry) (old new : Tables) (tracks now : List Track) (t : Track) → i < length journal
+    → IsSoFar old tracks journal i → AreNumbered new → KeepNumbers old new → IsTrack new (get_or journal i d) t → now ≡ tracks ++ t ∷ [] →
     IsSoFar new now journal (i + 1)
 so_far_more journal i d old new tracks now t inside so numbered kept is pushed = record {
   numbered = numbered;
@@ -41,7 +42,8 @@ so_far_more journal i d old new tracks now t inside so numbered kept is pushed =
     go : (p : ℕ) (e : Entry) → p < i + 1 → (p < i) ⊎ (i ≤ p) → IsTrack new (get_or journal p e) (track_at (tracks ++ t ∷ []) p)
     go p e lt (inl before) =
         let n = so.count in
-        subst (IsTrack new (get_or journal p e)) (sym (in_front tracks (t ∷ []) p no_track (omega (arith, before, n)))) (track_kept old new kept (get_or journal p e) (track_at tracks p) (so.each p e before))
+        subst (IsTrack new (get_or journal p e)) (sym (in_front tracks (t ∷ []) p no_track (omega (arith, before, n))))
+        (track_kept old new kept (get_or journal p e) (track_at tracks p) (so.each p e before))
     go p e lt (inr after) =
         let n = so.count in
         let here : length tracks ≡ p = omega (arith, lt, after, n) in
@@ -50,7 +52,8 @@ so_far_more journal i d old new tracks now t inside so numbered kept is pushed =
         subst (IsTrack new (get_or journal p e)) (sym newest)
         (subst (λ (x : Entry). IsTrack new x t) (get_or_default journal i d e inside ∙ ap (λ (k : ℕ). get_or journal k e) at) is)
 
-pub so_far_all : (journal : List Entry) (i : ℕ) (tables : Tables) (tracks : List Track) → length journal ≤ i → i ≤ length journal → IsSoFar tables tracks journal i → AreTracked tables tracks journal
+pub so_far_all : (journal : List Entry) (i : ℕ) (tables : Tables) (tracks : List Track) → length journal ≤ i → i ≤ length journal
+    → IsSoFar tables tracks journal i → AreTracked tables tracks journal
 so_far_all journal i tables tracks le ge so =
     let n = so.count in
     record { count = omega (arith, n, le, ge); each = λ p d lt. so.each p d (omega (arith, lt, le)) }

@@ -29,7 +29,8 @@ module _ (made : Entry → Bool) where
   first_below [] p h = absurd (let z : ⊥ = cc in z)
   first_below (e ∷ past) p h = go (first past) refl (made e) h (first_below past)
     where
-      go : (o : Option ℕ) → first past ≡ o → (b : Bool) → option_or o (cond b (Some (length past)) None) ≡ Some p → ((q : ℕ) → first past ≡ Some q → q < length past) → p < length (e ∷ past)
+      go : (o : Option ℕ) → first past ≡ o → (b : Bool) → option_or o (cond b (Some (length past)) None) ≡ Some p
+          → ((q : ℕ) → first past ≡ Some q → q < length past) → p < length (e ∷ past)
       go (Some q) is b h ih = let same : q ≡ p = (let z = h in cc) in let below = ih q is in omega (arith, same, below)
       go None is true h ih = let same : length past ≡ p = (let z = h in cc) in omega (arith, same)
       go None is false h ih = absurd (let z : ⊥ = cc in z)
@@ -45,14 +46,16 @@ module _ (made : Entry → Bool) where
   module _ (there : List Entry → Bool) (start : Bool) (begun : there [] ≡ start) where
     -- it comes to be by each entry of the kind, and by no other; what is there from the start by none
     abbrev pub Comes : List Entry → Type 0
-    Comes past = (newer older : List Entry) (e : Entry) → past ≡ newer ++ e ∷ older → (there (e ∷ older) ≡ (there older || made e)) × (start ≡ true → made e ≡ false)
+    Comes past = (newer older : List Entry) (e : Entry) → past ≡ newer ++ e ∷ older
+        → (there (e ∷ older) ≡ (there older || made e)) × (start ≡ true → made e ≡ false)
 
     comes_before : (e : Entry) (past : List Entry) → Comes (e ∷ past) → Comes past
     comes_before e past comes = λ newer older x split. comes (e ∷ newer) older x (ap (λ (l : List Entry). e ∷ l) split)
 
     there_is : (past : List Entry) → Comes past → there past ≡ (is_some (first past) || start)
     there_is [] comes = begun
-    there_is (e ∷ past) comes = (comes [] past e refl).0 ∙ ap (λ (b : Bool). b || made e) (there_is past (comes_before e past comes)) ∙ go (first past) (made e) start
+    there_is (e ∷ past) comes = (comes [] past e refl).0 ∙ ap (λ (b : Bool). b || made e) (there_is past (comes_before e past comes))
+        ∙ go (first past) (made e) start
       where
         go : (o : Option ℕ) (b c : Bool) → ((is_some o || c) || b) ≡ (is_some (option_or o (cond b (Some (length past)) None)) || c)
         go (Some p) b c = refl
@@ -62,7 +65,8 @@ module _ (made : Entry → Bool) where
         go None false false = refl
 
     -- the entry by which it comes to be is the first of the kind
-    pub turns_first : (past : List Entry) → Comes past → (newer older : List Entry) (e : Entry) → past ≡ newer ++ e ∷ older → (not (there older) && there (e ∷ older)) ≡ points (first past) (length older)
+    pub turns_first : (past : List Entry) → Comes past → (newer older : List Entry) (e : Entry) → past ≡ newer ++ e ∷ older
+        → (not (there older) && there (e ∷ older)) ≡ points (first past) (length older)
     turns_first past comes [] older e split = ap (λ (b : Bool). not (there older) && b) now.0
         ∙ ap (λ (b : Bool). not b && (b || made e)) (there_is older (comes_before e older (subst Comes split comes)))
         ∙ go (first older) refl (made e) start now.1

@@ -52,7 +52,8 @@ assoc false b c = refl
 
 module _ (links : List Link) (last : ℕ) where
   -- what is wanted is the last place and those to which the places picked so far lead
-  pub wants_is : (w : Wanted) (picked : List ℕ) (p : ℕ) (to : Link) → StandsFor (link_at links) last picked w → wants w p to ≡ ((p == last) || list_any (λ q. leads_to (link_at links q) p to) picked)
+  pub wants_is : (w : Wanted) (picked : List ℕ) (p : ℕ) (to : Link) → StandsFor (link_at links) last picked w
+      → wants w p to ≡ ((p == last) || list_any (λ q. leads_to (link_at links q) p to) picked)
   wants_is w picked p to so =
       ap (λ (b : Bool). b || (flag_at w.units.items to.actor || flag_at w.events.items to.event)) (so.places p)
       ∙ ap (λ (b : Bool). ((p == last) || places) || (b || flag_at w.events.items to.event)) (unit to.actor)
@@ -90,7 +91,8 @@ module _ (links : List Link) (last : ℕ) where
         ∙ past_first (add_places (link_at links p) k) (k == last) (list_any (λ q. add_places (link_at links q) k) picked)
         ∙ ap (λ (b : Bool). (k == last) || b) (sym (any_more (λ q. add_places (link_at links q) k) picked p));
     units = λ k. units k ∙ ap (λ (b : Bool). add_units (link_at links p) k || b) (so.units k) ∙ sym (any_more (λ q. add_units (link_at links q) k) picked p);
-    events = λ k. events k ∙ ap (λ (b : Bool). points (link_at links p).event k || b) (so.events k) ∙ sym (any_more (λ q. points (link_at links q).event k) picked p);
+    events = λ k. events k ∙ ap (λ (b : Bool). points (link_at links p).event k || b) (so.events k)
+        ∙ sym (any_more (λ q. points (link_at links q).event k) picked p);
   }
 
   -- there are flags for the links of each entry
@@ -113,20 +115,27 @@ module _ (links : List Link) (last : ℕ) where
   step_is : (step : ℕ) (picked : List ℕ) (w : Wanted) → StandsFor (link_at links) last picked w → picked ≡ walked (link_at links) last step →
       walked (link_at links) last (suc step) ≡ cond (wants w (last - step) (link_at links (last - step))) (picked ++ (last - step) ∷ []) picked
   step_is step picked w so is =
-      ap (λ (l : List ℕ). cond ((last - step == last) || list_any (λ q. leads_to (link_at links q) (last - step) (link_at links (last - step))) l) (l ++ (last - step) ∷ []) l) (sym is)
+      ap (λ (l : List ℕ). cond ((last - step == last) || list_any (λ q. leads_to (link_at links q) (last - step) (link_at links (last - step))) l)
+      (l ++ (last - step) ∷ []) l) (sym is)
       ∙ ap (λ (b : Bool). cond b (picked ++ (last - step) ∷ []) picked) (sym (wants_is w picked (last - step) (link_at links (last - step)) so))
 
   same_step : (step : ℕ) → suc step ≡ step + 1
   same_step step = omega arith
 
-  pub so_far_taken : (units events step : ℕ) (link : Link) (picked now : List ℕ) (old new : Wanted) → IsSoFar units events step picked old → link ≡ link_at links (last - step) → wants old (last - step) link ≡ true →
+  pub so_far_taken : (units events step : ℕ) (link : Link) (picked now : List ℕ) (old new : Wanted) → IsSoFar units events step picked old
+      → link ≡ link_at links (last - step) → wants old (last - step) link ≡ true →
       now ≡ picked ++ (last - step) ∷ [] → SameSizes old new →
       ((k : ℕ) → get_or new.places.items k false ≡ (add_places link k || get_or old.places.items k false)) →
       ((k : ℕ) → get_or new.units.items k false ≡ (add_units link k || get_or old.units.items k false)) →
       ((k : ℕ) → get_or new.events.items k false ≡ (points link.event k || get_or old.events.items k false)) →
       IsSoFar units events (step + 1) now new
   so_far_taken units events step link picked now old new so here wanted_here pushed sizes more_places more_units more_events = record {
-    sizes = record { place_flags = sizes.places ∙ so.sizes.place_flags; unit_flags = sizes.units ∙ so.sizes.unit_flags; event_flags = sizes.events ∙ so.sizes.event_flags };
+    sizes = record {
+      place_flags = sizes.places ∙ so.sizes.place_flags;
+      unit_flags = sizes.units ∙ so.sizes.unit_flags;
+      event_flags = sizes.events
+          ∙ so.sizes.event_flags;
+    };
     wanted = subst (λ (l : List ℕ). StandsFor (link_at links) last l new) (sym pushed) (stands_more old new picked (last - step) so.wanted
         (λ k. more_places k ∙ ap (λ (x : Link). add_places x k || get_or old.places.items k false) here)
         (λ k. more_units k ∙ ap (λ (x : Link). add_units x k || get_or old.units.items k false) here)
@@ -138,7 +147,8 @@ module _ (links : List Link) (last : ℕ) where
         ∙ ap (walked (link_at links) last) (same_step step);
   }
 
-  pub so_far_passed : (units events step : ℕ) (link : Link) (picked : List ℕ) (w : Wanted) → IsSoFar units events step picked w → link ≡ link_at links (last - step) → wants w (last - step) link ≡ false → IsSoFar units events (step + 1) picked w
+  pub so_far_passed : (units events step : ℕ) (link : Link) (picked : List ℕ) (w : Wanted) → IsSoFar units events step picked w
+      → link ≡ link_at links (last - step) → wants w (last - step) link ≡ false → IsSoFar units events (step + 1) picked w
   so_far_passed units events step link picked w so here unwanted = record {
     sizes = so.sizes;
     wanted = so.wanted;

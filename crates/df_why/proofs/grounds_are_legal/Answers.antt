@@ -8,7 +8,8 @@ pub returns-clause-legal : goal.returns-clause-legal
 returns-clause-legal c = λ start j legal set closed. legal_again rows (roots start) (row_taking_laws start) row_meeting_laws set j closed legal
 
 pub returns-clause-units : goal.returns-clause-units
-returns-clause-units c = λ start j set closed newer past u call r f split has. actor_again rows (roots start) (row_taking_laws start) row_meeting_laws set j closed newer past u call r f split has
+returns-clause-units c = λ start j set closed newer past u call r f split has. actor_again rows (roots start) (row_taking_laws start) row_meeting_laws set j
+    closed newer past u call r f split has
 
 pub returns-clause-last : goal.returns-clause-last
 returns-clause-last c = λ start j set place least newer past e split count. last_chosen rows (roots start) set j place least newer past e split count

@@ -6,4 +6,5 @@ use Rattle.df_why.proofs.links.all_links.Goals as goal
 
 pub loop-place-preserved : goal.loop-place-preserved
 loop-place-preserved c =
-    filled_more blank (λ p. link_of c.args.made.now (track_at c.args.tracks.now p) (found_at c.args.finds.now p)) c.loop-place.place c.loop-place.links.items c.push.new.self.items c.link_from.result c.loop-place.invariant c.in_ok-push.ensures.items c.link_from.ensures
+    filled_more blank (λ p. link_of c.args.made.now (track_at c.args.tracks.now p) (found_at c.args.finds.now p)) c.loop-place.place c.loop-place.links.items
+    c.push.new.self.items c.link_from.result c.loop-place.invariant c.in_ok-push.ensures.items c.link_from.ensures

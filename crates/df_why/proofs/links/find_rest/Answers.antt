@@ -5,14 +5,20 @@ use Rattle.df_why.proofs.links.find_rest.Goals as goal
 
 pub returns-clause-found : goal.returns-clause-found
 returns-clause-found c =
-    all_found_merged rows (firsts c.args.start.now) c.args.journal.now c.args.all.now.tracks.items c.args.finds.items c.requires.found c.in_ok-more.more.items c.in_ok-both.both.items c.in_ok-more.ensures.found
-    (told_lacking rows (firsts c.args.start.now) c.args.journal.now c.args.all.now.tracks.items c.as_slice.result.now c.args.finds.items c.as_slice-2.result.now c.in_ok-more.more.items c.in_ok-places.places.items c.requires.tracked.count c.as_slice.ensures.value c.as_slice-2.ensures.value
+    all_found_merged rows (firsts c.args.start.now) c.args.journal.now c.args.all.now.tracks.items c.args.finds.items c.requires.found c.in_ok-more.more.items
+    c.in_ok-both.both.items c.in_ok-more.ensures.found
+    (told_lacking rows (firsts c.args.start.now) c.args.journal.now c.args.all.now.tracks.items c.as_slice.result.now c.args.finds.items
+    c.as_slice-2.result.now c.in_ok-more.more.items c.in_ok-places.places.items c.requires.tracked.count c.as_slice.ensures.value c.as_slice-2.ensures.value
     c.in_ok-places.ensures c.in_ok-more.ensures.all)
-    (told_merged c.args.journal.now c.args.finds.items c.as_slice-3.result.now c.in_ok-more.more.items c.as_slice-4.result.now c.in_ok-both.both.items c.requires.count c.as_slice-3.ensures.value c.as_slice-4.ensures.value c.in_ok-both.ensures.each)
+    (told_merged c.args.journal.now c.args.finds.items c.as_slice-3.result.now c.in_ok-more.more.items c.as_slice-4.result.now c.in_ok-both.both.items
+    c.requires.count c.as_slice-3.ensures.value c.as_slice-4.ensures.value c.in_ok-both.ensures.each)
 
 pub returns-clause-enough : goal.returns-clause-enough
 returns-clause-enough c =
-    all_enough_merged rows (firsts c.args.start.now) c.args.journal.now c.args.all.now.tracks.items c.args.finds.items c.requires.found c.in_ok-more.more.items c.in_ok-both.both.items c.in_ok-more.ensures.found
-    (told_lacking rows (firsts c.args.start.now) c.args.journal.now c.args.all.now.tracks.items c.as_slice.result.now c.args.finds.items c.as_slice-2.result.now c.in_ok-more.more.items c.in_ok-places.places.items c.requires.tracked.count c.as_slice.ensures.value c.as_slice-2.ensures.value
+    all_enough_merged rows (firsts c.args.start.now) c.args.journal.now c.args.all.now.tracks.items c.args.finds.items c.requires.found
+    c.in_ok-more.more.items c.in_ok-both.both.items c.in_ok-more.ensures.found
+    (told_lacking rows (firsts c.args.start.now) c.args.journal.now c.args.all.now.tracks.items c.as_slice.result.now c.args.finds.items
+    c.as_slice-2.result.now c.in_ok-more.more.items c.in_ok-places.places.items c.requires.tracked.count c.as_slice.ensures.value c.as_slice-2.ensures.value
     c.in_ok-places.ensures c.in_ok-more.ensures.all)
-    (told_merged c.args.journal.now c.args.finds.items c.as_slice-3.result.now c.in_ok-more.more.items c.as_slice-4.result.now c.in_ok-both.both.items c.requires.count c.as_slice-3.ensures.value c.as_slice-4.ensures.value c.in_ok-both.ensures.each)
+    (told_merged c.args.journal.now c.args.finds.items c.as_slice-3.result.now c.in_ok-more.more.items c.as_slice-4.result.now c.in_ok-both.both.items
+    c.requires.count c.as_slice-3.ensures.value c.as_slice-4.ensures.value c.in_ok-both.ensures.each)

@@ -12,7 +12,8 @@ returns-clause-known c =
     let tracks = c.args.all.now.tracks.items in
     let ts = c.as_slice-tracks.result.now in
     let value = c.as_slice-tracks.ensures.value in
-    links_known (firsts c.args.start.now) c.args.journal.now c.args.all.now.tables tracks c.in_ok-finds.finds.items c.in_ok-made.made.items c.requires.legal c.requires.numbered c.requires.tracked
+    links_known (firsts c.args.start.now) c.args.journal.now c.args.all.now.tables tracks c.in_ok-finds.finds.items c.in_ok-made.made.items c.requires.legal
+    c.requires.numbered c.requires.tracked
     (λ k lt. c.in_ok-made.ensures k (subst (λ (n : ℕ). k < n) (sym c.len-2.ensures.len) lt) ∙ ap (λ (l : List Track). makes_at k l (length l)) value)
     c.in_ok-finds.ensures.enough c.in_ok-links.links.items (c.in_ok-links.ensures.count ∙ ap (λ (l : List Track). length l) value)
     (λ p lt.
@@ -26,7 +27,8 @@ returns-clause-within c =
     let tracks = c.args.all.now.tracks.items in
     let ts = c.as_slice-tracks.result.now in
     let value = c.as_slice-tracks.ensures.value in
-    links_within (firsts c.args.start.now) c.args.journal.now c.args.all.now.tables tracks c.in_ok-finds.finds.items c.in_ok-made.made.items c.requires.legal c.requires.numbered c.requires.tracked
+    links_within (firsts c.args.start.now) c.args.journal.now c.args.all.now.tables tracks c.in_ok-finds.finds.items c.in_ok-made.made.items c.requires.legal
+    c.requires.numbered c.requires.tracked
     (λ k lt. c.in_ok-made.ensures k (subst (λ (n : ℕ). k < n) (sym c.len-2.ensures.len) lt) ∙ ap (λ (l : List Track). makes_at k l (length l)) value)
     c.in_ok-finds.ensures.found c.in_ok-links.links.items (c.in_ok-links.ensures.count ∙ ap (λ (l : List Track). length l) value)
     (λ p lt.

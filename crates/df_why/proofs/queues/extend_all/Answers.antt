@@ -14,7 +14,9 @@ loop-of-preserved c =
     elim c.if-of-journal.branch [
       | then-of-journal+then-of-tracks+in_ok-extend_at w ↦
           grown_more core j tracks asked c.args.place c.args.queues.now i p c.loop-of.queues c.if-of-journal.queues c.loop-of-test.true refl c.loop-of.invariant
-          (w.queues-is ∙ w.in_ok-extend_at.ensures ∙ sym (grown_within core j tracks c.args.place c.loop-of.queues p w.index-journal-of.result w.if-of-journal.true w.if-of-tracks.true w.index-journal-of.is))
+          (w.queues-is ∙ w.in_ok-extend_at.ensures
+          ∙ sym (grown_within core j tracks c.args.place c.loop-of.queues p w.index-journal-of.result w.if-of-journal.true w.if-of-tracks.true
+          w.index-journal-of.is))
       | else-of-journal w ↦
           let side : (length j ≤ p) ⊎ (length tracks ≤ p) = elim w.else-of-journal.branch [
             | else-of-journal-via-then-of-journal+else-of-tracks v ↦ inr v.if-of-tracks.false

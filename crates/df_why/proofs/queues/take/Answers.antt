@@ -12,6 +12,7 @@ returns-then-number-queues c =
 pub returns-else-track : goal.returns-else-track
 returns-else-track c = elim c.else-track.branch [
   | else-track-via-then-track+else-number-queues w ↦
-      sym (taken_of c.args.track.now c.args.queues.now c.in-Some.number w.if-track.true c.in-Some.is ∙ modify_past c.in-Some.number taken_more c.args.queues.now w.if-number-queues.false)
+      sym (taken_of c.args.track.now c.args.queues.now c.in-Some.number w.if-track.true c.in-Some.is
+      ∙ modify_past c.in-Some.number taken_more c.args.queues.now w.if-number-queues.false)
   | else-track-via-else-track w ↦ sym (taken_none c.args.track.now c.args.queues.now w.if-track.false)
 ]

@@ -16,9 +16,12 @@ loop-step-preserved c =
       | then-is_wanted+in_ok-push w ↦
           let pushed : c.if-is_wanted.picked.items ≡ c.loop-step.picked.items ++ place ∷ [] = (rw w.picked-is w.in_ok-push.ensures.items) in
           subst (λ (v : Wanted). IsSoFar links last c.args.units c.args.events (c.loop-step.step + 1) c.if-is_wanted.picked.items v) (sym w.wanted-is)
-          (so_far_taken links last c.args.units c.args.events c.loop-step.step link c.loop-step.picked.items c.if-is_wanted.picked.items c.loop-step.wanted w.add.new.wanted
-          c.loop-step.invariant refl (sym tested ∙ w.if-is_wanted.true) pushed w.add.ensures.sizes w.add.ensures.places w.add.ensures.units w.add.ensures.events)
+          (so_far_taken links last c.args.units c.args.events c.loop-step.step link c.loop-step.picked.items c.if-is_wanted.picked.items c.loop-step.wanted
+          w.add.new.wanted
+          c.loop-step.invariant refl (sym tested ∙ w.if-is_wanted.true) pushed w.add.ensures.sizes w.add.ensures.places w.add.ensures.units
+          w.add.ensures.events)
       | else-is_wanted w ↦
           rw (w.wanted-is, w.picked-is)
-          (so_far_passed links last c.args.units c.args.events c.loop-step.step link c.loop-step.picked.items c.loop-step.wanted c.loop-step.invariant refl (sym tested ∙ w.if-is_wanted.false))
+          (so_far_passed links last c.args.units c.args.events c.loop-step.step link c.loop-step.picked.items c.loop-step.wanted c.loop-step.invariant refl
+          (sym tested ∙ w.if-is_wanted.false))
     ]

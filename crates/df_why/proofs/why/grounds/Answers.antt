@@ -7,20 +7,28 @@ links_of-requires-clause-legal c = legal_first c.args.start.now c.args.journal.n
 
 pub returns-clause-exact : goal.returns-clause-exact
 returns-clause-exact c =
-    exact c.args.start.now c.args.journal.now c.args.place c.requires.place c.in_ok-links.links.items c.in_ok-links.ensures.count c.in_ok-links.ensures.known c.in_ok-picked.picked.items c.in_ok-places.places.items
-    (walk_of c.as_slice.result.now c.in_ok-links.links.items c.in_ok-picked.picked.items c.as_slice.ensures.value c.in_ok-picked.ensures) (c.in_ok-places.ensures ∙ ap (reverse {A = ℕ}) c.as_slice-2.ensures.value)
+    exact c.args.start.now c.args.journal.now c.args.place c.requires.place c.in_ok-links.links.items c.in_ok-links.ensures.count c.in_ok-links.ensures.known
+    c.in_ok-picked.picked.items c.in_ok-places.places.items
+    (walk_of c.as_slice.result.now c.in_ok-links.links.items c.in_ok-picked.picked.items c.as_slice.ensures.value c.in_ok-picked.ensures)
+    (c.in_ok-places.ensures ∙ ap (reverse {A = ℕ}) c.as_slice-2.ensures.value)
 
 pub returns-clause-legal : goal.returns-clause-legal
 returns-clause-legal c =
-    legal_places c.args.start.now c.args.journal.now c.args.place c.requires.place c.in_ok-links.links.items c.in_ok-links.ensures.count c.in_ok-links.ensures.known c.in_ok-picked.picked.items c.in_ok-places.places.items
-    (walk_of c.as_slice.result.now c.in_ok-links.links.items c.in_ok-picked.picked.items c.as_slice.ensures.value c.in_ok-picked.ensures) (c.in_ok-places.ensures ∙ ap (reverse {A = ℕ}) c.as_slice-2.ensures.value) c.requires.legal
+    legal_places c.args.start.now c.args.journal.now c.args.place c.requires.place c.in_ok-links.links.items c.in_ok-links.ensures.count
+    c.in_ok-links.ensures.known c.in_ok-picked.picked.items c.in_ok-places.places.items
+    (walk_of c.as_slice.result.now c.in_ok-links.links.items c.in_ok-picked.picked.items c.as_slice.ensures.value c.in_ok-picked.ensures)
+    (c.in_ok-places.ensures ∙ ap (reverse {A = ℕ}) c.as_slice-2.ensures.value) c.requires.legal
 
 pub returns-clause-last : goal.returns-clause-last
 returns-clause-last c =
-    last_place c.args.start.now c.args.journal.now c.args.place c.requires.place c.in_ok-links.links.items c.in_ok-links.ensures.count c.in_ok-links.ensures.known c.in_ok-picked.picked.items c.in_ok-places.places.items
-    (walk_of c.as_slice.result.now c.in_ok-links.links.items c.in_ok-picked.picked.items c.as_slice.ensures.value c.in_ok-picked.ensures) (c.in_ok-places.ensures ∙ ap (reverse {A = ℕ}) c.as_slice-2.ensures.value)
+    last_place c.args.start.now c.args.journal.now c.args.place c.requires.place c.in_ok-links.links.items c.in_ok-links.ensures.count
+    c.in_ok-links.ensures.known c.in_ok-picked.picked.items c.in_ok-places.places.items
+    (walk_of c.as_slice.result.now c.in_ok-links.links.items c.in_ok-picked.picked.items c.as_slice.ensures.value c.in_ok-picked.ensures)
+    (c.in_ok-places.ensures ∙ ap (reverse {A = ℕ}) c.as_slice-2.ensures.value)
 
 pub returns-clause-noted : goal.returns-clause-noted
 returns-clause-noted c =
-    noted_places c.args.start.now c.args.journal.now c.args.place c.requires.place c.in_ok-links.links.items c.in_ok-links.ensures.count c.in_ok-links.ensures.known c.in_ok-picked.picked.items c.in_ok-places.places.items
-    (walk_of c.as_slice.result.now c.in_ok-links.links.items c.in_ok-picked.picked.items c.as_slice.ensures.value c.in_ok-picked.ensures) (c.in_ok-places.ensures ∙ ap (reverse {A = ℕ}) c.as_slice-2.ensures.value)
+    noted_places c.args.start.now c.args.journal.now c.args.place c.requires.place c.in_ok-links.links.items c.in_ok-links.ensures.count
+    c.in_ok-links.ensures.known c.in_ok-picked.picked.items c.in_ok-places.places.items
+    (walk_of c.as_slice.result.now c.in_ok-links.links.items c.in_ok-picked.picked.items c.as_slice.ensures.value c.in_ok-picked.ensures)
+    (c.in_ok-places.ensures ∙ ap (reverse {A = ℕ}) c.as_slice-2.ensures.value)

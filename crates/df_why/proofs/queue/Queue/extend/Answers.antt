@@ -8,6 +8,8 @@ pub returns : goal.returns
 returns c =
     let old = c.args.self.now in
     subst (λ (q : QueueState). OnOk c.add.result (c.add.new.self ≡ q))
-    (ap (λ (q : QueueState). let r : QueueState = record { taken = q.taken; places = extended q.places (q.taken + c.args.left) c.args.place } in r) c.in_ok-reach.ensures
-    ∙ ap (λ (l : List (Option ℕ)). let r : QueueState = record { taken = old.taken; places = l } in r) (extended_twice old.places old.taken c.args.left c.args.place))
+    (ap (λ (q : QueueState). let r : QueueState = record { taken = q.taken; places = extended q.places (q.taken + c.args.left) c.args.place } in r)
+    c.in_ok-reach.ensures
+    ∙ ap (λ (l : List (Option ℕ)). let r : QueueState = record { taken = old.taken; places = l } in r)
+    (extended_twice old.places old.taken c.args.left c.args.place))
     c.add.ensures
