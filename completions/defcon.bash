@@ -1,11 +1,13 @@
 # Completes the words of defcon in bash 4 or later: source this file. The first word is a command or
-# an option. The others are the names of files, but for labels, keys and counts, which are left free.
+# an option. The others are the names of files, but for labels, places, keys and counts, which are
+# left free.
 
 _defcon_forms=(
     'steps SCRIPT'
     'check JOURNAL'
     'purge LABEL JOURNAL'
     'upgrade JOURNAL'
+    'why JOURNAL PLACE'
     'auction ORDERS'
     'lint SCRIPT'
     'gen KEY N'
@@ -30,7 +32,7 @@ _defcon() {
             break
         fi
     done
-    [[ $kind != @(LABEL|KEY|N|none) ]] || compopt +o default
+    [[ $kind != @(LABEL|PLACE|KEY|N|none) ]] || compopt +o default
 }
 
 # Where the function gives nothing and leaves the default, bash completes the name of a file.

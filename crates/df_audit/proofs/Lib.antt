@@ -1,4 +1,5 @@
 pub mod Exact
+pub mod Grounds
 pub mod Reports
 pub mod Sound
 pub mod Told

@@ -21,13 +21,15 @@ use Rattle.df_unit.specs.declared.entry.Entry.TheVariants.{Done}
 use Rattle.df_unit.specs.declared.reply.Reply.{Reply}
 use Rattle.df_audit.specs.Sound.{IsSound}
 
-pub legal_separates : (begin : List RootStart) (past : List Entry) → Legal rows (machine.firsts begin) past → (l : Label) → Separates rows (machine.firsts begin) past l
+pub legal_separates : (begin : List RootStart) (past : List Entry) → Legal rows (machine.firsts begin) past → (l : Label)
+    → Separates rows (machine.firsts begin) past l
 legal_separates begin past legal l =
     let start = map begun begin in
     record {
       legal = purge_legal rows (roots start) (row_laws start) l past legal;
       keeps = purge_keeps rows (roots start) (row_laws start) l past;
-      exercised = λ newer older u call r f k same h. exercised rows (roots start) (row_laws start) (row_release_laws start) l older u call r f k (legal_before rows (roots start) past legal newer (Done u call r f ∷ older) same) h;
+      exercised = λ newer older u call r f k same h. exercised rows (roots start) (row_laws start) (row_release_laws start) l older u call r f k
+          (legal_before rows (roots start) past legal newer (Done u call r f ∷ older) same) h;
     }
 
 pub legal_is_sound : (begin : List RootStart) (past : List Entry) → Legal rows (machine.firsts begin) past → IsSound (machine.firsts begin) past
@@ -36,6 +38,7 @@ legal_is_sound begin past legal =
     record {
       legal = legal;
       delivers = λ u st h. gets_give_deliveries rows (roots start) (row_taking_laws start) past legal u st h;
-      none_left = λ newer older u f same. nothing_after_all start older u f (legal_before rows (roots start) past legal newer (Done u Get Reply.Nothing f ∷ older) same);
+      none_left = λ newer older u f same. nothing_after_all start older u f
+          (legal_before rows (roots start) past legal newer (Done u Get Reply.Nothing f ∷ older) same);
       separates = legal_separates begin past legal;
     }

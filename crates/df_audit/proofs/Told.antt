@@ -1,5 +1,5 @@
 -- What is told of a journal whose notes are known.
-use Rattle.std.proofs.Common.{◌≡◌, ℕ, List, [], Result, Ok, Err, IfOk, reverse, ap, sym, subst, ◌∙◌}
+use Rattle.std.proofs.Common.{◌≡◌, ℕ, List, Result, Ok, Err, IfOk, reverse, ap, sym, subst, ◌∙◌}
 use Rattle.df_label.specs.declared.label.Label.{Label}
 use Rattle.df_machine.specs.Journal.{firsts}
 use Rattle.df_rules.specs.Legal.{Legal}
@@ -17,7 +17,7 @@ use Rattle.df_audit.specs.Audit.{IsPurgeOf, IsRightJournal, IsUpgradeOf, IsWrong
 use Rattle.df_audit.specs.code.Noting.{IsNotedOf}
 use Rattle.df_audit.specs.declared.audit.Audit.{Audit}
 use Rattle.df_audit.specs.declared.audit.Finding.{Finding}
-use Rattle.df_audit.specs.declared.audit.Finding.TheVariants.{Right, Wrong}
+use Rattle.df_audit.specs.declared.audit.Finding.TheVariants.{Right}
 use Rattle.df_audit.specs.declared.right.Noting.{Noting}
 use Rattle.df_audit.specs.declared.right.Noting.TheVariants as noting
 use Rattle.df_audit.proofs.Sound.{legal_is_sound, legal_separates}
@@ -34,7 +34,8 @@ Knows journal (noting.Noted start notes) = IsKnown journal start notes.items
 Knows journal (noting.Wrong place) = IsWrongAt journal place
 
 -- notes that are made are right
-made_known : (roots start : List RootStart) (past : List Entry) (notes : List Noted) → start ≡ roots → Legal rows (firsts roots) past → notes ≡ noted roots past → AreRight start notes × (past_of notes ≡ past)
+made_known : (roots start : List RootStart) (past : List Entry) (notes : List Noted) → start ≡ roots → Legal rows (firsts roots) past
+    → notes ≡ noted roots past → AreRight start notes × (past_of notes ≡ past)
 made_known roots start past notes same legal is = (
   subst (λ (r : List RootStart). AreRight r notes) (sym same) (subst (AreRight roots) (sym is) (right_notes roots past legal)),
   ap past_of is ∙ noted_past roots past,
@@ -46,7 +47,13 @@ knows (First roots entries) (noting.Noted start notes) h =
     record { same = h.0; right = h.1; are = made.0; past = made.1 }
 knows (First roots entries) (noting.Wrong place) h = h
 knows (Second roots kept) (noting.Noted start notes) h =
-    record { same = h.0; right = h.1; are = subst (λ (r : List RootStart). AreRight r notes.items) (sym h.0) (subst (AreRight roots) (sym h.2) h.1); past = ap past_of h.2 }
+    record {
+      same = h.0;
+      right = h.1;
+      are = subst (λ (r : List RootStart). AreRight r notes.items) (sym h.0) (subst (AreRight roots) (sym h.2) h.1);
+      past = ap
+          past_of h.2;
+    }
 knows (Second roots kept) (noting.Wrong place) h = h
 
 -- a right journal is legal
@@ -55,7 +62,8 @@ legal_in (First roots entries) right = right
 legal_in (Second roots notes) right = right.legal
 
 module _ (journal : Journal) (start : List RootStart) (notes : List Noted) (k : IsKnown journal start notes) where
-  pub purge_told : (label : Label) (left : List Noted) (text : List ℕ) → left ≡ noted start (purge rows (firsts start) label (past_of notes)) → text ≡ journal_text start left → IsPurgeOf label journal text
+  pub purge_told : (label : Label) (left : List Noted) (text : List ℕ) → left ≡ noted start (purge rows (firsts start) label (past_of notes))
+      → text ≡ journal_text start left → IsPurgeOf label journal text
   purge_told label left text is told =
       let separates = legal_separates (roots_in journal) (past_in journal) (legal_in journal k.right) label in
       record {
@@ -82,17 +90,13 @@ module _ (journal : Journal) (start : List RootStart) (notes : List Noted) (k : 
       }
 
   -- what is told, where there was memory
-  pub purge_ok : {E : Type 0} (label : Label) (left : List Noted) (r : Result Audit E) → left ≡ noted start (purge rows (firsts start) label (past_of notes)) → IfOk r (λ a. a.finding ≡ Right) → IfOk r (λ a. a.text.items ≡ journal_text start left) → IfOk r (λ a. Purges label journal a.finding a.text.items)
-  purge_ok label left (Ok a) is found told = subst (λ (f : Finding). Purges label journal f a.text.items) (sym found) (purge_told label left a.text.items is told)
+  pub purge_ok : {E : Type 0} (label : Label) (left : List Noted) (r : Result Audit E) → left ≡ noted start (purge rows (firsts start) label (past_of notes))
+      → IfOk r (λ a. a.finding ≡ Right) → IfOk r (λ a. a.text.items ≡ journal_text start left) → IfOk r (λ a. Purges label journal a.finding a.text.items)
+  purge_ok label left (Ok a) is found told = subst (λ (f : Finding). Purges label journal f a.text.items) (sym found)
+      (purge_told label left a.text.items is told)
   purge_ok label left (Err e) is found told = found
 
-  pub upgrade_ok : {E : Type 0} (r : Result Audit E) → IfOk r (λ a. a.finding ≡ Right) → IfOk r (λ a. a.text.items ≡ journal_text start notes) → IfOk r (λ a. Upgrades journal a.finding a.text.items)
+  pub upgrade_ok : {E : Type 0} (r : Result Audit E) → IfOk r (λ a. a.finding ≡ Right) → IfOk r (λ a. a.text.items ≡ journal_text start notes)
+      → IfOk r (λ a. Upgrades journal a.finding a.text.items)
   upgrade_ok (Ok a) found told = subst (λ (f : Finding). Upgrades journal f a.text.items) (sym found) (upgrade_told a.text.items told)
   upgrade_ok (Err e) found told = found
-
-module _ (journal : Journal) (place : ℕ) (found : Finding) (text : List ℕ) (wrong : IsWrongAt journal place) (is : found ≡ Wrong place) (silent : text ≡ []) where
-  pub purge_wrong : (label : Label) → Purges label journal found text
-  purge_wrong label = subst (λ (f : Finding). Purges label journal f text) (sym is) (record { wrong = wrong; silent = silent })
-
-  pub upgrade_wrong : Upgrades journal found text
-  upgrade_wrong = subst (λ (f : Finding). Upgrades journal f text) (sym is) (record { wrong = wrong; silent = silent })

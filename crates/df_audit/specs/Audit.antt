@@ -1,5 +1,5 @@
 -- What an audit makes of a kept journal.
-use Rattle.std.specs.Prelude.{◌≡◌, ℕ, List, [], ◌∷◌, ◌++◌, None, codes, decimal, length, reverse}
+use Rattle.std.specs.Prelude.{◌≡◌, ℕ, ◌<◌, ◌≤◌, List, [], ◌∷◌, ◌++◌, None, codes, decimal, length, map, reverse, slice_get}
 use Rattle.df_label.specs.declared.label.Label.{Label}
 use Rattle.df_machine.specs.Journal.{firsts}
 use Rattle.df_rules.specs.Legal.{Legal}
@@ -9,7 +9,8 @@ use Rattle.df_rules.specs.Start.{rows}
 use Rattle.df_start.specs.declared.start.RootStart.{RootStart}
 use Rattle.df_unit.specs.declared.entry.Entry.{Entry}
 use Rattle.df_unit.specs.declared.entry.Noted.{Noted}
-use Rattle.df_replay.specs.Noted.{AreRight, noted, past_of}
+use Rattle.df_replay.specs.Noted.{AreRight, noted}
+use Rattle.df_why.specs.Grounds.{IsGrounds, at_places}
 use Rattle.df_check.specs.Check as plain
 use Rattle.df_check.specs.CheckNoted as with_notes
 use Rattle.df_journal_text.specs.Entry.{entry_text, noted_text}
@@ -20,7 +21,7 @@ use Rattle.df_journal_file.specs.declared.file.Journal.{Journal}
 use Rattle.df_journal_file.specs.declared.file.Journal.TheVariants.{First, Second}
 use Rattle.df_audit.specs.Sound.{IsSound}
 use Rattle.df_audit.specs.declared.audit.Finding.{Finding}
-use Rattle.df_audit.specs.declared.audit.Finding.TheVariants.{Right, Wrong}
+use Rattle.df_audit.specs.declared.audit.Finding.TheVariants.{Right, Wrong, NoPlace}
 
 -- ---- a journal in one of its versions
 
@@ -28,10 +29,14 @@ abbrev pub roots_in : Journal → List RootStart
 roots_in (First start entries) = start
 roots_in (Second start notes) = start
 
--- its entries, the newest first
+-- its entries, the oldest first
+abbrev pub entries_in : Journal → List Entry
+entries_in (First start entries) = entries.items
+entries_in (Second start notes) = map (λ n. n.entry) notes.items
+
+-- the same, the newest first
 abbrev pub past_in : Journal → List Entry
-past_in (First start entries) = reverse entries.items
-past_in (Second start notes) = past_of notes.items
+past_in journal = reverse (entries_in journal)
 
 -- each entry is what the rules give, and so is each contamination that is noted
 abbrev pub IsRightJournal : Journal → Type 0
@@ -44,6 +49,15 @@ IsWrongAt (First start entries) place =
     (expected : Entry) × plain.IsFirstWrong start entries.items place expected
 IsWrongAt (Second start notes) place =
     (expected : Noted) × with_notes.IsFirstWrong start notes.items place expected
+
+-- the journal is right, and has a place
+abbrev pub HasPlace : ℕ → Journal → Type 0
+HasPlace place journal = IsRightJournal journal × (place < length (entries_in journal))
+
+-- the journal is right, and has so many entries and not a place
+abbrev pub LacksPlace : ℕ → ℕ → Journal → Type 0
+LacksPlace place count journal =
+    IsRightJournal journal × (count ≡ length (entries_in journal)) × (count ≤ place)
 
 -- ---- texts
 
@@ -70,6 +84,7 @@ IsCheckOfFirst roots entries Right text = Legal rows (firsts roots) (reverse ent
 IsCheckOfFirst roots entries (Wrong place) text =
     (expected : Entry) × (at : plain.IsFirstWrong roots entries place expected)
     × (text ≡ wrong_text place (entry_text None at.kept) (entry_text None expected))
+IsCheckOfFirst roots entries (NoPlace count) text = ⊥
 
 -- the same in its second version
 abbrev pub IsCheckOfSecond : List RootStart → List Noted → Finding → List ℕ → Type 0
@@ -77,6 +92,7 @@ IsCheckOfSecond roots notes Right text = AreRight roots notes × (text ≡ valid
 IsCheckOfSecond roots notes (Wrong place) text =
     (expected : Noted) × (at : with_notes.IsFirstWrong roots notes place expected)
     × (text ≡ wrong_text place (noted_text at.kept) (noted_text expected))
+IsCheckOfSecond roots notes (NoPlace count) text = ⊥
 
 -- a check says whether the journal is right
 abbrev pub IsCheckOf : Journal → Finding → List ℕ → Type 0
@@ -101,6 +117,25 @@ pub record IsUpgradeOf (journal : Journal) (text : List ℕ) : Type 0 where
   pub told : text ≡ noted_journal (roots_in journal) (past_in journal)
   pub sound : IsSound (firsts (roots_in journal)) (past_in journal)
 
+-- the entries of a journal at these places, the newest first
+abbrev pub entries_at : List ℕ → Journal → List Entry
+entries_at places journal = reverse (at_places places (entries_in journal))
+
+-- the text is that of the grounds of an entry of a right journal: of the entry at the place and
+-- those on which it rests, and no others. They are a sound journal, and the newest is that entry
+pub record IsWhyOf (place : ℕ) (journal : Journal) (text : List ℕ) : Type 0 where
+  pub has : HasPlace place journal
+  pub places : List ℕ
+  pub grounds : IsGrounds rows (firsts (roots_in journal)) (past_in journal) place places
+  pub told : text ≡ noted_journal (roots_in journal) (entries_at places journal)
+  pub last : slice_get (entries_at places journal) 0 ≡ slice_get (entries_in journal) place
+  pub sound : IsSound (firsts (roots_in journal)) (entries_at places journal)
+
+-- of a right journal without the place nothing is told but the number of its entries
+pub record TellsCount (place : ℕ) (journal : Journal) (count : ℕ) (text : List ℕ) : Type 0 where
+  pub lacks : LacksPlace place count journal
+  pub silent : text ≡ []
+
 -- of a wrong journal nothing is told but the place
 pub record TellsPlace (journal : Journal) (place : ℕ) (text : List ℕ) : Type 0 where
   pub wrong : IsWrongAt journal place
@@ -110,11 +145,20 @@ pub record TellsPlace (journal : Journal) (place : ℕ) (text : List ℕ) : Type
 abbrev pub Purges : Label → Journal → Finding → List ℕ → Type 0
 Purges label journal Right text = IsPurgeOf label journal text
 Purges label journal (Wrong place) text = TellsPlace journal place text
+Purges label journal (NoPlace count) text = ⊥
 
 -- a right journal in its second version, or its first wrong place
 abbrev pub Upgrades : Journal → Finding → List ℕ → Type 0
 Upgrades journal Right text = IsUpgradeOf journal text
 Upgrades journal (Wrong place) text = TellsPlace journal place text
+Upgrades journal (NoPlace count) text = ⊥
+
+-- why the entry at a place of a right journal stands, or the journal's first wrong place, or how
+-- many entries it has
+abbrev pub Explains : ℕ → Journal → Finding → List ℕ → Type 0
+Explains place journal Right text = IsWhyOf place journal text
+Explains place journal (Wrong first) text = TellsPlace journal first text
+Explains place journal (NoPlace count) text = TellsCount place journal count text
 
 -- the bytes are a journal of which this holds
 abbrev pub OfJournal : List ℕ → (Journal → Type 0) → Type 0

@@ -3,6 +3,8 @@
 pub enum Finding {
     Right,
     Wrong { place: u64 },
+    /// The journal is right, has so many entries, and not the place that was asked for.
+    NoPlace { entries: u64 },
 }
 
 /// What an audit finds, and what it tells.

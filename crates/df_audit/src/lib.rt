@@ -1,5 +1,5 @@
 //! What an auditor asks of the bytes of a kept journal: whether it is what the rules give, what it
-//! would have been to a label, and the contaminations of its units.
+//! would have been to a label, the contaminations of its units, and why one of its entries stands.
 #![tactic(auto)]
 
 mod audit;
@@ -7,8 +7,10 @@ mod check;
 mod laws;
 mod right;
 mod text;
+mod why;
 
 pub use audit::{Audit, Finding};
 pub use check::check_text;
 pub use laws::{a_journal_is_right_or_wrong, a_wrong_journal_has_one_place};
 pub use right::{purge_text, upgrade_text};
+pub use why::why_text;

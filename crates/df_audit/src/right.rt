@@ -81,7 +81,7 @@ fn upgraded(alloc: Global, journal: Journal) -> Result<Audit, NoMemory>
 }
 
 /// The journal with its notes, where it is right.
-fn right_notes(alloc: Global, journal: Journal) -> Result<Noting, NoMemory>
+pub fn right_notes(alloc: Global, journal: Journal) -> Result<Noting, NoMemory>
     ensures { IfOk result (IsNotedOf journal) }
 {
     match journal {
@@ -123,7 +123,7 @@ fn told(alloc: Global, start: &Start, notes: &[Noted]) -> Result<Audit, NoMemory
 }
 
 /// Nothing but a wrong place.
-fn silent(alloc: Global, place: u64) -> Audit
+pub fn silent(alloc: Global, place: u64) -> Audit
     ensures finding { result.finding ≡ Wrong place }
     ensures text { result.text.items ≡ [] }
 {

@@ -9,7 +9,7 @@ use Rattle.df_lines.specs.declared.refused.FileRefused.TheVariants as file
 use Rattle.df_run.specs.Tasks.{RefusesInput, told_of}
 use Rattle.df_script_text.specs.Script.{IsScriptText}
 use Rattle.df_script_text.specs.TooLarge.{IsTooLargeIn}
-use Rattle.df_words.specs.declared.command.Command.TheVariants.{Check, Lint, Purge, Steps, Upgrade}
+use Rattle.df_words.specs.declared.command.Command.TheVariants.{Check, Lint, Purge, Steps, Upgrade, Why}
 
 abbrev pub NoScript : List ℕ → FileRefused → Type 0
 NoScript bytes refused = NamesBadLine IsScriptText IsTooLargeIn bytes refused
@@ -32,7 +32,8 @@ check_blames journal bytes (file.Syntax line) names = record { bad = names.2.fir
 check_blames journal bytes (file.TooLarge line) names = record { bad = names.2.first.none; place = names }
 check_blames journal bytes file.NoMemory names = tt
 
-pub purge_blames : (label : Label) (journal : ℕ) (bytes : List ℕ) (refused : FileRefused) → NoJournal bytes refused → RefusesInput (Purge label journal) bytes (told_of refused)
+pub purge_blames : (label : Label) (journal : ℕ) (bytes : List ℕ) (refused : FileRefused) → NoJournal bytes refused
+    → RefusesInput (Purge label journal) bytes (told_of refused)
 purge_blames label journal bytes (file.Syntax line) names = record { bad = names.2.first.none; place = names }
 purge_blames label journal bytes (file.TooLarge line) names = record { bad = names.2.first.none; place = names }
 purge_blames label journal bytes file.NoMemory names = tt
@@ -41,3 +42,9 @@ pub upgrade_blames : (journal : ℕ) (bytes : List ℕ) (refused : FileRefused) 
 upgrade_blames journal bytes (file.Syntax line) names = record { bad = names.2.first.none; place = names }
 upgrade_blames journal bytes (file.TooLarge line) names = record { bad = names.2.first.none; place = names }
 upgrade_blames journal bytes file.NoMemory names = tt
+
+pub why_blames : (journal place : ℕ) (bytes : List ℕ) (refused : FileRefused) → NoJournal bytes refused
+    → RefusesInput (Why journal place) bytes (told_of refused)
+why_blames journal place bytes (file.Syntax line) names = record { bad = names.2.first.none; place = names }
+why_blames journal place bytes (file.TooLarge line) names = record { bad = names.2.first.none; place = names }
+why_blames journal place bytes file.NoMemory names = tt

@@ -33,10 +33,12 @@ use Rattle.df_run.specs.declared.tasks.End.{End}
 use Rattle.df_run.specs.declared.tasks.End.TheVariants as end
 
 -- the first file stops a run
-pub first_stops : (c : Command) (told : Option (List ℕ)) (files : List (Option (List ℕ))) (before now : ℕ) (s : Status) → StopsAt c 1 told before now s → Stops c (told ∷ files) before now s
+pub first_stops : (c : Command) (told : Option (List ℕ)) (files : List (Option (List ℕ))) (before now : ℕ) (s : Status) → StopsAt c 1 told before now s
+    → Stops c (told ∷ files) before now s
 first_stops c told files before now status.ReadFault h = record { stop = tt; bad_input = tt; too_long = tt; read_fault = λ e. h }
 first_stops c told files before now status.NoMemory h = record { stop = tt; bad_input = tt; too_long = tt; read_fault = λ e. absurd (let no : ⊥ = cc in no) }
-first_stops c told files before now (status.TooLong i) h = record { stop = tt; bad_input = tt; too_long = inl h; read_fault = λ e. absurd (let no : ⊥ = cc in no) }
+first_stops c told files before now (status.TooLong i) h = record
+    { stop = tt; bad_input = tt; too_long = inl h; read_fault = λ e. absurd (let no : ⊥ = cc in no) }
 first_stops c told files before now (status.BadInput i line kind) h = record {
   stop = tt;
   bad_input = inl (h.0, subst (λ (k : ℕ). OfRead told (λ bytes. BlamesBytes c k bytes line kind)) (sym h.0) h.1);
@@ -48,16 +50,21 @@ first_stops c told files before now status.Usage h = absurd h
 first_stops c told files before now (status.Wrong place) h = absurd h
 first_stops c told files before now status.WriteFault h = absurd h
 first_stops c told files before now (status.Unsettled steps) h = absurd h
+first_stops c told files before now (status.NoPlace count) h = absurd h
 
 -- a count that rose later rose
 rose_later : (before mid now : ℕ) → before ≤ mid → Rose mid now → Rose before now
 rose_later before mid now le rose = omega (arith, le, rose)
 
 -- the second file stops a run
-pub second_stops : (c : Command) (one other : Option (List ℕ)) (before mid now : ℕ) (s : Status) → OfRead one (IsInput c 1) → before ≤ mid → StopsAt c 2 other mid now s → Stops c (one ∷ other ∷ []) before now s
-second_stops c one other before mid now status.ReadFault good le h = record { stop = tt; bad_input = tt; too_long = tt; read_fault = λ e. rose_later before mid now le h }
-second_stops c one other before mid now status.NoMemory good le h = record { stop = tt; bad_input = tt; too_long = tt; read_fault = λ e. absurd (let no : ⊥ = cc in no) }
-second_stops c one other before mid now (status.TooLong i) good le h = record { stop = tt; bad_input = tt; too_long = inr (good, inl h); read_fault = λ e. absurd (let no : ⊥ = cc in no) }
+pub second_stops : (c : Command) (one other : Option (List ℕ)) (before mid now : ℕ) (s : Status) → OfRead one (IsInput c 1) → before ≤ mid
+    → StopsAt c 2 other mid now s → Stops c (one ∷ other ∷ []) before now s
+second_stops c one other before mid now status.ReadFault good le h = record
+    { stop = tt; bad_input = tt; too_long = tt; read_fault = λ e. rose_later before mid now le h }
+second_stops c one other before mid now status.NoMemory good le h = record
+    { stop = tt; bad_input = tt; too_long = tt; read_fault = λ e. absurd (let no : ⊥ = cc in no) }
+second_stops c one other before mid now (status.TooLong i) good le h = record
+    { stop = tt; bad_input = tt; too_long = inr (good, inl h); read_fault = λ e. absurd (let no : ⊥ = cc in no) }
 second_stops c one other before mid now (status.BadInput i line kind) good le h = record {
   stop = tt;
   bad_input = inr (good, inl (h.0, subst (λ (k : ℕ). OfRead other (λ bytes. BlamesBytes c k bytes line kind)) (sym h.0) h.1));
@@ -69,44 +76,54 @@ second_stops c one other before mid now status.Usage good le h = absurd h
 second_stops c one other before mid now (status.Wrong place) good le h = absurd h
 second_stops c one other before mid now status.WriteFault good le h = absurd h
 second_stops c one other before mid now (status.Unsettled steps) good le h = absurd h
+second_stops c one other before mid now (status.NoPlace count) good le h = absurd h
 
 -- a shelf that tells the same tells the same of a file
 same_told : (f g : List ℕ → Option (List ℕ)) (name : Option (List ℕ)) → ((n : List ℕ) → f n ≡ g n) → option_and_then f name ≡ option_and_then g name
 same_told f g None same = refl
 same_told f g (Some name) same = same name
 
-pub told_again : (f g : List ℕ → Option (List ℕ)) (words : List (List ℕ)) (place : ℕ) → ((n : List ℕ) → f n ≡ g n) → told_at f words place ≡ told_at g words place
+pub told_again : (f g : List ℕ → Option (List ℕ)) (words : List (List ℕ)) (place : ℕ) → ((n : List ℕ) → f n ≡ g n)
+    → told_at f words place ≡ told_at g words place
 told_again f g words place same = same_told f g (slice_get words place) same
 
 -- ---- the text of a floor
 
--- a purge of a journal of the floor follows its units
-purge_of_floor : (config : Config) (ticks : List Tick) (past : List Entry) → IsFloorJournal config ticks past → (l : Label) → FollowsPurged config ticks past l
-purge_of_floor config ticks past j l =
-    purge_follows floor_brain rows (first_states config) (floor_brains config ticks) (row_laws (map begun (floor_start config))) l past j.follows
+module _ (config : Config) (ticks : List Tick) where
+  -- a purge of a journal of the floor follows its units
+  purge_of_floor : (past : List Entry) → IsFloorJournal config ticks past → (l : Label) → FollowsPurged config ticks past l
+  purge_of_floor past j l =
+      purge_follows floor_brain rows (first_states config) (floor_brains config ticks) (row_laws (map begun (floor_start config))) l past j.follows
 
-runs_floor : (config : Config) (ticks : List Tick) (text : List ℕ) (e : FloorEnd) → IsConfig config → IsFloorRun config ticks text e → RunsFloor config ticks e text
-runs_floor config ticks text e form h = record {
-  run = h;
-  sound = legal_is_sound (floor_start config) h.after.core.1 h.runs.journal.legal;
-  purged = purge_of_floor config ticks h.after.core.1 h.runs.journal;
-  bounded = settles config ticks h.after.core.1 form h.runs.journal;
-}
+  runs_floor : (text : List ℕ) (e : FloorEnd) → IsConfig config → IsFloorRun config ticks text e → RunsFloor config ticks e text
+  runs_floor text e form h = record {
+    run = h;
+    sound = legal_is_sound (floor_start config) h.after.core.1 h.runs.journal.legal;
+    purged = purge_of_floor h.after.core.1 h.runs.journal;
+    bounded = settles config ticks h.after.core.1 form h.runs.journal;
+  }
 
-run_tells : (config : Config) (ticks : List Tick) (text : List ℕ) (e : FloorEnd) → IsConfig config → IsFloorRun config ticks text e → TellsFloor config ticks (end_of_floor e) text
-run_tells config ticks text floor.Quiet form h = runs_floor config ticks text floor.Quiet form h
-run_tells config ticks text (floor.Unsettled steps) form h = runs_floor config ticks text (floor.Unsettled steps) form h
+  run_tells : (text : List ℕ) (e : FloorEnd) → IsConfig config → IsFloorRun config ticks text e → TellsFloor config ticks (end_of_floor e) text
+  run_tells text floor.Quiet form h = runs_floor text floor.Quiet form h
+  run_tells text (floor.Unsettled steps) form h = runs_floor text (floor.Unsettled steps) form h
 
-pub run_told : (config : Config) (ticks : List Tick) (text out : List ℕ) (e : FloorEnd) (d : End) → IsConfig config → IsFloorRun config ticks text e → d ≡ end_of_floor e → out ≡ text → TellsFloor config ticks d out
-run_told config ticks text out e d form h ends same = subst (λ (x : End). TellsFloor config ticks x out) (sym ends) (subst (TellsFloor config ticks (end_of_floor e)) (sym same) (run_tells config ticks text e form h))
+  pub run_told : (text out : List ℕ) (e : FloorEnd) (d : End) → IsConfig config → IsFloorRun config ticks text e → d ≡ end_of_floor e → out ≡ text
+      → TellsFloor config ticks d out
+  run_told text out e d form h ends same =
+      subst (λ (x : End). TellsFloor config ticks x out) (sym ends) (subst (TellsFloor config ticks (end_of_floor e)) (sym same) (run_tells text e form h))
 
-floor_text : (first second : ℕ) (one other : List ℕ) (config : Config) (ticks : List Tick) (e : End) (text : List ℕ) → IsConfigFile one config → IsTickFile other ticks → TellsFloor config ticks e text → IsText (Floor first second) (one ∷ other ∷ []) e text
-floor_text first second one other config ticks end.Done text c t h = (config, ticks, c, t, h)
-floor_text first second one other config ticks (end.Wrong place) text c t h = absurd h
-floor_text first second one other config ticks (end.Unsettled steps) text c t h = (config, ticks, c, t, h)
+  module _ (first second : ℕ) where
+    floor_text : (one other : List ℕ) (e : End) (text : List ℕ) → IsConfigFile one config → IsTickFile other ticks → TellsFloor config ticks e text
+        → IsText (Floor first second) (one ∷ other ∷ []) e text
+    floor_text one other end.Done text c t h = (config, ticks, c, t, h)
+    floor_text one other (end.Wrong place) text c t h = absurd h
+    floor_text one other (end.Unsettled steps) text c t h = (config, ticks, c, t, h)
+    floor_text one other (end.NoPlace count) text c t h = absurd h
 
-pub floor_told : (first second : ℕ) (one other : Option (List ℕ)) (config : Config) (ticks : List Tick) (e : End) (text : List ℕ) → OfRead one (λ bytes. IsConfigFile bytes config) → OfRead other (λ bytes. IsTickFile bytes ticks) → TellsFloor config ticks e text → IsTextOfSome (Floor first second) (one ∷ other ∷ []) e text
-floor_told first second one other config ticks e text p q h = (p.0 ∷ q.0 ∷ [], (p.1, (q.1, tt)), floor_text first second p.0 q.0 config ticks e text p.2 q.2 h)
+    pub floor_told : (one other : Option (List ℕ)) (e : End) (text : List ℕ) → OfRead one (λ bytes. IsConfigFile bytes config)
+        → OfRead other (λ bytes. IsTickFile bytes ticks) → TellsFloor config ticks e text → IsTextOfSome (Floor first second) (one ∷ other ∷ []) e text
+    floor_told one other e text p q h = (p.0 ∷ q.0 ∷ [], (p.1, (q.1, tt)), floor_text p.0 q.0 e text p.2 q.2 h)
 
-pub config_good : (first second : ℕ) (one : Option (List ℕ)) (config : Config) → OfRead one (λ bytes. IsConfigFile bytes config) → OfRead one (IsInput (Floor first second) 1)
+pub config_good : (first second : ℕ) (one : Option (List ℕ)) (config : Config) → OfRead one (λ bytes. IsConfigFile bytes config)
+    → OfRead one (IsInput (Floor first second) 1)
 config_good first second one config p = (p.0, p.1, (config, p.2))

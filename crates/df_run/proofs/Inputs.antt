@@ -1,26 +1,26 @@
--- What is written of what was read tells what it is.
-use Rattle.std.proofs.Common.{◌≡◌, ◌≤◌, ℕ, suc, List, [], ◌∷◌, subst, sym}
-use Rattle.df_audit.proofs.Exact.{one_place, right_is_not_wrong}
-use Rattle.df_audit.specs.Audit.{IsCheckOf, IsPurgeOf, IsRightJournal, IsUpgradeOf, IsWrongAt, OfJournal, TellsPlace}
+-- How what was read ends, and what is written of it tells.
+use Rattle.std.proofs.Common.{◌≡◌, ◌≤◌, ◌<◌, ℕ, suc, List, [], ◌∷◌, length, refl, ap, subst, sym, ◌∙◌, arith}
+use Rattle.df_audit.proofs.Exact.{one_count, one_place, right_is_not_wrong}
+use Rattle.df_audit.specs.Audit.{HasPlace, IsCheckOf, IsPurgeOf, IsRightJournal, IsUpgradeOf, IsWhyOf, IsWrongAt, LacksPlace, OfJournal, TellsCount, TellsPlace, past_in}
 use Rattle.df_audit.specs.declared.audit.Finding.TheVariants as finding
 use Rattle.df_auction.specs.AuctionText.{IsTextOfFile}
 use Rattle.df_config.specs.declared.config.Config.{Config}
 use Rattle.df_floor_run.specs.declared.run.FloorEnd.TheVariants as floor
 use Rattle.df_journal_file.proofs.Eithers.{either_text}
-use Rattle.df_journal_file.specs.Either.{IsEitherText}
+use Rattle.df_journal_file.specs.Either.{IsEitherText, IsJournalOf}
 use Rattle.df_journal_file.specs.declared.file.Journal.{Journal}
 use Rattle.df_journal_file.specs.declared.file.Journal.TheVariants.{First, Second}
 use Rattle.df_script_text.specs.Script.{IsScriptText}
 use Rattle.df_settling.specs.Settling.{settling_bound}
 use Rattle.df_ticks.specs.declared.tick.Tick.{Tick}
 use Rattle.df_words.specs.declared.command.Command.{Command}
-use Rattle.df_words.specs.declared.command.Command.TheVariants.{Steps, Check, Purge, Upgrade, Auction, Lint, Gen, Floor, Load}
-use Rattle.df_run.proofs.OneRun.{one_cut, quiet_or_cut, settles_or_cut}
+use Rattle.df_words.specs.declared.command.Command.TheVariants.{Steps, Check, Purge, Upgrade, Why, Auction, Lint, Gen, Floor, FloorWorkers, Load}
+use Rattle.df_run.proofs.OneRun.{one_cut, quiet_settles, settles_or_cut}
 use Rattle.df_run.proofs.Reaching.{AreInputs}
 use Rattle.df_run.specs.Floor.{IsCutAt, OfFloor, RunsFloor, Settles}
 use Rattle.df_run.specs.Lint.{LintsScript}
 use Rattle.df_run.specs.Steps.{RecordsScript}
-use Rattle.df_run.specs.Tasks.{IsCutRun, IsInput, IsOrders, IsOutput, IsReport, IsRightInput, IsText, IsUnsettledInput, IsWrongInput, OfOne, OfTwo}
+use Rattle.df_run.specs.Tasks.{IsCountTold, IsCutRun, IsInput, IsNoPlaceInput, IsOrders, IsOutput, IsReport, IsRightInput, IsText, IsUnsettledInput, IsWrongInput, OfOne, OfTwo}
 use Rattle.df_run.specs.declared.tasks.End.{End}
 use Rattle.df_run.specs.declared.tasks.End.TheVariants as end
 
@@ -42,24 +42,29 @@ of_two-map (bytes ∷ []) P Q f h = h
 of_two-map (one ∷ other ∷ []) P Q f h = f one other h
 of_two-map (one ∷ other ∷ more ∷ read) P Q f h = h
 
-of_two-both : {R : Type 0} (read : List (List ℕ)) (P Q : List ℕ → List ℕ → Type 0) → ((one other : List ℕ) → P one other → Q one other → R) → OfTwo read P → OfTwo read Q → R
+of_two-both : {R : Type 0} (read : List (List ℕ)) (P Q : List ℕ → List ℕ → Type 0) → ((one other : List ℕ) → P one other → Q one other → R) → OfTwo read P
+    → OfTwo read Q → R
 of_two-both [] P Q f p q = absurd p
 of_two-both (bytes ∷ []) P Q f p q = absurd p
 of_two-both (one ∷ other ∷ []) P Q f p q = f one other p q
 of_two-both (one ∷ other ∷ more ∷ read) P Q f p q = absurd p
 
--- ---- files as they are read
+-- ---- what was read is what the command reads
 
--- a journal is one
-journal_text : (P : Journal → Type 0) (bytes : List ℕ) → OfJournal bytes P → IsEitherText bytes
-journal_text P bytes h = either_text bytes h.0 h.1
+-- what was read ends so
+abbrev pub EndsSo : Command → List (List ℕ) → End → Type 0
+EndsSo c read end.Done = IsRightInput c read
+EndsSo c read (end.Wrong place) = IsWrongInput c read place
+EndsSo c read (end.Unsettled steps) = IsUnsettledInput c read steps
+EndsSo c read (end.NoPlace count) = IsNoPlaceInput c read count
 
 one_input : (c : Command) (read : List (List ℕ)) (P : List ℕ → Type 0) → ((bytes : List ℕ) → P bytes → IsInput c 1 bytes) → OfOne read P → AreInputs c 1 read
 one_input c [] P f h = absurd h
 one_input c (bytes ∷ []) P f h = (f bytes h, tt)
 one_input c (bytes ∷ other ∷ read) P f h = absurd h
 
-two_inputs : (config ticks : ℕ) (read : List (List ℕ)) (P : Config → List Tick → Type 0) → OfTwo read (λ one other. OfFloor one other P) → AreInputs (Floor config ticks) 1 read
+two_inputs : (config ticks : ℕ) (read : List (List ℕ)) (P : Config → List Tick → Type 0) → OfTwo read (λ one other. OfFloor one other P)
+    → AreInputs (Floor config ticks) 1 read
 two_inputs config ticks [] P h = absurd h
 two_inputs config ticks (bytes ∷ []) P h = absurd h
 two_inputs config ticks (one ∷ other ∷ []) P h = ((h.0, h.2), ((h.1, h.3), tt))
@@ -74,40 +79,123 @@ any_load : (key m n : ℕ) (read : List (List ℕ)) → AreInputs (Load key m) n
 any_load key m n [] = tt
 any_load key m n (bytes ∷ read) = (tt, any_load key m (suc n) read)
 
-pub right_inputs : (c : Command) (read : List (List ℕ)) → IsRightInput c read → AreInputs c 1 read
-right_inputs (Steps file) read h = one_input (Steps file) read IsScriptText (λ bytes p. p) h
-right_inputs (Check journal) read h = one_input (Check journal) read (λ bytes. OfJournal bytes IsRightJournal) (journal_text IsRightJournal) h
-right_inputs (Purge label journal) read h = one_input (Purge label journal) read (λ bytes. OfJournal bytes IsRightJournal) (journal_text IsRightJournal) h
-right_inputs (Upgrade journal) read h = one_input (Upgrade journal) read (λ bytes. OfJournal bytes IsRightJournal) (journal_text IsRightJournal) h
-right_inputs (Auction orders) read h = one_input (Auction orders) read IsOrders (λ bytes p. p) h
-right_inputs (Lint script) read h = one_input (Lint script) read IsScriptText (λ bytes p. p) h
-right_inputs (Gen key n) read h = any_ticks key n 1 read
-right_inputs (Floor config ticks) read h = two_inputs config ticks read Settles h
-right_inputs (Load key n) read h = any_load key n 1 read
+-- bytes of which something is said as of a journal are one
+journal_input : (c : Command) (read : List (List ℕ)) → ((bytes : List ℕ) → IsEitherText bytes → IsInput c 1 bytes) → (P : Journal → Type 0)
+    → OfOne read (λ bytes. OfJournal bytes P) → AreInputs c 1 read
+journal_input c read reads P h = one_input c read (λ bytes. OfJournal bytes P) (λ bytes j. reads bytes (either_text bytes j.0 j.1)) h
 
-pub wrong_inputs : (c : Command) (read : List (List ℕ)) (place : ℕ) → IsWrongInput c read place → AreInputs c 1 read
-wrong_inputs (Check journal) read place h = one_input (Check journal) read (λ bytes. OfJournal bytes (λ j. IsWrongAt j place)) (journal_text (λ j. IsWrongAt j place)) h
-wrong_inputs (Purge label journal) read place h = one_input (Purge label journal) read (λ bytes. OfJournal bytes (λ j. IsWrongAt j place)) (journal_text (λ j. IsWrongAt j place)) h
-wrong_inputs (Upgrade journal) read place h = one_input (Upgrade journal) read (λ bytes. OfJournal bytes (λ j. IsWrongAt j place)) (journal_text (λ j. IsWrongAt j place)) h
-wrong_inputs (Steps file) read place h = absurd h
-wrong_inputs (Auction orders) read place h = absurd h
-wrong_inputs (Lint script) read place h = absurd h
-wrong_inputs (Gen key n) read place h = absurd h
-wrong_inputs (Floor config ticks) read place h = absurd h
-wrong_inputs (Load key n) read place h = absurd h
+-- ---- what is said of the journal of one file
 
-pub unsettled_inputs : (c : Command) (read : List (List ℕ)) (steps : ℕ) → IsUnsettledInput c read steps → AreInputs c 1 read
-unsettled_inputs (Floor config ticks) read steps h = two_inputs config ticks read (IsCutAt steps) h
-unsettled_inputs (Steps file) read steps h = absurd h
-unsettled_inputs (Check journal) read steps h = absurd h
-unsettled_inputs (Purge label journal) read steps h = absurd h
-unsettled_inputs (Upgrade journal) read steps h = absurd h
-unsettled_inputs (Auction orders) read steps h = absurd h
-unsettled_inputs (Lint script) read steps h = absurd h
-unsettled_inputs (Gen key n) read steps h = absurd h
-unsettled_inputs (Load key n) read steps h = absurd h
+abbrev IsRight : List (List ℕ) → Type 0
+IsRight read = OfOne read (λ bytes. OfJournal bytes IsRightJournal)
 
--- ---- what is written
+abbrev IsWrong : List (List ℕ) → ℕ → Type 0
+IsWrong read place = OfOne read (λ bytes. OfJournal bytes (λ j. IsWrongAt j place))
+
+abbrev Has : List (List ℕ) → ℕ → Type 0
+Has read place = OfOne read (λ bytes. OfJournal bytes (HasPlace place))
+
+abbrev Lacks : List (List ℕ) → ℕ → ℕ → Type 0
+Lacks read place count = OfOne read (λ bytes. OfJournal bytes (LacksPlace place count))
+
+-- what holds of the journal that was read, where something else does
+of_journal : (read : List (List ℕ)) (P Q : Journal → Type 0) → ((j : Journal) → P j → Q j) → OfOne read (λ bytes. OfJournal bytes P)
+    → OfOne read (λ bytes. OfJournal bytes Q)
+of_journal read P Q f h = of_one-map read (λ bytes. OfJournal bytes P) (λ bytes. OfJournal bytes Q) (λ bytes p. (p.0, p.1, f p.0 p.2)) h
+
+has_right : (read : List (List ℕ)) (place : ℕ) → Has read place → IsRight read
+has_right read place h = of_journal read (HasPlace place) IsRightJournal (λ j p. p.0) h
+
+lacks_right : (read : List (List ℕ)) (place count : ℕ) → Lacks read place count → IsRight read
+lacks_right read place count h = of_journal read (LacksPlace place count) IsRightJournal (λ j p. p.0) h
+
+-- no bytes are right and wrong
+not_both : (read : List (List ℕ)) (place : ℕ) → IsRight read → IsWrong read place → ⊥
+not_both read place p q = of_one-both read (λ bytes. OfJournal bytes IsRightJournal) (λ bytes. OfJournal bytes (λ j. IsWrongAt j place))
+    (λ bytes right wrong. right_is_not_wrong bytes place right.0 wrong.0 right.1 wrong.1 right.2 wrong.2) p q
+
+-- a journal is wrong first at one place
+the_place : (read : List (List ℕ)) (p q : ℕ) → IsWrong read p → IsWrong read q → p ≡ q
+the_place read p q v w = of_one-both read (λ bytes. OfJournal bytes (λ j. IsWrongAt j p)) (λ bytes. OfJournal bytes (λ j. IsWrongAt j q))
+    (λ bytes one other. one_place bytes p q one.0 other.0 one.1 other.1 one.2 other.2) v w
+
+-- a journal has a place or lacks it, and has one number of entries
+has_or_lacks : (read : List (List ℕ)) (place count : ℕ) → Has read place → Lacks read place count → ⊥
+has_or_lacks read place count v w = of_one-both read (λ bytes. OfJournal bytes (HasPlace place)) (λ bytes. OfJournal bytes (LacksPlace place count))
+    (λ bytes has lacks.
+    let n = one_count bytes has.0 lacks.0 has.1 lacks.1 in
+    let within = has.2.1 in
+    let counted = lacks.2.1 in
+    let behind = lacks.2.2 in
+    omega (arith, n, within, counted, behind)) v w
+
+the_count : (read : List (List ℕ)) (place m n : ℕ) → Lacks read place m → Lacks read place n → m ≡ n
+the_count read place m n v w = of_one-both read (λ bytes. OfJournal bytes (LacksPlace place m)) (λ bytes. OfJournal bytes (LacksPlace place n))
+    (λ bytes one other. one.2.1 ∙ one_count bytes one.0 other.0 one.1 other.1 ∙ sym other.2.1) v w
+
+-- ---- a command whose run ends in one way alone
+
+none : (p : ℕ) → ⊥ → ⊥
+none p h = h
+
+nothing : (p : ℕ) (text : List ℕ) → ⊥ → ⊥
+nothing p text h = h
+
+module _ (c : Command) (read : List (List ℕ)) (no_wrong : (p : ℕ) → IsWrongInput c read p → ⊥) (no_cut : (p : ℕ) → IsUnsettledInput c read p → ⊥)
+    (no_lack : (p : ℕ) → IsNoPlaceInput c read p → ⊥) where
+  done_inputs : (IsRightInput c read → AreInputs c 1 read) → (e : End) → EndsSo c read e → AreInputs c 1 read
+  done_inputs f end.Done h = f h
+  done_inputs f (end.Wrong place) h = absurd (no_wrong place h)
+  done_inputs f (end.Unsettled steps) h = absurd (no_cut steps h)
+  done_inputs f (end.NoPlace count) h = absurd (no_lack count h)
+
+  done_only : (e : End) → EndsSo c read e → e ≡ end.Done
+  done_only end.Done h = refl
+  done_only (end.Wrong place) h = absurd (no_wrong place h)
+  done_only (end.Unsettled steps) h = absurd (no_cut steps h)
+  done_only (end.NoPlace count) h = absurd (no_lack count h)
+
+  done_once : (d e : End) → EndsSo c read d → EndsSo c read e → d ≡ e
+  done_once d e v w = done_only d v ∙ sym (done_only e w)
+
+module _ (c : Command) (read : List (List ℕ)) (no_report : (p : ℕ) (text : List ℕ) → IsReport c read p text → ⊥)
+    (no_cut : (p : ℕ) (text : List ℕ) → IsCutRun c read p text → ⊥) (no_count : (p : ℕ) (text : List ℕ) → IsCountTold c read p text → ⊥) where
+  done_text : (text : List ℕ) → (IsOutput c read text → IsRightInput c read) → (e : End) → IsText c read e text → EndsSo c read e
+  done_text text f end.Done h = f h
+  done_text text f (end.Wrong place) h = absurd (no_report place text h)
+  done_text text f (end.Unsettled steps) h = absurd (no_cut steps text h)
+  done_text text f (end.NoPlace count) h = absurd (no_count count text h)
+
+-- ---- a command that asks whether a journal is right
+
+module _ (c : Command) (read : List (List ℕ)) (right : IsRightInput c read → IsRight read) (wrong : (p : ℕ) → IsWrongInput c read p → IsWrong read p)
+    (no_cut : (p : ℕ) → IsUnsettledInput c read p → ⊥) (no_lack : (p : ℕ) → IsNoPlaceInput c read p → ⊥) where
+  audit_inputs : ((bytes : List ℕ) → IsEitherText bytes → IsInput c 1 bytes) → (e : End) → EndsSo c read e → AreInputs c 1 read
+  audit_inputs reads end.Done h = journal_input c read reads IsRightJournal (right h)
+  audit_inputs reads (end.Wrong place) h = journal_input c read reads (λ j. IsWrongAt j place) (wrong place h)
+  audit_inputs reads (end.Unsettled steps) h = absurd (no_cut steps h)
+  audit_inputs reads (end.NoPlace count) h = absurd (no_lack count h)
+
+  audit_once : (d e : End) → EndsSo c read d → EndsSo c read e → d ≡ e
+  audit_once end.Done end.Done v w = refl
+  audit_once end.Done (end.Wrong q) v w = absurd (not_both read q (right v) (wrong q w))
+  audit_once end.Done (end.Unsettled q) v w = absurd (no_cut q w)
+  audit_once end.Done (end.NoPlace q) v w = absurd (no_lack q w)
+  audit_once (end.Wrong p) end.Done v w = absurd (not_both read p (right w) (wrong p v))
+  audit_once (end.Wrong p) (end.Wrong q) v w = ap end.Wrong (the_place read p q (wrong p v) (wrong q w))
+  audit_once (end.Wrong p) (end.Unsettled q) v w = absurd (no_cut q w)
+  audit_once (end.Wrong p) (end.NoPlace q) v w = absurd (no_lack q w)
+  audit_once (end.Unsettled p) e v w = absurd (no_cut p v)
+  audit_once (end.NoPlace p) e v w = absurd (no_lack p v)
+
+module _ (c : Command) (read : List (List ℕ)) (text : List ℕ) (right : IsOutput c read text → IsRightInput c read)
+    (wrong : (p : ℕ) → IsReport c read p text → IsWrongInput c read p) (no_cut : (p : ℕ) (text : List ℕ) → IsCutRun c read p text → ⊥)
+    (no_count : (p : ℕ) (text : List ℕ) → IsCountTold c read p text → ⊥) where
+  audit_text : (e : End) → IsText c read e text → EndsSo c read e
+  audit_text end.Done h = right h
+  audit_text (end.Wrong place) h = wrong place h
+  audit_text (end.Unsettled steps) h = absurd (no_cut steps text h)
+  audit_text (end.NoPlace count) h = absurd (no_count count text h)
 
 check_right : (journal : Journal) (text : List ℕ) → IsCheckOf journal finding.Right text → IsRightJournal journal
 check_right (First start entries) text h = h.0
@@ -117,147 +205,139 @@ check_wrong : (journal : Journal) (place : ℕ) (text : List ℕ) → IsCheckOf 
 check_wrong (First start entries) place text h = (h.0, h.1)
 check_wrong (Second start notes) place text h = (h.0, h.1)
 
--- what is written where a journal is audited and found right tells that it is
-audit_right : (read : List (List ℕ)) (P : Journal → Type 0) → ((j : Journal) → P j → IsRightJournal j) → OfOne read (λ bytes. OfJournal bytes P) → OfOne read (λ bytes. OfJournal bytes IsRightJournal)
-audit_right read P f h = of_one-map read (λ bytes. OfJournal bytes P) (λ bytes. OfJournal bytes IsRightJournal) (λ bytes p. (p.0, p.1, f p.0 p.2)) h
+-- ---- why an entry of a journal stands
 
-audit_wrong : (read : List (List ℕ)) (place : ℕ) (P : Journal → Type 0) → ((j : Journal) → P j → IsWrongAt j place) → OfOne read (λ bytes. OfJournal bytes P) → OfOne read (λ bytes. OfJournal bytes (λ j. IsWrongAt j place))
-audit_wrong read place P f h = of_one-map read (λ bytes. OfJournal bytes P) (λ bytes. OfJournal bytes (λ j. IsWrongAt j place)) (λ bytes p. (p.0, p.1, f p.0 p.2)) h
+module _ (journal place : ℕ) (read : List (List ℕ)) where
+  why_inputs : (e : End) → EndsSo (Why journal place) read e → AreInputs (Why journal place) 1 read
+  why_inputs end.Done h = journal_input (Why journal place) read (λ bytes t. t) (HasPlace place) h
+  why_inputs (end.Wrong first) h = journal_input (Why journal place) read (λ bytes t. t) (λ j. IsWrongAt j first) h
+  why_inputs (end.Unsettled steps) h = absurd h
+  why_inputs (end.NoPlace count) h = journal_input (Why journal place) read (λ bytes t. t) (LacksPlace place count) h
+
+  why_once : (d e : End) → EndsSo (Why journal place) read d → EndsSo (Why journal place) read e → d ≡ e
+  why_once end.Done end.Done v w = refl
+  why_once end.Done (end.Wrong q) v w = absurd (not_both read q (has_right read place v) w)
+  why_once end.Done (end.Unsettled q) v w = absurd w
+  why_once end.Done (end.NoPlace q) v w = absurd (has_or_lacks read place q v w)
+  why_once (end.Wrong p) end.Done v w = absurd (not_both read p (has_right read place w) v)
+  why_once (end.Wrong p) (end.Wrong q) v w = ap end.Wrong (the_place read p q v w)
+  why_once (end.Wrong p) (end.Unsettled q) v w = absurd w
+  why_once (end.Wrong p) (end.NoPlace q) v w = absurd (not_both read p (lacks_right read place q w) v)
+  why_once (end.Unsettled p) e v w = absurd v
+  why_once (end.NoPlace p) end.Done v w = absurd (has_or_lacks read place p w v)
+  why_once (end.NoPlace p) (end.Wrong q) v w = absurd (not_both read q (lacks_right read place p v) w)
+  why_once (end.NoPlace p) (end.Unsettled q) v w = absurd w
+  why_once (end.NoPlace p) (end.NoPlace q) v w = ap end.NoPlace (the_count read place p q v w)
+
+  why_text : (e : End) (text : List ℕ) → IsText (Why journal place) read e text → EndsSo (Why journal place) read e
+  why_text end.Done text h = of_journal read (λ j. IsWhyOf place j text) (HasPlace place) (λ j p. p.has) h
+  why_text (end.Wrong first) text h = of_journal read (λ j. TellsPlace j first text) (λ j. IsWrongAt j first) (λ j p. p.wrong) h
+  why_text (end.Unsettled steps) text h = absurd h
+  why_text (end.NoPlace count) text h = of_journal read (λ j. TellsCount place j count text) (LacksPlace place count) (λ j p. p.lacks) h
+
+-- ---- a floor
+
+abbrev Settled : List (List ℕ) → Type 0
+Settled read = OfTwo read (λ one other. OfFloor one other Settles)
+
+abbrev IsCut : List (List ℕ) → ℕ → Type 0
+IsCut read steps = OfTwo read (λ one other. OfFloor one other (IsCutAt steps))
 
 -- a run that was cut off has so many entries as its journal, which is bounded
 cut_of : (config : Config) (ticks : List Tick) (steps : ℕ) (text : List ℕ) → RunsFloor config ticks (floor.Unsettled steps) text → IsCutAt steps config ticks
 cut_of config ticks steps text h =
     (text, h.run, subst (λ n. n ≤ settling_bound config ticks) (sym h.run.ends.counted) h.bounded)
 
-cut_run : (read : List (List ℕ)) (steps : ℕ) (text : List ℕ) → OfTwo read (λ one other. OfFloor one other (λ c t. RunsFloor c t (floor.Unsettled steps) text)) → OfTwo read (λ one other. OfFloor one other (IsCutAt steps))
-cut_run read steps text h = of_two-map read (λ one other. OfFloor one other (λ c t. RunsFloor c t (floor.Unsettled steps) text)) (λ one other. OfFloor one other (IsCutAt steps)) (λ one other p. (p.0, p.1, p.2, p.3, cut_of p.0 p.1 steps text p.4)) h
+-- what holds of the floor that was read, where something else does
+of_floor : (read : List (List ℕ)) (P Q : Config → List Tick → Type 0) → ((c : Config) (t : List Tick) → P c t → Q c t)
+    → OfTwo read (λ one other. OfFloor one other P) → OfTwo read (λ one other. OfFloor one other Q)
+of_floor read P Q f h = of_two-map read (λ one other. OfFloor one other P) (λ one other. OfFloor one other Q)
+    (λ one other p. (p.0, p.1, p.2, p.3, f p.0 p.1 p.4)) h
 
-pub report_wrong : (c : Command) (read : List (List ℕ)) (place : ℕ) (text : List ℕ) → IsReport c read place text → IsWrongInput c read place
-report_wrong (Check journal) read place text h = audit_wrong read place (λ j. IsCheckOf j (finding.Wrong place) text) (λ j p. check_wrong j place text p) h
-report_wrong (Purge label journal) read place text h = audit_wrong read place (λ j. TellsPlace j place text) (λ j p. p.wrong) h
-report_wrong (Upgrade journal) read place text h = audit_wrong read place (λ j. TellsPlace j place text) (λ j p. p.wrong) h
-report_wrong (Steps file) read place text h = absurd h
-report_wrong (Auction orders) read place text h = absurd h
-report_wrong (Lint script) read place text h = absurd h
-report_wrong (Gen key n) read place text h = absurd h
-report_wrong (Floor config ticks) read place text h = absurd h
-report_wrong (Load key n) read place text h = absurd h
+-- a floor that settles isn't cut off, and is cut off in one way
+not_cut : (read : List (List ℕ)) (steps : ℕ) → Settled read → IsCut read steps → ⊥
+not_cut read steps v w = of_two-both read (λ one other. OfFloor one other Settles) (λ one other. OfFloor one other (IsCutAt steps))
+    (λ one other p q. settles_or_cut one other steps p q) v w
 
-pub cut_unsettled : (c : Command) (read : List (List ℕ)) (steps : ℕ) (text : List ℕ) → IsCutRun c read steps text → IsUnsettledInput c read steps
-cut_unsettled (Floor config ticks) read steps text h = cut_run read steps text h
-cut_unsettled (Steps file) read steps text h = absurd h
-cut_unsettled (Check journal) read steps text h = absurd h
-cut_unsettled (Purge label journal) read steps text h = absurd h
-cut_unsettled (Upgrade journal) read steps text h = absurd h
-cut_unsettled (Auction orders) read steps text h = absurd h
-cut_unsettled (Lint script) read steps text h = absurd h
-cut_unsettled (Gen key n) read steps text h = absurd h
-cut_unsettled (Load key n) read steps text h = absurd h
+the_steps : (read : List (List ℕ)) (p q : ℕ) → IsCut read p → IsCut read q → p ≡ q
+the_steps read p q v w = of_two-both read (λ one other. OfFloor one other (IsCutAt p)) (λ one other. OfFloor one other (IsCutAt q))
+    (λ one other a b. one_cut one other p q a b) v w
 
-output_inputs : (c : Command) (read : List (List ℕ)) (text : List ℕ) → IsOutput c read text → AreInputs c 1 read
-output_inputs (Steps file) read text h = one_input (Steps file) read (λ bytes. RecordsScript bytes text) (λ bytes p. (p.0, p.1, p.2, p.3)) h
-output_inputs (Check journal) read text h = one_input (Check journal) read (λ bytes. OfJournal bytes (λ j. IsCheckOf j finding.Right text)) (journal_text (λ j. IsCheckOf j finding.Right text)) h
-output_inputs (Purge label journal) read text h = one_input (Purge label journal) read (λ bytes. OfJournal bytes (λ j. IsPurgeOf label j text)) (journal_text (λ j. IsPurgeOf label j text)) h
-output_inputs (Upgrade journal) read text h = one_input (Upgrade journal) read (λ bytes. OfJournal bytes (λ j. IsUpgradeOf j text)) (journal_text (λ j. IsUpgradeOf j text)) h
-output_inputs (Auction orders) read text h = one_input (Auction orders) read (λ bytes. IsTextOfFile bytes text) (λ bytes p. (p.0, p.1)) h
-output_inputs (Lint script) read text h = one_input (Lint script) read (λ bytes. LintsScript bytes text) (λ bytes p. (p.0, p.1, p.2, p.3)) h
-output_inputs (Gen key n) read text h = any_ticks key n 1 read
-output_inputs (Floor config ticks) read text h = two_inputs config ticks read (λ c t. RunsFloor c t floor.Quiet text) h
-output_inputs (Load key n) read text h = any_load key n 1 read
+module _ (config ticks : ℕ) (read : List (List ℕ)) where
+  floor_inputs : (e : End) → EndsSo (Floor config ticks) read e → AreInputs (Floor config ticks) 1 read
+  floor_inputs end.Done h = two_inputs config ticks read Settles h
+  floor_inputs (end.Wrong place) h = absurd h
+  floor_inputs (end.Unsettled steps) h = two_inputs config ticks read (IsCutAt steps) h
+  floor_inputs (end.NoPlace count) h = absurd h
 
--- bytes of which anything is written are what the command reads
-pub text_inputs : (c : Command) (read : List (List ℕ)) (e : End) (text : List ℕ) → IsText c read e text → AreInputs c 1 read
-text_inputs c read end.Done text h = output_inputs c read text h
-text_inputs c read (end.Wrong place) text h = wrong_inputs c read place (report_wrong c read place text h)
-text_inputs c read (end.Unsettled steps) text h = unsettled_inputs c read steps (cut_unsettled c read steps text h)
+  floor_once : (d e : End) → EndsSo (Floor config ticks) read d → EndsSo (Floor config ticks) read e → d ≡ e
+  floor_once end.Done end.Done v w = refl
+  floor_once end.Done (end.Wrong q) v w = absurd w
+  floor_once end.Done (end.Unsettled q) v w = absurd (not_cut read q v w)
+  floor_once end.Done (end.NoPlace q) v w = absurd w
+  floor_once (end.Wrong p) e v w = absurd v
+  floor_once (end.Unsettled p) end.Done v w = absurd (not_cut read p w v)
+  floor_once (end.Unsettled p) (end.Wrong q) v w = absurd w
+  floor_once (end.Unsettled p) (end.Unsettled q) v w = ap end.Unsettled (the_steps read p q v w)
+  floor_once (end.Unsettled p) (end.NoPlace q) v w = absurd w
+  floor_once (end.NoPlace p) e v w = absurd v
 
--- ---- what was read ends in one way
+  floor_text : (e : End) (text : List ℕ) → IsText (Floor config ticks) read e text → EndsSo (Floor config ticks) read e
+  floor_text end.Done text h = of_floor read (λ c t. RunsFloor c t floor.Quiet text) Settles (λ c t p. quiet_settles c t text p) h
+  floor_text (end.Wrong place) text h = absurd h
+  floor_text (end.Unsettled steps) text h = of_floor read (λ c t. RunsFloor c t (floor.Unsettled steps) text) (IsCutAt steps)
+      (λ c t p. cut_of c t steps text p) h
+  floor_text (end.NoPlace count) text h = absurd h
 
--- no bytes are right and wrong
-not_both : (read : List (List ℕ)) (place : ℕ) → OfOne read (λ bytes. OfJournal bytes IsRightJournal) → OfOne read (λ bytes. OfJournal bytes (λ j. IsWrongAt j place)) → ⊥
-not_both read place p q = of_one-both read (λ bytes. OfJournal bytes IsRightJournal) (λ bytes. OfJournal bytes (λ j. IsWrongAt j place)) (λ bytes right wrong. right_is_not_wrong bytes place right.0 wrong.0 right.1 wrong.1 right.2 wrong.2) p q
+-- ---- each command
 
-pub right_or_wrong : (c : Command) (read : List (List ℕ)) (place : ℕ) → IsRightInput c read → IsWrongInput c read place → ⊥
-right_or_wrong (Check journal) read place right wrong = not_both read place right wrong
-right_or_wrong (Purge label journal) read place right wrong = not_both read place right wrong
-right_or_wrong (Upgrade journal) read place right wrong = not_both read place right wrong
-right_or_wrong (Steps file) read place right wrong = wrong
-right_or_wrong (Auction orders) read place right wrong = wrong
-right_or_wrong (Lint script) read place right wrong = wrong
-right_or_wrong (Gen key n) read place right wrong = wrong
-right_or_wrong (Floor config ticks) read place right wrong = wrong
-right_or_wrong (Load key n) read place right wrong = wrong
+-- what was read, whichever way it ends, is what the command reads
+pub ends_inputs : (c : Command) (read : List (List ℕ)) (e : End) → EndsSo c read e → AreInputs c 1 read
+ends_inputs (Steps file) read e h = done_inputs (Steps file) read none none none (one_input (Steps file) read IsScriptText (λ bytes p. p)) e h
+ends_inputs (Check journal) read e h = audit_inputs (Check journal) read (λ p. p) (λ p q. q) none none (λ bytes t. t) e h
+ends_inputs (Purge label journal) read e h = audit_inputs (Purge label journal) read (λ p. p) (λ p q. q) none none (λ bytes t. t) e h
+ends_inputs (Upgrade journal) read e h = audit_inputs (Upgrade journal) read (λ p. p) (λ p q. q) none none (λ bytes t. t) e h
+ends_inputs (Why journal place) read e h = why_inputs journal place read e h
+ends_inputs (Auction orders) read e h = done_inputs (Auction orders) read none none none (one_input (Auction orders) read IsOrders (λ bytes p. p)) e h
+ends_inputs (Lint script) read e h = done_inputs (Lint script) read none none none (one_input (Lint script) read IsScriptText (λ bytes p. p)) e h
+ends_inputs (Gen key n) read e h = any_ticks key n 1 read
+ends_inputs (Floor config ticks) read e h = floor_inputs config ticks read e h
+ends_inputs (FloorWorkers config ticks workers) read e h = done_inputs (FloorWorkers config ticks workers) read none none none (λ no. absurd no) e h
+ends_inputs (Load key n) read e h = any_load key n 1 read
 
--- what is written where it is done isn't written of a wrong journal
-pub done_or_wrong : (c : Command) (read : List (List ℕ)) (text : List ℕ) (place : ℕ) → IsOutput c read text → IsWrongInput c read place → ⊥
-done_or_wrong (Check journal) read text place out wrong = not_both read place (audit_right read (λ j. IsCheckOf j finding.Right text) (λ j p. check_right j text p) out) wrong
-done_or_wrong (Purge label journal) read text place out wrong = not_both read place (audit_right read (λ j. IsPurgeOf label j text) (λ j p. p.right) out) wrong
-done_or_wrong (Upgrade journal) read text place out wrong = not_both read place (audit_right read (λ j. IsUpgradeOf j text) (λ j p. p.right) out) wrong
-done_or_wrong (Steps file) read text place out wrong = wrong
-done_or_wrong (Auction orders) read text place out wrong = wrong
-done_or_wrong (Lint script) read text place out wrong = wrong
-done_or_wrong (Gen key n) read text place out wrong = wrong
-done_or_wrong (Floor config ticks) read text place out wrong = wrong
-done_or_wrong (Load key n) read text place out wrong = wrong
+-- what was read ends in one way
+pub ends_once : (c : Command) (read : List (List ℕ)) (d e : End) → EndsSo c read d → EndsSo c read e → d ≡ e
+ends_once (Steps file) read d e v w = done_once (Steps file) read none none none d e v w
+ends_once (Check journal) read d e v w = audit_once (Check journal) read (λ p. p) (λ p q. q) none none d e v w
+ends_once (Purge label journal) read d e v w = audit_once (Purge label journal) read (λ p. p) (λ p q. q) none none d e v w
+ends_once (Upgrade journal) read d e v w = audit_once (Upgrade journal) read (λ p. p) (λ p q. q) none none d e v w
+ends_once (Why journal place) read d e v w = why_once journal place read d e v w
+ends_once (Auction orders) read d e v w = done_once (Auction orders) read none none none d e v w
+ends_once (Lint script) read d e v w = done_once (Lint script) read none none none d e v w
+ends_once (Gen key n) read d e v w = done_once (Gen key n) read none none none d e v w
+ends_once (Floor config ticks) read d e v w = floor_once config ticks read d e v w
+ends_once (FloorWorkers config ticks workers) read d e v w = done_once (FloorWorkers config ticks workers) read none none none d e v w
+ends_once (Load key n) read d e v w = done_once (Load key n) read none none none d e v w
 
--- a journal is wrong first at one place
-the_place : (read : List (List ℕ)) (p q : ℕ) → OfOne read (λ bytes. OfJournal bytes (λ j. IsWrongAt j p)) → OfOne read (λ bytes. OfJournal bytes (λ j. IsWrongAt j q)) → p ≡ q
-the_place read p q v w = of_one-both read (λ bytes. OfJournal bytes (λ j. IsWrongAt j p)) (λ bytes. OfJournal bytes (λ j. IsWrongAt j q)) (λ bytes one other. one_place bytes p q one.0 other.0 one.1 other.1 one.2 other.2) v w
-
-pub one_wrong : (c : Command) (read : List (List ℕ)) (p q : ℕ) → IsWrongInput c read p → IsWrongInput c read q → p ≡ q
-one_wrong (Check journal) read p q v w = the_place read p q v w
-one_wrong (Purge label journal) read p q v w = the_place read p q v w
-one_wrong (Upgrade journal) read p q v w = the_place read p q v w
-one_wrong (Steps file) read p q v w = absurd v
-one_wrong (Auction orders) read p q v w = absurd v
-one_wrong (Lint script) read p q v w = absurd v
-one_wrong (Gen key n) read p q v w = absurd v
-one_wrong (Floor config ticks) read p q v w = absurd v
-one_wrong (Load key n) read p q v w = absurd v
-
--- a command that audits runs no floor
-pub wrong_or_cut : (c : Command) (read : List (List ℕ)) (place steps : ℕ) → IsWrongInput c read place → IsUnsettledInput c read steps → ⊥
-wrong_or_cut (Floor config ticks) read place steps wrong cut = wrong
-wrong_or_cut (Check journal) read place steps wrong cut = cut
-wrong_or_cut (Purge label journal) read place steps wrong cut = cut
-wrong_or_cut (Upgrade journal) read place steps wrong cut = cut
-wrong_or_cut (Steps file) read place steps wrong cut = wrong
-wrong_or_cut (Auction orders) read place steps wrong cut = wrong
-wrong_or_cut (Lint script) read place steps wrong cut = wrong
-wrong_or_cut (Gen key n) read place steps wrong cut = wrong
-wrong_or_cut (Load key n) read place steps wrong cut = wrong
-
--- a floor is cut off or comes to rest, and is cut off in one way
-pub done_or_cut : (c : Command) (read : List (List ℕ)) (text : List ℕ) (steps : ℕ) → IsOutput c read text → IsUnsettledInput c read steps → ⊥
-done_or_cut (Floor config ticks) read text steps out cut = of_two-both read (λ one other. OfFloor one other (λ c t. RunsFloor c t floor.Quiet text)) (λ one other. OfFloor one other (IsCutAt steps)) (λ one other p q. quiet_or_cut one other text steps p q) out cut
-done_or_cut (Steps file) read text steps out cut = cut
-done_or_cut (Check journal) read text steps out cut = cut
-done_or_cut (Purge label journal) read text steps out cut = cut
-done_or_cut (Upgrade journal) read text steps out cut = cut
-done_or_cut (Auction orders) read text steps out cut = cut
-done_or_cut (Lint script) read text steps out cut = cut
-done_or_cut (Gen key n) read text steps out cut = cut
-done_or_cut (Load key n) read text steps out cut = cut
-
-pub one_unsettled : (c : Command) (read : List (List ℕ)) (p q : ℕ) → IsUnsettledInput c read p → IsUnsettledInput c read q → p ≡ q
-one_unsettled (Floor config ticks) read p q v w = of_two-both read (λ one other. OfFloor one other (IsCutAt p)) (λ one other. OfFloor one other (IsCutAt q)) (λ one other a b. one_cut one other p q a b) v w
-one_unsettled (Steps file) read p q v w = absurd v
-one_unsettled (Check journal) read p q v w = absurd v
-one_unsettled (Purge label journal) read p q v w = absurd v
-one_unsettled (Upgrade journal) read p q v w = absurd v
-one_unsettled (Auction orders) read p q v w = absurd v
-one_unsettled (Lint script) read p q v w = absurd v
-one_unsettled (Gen key n) read p q v w = absurd v
-one_unsettled (Load key n) read p q v w = absurd v
-
--- a floor that settles isn't cut off
-pub right_or_cut : (c : Command) (read : List (List ℕ)) (steps : ℕ) → IsRightInput c read → IsUnsettledInput c read steps → ⊥
-right_or_cut (Floor config ticks) read steps right cut = of_two-both read (λ one other. OfFloor one other Settles) (λ one other. OfFloor one other (IsCutAt steps)) (λ one other p q. settles_or_cut one other steps p q) right cut
-right_or_cut (Steps file) read steps right cut = cut
-right_or_cut (Check journal) read steps right cut = cut
-right_or_cut (Purge label journal) read steps right cut = cut
-right_or_cut (Upgrade journal) read steps right cut = cut
-right_or_cut (Auction orders) read steps right cut = cut
-right_or_cut (Lint script) read steps right cut = cut
-right_or_cut (Gen key n) read steps right cut = cut
-right_or_cut (Load key n) read steps right cut = cut
+-- what is written of what was read tells how it ends
+pub text_ends : (c : Command) (read : List (List ℕ)) (e : End) (text : List ℕ) → IsText c read e text → EndsSo c read e
+text_ends (Steps file) read e text h = done_text (Steps file) read nothing nothing nothing text
+    (of_one-map read (λ bytes. RecordsScript bytes text) IsScriptText (λ bytes p. (p.0, p.1, p.2, p.3))) e h
+text_ends (Check journal) read e text h = audit_text (Check journal) read text
+    (of_journal read (λ j. IsCheckOf j finding.Right text) IsRightJournal (λ j p. check_right j text p))
+    (λ place. of_journal read (λ j. IsCheckOf j (finding.Wrong place) text) (λ j. IsWrongAt j place) (λ j p. check_wrong j place text p)) nothing nothing e h
+text_ends (Purge label journal) read e text h = audit_text (Purge label journal) read text
+    (of_journal read (λ j. IsPurgeOf label j text) IsRightJournal (λ j p. p.right))
+    (λ place. of_journal read (λ j. TellsPlace j place text) (λ j. IsWrongAt j place) (λ j p. p.wrong)) nothing nothing e h
+text_ends (Upgrade journal) read e text h = audit_text (Upgrade journal) read text (of_journal read (λ j. IsUpgradeOf j text) IsRightJournal (λ j p. p.right))
+    (λ place. of_journal read (λ j. TellsPlace j place text) (λ j. IsWrongAt j place) (λ j p. p.wrong)) nothing nothing e h
+text_ends (Why journal place) read e text h = why_text journal place read e text h
+text_ends (Auction orders) read e text h = done_text (Auction orders) read nothing nothing nothing text
+    (of_one-map read (λ bytes. IsTextOfFile bytes text) IsOrders (λ bytes p. (p.0, p.1))) e h
+text_ends (Lint script) read e text h = done_text (Lint script) read nothing nothing nothing text
+    (of_one-map read (λ bytes. LintsScript bytes text) IsScriptText (λ bytes p. (p.0, p.1, p.2, p.3))) e h
+text_ends (Gen key n) read e text h = done_text (Gen key n) read nothing nothing nothing text (λ p. tt) e h
+text_ends (Floor config ticks) read e text h = floor_text config ticks read e text h
+text_ends (FloorWorkers config ticks workers) read e text h = done_text (FloorWorkers config ticks workers) read nothing nothing nothing text
+    (λ no. absurd no) e h
+text_ends (Load key n) read e text h = done_text (Load key n) read nothing nothing nothing text (λ p. tt) e h

@@ -28,8 +28,10 @@ if_ok-is (Ok x) t p = p
 if_ok-is (Err e) t p = absurd (true≢false t)
 
 -- the journal of one more line
-pub journal_more : (roots : List RootStart) (ls : List ScriptLine) (l : ScriptLine) → journal_of roots (ls ++ l ∷ []) ≡ answered rows (firsts roots) (journal_of roots ls) l.actor l.call ∷ journal_of roots ls
-journal_more roots ls l = ap (λ (cs : List (UnitName × Call)). run rows (firsts roots) (reverse cs)) (map-append called ls (l ∷ [])) ∙ ap (run rows (firsts roots)) (reverse-append (map called ls) (called l ∷ []))
+pub journal_more : (roots : List RootStart) (ls : List ScriptLine) (l : ScriptLine)
+    → journal_of roots (ls ++ l ∷ []) ≡ answered rows (firsts roots) (journal_of roots ls) l.actor l.call ∷ journal_of roots ls
+journal_more roots ls l = ap (λ (cs : List (UnitName × Call)). run rows (firsts roots) (reverse cs)) (map-append called ls (l ∷ []))
+    ∙ ap (run rows (firsts roots)) (reverse-append (map called ls) (called l ∷ []))
 
 -- what was made and written so far: the journal of these lines, and its text
 pub record IsWritten (roots : List RootStart) (ls : List ScriptLine) (machine : State) (written : List ℕ) : Type 0 where
@@ -41,7 +43,8 @@ pub written_none : (roots : List RootStart) (core : State) (text : List ℕ) →
 written_none roots core text c e = record { core = c; text = e ∙ sym (append-nil (head_text roots)) }
 
 -- the text of a journal of one more line
-pub written_more : (roots : List RootStart) (ls : List ScriptLine) (l : ScriptLine) (old new : State) (before now : List ℕ) → IsWritten roots ls old before → AppendsStep l old new before now → IsWritten roots (ls ++ l ∷ []) new now
+pub written_more : (roots : List RootStart) (ls : List ScriptLine) (l : ScriptLine) (old new : State) (before now : List ℕ) → IsWritten roots ls old before
+    → AppendsStep l old new before now → IsWritten roots (ls ++ l ∷ []) new now
 written_more roots ls l old new before now w a =
     let past = journal_of roots ls in
     let e = answered rows (firsts roots) past l.actor l.call in
@@ -52,6 +55,8 @@ written_more roots ls l old new before now w a =
           ∙ ap (λ (s : State). before ++ noted_text (noted_in s (answered rows (firsts s.0) s.1 l.actor l.call))) w.core
           ∙ ap (λ (t : List ℕ). t ++ noted_text (noted_in (roots, past) e)) w.text
           ∙ append_assoc (head_text roots) (flat_map noted_text (noted roots past)) (noted_text (noted_in (roots, past) e))
-          ∙ ap (λ (t : List ℕ). head_text roots ++ t) (sym (flat_map-append noted_text (noted roots past) (noted_in (roots, past) e ∷ []) ∙ ap (λ (t : List ℕ). flat_map noted_text (noted roots past) ++ t) (append-nil (noted_text (noted_in (roots, past) e)))))
+          ∙ ap (λ (t : List ℕ). head_text roots ++ t)
+              (sym (flat_map-append noted_text (noted roots past) (noted_in (roots, past) e ∷ [])
+              ∙ ap (λ (t : List ℕ). flat_map noted_text (noted roots past) ++ t) (append-nil (noted_text (noted_in (roots, past) e)))))
           ∙ ap (λ (j : List Entry). head_text roots ++ flat_map noted_text (noted roots j)) (sym (journal_more roots ls l));
     }

@@ -40,7 +40,8 @@ module _ {S : Type 0} (step : S → S → Type 0) (one : IsFunctional step) wher
   pub one_end : (x y z : S) → RunsOut step x y → RunsOut step x z → y ≡ z
   one_end x y z p q =
       let same : p.count + q.count ≡ q.count + p.count = omega (arith) in
-      one_repeated (q.count + p.count) x y z (again q.count p.count x y p.steps p.last) (subst (λ (n : ℕ). Repeated step n x z) same (again p.count q.count x z q.steps q.last))
+      one_repeated (q.count + p.count) x y z (again q.count p.count x y p.steps p.last)
+          (subst (λ (n : ℕ). Repeated step n x z) same (again p.count q.count x z q.steps q.last))
 
 module _ {B : Type 0} (brain : Brain B) (max : ℕ) where
   one_turn : (u : UnitName) → IsFunctional (IsTurn brain max u)
@@ -48,14 +49,16 @@ module _ {B : Type 0} (brain : Brain B) (max : ℕ) where
 
   one_pass : IsFunctional (IsPass brain max)
   one_pass x y z p q =
-      let names : p.names ≡ q.names = same_elements unit_cmp unit_cmp_exact p.names q.names p.roll.order q.roll.order (λ u. p.roll.units u ∙ sym (q.roll.units u)) in
+      let names : p.names ≡ q.names = same_elements unit_cmp unit_cmp_exact p.names q.names p.roll.order q.roll.order
+          (λ u. p.roll.units u ∙ sym (q.roll.units u)) in
       p.turns ∙ ap (λ (us : List UnitName). take_turns brain max us x) names ∙ sym q.turns
 
   one_opening : (k : ℕ) (x y z : CrewState B) → Opened brain max k x y → Opened brain max k x z → y ≡ z
   one_opening zero x y z p q = p ∙ sym q
   one_opening (suc k) x y z p q =
       let mid : p.0 ≡ q.0 = one_opening k x p.0 q.0 p.1 q.1 in
-      one_end (IsTurn brain max (root_name (suc k))) (one_turn (root_name (suc k))) q.0 y z (subst (λ (m : CrewState B). RunsOut (IsTurn brain max (root_name (suc k))) m y) mid p.2) q.2
+      one_end (IsTurn brain max (root_name (suc k))) (one_turn (root_name (suc k))) q.0 y z
+          (subst (λ (m : CrewState B). RunsOut (IsTurn brain max (root_name (suc k))) m y) mid p.2) q.2
 
   pub one_run : (x y z : CrewState B) → IsPlainRun brain max x y → IsPlainRun brain max x z → y ≡ z
   one_run x y z p q =
@@ -86,7 +89,8 @@ one_config bytes c d p q =
     some_inj c d (sym p.2 ∙ ap config_of table ∙ q.2)
 
 -- what is said of the floor of two files is said of one floor
-both : {R : Type 0} (one other : List ℕ) (P Q : Config → List Tick → Type 0) → ((c : Config) (ticks : List Tick) → P c ticks → Q c ticks → R) → OfFloor one other P → OfFloor one other Q → R
+both : {R : Type 0} (one other : List ℕ) (P Q : Config → List Tick → Type 0) → ((c : Config) (ticks : List Tick) → P c ticks → Q c ticks → R)
+    → OfFloor one other P → OfFloor one other Q → R
 both one other P Q f p q =
     let config : q.0 ≡ p.0 = one_config one q.0 p.0 q.2 p.2 in
     let ticks : q.1 ≡ p.1 = ticks_are_one other q.1 p.1 q.3 p.3 in
@@ -98,11 +102,13 @@ no_end steps e = cc
 unsettled_inj : (m n : ℕ) → floor.Unsettled m ≡ floor.Unsettled n → m ≡ n
 unsettled_inj m n e = cc
 
-pub quiet_or_cut : (one other text : List ℕ) (steps : ℕ) → OfFloor one other (λ c t. RunsFloor c t floor.Quiet text) → OfFloor one other (IsCutAt steps) → ⊥
-quiet_or_cut one other text steps p q = both one other (λ c t. RunsFloor c t floor.Quiet text) (IsCutAt steps) (λ c ticks quiet cut. no_end steps (ends_once c ticks text cut.0 floor.Quiet (floor.Unsettled steps) quiet.run cut.1)) p q
+-- a floor whose run comes to rest settles
+pub quiet_settles : (config : Config) (ticks : List Tick) (text : List ℕ) → RunsFloor config ticks floor.Quiet text → Settles config ticks
+quiet_settles config ticks text quiet = λ steps cut. no_end steps (ends_once config ticks text cut.0 floor.Quiet (floor.Unsettled steps) quiet.run cut.1)
 
 pub one_cut : (one other : List ℕ) (m n : ℕ) → OfFloor one other (IsCutAt m) → OfFloor one other (IsCutAt n) → m ≡ n
-one_cut one other m n p q = both one other (IsCutAt m) (IsCutAt n) (λ c ticks a b. unsettled_inj m n (ends_once c ticks a.0 b.0 (floor.Unsettled m) (floor.Unsettled n) a.1 b.1)) p q
+one_cut one other m n p q = both one other (IsCutAt m) (IsCutAt n)
+    (λ c ticks a b. unsettled_inj m n (ends_once c ticks a.0 b.0 (floor.Unsettled m) (floor.Unsettled n) a.1 b.1)) p q
 
 pub settles_or_cut : (one other : List ℕ) (steps : ℕ) → OfFloor one other Settles → OfFloor one other (IsCutAt steps) → ⊥
 settles_or_cut one other steps p q = both one other Settles (IsCutAt steps) (λ c ticks settles cut. settles steps cut) p q

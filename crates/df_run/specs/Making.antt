@@ -1,9 +1,9 @@
 -- What the calls promise by which the top call comes to its status.
-use Rattle.std.specs.Prelude.{◌≡◌, ◌⊎◌, ⊤, ℕ, ◌<◌, List, length, Option}
+use Rattle.std.specs.Prelude.{◌≡◌, ◌⊎◌, ◌↔◌, ⊤, ℕ, ◌<◌, List, length, Option, Result, Ok, Err}
 use Rattle.df_io.specs.Faults.{Rose}
 use Rattle.df_io.specs.Limits.{longest_file}
 use Rattle.df_io.specs.Pieces.{HasAll, HasFront}
-use Rattle.df_run.specs.Outcome.{BadInputIsDue, IfTold, OfRead, ReadFaultIsDue, TooLongIsDue}
+use Rattle.df_run.specs.Outcome.{AskNothingPlain, AskPlainly, BadInputIsDue, IfTold, OfRead, ReadFaultIsDue, TooLongIsDue}
 use Rattle.df_run.specs.Tasks.{BlamesBytes}
 use Rattle.df_run.specs.declared.status.Status.{Status}
 use Rattle.df_run.specs.declared.status.Status.TheVariants as status
@@ -15,6 +15,8 @@ use Rattle.df_floor_run.specs.declared.run.FloorEnd.TheVariants as floor
 use Rattle.df_run.specs.Floor.{RunsFloor}
 use Rattle.df_ticks.specs.declared.tick.Tick.{Tick}
 use Rattle.df_words.specs.declared.command.Command.{Command}
+use Rattle.df_words.specs.declared.command.WordsRefused.{WordsRefused}
+use Rattle.df_words.specs.declared.command.WordsRefused.TheVariants as refused
 
 -- a status tells why the command's file of this number was not read, or is blamed
 abbrev pub StopsAt : Command → ℕ → Option (List ℕ) → ℕ → ℕ → Status → Type 0
@@ -47,6 +49,7 @@ abbrev pub status_of : End → Status
 status_of end.Done = status.Done
 status_of (end.Wrong place) = status.Wrong place
 status_of (end.Unsettled steps) = status.Unsettled steps
+status_of (end.NoPlace count) = status.NoPlace count
 
 -- the text of a run that ended so was written, or a front of it
 abbrev pub IsWritten
@@ -65,3 +68,11 @@ TellsFloor config ticks end.Done text = RunsFloor config ticks floor.Quiet text
 TellsFloor config ticks (end.Wrong place) text = ⊥
 TellsFloor config ticks (end.Unsettled steps) text =
     RunsFloor config ticks (floor.Unsettled steps) text
+TellsFloor config ticks (end.NoPlace count) text = ⊥
+
+-- the answer is the command without workers for which the words ask, or Usage where they ask for
+-- none, unless there was no memory
+abbrev pub IsPlainCommandOf : List (List ℕ) → Result Command WordsRefused → Type 0
+IsPlainCommandOf words (Ok command) = (c : Command) → (command ≡ c) ↔ AskPlainly words c
+IsPlainCommandOf words (Err refused.Usage) = AskNothingPlain words
+IsPlainCommandOf words (Err refused.NoMemory) = ⊤

@@ -1,23 +1,31 @@
 -- When each status comes, and what is written then. `files` says of each of the command's files, in
 -- order, what the shelf tells to be in it. They are numbered from 1.
-use Rattle.std.specs.Prelude.{◌≡◌, ◌⊎◌, ⊤, ℕ, suc, ◌<◌, ◌≤◌, List, [], ◌∷◌, length, Option, Some, None, slice_get}
+use Rattle.std.specs.Prelude.{◌≡◌, ◌⊎◌, ⊤, true, ℕ, suc, ◌<◌, ◌≤◌, List, [], ◌∷◌, length, Option, Some, None, slice_get}
 use Rattle.std.specs.Option.{option_and_then}
 use Rattle.df_io.specs.Faults.{Rose}
 use Rattle.df_io.specs.Limits.{longest_file}
 use Rattle.df_io.specs.Pieces.{HasAll, HasFront}
 use Rattle.df_run.specs.declared.status.Status.{Status}
 use Rattle.df_run.specs.declared.status.Status.TheVariants as status
-use Rattle.df_run.specs.Tasks.{BlamesBytes, IsInput, IsRightInput, IsText, IsUnsettledInput, IsWrongInput}
+use Rattle.df_run.specs.Tasks.{BlamesBytes, IsInput, IsNoPlaceInput, IsRightInput, IsText, IsUnsettledInput, IsWrongInput}
 use Rattle.df_run.specs.declared.tasks.End.{End}
 use Rattle.df_run.specs.declared.tasks.End.TheVariants as end
-use Rattle.df_words.specs.Words.{Ask, AskNothing, files_of}
+use Rattle.df_words.specs.Words.{Ask, files_of, is_plain}
 use Rattle.df_words.specs.declared.command.Command.{Command}
 use Rattle.df_words.specs.declared.command.Files.{Files}
 use Rattle.df_words.specs.declared.command.Files.TheVariants as count
 
--- what holds of the command for which the words ask, where they ask for one
+-- the words ask for the command, and it asks for no workers
+abbrev pub AskPlainly : List (List ℕ) → Command → Type 0
+AskPlainly words c = Ask words c × (is_plain c ≡ true)
+
+-- the words ask for nothing, or for workers
+abbrev pub AskNothingPlain : List (List ℕ) → Type 0
+AskNothingPlain words = (c : Command) → ¬ AskPlainly words c
+
+-- what holds of the command for which the words ask, where they ask for one without workers
 abbrev pub IfAsked : List (List ℕ) → (Command → Type 0) → Type 0
-IfAsked words P = (c : Command) → Ask words c → P c
+IfAsked words P = (c : Command) → AskPlainly words c → P c
 
 -- ---- what is told of files, and what was read of them
 
@@ -86,10 +94,10 @@ Reaches Of command n (told ∷ files) input P =
 
 -- ---- statuses
 
--- Usage comes exactly where the words ask for nothing, unless there was no memory
+-- Usage comes exactly where the words ask for nothing or for workers, unless there was no memory
 abbrev pub UsageIsExact : List (List ℕ) → Status → Type 0
-UsageIsExact words result = (result ≡ status.Usage → AskNothing words)
-    × (AskNothing words → (result ≡ status.Usage) ⊎ (result ≡ status.NoMemory))
+UsageIsExact words result = (result ≡ status.Usage → AskNothingPlain words)
+    × (AskNothingPlain words → (result ≡ status.Usage) ⊎ (result ≡ status.NoMemory))
 
 -- the status is one of a command's run
 abbrev pub IsOfACommand : Status → Type 0
@@ -184,6 +192,20 @@ UnsettledIsExact command files result =
     × IfAllTold files (λ read. (steps : ℕ) → IsUnsettledInput command read steps →
     (result ≡ status.Unsettled steps) ⊎ IsHindered result)
 
+-- a status that says that a journal hasn't a place tells how many entries what was read has
+abbrev pub NoPlaceIsDue : Command → List (Option (List ℕ)) → Status → Type 0
+NoPlaceIsDue command files (status.NoPlace count) =
+    OfAllRead files (λ read. IsNoPlaceInput command read count)
+NoPlaceIsDue command files _ = ⊤
+
+-- NoPlace comes exactly where the file, read whole, is a right journal that hasn't the place that
+-- the command names, with the number of its entries; a fault may come in its place
+abbrev pub NoPlaceIsExact : Command → List (Option (List ℕ)) → Status → Type 0
+NoPlaceIsExact command files result =
+    NoPlaceIsDue command files result
+    × IfAllTold files (λ read. (count : ℕ) → IsNoPlaceInput command read count →
+    (result ≡ status.NoPlace count) ⊎ IsHindered result)
+
 -- what the command reads that is right, a journal or a floor too, is done: what is left is Done, a
 -- fault or want of memory
 abbrev pub DoesInput : Command → List (Option (List ℕ)) → Status → Type 0
@@ -203,8 +225,9 @@ abbrev pub WritesAll
 WritesAll command files old new e =
     (text : List ℕ) × IsTextOfSome command files e text × HasAll old text new
 
--- after Done, Wrong and Unsettled the whole text was written, after WriteFault a front of it, and
--- after any other status nothing; whatever the shelf tells, it is the text of what the command reads
+-- after Done, Wrong, Unsettled and NoPlace the whole text was written, after WriteFault a front of
+-- it, and after any other status nothing; whatever the shelf tells, it is the text of what the
+-- command reads
 abbrev pub Writes
     : Command → List (Option (List ℕ)) → Option (List ℕ) → Option (List ℕ) → Status → Type 0
 Writes command files old new status.Done = WritesAll command files old new end.Done
@@ -212,6 +235,8 @@ Writes command files old new (status.Wrong place) =
     WritesAll command files old new (end.Wrong place)
 Writes command files old new (status.Unsettled steps) =
     WritesAll command files old new (end.Unsettled steps)
+Writes command files old new (status.NoPlace count) =
+    WritesAll command files old new (end.NoPlace count)
 Writes command files old new status.WriteFault =
     (text : List ℕ) × (e : End) × IsTextOfSome command files e text × HasFront old text new
 Writes command files old new _ = new ≡ old

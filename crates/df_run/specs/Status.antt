@@ -3,7 +3,7 @@ use Rattle.std.specs.Prelude.{ℕ, List, ◌++◌, codes, decimal}
 use Rattle.df_run.specs.declared.status.BadKind.{BadKind}
 use Rattle.df_run.specs.declared.status.BadKind.TheVariants.{Syntax, TooLarge, BadOrder, BadConfig, BadTick}
 use Rattle.df_run.specs.declared.status.Status.{Status}
-use Rattle.df_run.specs.declared.status.Status.TheVariants.{Done, Usage, BadInput, Wrong, ReadFault, WriteFault, NoMemory, TooLong, Unsettled}
+use Rattle.df_run.specs.declared.status.Status.TheVariants.{Done, Usage, BadInput, Wrong, ReadFault, WriteFault, NoMemory, TooLong, Unsettled, NoPlace}
 
 -- the code of a status
 abbrev pub code_of : Status → ℕ
@@ -16,6 +16,7 @@ code_of WriteFault = 6
 code_of NoMemory = 7
 code_of (TooLong input) = 8
 code_of (Unsettled steps) = 9
+code_of (NoPlace entries) = 10
 
 -- the word for what is wrong with an input
 abbrev pub kind_text : BadKind → List ℕ
@@ -38,3 +39,4 @@ status_text WriteFault = codes "defcon: write fault"
 status_text NoMemory = codes "defcon: no memory"
 status_text (TooLong input) = codes "defcon: input " ++ decimal input ++ codes " too long"
 status_text (Unsettled steps) = codes "defcon: unsettled after " ++ decimal steps
+status_text (NoPlace entries) = codes "defcon: no place in " ++ decimal entries

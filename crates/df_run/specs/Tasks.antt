@@ -1,6 +1,6 @@
 -- What each command reads and writes. `read` are the bytes of its files, in order.
 use Rattle.std.specs.Prelude.{◌≡◌, ⊤, ℕ, zero, suc, List, [], ◌∷◌}
-use Rattle.df_audit.specs.Audit.{IsCheckOf, IsPurgeOf, IsRightJournal, IsUpgradeOf, IsWrongAt, OfJournal, TellsPlace}
+use Rattle.df_audit.specs.Audit.{HasPlace, IsCheckOf, IsPurgeOf, IsRightJournal, IsUpgradeOf, IsWhyOf, IsWrongAt, LacksPlace, OfJournal, TellsCount, TellsPlace}
 use Rattle.df_audit.specs.declared.audit.Finding.{Finding}
 use Rattle.df_audit.specs.declared.audit.Finding.TheVariants as finding
 use Rattle.df_auction.specs.AuctionText.{IsTextOfFile}
@@ -19,7 +19,7 @@ use Rattle.df_script_text.specs.TooLarge.{IsTooLargeIn}
 use Rattle.df_ticks.specs.TickFile as ticks
 use Rattle.df_ticks.specs.TickText.{ticks_text}
 use Rattle.df_words.specs.declared.command.Command.{Command}
-use Rattle.df_words.specs.declared.command.Command.TheVariants.{Steps, Check, Purge, Upgrade, Auction, Lint, Gen, Floor, Load}
+use Rattle.df_words.specs.declared.command.Command.TheVariants.{Steps, Check, Purge, Upgrade, Why, Auction, Lint, Gen, Floor, FloorWorkers, Load}
 use Rattle.df_run.specs.Floor.{IsConfiguration, IsCutAt, IsTicks, OfFloor, RunsFloor, Settles}
 use Rattle.df_run.specs.Lint.{LintsScript}
 use Rattle.df_run.specs.Steps.{RecordsScript}
@@ -47,10 +47,12 @@ IsInput (Steps file) number bytes = IsScriptText bytes
 IsInput (Check journal) number bytes = IsEitherText bytes
 IsInput (Purge label journal) number bytes = IsEitherText bytes
 IsInput (Upgrade journal) number bytes = IsEitherText bytes
+IsInput (Why journal place) number bytes = IsEitherText bytes
 IsInput (Auction orders) number bytes = IsOrders bytes
 IsInput (Lint script) number bytes = IsScriptText bytes
 IsInput (Gen key n) number bytes = ⊤
 IsInput (Floor config ticks) number bytes = IsFloorInput number bytes
+IsInput (FloorWorkers config ticks workers) number bytes = IsFloorInput number bytes
 IsInput (Load key n) number bytes = ⊤
 
 -- one file was read, and this holds of its bytes
@@ -63,16 +65,19 @@ abbrev pub OfTwo : List (List ℕ) → (List ℕ → List ℕ → Type 0) → Ty
 OfTwo (one ∷ other ∷ []) P = P one other
 OfTwo _ P = ⊥
 
--- what was read is right: it is what the command reads, a journal is right, and a floor settles
+-- what was read is right: it is what the command reads, a journal is right and has the place that
+-- the command names, and a floor settles
 abbrev pub IsRightInput : Command → List (List ℕ) → Type 0
 IsRightInput (Steps file) read = OfOne read IsScriptText
 IsRightInput (Check journal) read = OfOne read (λ bytes. OfJournal bytes IsRightJournal)
 IsRightInput (Purge label journal) read = OfOne read (λ bytes. OfJournal bytes IsRightJournal)
 IsRightInput (Upgrade journal) read = OfOne read (λ bytes. OfJournal bytes IsRightJournal)
+IsRightInput (Why journal place) read = OfOne read (λ bytes. OfJournal bytes (HasPlace place))
 IsRightInput (Auction orders) read = OfOne read IsOrders
 IsRightInput (Lint script) read = OfOne read IsScriptText
 IsRightInput (Gen key n) read = ⊤
 IsRightInput (Floor config ticks) read = OfTwo read (λ one other. OfFloor one other Settles)
+IsRightInput (FloorWorkers config ticks workers) read = ⊥
 IsRightInput (Load key n) read = ⊤
 
 -- what was read is a journal that is wrong, first at this place
@@ -83,7 +88,16 @@ IsWrongInput (Purge label journal) read place =
     OfOne read (λ bytes. OfJournal bytes (λ j. IsWrongAt j place))
 IsWrongInput (Upgrade journal) read place =
     OfOne read (λ bytes. OfJournal bytes (λ j. IsWrongAt j place))
+IsWrongInput (Why journal asked) read place =
+    OfOne read (λ bytes. OfJournal bytes (λ j. IsWrongAt j place))
 IsWrongInput command read place = ⊥
+
+-- what was read is a right journal of so many entries, which hasn't the place that the command
+-- names
+abbrev pub IsNoPlaceInput : Command → List (List ℕ) → ℕ → Type 0
+IsNoPlaceInput (Why journal place) read count =
+    OfOne read (λ bytes. OfJournal bytes (LacksPlace place count))
+IsNoPlaceInput command read count = ⊥
 
 -- what was read is a floor that doesn't settle: its run is cut off with so many entries
 abbrev pub IsUnsettledInput : Command → List (List ℕ) → ℕ → Type 0
@@ -102,11 +116,14 @@ IsOutput (Purge label journal) read text =
     OfOne read (λ bytes. OfJournal bytes (λ j. IsPurgeOf label j text))
 IsOutput (Upgrade journal) read text =
     OfOne read (λ bytes. OfJournal bytes (λ j. IsUpgradeOf j text))
+IsOutput (Why journal place) read text =
+    OfOne read (λ bytes. OfJournal bytes (λ j. IsWhyOf place j text))
 IsOutput (Auction orders) read text = OfOne read (λ bytes. IsTextOfFile bytes text)
 IsOutput (Lint script) read text = OfOne read (λ bytes. LintsScript bytes text)
 IsOutput (Gen key n) read text = text ≡ ticks_text (generated key n)
 IsOutput (Floor config ticks) read text =
     OfTwo read (λ one other. OfFloor one other (λ c t. RunsFloor c t floor.Quiet text))
+IsOutput (FloorWorkers config ticks workers) read text = ⊥
 IsOutput (Load key n) read text = IsLoadText key n text
 
 -- the text is what the command writes of a journal that is wrong, first at this place
@@ -117,7 +134,16 @@ IsReport (Purge label journal) read place text =
     OfOne read (λ bytes. OfJournal bytes (λ j. TellsPlace j place text))
 IsReport (Upgrade journal) read place text =
     OfOne read (λ bytes. OfJournal bytes (λ j. TellsPlace j place text))
+IsReport (Why journal asked) read place text =
+    OfOne read (λ bytes. OfJournal bytes (λ j. TellsPlace j place text))
 IsReport command read place text = ⊥
+
+-- the text is what the command writes of a right journal of so many entries, which hasn't the place
+-- that the command names
+abbrev pub IsCountTold : Command → List (List ℕ) → ℕ → List ℕ → Type 0
+IsCountTold (Why journal place) read count text =
+    OfOne read (λ bytes. OfJournal bytes (λ j. TellsCount place j count text))
+IsCountTold command read count text = ⊥
 
 -- the text is what the command writes of a run that was cut off with so many entries
 abbrev pub IsCutRun : Command → List (List ℕ) → ℕ → List ℕ → Type 0
@@ -130,11 +156,13 @@ abbrev pub IsText : Command → List (List ℕ) → End → List ℕ → Type 0
 IsText command read end.Done text = IsOutput command read text
 IsText command read (end.Wrong place) text = IsReport command read place text
 IsText command read (end.Unsettled steps) text = IsCutRun command read steps text
+IsText command read (end.NoPlace count) text = IsCountTold command read count text
 
 -- how an audit ends
 abbrev pub end_of : Finding → End
 end_of finding.Right = end.Done
 end_of (finding.Wrong place) = end.Wrong place
+end_of (finding.NoPlace count) = end.NoPlace count
 
 -- ---- what is blamed
 
@@ -165,10 +193,13 @@ IsBadLine (Steps file) number bytes line kind = IsNoScript bytes line kind
 IsBadLine (Check journal) number bytes line kind = IsNoJournal bytes line kind
 IsBadLine (Purge label journal) number bytes line kind = IsNoJournal bytes line kind
 IsBadLine (Upgrade journal) number bytes line kind = IsNoJournal bytes line kind
+IsBadLine (Why journal place) number bytes line kind = IsNoJournal bytes line kind
 IsBadLine (Auction orders) number bytes line kind = (kind ≡ BadOrder) × IsBadAt bytes line
 IsBadLine (Lint script) number bytes line kind = IsNoScript bytes line kind
 IsBadLine (Gen key n) number bytes line kind = ⊥
 IsBadLine (Floor config ticks) number bytes line kind = IsNoFloorInput number bytes line kind
+IsBadLine (FloorWorkers config ticks workers) number bytes line kind =
+    IsNoFloorInput number bytes line kind
 IsBadLine (Load key n) number bytes line kind = ⊥
 
 -- the bytes aren't what the command reads as its file of this number, and are blamed for that, where

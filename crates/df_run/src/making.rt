@@ -1,8 +1,8 @@
 //! From the words of a command to what it writes, and to the status with which it ends.
 
 ghost use Rattle.std.specs.Prelude.{◌≡◌, ◌<◌, ℕ, List, [], ◌∷◌, IfErr, IfOk, length};
-ghost use Rattle.df_run.specs.Making.{IsWritten, Stops};
-ghost use Rattle.df_run.specs.Outcome.{IsTextOfSome, WriteFaultIsDue, files_told, told_at};
+ghost use Rattle.df_run.specs.Making.{IsPlainCommandOf, IsWritten, Stops};
+ghost use Rattle.df_run.specs.Outcome.{AskPlainly, IsTextOfSome, WriteFaultIsDue, files_told, told_at};
 ghost use Rattle.df_run.specs.Tasks.{IsText};
 ghost use Rattle.df_run.specs.declared.status.Status.TheVariants as status;
 ghost use Rattle.df_words.specs.Words.{Ask, files_of, texts};
@@ -14,8 +14,20 @@ use crate::status::Status;
 use crate::tasks::{End, Output, Refused, output_of, output_of_key};
 use df_io::{Shelf, Sink, write_all};
 use df_label::NoMemory;
-use df_words::{Command, Files};
+use df_words::{Command, Files, WordsRefused, read_words};
 use std::alloc::Global;
+
+/// The command for which the words ask, unless it asks for workers.
+pub fn plain_command(alloc: Global, words: &[String]) -> Result<Command, WordsRefused>
+    ensures { IsPlainCommandOf (texts words.now) result }
+{
+    let command = read_words(alloc, words)?;
+    if command.is_plain() {
+        Ok(command)
+    } else {
+        Err(WordsRefused::Usage)
+    }
+}
 
 /// What the command writes of its files, or the status with which the run ends before anything is
 /// written. A file is judged before the next one is read.
@@ -25,7 +37,7 @@ pub fn made_of<F: Shelf>(
     words: &[String],
     shelf: &mut F,
 ) -> Result<Output, Status>
-    requires { Ask (texts words.now) command.now }
+    requires { AskPlainly (texts words.now) command.now }
     ensures makes { IfOk result (λ o. IsTextOfSome command.now
         (files_told (F.bytes shelf.old) (texts words.now) command.now) o.end o.text.items) }
     ensures stops { IfErr result (Stops command.now
@@ -96,5 +108,6 @@ pub fn write_output<W: Sink>(output: &Output, out: &mut W) -> Status
         End::Done => Status::Done,
         End::Wrong { place } => Status::Wrong { place },
         End::Unsettled { steps } => Status::Unsettled { steps },
+        End::NoPlace { entries } => Status::NoPlace { entries },
     }
 }

@@ -15,6 +15,7 @@ const HELP: &str = "usage: defcon steps SCRIPT
        defcon check JOURNAL
        defcon purge LABEL JOURNAL
        defcon upgrade JOURNAL
+       defcon why JOURNAL PLACE
        defcon auction ORDERS
        defcon lint SCRIPT
        defcon gen KEY N
@@ -24,13 +25,14 @@ const HELP: &str = "usage: defcon steps SCRIPT
 steps runs the unit calls of the file SCRIPT, and writes the journal of all calls, replies,
 commits and events handed out. check says whether the file JOURNAL is what the rules give, or
 which entry is the first that isn't. purge writes what stays of JOURNAL without all that LABEL,
-as {#0|}, may not see, and upgrade writes JOURNAL with the contaminations of its units. auction
-reads the order file ORDERS, and writes for each symbol the price at which the greatest quantity
-trades, and the trades. lint makes none of the calls of SCRIPT: of its start it writes, for each
-root and each privilege, whether the units of the root's family may ever hold it. gen writes a
-tick file of N ticks, at most 100,000, which are the same for the same number KEY. floor runs the
-trading floor of the file CONFIG on the tick file TICKS, and writes its journal and what it comes
-to. load writes what a fixed floor comes to on N ticks of KEY, at most 4,000.
+as {#0|}, may not see, and upgrade writes JOURNAL with the contaminations of its units. why writes
+the entries of JOURNAL on which the one at PLACE, counted from 0, rests: a journal that ends with
+it. auction reads the order file ORDERS, and writes for each symbol the price at which the greatest
+quantity trades, and the trades. lint makes none of the calls of SCRIPT: of its start it writes,
+for each root and each privilege, whether the units of the root's family may ever hold it. gen
+writes a tick file of N ticks, at most 100,000, which are the same for the same number KEY. floor
+runs the trading floor of the file CONFIG on the tick file TICKS, and writes its journal and what
+it comes to. load writes what a fixed floor comes to on N ticks of KEY, at most 4,000.
 
   --help     this text
   --version  the version
@@ -38,7 +40,8 @@ to. load writes what a fixed floor comes to on N ticks of KEY, at most 4,000.
 Ends with 0 where all was written, 2 for words that have none of these forms, 3 for a file that
 isn't in its form, 4 for a journal that isn't what the rules give, 5 for a file that can't be
 read, 6 for output that can't be written, 7 where memory runs out, 8 for a file of more than
-67,108,864 bytes, and 9 for a floor that isn't at rest at its limit of steps.
+67,108,864 bytes, 9 for a floor that isn't at rest at its limit of steps, and 10 for a journal that
+is right and hasn't PLACE.
 ";
 
 /// What `--version` prints.

@@ -1,11 +1,11 @@
 ghost use Rattle.std.specs.Prelude.{◌≡◌};
-ghost use Rattle.df_words.specs.Words.{Ask, AskNothing, texts};
-ghost use Rattle.df_run.specs.Outcome.{BadInputIsExact, DoesInput, IfAsked, IsOfACommand, ReadFaultIsDue, TooLongIsExact, UnsettledIsExact, UsageIsExact, WriteFaultIsDue, Writes, WrongIsExact, files_told};
+ghost use Rattle.df_words.specs.Words.{texts};
+ghost use Rattle.df_run.specs.Outcome.{AskNothingPlain, AskPlainly, BadInputIsExact, DoesInput, IfAsked, IsOfACommand, NoPlaceIsExact, ReadFaultIsDue, TooLongIsExact, UnsettledIsExact, UsageIsExact, WriteFaultIsDue, Writes, WrongIsExact, files_told};
 
-use crate::making::{made_of, write_output};
+use crate::making::{made_of, plain_command, write_output};
 use crate::status::Status;
 use df_io::{Shelf, Sink};
-use df_words::{Command, WordsRefused, read_words};
+use df_words::{Command, WordsRefused};
 use std::alloc::Global;
 
 /// Does what the command says. Its files are read and the text is made before anything is written.
@@ -16,7 +16,7 @@ fn run_command<F: Shelf, W: Sink>(
     shelf: &mut F,
     out: &mut W,
 ) -> Status
-    requires { Ask (texts words.now) command.now }
+    requires { AskPlainly (texts words.now) command.now }
     ensures asked { IsOfACommand result }
     ensures bad_input { BadInputIsExact command.now
         (files_told (F.bytes shelf.old) (texts words.now) command.now) result }
@@ -25,6 +25,8 @@ fn run_command<F: Shelf, W: Sink>(
     ensures wrong { WrongIsExact command.now
         (files_told (F.bytes shelf.old) (texts words.now) command.now) result }
     ensures unsettled { UnsettledIsExact command.now
+        (files_told (F.bytes shelf.old) (texts words.now) command.now) result }
+    ensures no_place { NoPlaceIsExact command.now
         (files_told (F.bytes shelf.old) (texts words.now) command.now) result }
     ensures read_fault { ReadFaultIsDue (F.faults shelf.old) (F.faults shelf.new) result }
     ensures write_fault { WriteFaultIsDue (W.faults out.old) (W.faults out.new) result }
@@ -48,7 +50,8 @@ pub fn run_plain<F: Shelf, W: Sink>(
     out: &mut W,
 ) -> Status
     ensures usage { UsageIsExact (texts words.now) result }
-    ensures unused { AskNothing (texts words.now) → W.written out.new ≡ W.written out.old }
+    ensures unused { AskNothingPlain (texts words.now) →
+        W.written out.new ≡ W.written out.old }
     ensures bad_input { IfAsked (texts words.now) (λ command. BadInputIsExact command
         (files_told (F.bytes shelf.old) (texts words.now) command) result) }
     ensures too_long { IfAsked (texts words.now) (λ command. TooLongIsExact command
@@ -56,6 +59,8 @@ pub fn run_plain<F: Shelf, W: Sink>(
     ensures wrong { IfAsked (texts words.now) (λ command. WrongIsExact command
         (files_told (F.bytes shelf.old) (texts words.now) command) result) }
     ensures unsettled { IfAsked (texts words.now) (λ command. UnsettledIsExact command
+        (files_told (F.bytes shelf.old) (texts words.now) command) result) }
+    ensures no_place { IfAsked (texts words.now) (λ command. NoPlaceIsExact command
         (files_told (F.bytes shelf.old) (texts words.now) command) result) }
     ensures read_fault { ReadFaultIsDue (F.faults shelf.old) (F.faults shelf.new) result }
     ensures write_fault { WriteFaultIsDue (W.faults out.old) (W.faults out.new) result }
@@ -65,7 +70,7 @@ pub fn run_plain<F: Shelf, W: Sink>(
     ensures does { IfAsked (texts words.now) (λ command. DoesInput command
         (files_told (F.bytes shelf.old) (texts words.now) command) result) }
 {
-    match read_words(alloc, words) {
+    match plain_command(alloc, words) {
         Ok(command) => run_command(alloc, &command, words, shelf, out),
         Err(WordsRefused::Usage) => Status::Usage,
         Err(WordsRefused::NoMemory) => Status::NoMemory,
@@ -80,7 +85,8 @@ pub fn run_main<F: Shelf, W: Sink>(
     out: &mut W,
 ) -> Status
     ensures usage { UsageIsExact (texts words.now) result }
-    ensures unused { AskNothing (texts words.now) → W.written out.new ≡ W.written out.old }
+    ensures unused { AskNothingPlain (texts words.now) →
+        W.written out.new ≡ W.written out.old }
     ensures bad_input { IfAsked (texts words.now) (λ command. BadInputIsExact command
         (files_told (F.bytes shelf.old) (texts words.now) command) result) }
     ensures too_long { IfAsked (texts words.now) (λ command. TooLongIsExact command
@@ -88,6 +94,8 @@ pub fn run_main<F: Shelf, W: Sink>(
     ensures wrong { IfAsked (texts words.now) (λ command. WrongIsExact command
         (files_told (F.bytes shelf.old) (texts words.now) command) result) }
     ensures unsettled { IfAsked (texts words.now) (λ command. UnsettledIsExact command
+        (files_told (F.bytes shelf.old) (texts words.now) command) result) }
+    ensures no_place { IfAsked (texts words.now) (λ command. NoPlaceIsExact command
         (files_told (F.bytes shelf.old) (texts words.now) command) result) }
     ensures read_fault { ReadFaultIsDue (F.faults shelf.old) (F.faults shelf.new) result }
     ensures write_fault { WriteFaultIsDue (W.faults out.old) (W.faults out.new) result }

@@ -38,6 +38,11 @@ pub enum Status {
     Unsettled {
         steps: u64,
     },
+    /// The journal is right and has so many entries, and the place that was asked for isn't below
+    /// that.
+    NoPlace {
+        entries: u64,
+    },
 }
 
 impl Status {
@@ -55,6 +60,7 @@ impl Status {
             Status::NoMemory => 7,
             Status::TooLong { .. } => 8,
             Status::Unsettled { .. } => 9,
+            Status::NoPlace { .. } => 10,
         }
     }
 }
@@ -95,6 +101,7 @@ impl fmt::Display for Status {
             Status::NoMemory => f.write_str("defcon: no memory"),
             Status::TooLong { input } => write!(f, "defcon: input {input} too long"),
             Status::Unsettled { steps } => write!(f, "defcon: unsettled after {steps}"),
+            Status::NoPlace { entries } => write!(f, "defcon: no place in {entries}"),
         }
     }
 }

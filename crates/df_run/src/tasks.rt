@@ -5,7 +5,7 @@ ghost use Rattle.df_io.specs.Limits.{longest_file};
 ghost use Rattle.df_run.specs.Tasks.{IsText, RefusesInput, end_of, told_of};
 ghost use Rattle.df_run.specs.declared.tasks.End.TheVariants as end;
 ghost use Rattle.df_ticks.specs.TickText.{ticks_text};
-ghost use Rattle.df_words.specs.declared.command.Command.TheVariants.{Auction, Check, Gen, Lint, Load, Purge, Steps, Upgrade};
+ghost use Rattle.df_words.specs.declared.command.Command.TheVariants.{Auction, Check, Gen, Lint, Load, Purge, Steps, Upgrade, Why};
 ghost use Rattle.df_words.specs.Words.{Ask, files_of};
 ghost use Rattle.df_words.specs.declared.command.Files.TheVariants as files;
 
@@ -13,7 +13,7 @@ use crate::lint::lint_script;
 use crate::status::BadKind;
 use crate::steps::steps;
 use df_auction::{OrdersRefused, auction_text};
-use df_audit::{Audit, Finding, check_text, purge_text, upgrade_text};
+use df_audit::{Audit, Finding, check_text, purge_text, upgrade_text, why_text};
 use df_floor_run::run_load;
 use df_gen::gen_ticks;
 use df_label::{Label, NoMemory};
@@ -38,6 +38,8 @@ pub enum End {
     Wrong { place: u64 },
     /// The run of a floor was cut off, with so many entries.
     Unsettled { steps: u64 },
+    /// The journal is right, has so many entries, and not the place that was asked for.
+    NoPlace { entries: u64 },
 }
 
 /// What a command writes, and how its run then ends.
@@ -60,9 +62,10 @@ pub fn output_of(alloc: Global, command: &Command, bytes: &[u8]) -> Result<Outpu
         Command::Check { .. } => check_of_journal(alloc, bytes),
         Command::Purge { label, .. } => purge_of_journal(alloc, label, bytes),
         Command::Upgrade { .. } => upgrade_of_journal(alloc, bytes),
+        Command::Why { place, .. } => why_of_journal(alloc, *place, bytes),
         Command::Auction { .. } => auctions_of_orders(alloc, bytes),
         Command::Lint { .. } => lint_of_script(alloc, bytes),
-        Command::Gen { .. } | Command::Floor { .. } | Command::Load { .. } => unreachable!(),
+        _ => unreachable!(),
     }
 }
 
@@ -116,6 +119,7 @@ fn audited(audit: Audit) -> Output
     let end = match finding {
         Finding::Right => End::Done,
         Finding::Wrong { place } => End::Wrong { place },
+        Finding::NoPlace { entries } => End::NoPlace { entries },
     };
     Output { text, end }
 }
@@ -160,6 +164,17 @@ fn upgrade_of_journal(alloc: Global, bytes: &[u8]) -> Result<Output, Refused>
     ensures refuses { (journal : ℕ) → IfErr result (RefusesInput (Upgrade journal) bytes.now) }
 {
     match upgrade_text(alloc, bytes) {
+        Ok(audit) => Ok(audited(audit)),
+        Err(refused) => Err(blamed_line(refused)),
+    }
+}
+
+fn why_of_journal(alloc: Global, place: u64, bytes: &[u8]) -> Result<Output, Refused>
+    ensures gives { (journal : ℕ) → IfOk result (λ o.
+        IsText (Why journal place) (bytes.now ∷ []) o.end o.text.items) }
+    ensures refuses { (journal : ℕ) → IfErr result (RefusesInput (Why journal place) bytes.now) }
+{
+    match why_text(alloc, place, bytes) {
         Ok(audit) => Ok(audited(audit)),
         Err(refused) => Err(blamed_line(refused)),
     }

@@ -7,14 +7,15 @@ use Rattle.df_value_text.specs.Label.{label_text}
 use Rattle.df_value_text.specs.declared.refused.TextRefused.TheVariants as refused
 use Rattle.df_words.specs.Words.{Ask, IsCommandOf, IsLabelIn, Spells}
 use Rattle.df_words.specs.declared.command.Command.{Command}
-use Rattle.df_words.specs.declared.command.Command.TheVariants.{Steps, Check, Purge, Upgrade, Auction, Lint, Gen, Floor, Load}
+use Rattle.df_words.specs.declared.command.Command.TheVariants.{Steps, Check, Purge, Upgrade, Why, Auction, Lint, Gen, Floor, FloorWorkers, Load}
 
 -- a label that the word spells stands there, in front of nothing
 pub stands : (word : List ℕ) (l : Label) → Spells word l → Stands label_text IsLabel word l []
 stands word l spells = record { parts = spells.0 ∙ sym (append-nil (label_text l)); fits = spells.1; ends = λ t tail same goes. cc }
 
 -- a word of which only a front is a label spells none
-pub longer : (word : List ℕ) (x : Label) (end : ℕ) → end ≤ length word → end ≢ length word → ((y : Label) (rest : List ℕ) → Stands label_text IsLabel word y rest → (x ≡ y) × (drop end word ≡ rest)) → (l : Label) → ¬ Spells word l
+pub longer : (word : List ℕ) (x : Label) (end : ℕ) → end ≤ length word → end ≢ length word
+    → ((y : Label) (rest : List ℕ) → Stands label_text IsLabel word y rest → (x ≡ y) × (drop end word ≡ rest)) → (l : Label) → ¬ Spells word l
 longer word x end within short only l spells =
     let is = only l [] (stands word l spells) in
     let n : length word - end ≡ 0 = sym (length-drop end word) ∙ ap length is.1 in
@@ -25,12 +26,18 @@ asked_back : (word name : List ℕ) (label : Label) → IsLabelIn word (Ok label
 asked_back word name label is (Steps file) ask = absurd (let no : ⊥ = cc in no)
 asked_back word name label is (Check journal) ask = absurd (let no : ⊥ = cc in no)
 asked_back word name label is (Upgrade journal) ask = absurd (let no : ⊥ = cc in no)
+asked_back word name label is (Why journal place) ask =
+    let letter : 112 ≡ 119 = ap (λ (words : List (List ℕ)). get_or (get_or words 0 []) 0 0) ask.1 in
+    absurd (omega (arith, letter))
 asked_back word name label is (Auction orders) ask = absurd (let no : ⊥ = cc in no)
 asked_back word name label is (Lint script) ask = absurd (let no : ⊥ = cc in no)
 asked_back word name label is (Gen key n) ask = absurd (let no : ⊥ = cc in no)
 asked_back word name label is (Floor config ticks) ask =
     let letter : 112 ≡ 102 = ap (λ (words : List (List ℕ)). get_or (get_or words 0 []) 0 0) ask.2 in
     absurd (omega (arith, letter))
+asked_back word name label is (FloorWorkers config ticks workers) ask =
+    let count : 3 ≡ 5 = ap (λ (words : List (List ℕ)). length words) ask.2 in
+    absurd (omega (arith, count))
 asked_back word name label is (Load key n) ask = absurd (let no : ⊥ = cc in no)
 asked_back word name label is (Purge l journal) ask =
     let spelled : word ≡ label_text l = cc in
@@ -38,7 +45,8 @@ asked_back word name label is (Purge l journal) ask =
     let place : journal ≡ 2 = ask.4 in
     cc
 
-pub purge_asked : (word name : List ℕ) (label : Label) → IsLabelIn word (Ok label) → 0 < length name → IsCommandOf (codes "purge" ∷ word ∷ name ∷ []) (Ok (Purge label 2))
+pub purge_asked : (word name : List ℕ) (label : Label) → IsLabelIn word (Ok label) → 0 < length name
+    → IsCommandOf (codes "purge" ∷ word ∷ name ∷ []) (Ok (Purge label 2))
 purge_asked word name label is long c = (
   λ same.
       let spells = (is label).0 refl in

@@ -18,7 +18,7 @@ pub fn number_in(word: &str) -> Option<u64>
     }
 }
 
-/// The number of ticks that the whole word asks for, if it is at most so many.
+/// The number that the whole word spells, if it is from 1 to the most.
 pub fn count_in(word: &str, most: u32) -> Option<u32>
     ensures { IsCountIn most word.now result }
 {

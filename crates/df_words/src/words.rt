@@ -13,6 +13,9 @@ const MOST_GENERATED: u32 = 100_000;
 /// The most ticks on which a floor is run that no file tells.
 const MOST_LOADED: u32 = 4_000;
 
+/// The most workers of a floor.
+const MOST_WORKERS: u32 = 16;
+
 /// What is to be done with the file of this name, by the word before it.
 fn file_command(word: &str, name: &str) -> Result<Command, WordsRefused>
     ensures { IsCommandOf (word.now ∷ name.now ∷ []) result }
@@ -50,6 +53,8 @@ fn pair_command(
         gen_command(first, second)
     } else if word == "floor" {
         floor_command(first, second)
+    } else if word == "why" {
+        why_command(first, second)
     } else if word == "load" {
         load_command(first, second)
     } else {
@@ -66,6 +71,19 @@ fn purge_command(alloc: Global, label: &str, journal: &str) -> Result<Command, W
     }
     let label = label_in(alloc, label)?;
     Ok(Command::Purge { label, journal: 2 })
+}
+
+/// Why an entry stands in the journal of this name, at the place that the word spells.
+fn why_command(journal: &str, place: &str) -> Result<Command, WordsRefused>
+    ensures { IsCommandOf (codes "why" ∷ journal.now ∷ place.now ∷ []) result }
+{
+    if journal.is_empty() {
+        return Err(WordsRefused::Usage);
+    }
+    match number_in(place) {
+        Some(place) => Ok(Command::Why { journal: 1, place }),
+        None => Err(WordsRefused::Usage),
+    }
 }
 
 /// As many ticks of the key as the words say.
@@ -91,6 +109,42 @@ fn floor_command(config: &str, ticks: &str) -> Result<Command, WordsRefused>
     })
 }
 
+/// What is to be done with two words, by the one before them and the option and number behind them.
+fn option_command(
+    word: &str,
+    first: &str,
+    second: &str,
+    option: &str,
+    count: &str,
+) -> Result<Command, WordsRefused>
+    ensures { IsCommandOf
+        (word.now ∷ first.now ∷ second.now ∷ option.now ∷ count.now ∷ []) result }
+{
+    if word == "floor" && option == "--workers" {
+        workers_command(first, second, count)
+    } else {
+        Err(WordsRefused::Usage)
+    }
+}
+
+/// The floor of the files of these names, with as many workers as the word says.
+fn workers_command(config: &str, ticks: &str, count: &str) -> Result<Command, WordsRefused>
+    ensures { IsCommandOf (codes "floor" ∷ config.now ∷ ticks.now ∷ codes "--workers"
+        ∷ count.now ∷ []) result }
+{
+    if config.is_empty() || ticks.is_empty() {
+        return Err(WordsRefused::Usage);
+    }
+    match count_in(count, MOST_WORKERS) {
+        Some(workers) => Ok(Command::FloorWorkers {
+            config: 1,
+            ticks: 2,
+            workers,
+        }),
+        None => Err(WordsRefused::Usage),
+    }
+}
+
 /// A floor on as many ticks of the key as the words say.
 fn load_command(key: &str, count: &str) -> Result<Command, WordsRefused>
     ensures { IsCommandOf (codes "load" ∷ key.now ∷ count.now ∷ []) result }
@@ -110,6 +164,13 @@ pub fn read_words(alloc: Global, words: &[String]) -> Result<Command, WordsRefus
         [word, first, second] => {
             pair_command(alloc, word.as_str(), first.as_str(), second.as_str())
         }
+        [word, first, second, option, count] => option_command(
+            word.as_str(),
+            first.as_str(),
+            second.as_str(),
+            option.as_str(),
+            count.as_str(),
+        ),
         _ => Err(WordsRefused::Usage),
     }
 }

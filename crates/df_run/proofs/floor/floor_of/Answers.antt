@@ -14,11 +14,14 @@ pub returns-in-Err-ticks_at-clause-stops : goal.returns-in-Err-ticks_at-clause-s
 returns-in-Err-ticks_at-clause-stops g c =
     let floor = Floor c.args.first c.args.second in
     let same = told_again _ _ (texts c.args.words.now) c.args.second c.in-Ok.ensures.same in
-    second_stops floor _ _ _ _ _ c.in-Err-ticks_at.status (config_good c.args.first c.args.second _ c.in-Ok.config c.in-Ok.ensures.read) c.in-Ok.ensures.never_falls
-    (subst (λ told. StopsAt floor 2 told (g.F.Shelf.faults c.config_at.new.shelf) (g.F.Shelf.faults c.ticks_at.new.shelf) c.in-Err-ticks_at.status) same (c.in-Err-ticks_at.ensures.stops c.args.first c.args.second))
+    second_stops floor _ _ _ _ _ c.in-Err-ticks_at.status (config_good c.args.first c.args.second _ c.in-Ok.config c.in-Ok.ensures.read)
+        c.in-Ok.ensures.never_falls
+    (subst (λ told. StopsAt floor 2 told (g.F.Shelf.faults c.config_at.new.shelf) (g.F.Shelf.faults c.ticks_at.new.shelf) c.in-Err-ticks_at.status) same
+        (c.in-Err-ticks_at.ensures.stops c.args.first c.args.second))
 
 pub returns-in-Ok-run_of-clause-makes : goal.returns-in-Ok-run_of-clause-makes
 returns-in-Ok-run_of-clause-makes g c =
     let same = told_again _ _ (texts c.args.words.now) c.args.second c.in-Ok.ensures.same in
-    floor_told c.args.first c.args.second _ _ c.in-Ok.config c.in-Ok-ticks_at.ticks.items c.in-Ok-run_of.output.end c.in-Ok-run_of.output.text.items c.in-Ok.ensures.read
+    floor_told c.in-Ok.config c.in-Ok-ticks_at.ticks.items c.args.first c.args.second _ _ c.in-Ok-run_of.output.end c.in-Ok-run_of.output.text.items
+        c.in-Ok.ensures.read
     (subst (λ told. OfRead told (λ bytes. IsTickFile bytes c.in-Ok-ticks_at.ticks.items)) same c.in-Ok-ticks_at.ensures.read) c.in-Ok-run_of.ensures

@@ -13,4 +13,6 @@ returns-in-Err-BadTick-clause-stops g c =
     let line = c.in-Err-BadTick.line in
     let refused = rw c.in-Err-BadTick.field-0-is at c.in-Err-BadTick.ensures.refused in
     let bad = subst (λ (bs : List ℕ). IsRightRefusal bs (BadTick line)) c.as_slice.ensures.value refused in
-    λ config ticks. (refl, (c.in-Ok.bytes.items, c.in-Ok.ensures.read, record { bad = λ read. a_tick_file_is_good c.in-Ok.bytes.items read.0 line read.1 bad; place = (refl, bad) }))
+    λ config ticks. (refl,
+        (c.in-Ok.bytes.items, c.in-Ok.ensures.read, record
+        { bad = λ read. a_tick_file_is_good c.in-Ok.bytes.items read.0 line read.1 bad; place = (refl, bad) }))

@@ -17,4 +17,5 @@ pub returns-in-Err-BadInput-clause-stops : goal.returns-in-Err-BadInput-clause-s
 returns-in-Err-BadInput-clause-stops g c =
     let refuses = rw c.in-Err-BadInput.field-0-is at c.in-Err-BadInput.ensures.refuses in
     let blames = subst (λ (bs : List ℕ). BlamesBytes c.args.command.now 1 bs c.in-Err-BadInput.line c.in-Err-BadInput.kind) c.as_slice.ensures.value refuses in
-    first_stops c.args.command.now _ _ _ _ (status.BadInput 1 c.in-Err-BadInput.line c.in-Err-BadInput.kind) (refl, (c.in-Ok.bytes.items, c.in-Ok.ensures.read, blames))
+    first_stops c.args.command.now _ _ _ _ (status.BadInput 1 c.in-Err-BadInput.line c.in-Err-BadInput.kind)
+        (refl, (c.in-Ok.bytes.items, c.in-Ok.ensures.read, blames))

@@ -16,5 +16,6 @@ returns-in-Ok-clause-unused g c =
 
 pub returns-in-Ok-clause-writes : goal.returns-in-Ok-clause-writes
 returns-in-Ok-clause-writes g c = λ command ask. subst
-    (λ k. Writes k (files_told (g.F.Shelf.bytes c.args.shelf.now) (texts c.args.words.now) k) (g.W.Sink.written c.args.out.now) (g.W.Sink.written c.run_command.new.out) c.run_command.result)
+    (λ k. Writes k (files_told (g.F.Shelf.bytes c.args.shelf.now) (texts c.args.words.now) k) (g.W.Sink.written c.args.out.now)
+        (g.W.Sink.written c.run_command.new.out) c.run_command.result)
     ((c.in-Ok.ensures command).1 ask) c.run_command.ensures.writes

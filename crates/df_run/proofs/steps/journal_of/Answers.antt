@@ -10,7 +10,8 @@ use Rattle.df_run.proofs.steps.journal_of.Goals as goal
 
 pub lines-init : goal.lines-init
 lines-init c =
-    ([], c.requires, written_none c.args.start c.in_ok-core.core c.write_head.new.to.items c.in_ok-core.ensures (c.in_ok-write_head.ensures.ok ∙ ap (λ (t : List ℕ). t ++ head_text c.args.start) c.new-text.ensures.items), refl)
+    ([], c.requires, written_none c.args.start c.in_ok-core.core c.write_head.new.to.items c.in_ok-core.ensures
+        (c.in_ok-write_head.ensures.ok ∙ ap (λ (t : List ℕ). t ++ head_text c.args.start) c.new-text.ensures.items), refl)
 
 pub lines-preserved : goal.lines-preserved
 lines-preserved c =
@@ -18,7 +19,8 @@ lines-preserved c =
     let line = c.in-Some.read.line in (
       past ++ line ∷ [],
       (rw c.in-Some.is at (c.in_ok-read.ensures.next c.args.start past c.lines.invariant.1)),
-      written_more c.args.start past line c.lines.core c.append_step.new.core c.lines.text.items c.append_step.new.text.items c.lines.invariant.2 c.in_ok-append_step.ensures,
+      written_more c.args.start past line c.lines.core c.append_step.new.core c.lines.text.items c.append_step.new.text.items c.lines.invariant.2
+          c.in_ok-append_step.ensures,
       c.in_ok-read.ensures.bytes ∙ c.lines.invariant.3,
     )
 
@@ -33,4 +35,5 @@ pub returns-clause-records : goal.returns-clause-records
 returns-clause-records c =
     let lines = c.lines.invariant.0 in
     let all = (rw c.in_default.is at (c.in_ok-read.ensures.next c.args.start lines c.lines.invariant.1)) in
-    (c.args.start, lines, all.0, sym (c.in_ok-read.ensures.bytes ∙ c.lines.invariant.3) ∙ all.1, c.lines.invariant.2.text, journal_is_unaided c.args.start lines, journal_is_sound c.args.start lines)
+    (c.args.start, lines, all.0, sym (c.in_ok-read.ensures.bytes ∙ c.lines.invariant.3)
+        ∙ all.1, c.lines.invariant.2.text, journal_is_unaided c.args.start lines, journal_is_sound c.args.start lines)

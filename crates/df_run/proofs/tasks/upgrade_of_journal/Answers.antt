@@ -6,7 +6,9 @@ use Rattle.df_run.proofs.tasks.upgrade_of_journal.Goals as goal
 use Rattle.df_words.specs.declared.command.Command.TheVariants.{Upgrade}
 
 pub returns-in-Ok-clause-gives : goal.returns-in-Ok-clause-gives
-returns-in-Ok-clause-gives c journal = upgrade_given journal c.args.bytes.now c.in-Ok.audit.finding c.in-Ok.audit.text.items c.audited.result.end c.audited.result.text.items c.in-Ok.ensures.tells c.audited.ensures.end c.audited.ensures.text
+returns-in-Ok-clause-gives c journal = upgrade_given journal c.args.bytes.now c.in-Ok.audit.finding c.in-Ok.audit.text.items c.audited.result.end
+    c.audited.result.text.items c.in-Ok.ensures.tells c.audited.ensures.end c.audited.ensures.text
 
 pub returns-in-Err-clause-refuses : goal.returns-in-Err-clause-refuses
-returns-in-Err-clause-refuses c journal = subst (RefusesInput (Upgrade journal) c.args.bytes.now) (sym c.blamed_line.ensures) (upgrade_blames journal c.args.bytes.now c.in-Err.refused c.in-Err.ensures.refuses)
+returns-in-Err-clause-refuses c journal = subst (RefusesInput (Upgrade journal) c.args.bytes.now) (sym c.blamed_line.ensures)
+    (upgrade_blames journal c.args.bytes.now c.in-Err.refused c.in-Err.ensures.refuses)

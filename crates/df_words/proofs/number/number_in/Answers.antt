@@ -13,7 +13,8 @@ returns-in_default c n = (
 
 pub returns-then-eq : goal.returns-then-eq
 returns-then-eq c n =
-    let same : c.args.word.now ≡ decimal c.in-Ok.number = sym ((bytes_eq-Decides c.format.result.now c.args.word.now).0 (sym c.eq.ensures ∙ c.if-eq.true)) ∙ c.format.ensures.text in (
+    let same : c.args.word.now ≡ decimal c.in-Ok.number = sym ((bytes_eq-Decides c.format.result.now c.args.word.now).0 (sym c.eq.ensures ∙ c.if-eq.true))
+        ∙ c.format.ensures.text in (
       λ e.
           let number : c.in-Ok.number ≡ n = cc in
           (same ∙ ap decimal number, omega (arith, sym number, c.in-Ok)),
