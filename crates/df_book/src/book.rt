@@ -48,8 +48,8 @@ impl Book {
         }
     }
 
-    /// An order comes: its trades, in order. What is left of it rests. It takes the logarithm of
-    /// the number of resting orders for itself and for each of its trades.
+    /// An order comes: its trades, in order. What is left of it rests. By design, and not by a
+    /// clause, it takes logarithmic time for itself and for each of its trades.
     pub fn submit(&mut self, order: Order) -> Result<Vec<Trade>, NoMemory>
         requires limit { pos 1 ≤ℤ order.limit }
         requires qty { pos 1 ≤ℤ order.qty }

@@ -1,6 +1,6 @@
 ghost use Rattle.std.specs.Prelude.{◌≡◌, List, length};
 
-/// A value that tells a list of entries, and from what it began.
+/// What contracts see of the value: a list of entries, and an origin.
 pub trait Journaled {
     /// The type of the origin. Only contracts speak of it.
     type Origin;

@@ -34,7 +34,7 @@ pub fn one_origin<V: Journaled>()
     ensures { Always V.origin V.list (λ first s. HasOrigin V.origin (V.origin first) s) }
 {}
 
-/// What its last take found is a beginning of what a pass has seen.
+/// What its last take found is a prefix of what a pass has seen.
 pub fn found_beginning<V: Journaled>(pass: &Pass<V>)
     ensures { IsPrefix pass.now.found pass.now.seen }
 {

@@ -87,7 +87,7 @@ pub struct Clause {
 }
 
 impl Clause {
-    /// Whether a part of this name and value serves the clause.
+    /// Whether a part of this name and value satisfies the clause.
     pub fn holds(&self, name: &Name, value: &Value) -> bool
         ensures { result ≡ holds self.now name.now (plain value.now) }
     {

@@ -45,9 +45,8 @@ pub record Stuck {T X : Type 0} (IsLow : List T → List T → Type 0) (spell : 
 abbrev pub IsLocal : {T : Type 0} → (List T → List T → Type 0) → Type 0
 IsLocal {T} IsLow = (before front rest : List T) → IsLow front rest → IsLow (before ++ front) rest
 
--- what is read is spelled so; what is spelled so is read, where it ends; reading stops where it has
--- to; and
--- where something goes on, a longer text begins so
+-- ties a parser to a printer: what is parsed prints the same; what is printed parses back, where it
+-- ends; parsing stops only where no valid text goes on; and a longer text begins the same way
 pub record Format {T X : Type 0} (IsLow : List T → List T → Type 0) (spell : X →
     List T) (Fits : X → Type 0) (goes : X → T → Bool) (read : List T → Read T X) : Type 0 where
   pub found : (tokens : List T) (x : X) (rest : List T) → read tokens ≡ Ok (x, rest) →

@@ -54,7 +54,7 @@ impl Frozen {
         }
     }
 
-    /// One more owner of the value. An Arc that refuses it counts as want of memory.
+    /// Another reference to the value. NoMemory where the count of references is full.
     pub fn share(&self) -> Result<Frozen, NoMemory>
         ensures { IfOk result (λ frozen. frozen ≡ self.now) }
     {

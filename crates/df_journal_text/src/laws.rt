@@ -6,7 +6,7 @@ ghost use Rattle.df_journal_text.specs.Fits.{IsJournal};
 ghost use Rattle.df_journal_text.specs.ReadEntry.{EndsJournal, journal_at};
 ghost use Rattle.df_journal_text.specs.Start.{journal_text};
 
-/// A text is that of one journal: the bytes determine the start and the noted entries.
+/// No text spells two journals: the bytes determine the start and the noted entries.
 pub fn a_text_is_one_journal()
     ensures { (roots others : List RootStart) (noted more : List Noted)
         → IsJournal roots noted → IsJournal others more

@@ -15,7 +15,8 @@ pub fn tags_are_made_of_maker_and_number()
     ensures number { (maker : List ℕ) (number : ℕ) → number_of (maker ++ number ∷ []) ≡ number }
 {}
 
-/// Each operation does to membership what its name says of sets.
+/// Each operation is the one of its name on sets: a tag is in the union of two exactly if it is in
+/// one of them, and so on.
 pub fn operations_are_those_of_sets()
     ensures tag_eq { (t u : List ℕ) → IsTrue (tag_eq t u) ↔ (t ≡ u) }
     ensures with { (ts : List (List ℕ)) (t u : List ℕ) →

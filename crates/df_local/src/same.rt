@@ -1,11 +1,11 @@
-//! Whether two units are one in one state.
+//! Whether two units have equal names and states.
 
 ghost use Rattle.std.specs.Prelude.{◌≡◌, ◌↔◌, IsTrue};
 
 use crate::Local;
 
 impl Local {
-    /// Whether the two have one name and one state, values by their plain content.
+    /// Whether the two have equal names and equal states, values by their plain content.
     pub fn same(&self, other: &Local) -> bool
         ensures { IsTrue result ↔ (self.now ≡ other.now) }
     {

@@ -349,7 +349,7 @@ impl Core {
         }
     }
 
-    /// Appends an emitted entry: a commit of which a purge tells no more than this.
+    /// Appends an emitted entry: a commit whose author and call aren't told.
     pub fn emitted(&mut self, commit: Commit) -> Result<(), NotEmitted>
         ensures entry { OnOk result (self.new ≡ (self.old.0, Emitted commit ∷ self.old.1)) }
         ensures unchanged { OnErr result (self.new ≡ self.old) }

@@ -49,8 +49,7 @@ impl Pair {
         })
     }
 
-    /// A price of the first symbol, or else of the second. Takes no memory, and the same time
-    /// however long the window is.
+    /// A price of the first symbol, or else of the second. Takes no memory.
     pub fn tick(&mut self, first: bool, price: i64) -> Option<Signal>
         ensures remembers { self.new ≡ after self.old first price }
         ensures signals { result

@@ -71,7 +71,7 @@ impl Parts {
         same_parts(self.as_slice(), other.as_slice())
     }
 
-    /// The same parts once more: of a shared list a share, of an own one a list of its own.
+    /// An equal list. A shared one is shared, any other copied.
     pub fn copy(&self) -> Result<Parts, NoMemory>
         ensures { IfOk result (λ p. p ≡ self.now) }
     {

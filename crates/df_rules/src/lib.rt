@@ -51,8 +51,8 @@ pub fn purge_keeps()
     ensures { InEach (λ s past. (l : Label) → Keeps rows s l past (purge rows s l past)) }
 {}
 
-/// Where a commit becomes an emitted one, what its actor lacks to be within the label was set
-/// aside by privileges while they were held.
+/// Where a commit becomes an emitted one, whatever kept its actor from the label was declassified
+/// or endorsed while the privilege was held.
 pub fn purge_exercises()
     ensures { InEach (λ s past. (l : Label) → Exercises rows s l past) }
 {}
@@ -62,7 +62,7 @@ pub fn legal_journals_separate()
     ensures { InEachLegal (λ s past. (l : Label) → Separates rows s past l) }
 {}
 
-/// The same laws, whatever the rules of the calls are, if they keep theirs.
+/// The same laws, for any rules of the calls that satisfy `Laws`.
 pub fn purge_for_all_rules()
     ensures legal { (R : Rules) (s : List OwnState) (l : Label) (past : List Entry) → Laws R s →
         Legal R s past → Legal R s (purge R s l past) }

@@ -6,7 +6,7 @@ ghost use Rattle.df_script_text.specs.ReadScript.{script_at};
 ghost use Rattle.df_script_text.specs.Script.{IsScript, script_text};
 ghost use Rattle.df_script_text.specs.declared.line.ScriptLine.{ScriptLine};
 
-/// A text is that of one script: the bytes determine the start and the calls.
+/// No text spells two scripts: the bytes determine the start and the calls.
 pub fn a_text_is_one_script()
     ensures { (roots others : List RootStart) (lines more : List ScriptLine)
         → IsScript roots lines → IsScript others more

@@ -354,8 +354,8 @@ impl Board {
         Ok(())
     }
 
-    /// Takes in an entry: a call, with the answer that the unit's row gives. Where memory is
-    /// wanting, the tables tell what they told.
+    /// Takes in an entry: a call, with the answer that the unit's row gives. Without memory the
+    /// tables agree with the journal as before.
     pub fn book(
         &mut self,
         actor: &UnitName,

@@ -275,8 +275,8 @@ impl Board {
         Ok(())
     }
 
-    /// Takes in an emitted entry, whose commit is nobody's call. Where memory is wanting, the
-    /// tables tell what they told.
+    /// Takes in an emitted entry, whose commit is nobody's call. Without memory the tables agree
+    /// with the journal as before.
     pub fn emit(&mut self, commit: &Commit) -> Result<(), NoMemory>
         requires { IsBoard self.old }
         ensures board { IsBoard self.new }

@@ -11,8 +11,8 @@ use df_local::Local;
 use std::mem;
 
 impl Board {
-    /// Gives a unit another own state, which reads at the label of the one that it had, and answers
-    /// that. Takes no memory.
+    /// Replaces a unit's own state by one with the same input label, and returns the old one. Takes
+    /// no memory.
     pub fn swap(&mut self, local: Local) -> Local
         requires board { IsBoard self.old }
         requires reads { ReadsAs local (find local.unit self.old.rows.items) }

@@ -171,8 +171,8 @@ impl<B: Brain> Going<B> {
         }
     }
 
-    /// The brain before the wait that it wants, which is the one with which the turn began, gone
-    /// on behind the local calls. It costs a copy of its state where there are any.
+    /// The brain just before it waits: the turn's first brain after the replies of the local
+    /// calls. It costs a copy of its state where there are any.
     pub fn resting(&self, alloc: Global, base: &Mind<B>) -> Result<Mind<B>, NoMemory>
         requires going { IsGoing (brain_of B.next B.instance) base.now self.now }
         requires waits { self.now.stage ≡ Wants Wait }

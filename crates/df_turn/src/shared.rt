@@ -67,7 +67,7 @@ impl<B: Brain> Shared<B> {
         &self.state
     }
 
-    /// Whether the two are one state.
+    /// Whether the two states are equal.
     pub fn same(&self, other: &Shared<B>) -> bool
         ensures { IsTrue result ↔ (self.now ≡ other.now) }
     {

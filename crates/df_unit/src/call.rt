@@ -68,7 +68,7 @@ pub enum Call {
 }
 
 impl Call {
-    /// Whether the two calls are one, values by their plain content.
+    /// Whether the two calls are equal, values by their plain content.
     pub fn same(&self, other: &Call) -> bool
         ensures { IsTrue result ↔ (self.now ≡ other.now) }
     {

@@ -12,7 +12,7 @@ pub enum Effect {
 }
 
 impl Effect {
-    /// Whether the two effects are one.
+    /// Whether the two effects are equal.
     pub fn same(&self, other: &Effect) -> bool
         ensures { IsTrue result ↔ (self.now ≡ other.now) }
     {
@@ -39,7 +39,7 @@ pub enum Entry {
 }
 
 impl Entry {
-    /// Whether the two entries are one, values by their plain content.
+    /// Whether the two entries are equal, values by their plain content.
     pub fn same(&self, other: &Entry) -> bool
         ensures { IsTrue result ↔ (self.now ≡ other.now) }
     {
@@ -78,7 +78,7 @@ pub struct Noted {
 }
 
 impl Noted {
-    /// Whether the two are one entry with the same contamination before it.
+    /// Whether the two entries are equal, and the contaminations before them.
     pub fn same(&self, other: &Noted) -> bool
         ensures { IsTrue result ↔ (self.now ≡ other.now) }
     {

@@ -42,7 +42,7 @@ impl UnitName {
         }
     }
 
-    /// Whether the two names are one.
+    /// Whether the two names are equal.
     #[tactic(auto, using(crate::proofs::SameFacts::same_name_decides))]
     pub fn same(&self, other: &UnitName) -> bool
         ensures test { result ≡ same self.now other.now }
@@ -129,7 +129,7 @@ impl EventName {
         })
     }
 
-    /// Whether the two names are one.
+    /// Whether the two names are equal.
     #[tactic(auto, using(crate::proofs::SameFacts::same_event_decides))]
     pub fn same(&self, other: &EventName) -> bool
         ensures test { result ≡ same_event self.now other.now }

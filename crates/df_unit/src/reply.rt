@@ -32,7 +32,7 @@ pub enum Reply {
 }
 
 impl Reply {
-    /// Whether the two replies are one, values by their plain content.
+    /// Whether the two replies are equal, values by their plain content.
     pub fn same(&self, other: &Reply) -> bool
         ensures { IsTrue result ↔ (self.now ≡ other.now) }
     {

@@ -6,7 +6,7 @@ ghost use Rattle.df_value_text.specs.Counting.{AreCountsOf, FirstOver, NeverOver
 ghost use Rattle.df_value_text.specs.Fits.{IsSpelled};
 ghost use Rattle.df_value_text.specs.Value.{value_text};
 
-/// What is counted over a value's spelling is what the value has, whatever stands behind it.
+/// The counts taken while a value is parsed are those of the value, whatever stands behind it.
 pub fn counts_are_exact()
     ensures { (p : Plain) → IsSpelled p → (rest : List ℕ) →
         AreCountsOf p (counts_of (value_text p ++ rest)) }

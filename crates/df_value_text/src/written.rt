@@ -9,8 +9,8 @@ ghost use Rattle.df_value_text.specs.Label.{label_text, privilege_text, tag_text
 ghost use Rattle.df_value_text.specs.Value.{value_text};
 ghost use Rattle.df_value_text.specs.code.WordEnd.{EndsWord};
 
-/// A literal that is written stands there, where nothing, a space or a line feed follows. So its
-/// reader gives it back, with the place behind it: by the clause `only` of each.
+/// A literal that was printed is parsed back, where nothing, a space or a line feed follows it: by
+/// this law, and the clause `only` of each reader, which gives the place behind it too.
 pub fn what_is_written_stands()
     ensures tag { (tag rest : List ℕ) → IsTag tag → EndsWord rest →
         Stands tag_text IsTag (tag_text tag ++ rest) tag rest }
