@@ -1,0 +1,4 @@
+pub mod Keepings
+pub mod Moments
+pub mod Openings
+pub mod Takes

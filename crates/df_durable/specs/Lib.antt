@@ -1,0 +1,4 @@
+pub mod Keeping
+pub mod Opening
+pub mod StoredState
+pub mod Storing
