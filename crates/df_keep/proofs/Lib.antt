@@ -1,0 +1,4 @@
+pub mod Begun
+pub mod Runs
+pub mod Stored
+pub mod Verdicts
