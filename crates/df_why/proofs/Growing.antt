@@ -1,28 +1,19 @@
 -- Queues as they grow.
 use Rattle.std.proofs.Common.{◌≡◌, ◌⊎◌, inl, inr, ℕ, zero, suc, ◌+◌, ◌<◌, ◌≤◌, List, [], ◌∷◌, ◌++◌, Bool, true, false, length, get_or, replicate, refl, sym, ◌∙◌, ap, cond, Option, Some, arith}
 use Rattle.std.specs.Prelude.{drop, slice_set}
-use Rattle.std.specs.BTreeMap.{BTreeMap, get}
+use Rattle.std.specs.BTreeMap.{BTreeMap}
 use Rattle.std.proofs.Math.Seq.{get_or-append_seam}
 use Rattle.std.proofs.lemmas.Bool.{cases_lt}
-use Rattle.std.proofs.lemmas.List.{append_assoc, drop_all, drop_more, get_or_append_left, length-append, replicate_more}
+use Rattle.std.proofs.lemmas.List.{get_or_append_left, length-append}
 use Rattle.df_machine.specs.Journal.{State}
-use Rattle.df_unit.specs.UnitOrder.{unit_cmp}
 use Rattle.df_unit.specs.declared.name.UnitName.{UnitName}
 use Rattle.df_why.specs.code.Arising.{QueueState}
-use Rattle.df_why.specs.code.Queues.{all_grown, grown_at, modify, taken_at, taken_by, taken_more}
+use Rattle.df_why.specs.code.Queues.{all_grown, modify, taken_at, taken_by, taken_more}
 use Rattle.df_why.specs.declared.tracks.Track.{Track}
 
 -- places that are added one by one
 abbrev pub IsAddedSoFar : QueueState → ℕ → ℕ → ℕ → List ℕ → Type 0
 IsAddedSoFar old place n taken places = (taken ≡ old.taken) × (places ≡ old.places ++ replicate n place)
-
-pub added_more : (old : QueueState) (place n taken : ℕ) (places more : List ℕ) → IsAddedSoFar old place n taken places → more ≡ places ++ place ∷ []
-    → IsAddedSoFar old place (n + 1) taken more
-added_more old place n taken places more so pushed = (
-  so.0,
-  pushed ∙ ap (λ (l : List ℕ). l ++ place ∷ []) so.1 ∙ append_assoc old.places (replicate n place) (place ∷ [])
-      ∙ ap (λ (l : List ℕ). old.places ++ l) (replicate_more n place),
-)
 
 -- an element is changed
 
@@ -46,18 +37,6 @@ taken_none t queues given = ap (λ (b : Bool). cond b (taken_by t.actor queues) 
 abbrev pub IsGrownSoFar : State → BTreeMap UnitName ℕ → List UnitName → ℕ → List QueueState → ℕ → List QueueState → Type 0
 IsGrownSoFar core units names here first i queues = all_grown core units (drop i names) here queues ≡ all_grown core units names here first
 
-pub grown_more : (core : State) (units : BTreeMap UnitName ℕ) (names : List UnitName) (here : ℕ) (first : List QueueState) (i : ℕ) (name : UnitName)
-    (queues now : List QueueState) → i < length names → name ≡ get_or names i name → IsGrownSoFar core units names here first i queues
-    → now ≡ grown_at core name (get unit_cmp units name) here queues → IsGrownSoFar core units names here first (i + 1) now
-grown_more core units names here first i name queues now lt is so grown =
-    ap (all_grown core units (drop (i + 1) names) here) (grown ∙ ap (λ (n : UnitName). grown_at core n (get unit_cmp units n) here queues) is)
-    ∙ ap (λ (l : List UnitName). all_grown core units l here queues) (sym (drop_more names i name lt))
-    ∙ so
-
-pub grown_all : (core : State) (units : BTreeMap UnitName ℕ) (names : List UnitName) (here : ℕ) (first : List QueueState) (i : ℕ) (queues : List QueueState)
-    → length names ≤ i → IsGrownSoFar core units names here first i queues → queues ≡ all_grown core units names here first
-grown_all core units names here first i queues done so = ap (λ (l : List UnitName). all_grown core units l here queues) (sym (drop_all i names done)) ∙ so
-
 -- a list that is filled place by place
 pub record IsFilled {A : Type 0} (d : A) (f : ℕ → A) (i : ℕ) (xs : List A) : Type 0 where
   pub count : length xs ≡ i
@@ -76,4 +55,3 @@ filled_more {A} d f i xs ys x so pushed is = record {
         let here : length xs ≡ p = omega (arith, lt, after, n) in
         let at : i ≡ p = omega (arith, lt, after) in
         ap (λ (k : ℕ). get_or (xs ++ x ∷ []) k d) (sym here) ∙ get_or-append_seam xs x [] d ∙ is ∙ ap f at
-
