@@ -14,10 +14,6 @@ if_told (Some image) f = f image refl
 pub at_told : (P : List ℕ → Type 0) (told : Option (List ℕ)) (image : List ℕ) → told ≡ Some image → IfSome told P → P image
 at_told P told image is h = subst (λ (o : Option (List ℕ)). IfSome o P) is h
 
-pub nothing_before : (told : Option (List ℕ)) → IfSome told (λ bs. 0 ≤ length bs)
-nothing_before None = tt
-nothing_before (Some bs) = omega arith
-
 module _ {D : Type 0} (told : D → Option (List ℕ)) (may_leave : D → List ℕ → Type 0) (moment : D → ℕ) (left_since : D → ℕ → List ℕ → Type 0)
     (only_now : (disk : D) (c : List ℕ) → left_since disk (moment disk) c → may_leave disk c)
     (old : D) (image : List ℕ) (tells : told old ≡ Some image) (empty : IfSome (told old) IsEmpty) (settled : IsSettled (told old) (may_leave old)) where

@@ -1,5 +1,5 @@
 -- What an append leaves of an image, at each of its writes.
-use Rattle.std.proofs.Common.{◌≡◌, inl, inr, ℕ, ◌+◌, ◌<◌, ◌≤◌, List, [], ◌∷◌, ◌++◌, length, get_or, take, drop, refl, sym, ◌∙◌, ap, subst, arith, append_assoc, length-append, take-append-drop}
+use Rattle.std.proofs.Common.{◌≡◌, inl, inr, ℕ, ◌+◌, ◌<◌, ◌≤◌, List, [], ◌∷◌, ◌++◌, length, get_or, take, drop, refl, sym, ◌∙◌, ap, arith, append_assoc, length-append, take-append-drop}
 use Rattle.std.proofs.lemmas.Bool.{cases_eq}
 use Rattle.std.proofs.lemmas.List.{append-nil, take_at, drop_at, drop_more}
 use Rattle.df_disk.specs.Disk.{Torn, overwritten}
@@ -128,6 +128,3 @@ pub first_closed : (image : List ℕ) → 1 < length image → IsEmpty image →
 first_closed [] long empty = absurd (omega arith)
 first_closed (gate ∷ rest) long (inl short) = absurd (omega arith)
 first_closed (gate ∷ rest) long (inr shut) = record { gate = gate; rest = rest; closed = shut; split = refl }
-
-pub nothing_kept : (image : List ℕ) → Keeps [] image → IsEmpty image
-nothing_kept image keeps = subst IsEmpty (sym keeps.split) (inr keeps.closed)

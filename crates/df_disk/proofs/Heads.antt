@@ -1,8 +1,7 @@
 -- Records in front of other bytes.
-use Rattle.std.proofs.Common.{◌≡◌, ℕ, ◌+◌, ◌^◌, ◌<◌, List, ◌∷◌, ◌++◌, length, get_or, take, drop, refl, sym, ◌∙◌, ap, arith, append_assoc, length-append, take-append-drop}
-use Rattle.std.specs.Int.{w64, to_be_bytes, from_be_bytes}
+use Rattle.std.proofs.Common.{◌≡◌, ℕ, ◌+◌, ◌<◌, List, ◌∷◌, ◌++◌, length, get_or, take, drop, refl, sym, ◌∙◌, ap, arith, append_assoc, length-append, take-append-drop}
+use Rattle.std.specs.Int.{w64, to_be_bytes}
 use Rattle.std.proofs.lemmas.List.{take_at, drop_at, drop_more, length-take-le}
-use Rattle.std.proofs.lemmas.Nat.{from_be_bytes-to_be_bytes_8}
 use Rattle.df_disk.specs.Found.{BeginsWith, IsBehind, IsFound}
 use Rattle.df_disk.specs.declared.records.Found.{Found}
 use Rattle.df_disk.specs.declared.records.Found.TheVariants.{Broken, Closed, Whole}
@@ -10,9 +9,6 @@ use Rattle.df_disk.specs.Records.{record_text}
 
 pub length-count : (n : ℕ) → length (to_be_bytes w64 n) ≡ 8
 length-count n = refl
-
-same_count : (m n : ℕ) → m < 2 ^ 64 → n < 2 ^ 64 → to_be_bytes w64 m ≡ to_be_bytes w64 n → m ≡ n
-same_count m n h k e = sym (from_be_bytes-to_be_bytes_8 m h) ∙ ap (from_be_bytes w64) e ∙ from_be_bytes-to_be_bytes_8 n k
 
 front : (bytes rest : List ℕ) → take 8 (record_text bytes ++ rest) ≡ to_be_bytes w64 (length bytes)
 front bytes rest = ap (take 8) (append_assoc (to_be_bytes w64 (length bytes)) bytes rest)
@@ -27,15 +23,6 @@ length-record bytes = omega (arith, length-append (to_be_bytes w64 (length bytes
 
 longer : (bytes rest : List ℕ) → 8 + length bytes + length rest ≡ length (record_text bytes ++ rest)
 longer bytes rest = omega (arith, length-append (record_text bytes) rest, length-record bytes)
-
--- two records in front of the same bytes are one
-pub one_record : (a b xs ys : List ℕ) → length (record_text a ++ xs) < 2 ^ 64 → record_text a ++ xs ≡ record_text b ++ ys → a ≡ b
-one_record a b xs ys small same =
-    let a_small : length a < 2 ^ 64 = omega (arith, small, longer a xs) in
-    let b_small : length b < 2 ^ 64 = omega (arith, small, longer b ys, ap (λ (l : List ℕ). length l) same) in
-    let counts : length a ≡ length b = same_count (length a) (length b) a_small b_small (sym (front a xs) ∙ ap (take 8) same ∙ front b ys) in
-    let rests : a ++ xs ≡ b ++ ys = sym (back a xs) ∙ ap (drop 8) same ∙ back b ys in
-    sym (take_at a xs (length a) refl) ∙ ap (take (length a)) rests ∙ take_at b ys (length a) (sym counts)
 
 module _ (tail : List ℕ) where
   pub short_broken : length tail < 8 → (bytes : List ℕ) → ¬ BeginsWith bytes tail

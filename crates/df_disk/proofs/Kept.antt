@@ -1,6 +1,6 @@
 -- Writes, done and torn, on lists of bytes.
-use Rattle.std.proofs.Common.{◌≡◌, ℕ, ◌+◌, ◌≤◌, max, List, [], ◌++◌, length, take, drop, refl, sym, ◌∙◌, ap, arith, length-append, length-drop, append_assoc}
-use Rattle.std.proofs.lemmas.List.{length-take-le, take_at, drop_at, append-nil, take-append-drop, drop_all}
+use Rattle.std.proofs.Common.{◌≡◌, ℕ, ◌+◌, ◌≤◌, max, List, ◌++◌, length, take, drop, refl, ◌∙◌, ap, arith, length-append, length-drop, append_assoc}
+use Rattle.std.proofs.lemmas.List.{length-take-le, take_at, drop_at}
 use Rattle.df_disk.specs.Disk.{Torn, overwritten}
 
 pub length-overwritten : (at : ℕ) (piece bytes : List ℕ) → at ≤ length bytes → length (overwritten at piece bytes) ≡ max (length bytes) (at + length piece)
@@ -27,15 +27,3 @@ torn_overwritten at piece bytes within = record {
   no_shorter = omega (arith, length-overwritten at piece bytes within);
   no_longer = omega (arith, length-overwritten at piece bytes within);
 }
-
--- a piece whose front goes over what is there to the end, and whose rest behind it
-pub overwritten_past : (at inside : ℕ) (piece bytes : List ℕ) → at + inside ≡ length bytes → inside ≤ length piece
-    → take at bytes ++ take inside piece ++ drop inside piece ≡ overwritten at piece bytes
-overwritten_past at inside piece bytes ends fits =
-    append_assoc (take at bytes) (take inside piece) (drop inside piece)
-    ∙ ap (λ (l : List ℕ). take at bytes ++ l) (take-append-drop inside piece)
-    ∙ sym (append-nil (take at bytes ++ piece))
-    ∙ ap (λ (l : List ℕ). take at bytes ++ piece ++ l) (sym (none (at + length piece) bytes (omega arith)))
-  where
-    none : (n : ℕ) (l : List ℕ) → length l ≤ n → drop n l ≡ []
-    none n l le = drop_all n l le

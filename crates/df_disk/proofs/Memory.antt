@@ -2,8 +2,8 @@
 use Rattle.std.proofs.Common.{◌≡◌, inl, inr, ⊎_elim, ℕ, ◌+◌, ◌-◌, ◌≤◌, suc, Bool, true, false, List, [], ◌∷◌, ◌++◌, length, take, drop, reverse, refl, sym, ◌∙◌, ap, subst, arith, length-drop}
 use Rattle.std.specs.Prelude.{◌↔◌, Contains}
 use Rattle.std.proofs.lemmas.List.{take-append-le, drop-append-le, reverse-append, take_all, length-reverse}
-use Rattle.df_disk.specs.Disk.{Elapses, Follows, NoMore, Torn}
-use Rattle.df_disk.specs.MemoryDisk.{DiskState, FailsCall, LeftSince, MayLeave, Past, bytes_after, looked, made, past_of, stays, synced, total, with_pieces, wrote}
+use Rattle.df_disk.specs.Disk.{Follows, NoMore, Torn}
+use Rattle.df_disk.specs.MemoryDisk.{DiskState, FailsCall, MayLeave, Past, bytes_after, looked, made, past_of, stays, synced, total, with_pieces, wrote}
 use Rattle.df_disk.specs.declared.memory_disk.Call.{Call}
 use Rattle.df_disk.specs.declared.memory_disk.Call.TheVariants.{Looked, Synced, Wrote}
 use Rattle.df_disk.proofs.Kept.{torn_overwritten, torn_not}
@@ -82,17 +82,6 @@ length_past calls pieces = length-reverse (with_pieces calls pieces) ∙ length_
 
 -- ---- time
 
-pub elapses_more : (call : Past) (past : List Past)
-    → Elapses (length past) (length (call ∷ past)) (LeftSince past) (LeftSince (call ∷ past)) (MayLeave (call ∷ past))
-elapses_more call past = record {
-  later = omega arith;
-  nothing_else = λ t c le left. ⊎_elim (λ now. inr now) (λ earlier. inl earlier.1) left;
-  keeps = λ t c le was. inr (le, was);
-}
-
-pub elapses_not : (past : List Past) → Elapses (length past) (length past) (LeftSince past) (LeftSince past) (MayLeave past)
-elapses_not past = record { later = omega arith; nothing_else = λ t c le left. inl left; keeps = λ t c le was. was }
-
 pub synced_no_more : (past : List Past) → NoMore (MayLeave past) (MayLeave (synced ∷ past))
 synced_no_more past c is = subst (MayLeave past) (sym is) (stays past)
 
@@ -105,9 +94,6 @@ wrote_follows past at piece true within c (inl is) =
 wrote_follows past at piece false within c (inl is) =
     (bytes_after past, stays past, subst (Torn at (length piece) (bytes_after past)) (sym is) (torn_not at (length piece) (bytes_after past)))
 wrote_follows past at piece done within c (inr torn) = torn
-
-pub follows_not : (past : List Past) (at n : ℕ) → Follows (Torn at n) (MayLeave past) (MayLeave past)
-follows_not past at n c now = (c, now, torn_not at n c)
 
 -- ---- the state behind a call
 

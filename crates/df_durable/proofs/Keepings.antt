@@ -5,7 +5,6 @@ use Rattle.std.proofs.lemmas.List.Elements.{All-nil}
 use Rattle.df_disk.specs.Disk.{IsSettled, LeavesOnly}
 use Rattle.df_disk.specs.Records.{IsAtRest, IsEmpty, Keeps, KeepsOrOneMore}
 use Rattle.df_disk.proofs.Begins.{at_start, if_told}
-use Rattle.df_disk.proofs.Crash.{nothing_kept}
 use Rattle.df_disk.proofs.Moments.{started}
 use Rattle.df_image.specs.Image.{IsKept, entry_record, records_of, start_record}
 use Rattle.df_image.specs.Reading.{IsEntryRecord}
@@ -78,6 +77,9 @@ module _ (core : State) (actor : UnitName) (call : Call) where
           (λ r. absurd (let e = sym gone ∙ (appends.rests (records_of core) r).tells in let z : ⊥ = cc in z)) rests
 
 -- ---- the first record
+
+nothing_kept : (image : List ℕ) → Keeps [] image → IsEmpty image
+nothing_kept image keeps = subst IsEmpty (sym keeps.split) (inr keeps.closed)
 
 pub kept_first : (roots : List RootStart) → AreRoots roots → IsKept (roots, [])
 kept_first roots are = record { spelled = (are, All-nil IsWholeEntry); legal = tt }

@@ -1,5 +1,6 @@
 -- What a machine's journal tells, and how it grows.
 use Rattle.std.specs.Prelude.{◌≡◌, ℕ, Bool, false, not, List, ◌∷◌, Option, Some, None, length, map}
+use Rattle.std.specs.List.{list_any}
 use Rattle.std.specs.Option.{option_map}
 use Rattle.df_label.specs.Ascending.{IsAscending, contains_by}
 use Rattle.df_local.specs.code.LocalState.{LocalState}
@@ -9,10 +10,13 @@ use Rattle.df_rules.specs.Own.{exists, own}
 use Rattle.df_rules.specs.Start.{rows, roots}
 use Rattle.df_start.specs.Begun.{begun}
 use Rattle.df_start.specs.declared.start.RootStart.{RootStart}
+use Rattle.df_tables.specs.Board.{is_brought}
+use Rattle.df_unit.specs.Name.{same}
 use Rattle.df_unit.specs.OwnState.{OwnState}
 use Rattle.df_unit.specs.Rows.{is_nil}
 use Rattle.df_unit.specs.UnitOrder.{unit_cmp}
 use Rattle.df_unit.specs.declared.call.Call.{Call}
+use Rattle.df_unit.specs.declared.commit.Commit.{Commit}
 use Rattle.df_unit.specs.declared.commit.Given.{Given}
 use Rattle.df_unit.specs.declared.entry.Effect.{Effect}
 use Rattle.df_unit.specs.declared.entry.Entry.{Entry}
@@ -63,6 +67,11 @@ number_left (Some st) ds = length (left st ds)
 abbrev pub left_in : State → UnitName → ℕ
 left_in core name =
     number_left (own rows (firsts core.0) core.1 name) (deliveries rows (firsts core.0) core.1 name)
+
+-- these are the units to which a commit, as the next entry, is handed
+abbrev pub AreReceivers : Commit → List UnitName → State → Type 0
+AreReceivers commit names core = (name : UnitName) →
+    list_any (λ n. same n name) names ≡ is_brought (firsts core.0) core.1 commit name
 
 -- the names of the units that exist, in the order of units
 pub record IsRoll (core : State) (names : List UnitName) : Type 0 where

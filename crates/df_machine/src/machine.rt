@@ -5,7 +5,7 @@ ghost use Rattle.df_unit.specs.declared.entry.Entry.TheVariants.{Done, Emitted};
 ghost use Rattle.df_unit.specs.declared.name.UnitName.{UnitName};
 ghost use Rattle.df_local_run.specs.Runs.{is_local};
 ghost use Rattle.df_machine.specs.Booking.{IsCurrent, IsRefused, booked, reply_booked, with_run};
-ghost use Rattle.df_machine.specs.Journal.{IsLegal, IsRoll, answer_in, appended, has_delivery_in, left_in, local_of};
+ghost use Rattle.df_machine.specs.Journal.{AreReceivers, IsLegal, IsRoll, answer_in, appended, has_delivery_in, left_in, local_of};
 
 use crate::taking::{make_room, take_in};
 use df_label::NoMemory;
@@ -170,6 +170,15 @@ impl Core {
             Some(unit) => unit.line.len(),
             None => 0,
         }
+    }
+
+    /// The units to which a commit would be handed now, each once for each of its subscriptions
+    /// that it reaches. The journal stays.
+    pub fn receivers(&mut self, commit: &Commit) -> Result<Vec<UnitName>, NoMemory>
+        ensures exact { IfOk result (λ names. AreReceivers commit.now names.items self.old) }
+        ensures same { self.new ≡ self.old }
+    {
+        self.board.receivers(commit)
     }
 
     /// The unit at a place, from 0, among those that exist, in the order of units.

@@ -65,7 +65,7 @@ found a [] k h = absurd (cc)
 found a (u ∷ us) k h = (get_or (u ∷ us) k u, (at_some a (u ∷ us) k u h).0, λ c r f answered. answered u (place_in a (u ∷ us) k h))
 
 -- what the row at a place is handed, by its unit
-brought : (g : UnitName → List Given) (event : EventName) (after : List Part) (ps : List Pair) (us : List Unit) → IsNews (λ u. g u.local.unit) event after ps us → (n : UnitName) (q : ℕ) → place_of n us ≡ Some q → (at : Label) × (g n ≡ news_at event after at ps q)
+pub brought : (g : UnitName → List Given) (event : EventName) (after : List Part) (ps : List Pair) (us : List Unit) → IsNews (λ u. g u.local.unit) event after ps us → (n : UnitName) (q : ℕ) → place_of n us ≡ Some q → (at : Label) × (g n ≡ news_at event after at ps q)
 brought g event after ps [] news n q h = absurd (cc)
 brought g event after ps (u ∷ us) news n q h =
     let v = get_or (u ∷ us) q u in

@@ -100,7 +100,7 @@ pair_found ps (k, n) h =
     let same : a.1 ≡ (let p : Pair = (k, n) in p) = ap (λ (z : ℕ). let p : Pair = (z, a.1.1) in p) x ∙ ap (λ (z : ℕ). let p : Pair = (k, z) in p) y in
     subst (Contains ps) same (a.0, a.2, a.3)
 
-both_ways : (a b : Bool) → (a ≡ true → b ≡ true) → (b ≡ true → a ≡ true) → a ≡ b
+pub both_ways : (a b : Bool) → (a ≡ true → b ≡ true) → (b ≡ true → a ≡ true) → a ≡ b
 both_ways true true f g = refl
 both_ways true false f g = sym (f refl)
 both_ways false true f g = g refl

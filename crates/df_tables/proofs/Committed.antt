@@ -61,13 +61,12 @@ use Rattle.df_tables.proofs.CommitSteps.{IsMade, agrees_commit, agrees_emitted}
 use Rattle.df_tables.proofs.Steps.{born_by, makes_none, news_of, none_news}
 use Rattle.df_tables.proofs.Tells.{row_at}
 
-module _ (starts : List (Label × List Privilege)) (past : List Entry) (us : List Unit) (evs evs' : List EventRow) (x x' : FilterIndex) (managed : List ManagedSubscription) (handed handed' : List (List ℕ)) (agree : Agrees rows (roots starts) past us evs x (managed_by managed handed)) (numbered : AreNumbered managed) (known : AreWithin us evs (managed_by managed handed).told) (apart : AreApart us)
+module _ (starts : List (Label × List Privilege)) (past : List Entry) (us : List Unit) (evs : List EventRow) (x : FilterIndex) (managed : List ManagedSubscription) (handed : List (List ℕ))
+    (agree : Agrees rows (roots starts) past us evs x (managed_by managed handed)) (numbered : AreNumbered managed) (apart : AreApart us)
     (k : Commit) (j : ℕ) (after : List Part) (there : event_place k.event evs ≡ Some j) (is : after ≡ apply k.edit (parts_of k.event evs))
-    (ps : List Pair) (labels : List Label) (inputs_are : labels ≡ inputs us) (sorted : IsStrictlySortedBy pair_cmp ps) (due : (p : Pair) → Contains ps p ↔ IsReceiver matches labels x j after k.edit p)
-    (xs : List Instance) (up : IsStrictlySortedBy instance_cmp xs) (are : AreChosen managed (contents past k.event) k.edit xs)
-    (put : (e : EventName) → parts_of e evs' ≡ (if same_event k.event e then after else parts_of e evs)) (places : (e : EventName) → event_place e evs' ≡ event_place e evs) (size : length evs' ≡ length evs) (enrolled : x'.enrolled ≡ x.enrolled)
-    (booked : (e : ℕ) (p : Pair) → index.was_handed x'.handed e p ≡ (index.was_handed x.handed e p || ((e == j) && has_pair ps p)))
-    (told : (e q : ℕ) → marks.was_handed handed' e q ≡ (marks.was_handed handed e q || ((e == j) && has_place (places_by (length us) (pairs_by us managed handed j xs) (births_by us managed k.event after xs)) q))) where
+    (ps : List Pair) (labels : List Label) (inputs_are : labels ≡ inputs us) (sorted : IsStrictlySortedBy pair_cmp ps)
+    (due : (p : Pair) → Contains ps p ↔ IsReceiver matches labels x j after k.edit p)
+    (xs : List Instance) (up : IsStrictlySortedBy instance_cmp xs) (are : AreChosen managed (contents past k.event) k.edit xs) where
   abbrev s : List OwnState
   s = roots starts
 
@@ -90,7 +89,7 @@ module _ (starts : List (Label × List Privilege)) (past : List Entry) (us : Lis
 
   -- who doesn't exist was handed nothing and has no row
 
-  undelivered : (n : UnitName) → own rows s past n ≡ None → deliveries rows s past n ≡ []
+  pub undelivered : (n : UnitName) → own rows s past n ≡ None → deliveries rows s past n ≡ []
   undelivered n none = by (own rows s past n) (find n us) (agree.seats n) none
     where
       by : (o : Option OwnState) (p : Option Unit) → IsSeat n o (deliveries rows s past n) p → o ≡ None → deliveries rows s past n ≡ []
@@ -133,51 +132,56 @@ module _ (starts : List (Label × List Privilege)) (past : List Entry) (us : Lis
       (sym (born_called starts past us evs x managed handed agree numbered k j there xs up are after now_is o i t (unseated n none)))
       (called_births starts past k after now_is o i t (undelivered n none)))
 
-  made : IsMade rows s past us bs evs evs' x x' (managed_by managed handed) (managed_by managed handed') k j after ps (has_place (places_by (length us) qs bs)) given
-  made = record {
-    place = there;
-    applied = is;
-    put = put;
-    places = places;
-    enrolled = enrolled;
-    booked = booked;
-    gives = λ u. refl;
-    brought = plain_brought;
-    kept = λ o n. refl;
-    told = told;
-    calls = λ o n t q place. called_places starts past us evs x managed handed agree numbered k j there xs up are after now_is (λ o i t none. undelivered (Managed o i t) none) o n t q place;
-  }
+  -- the tables after it
+  module _ (evs' : List EventRow) (x' : FilterIndex) (handed' : List (List ℕ)) (known : AreWithin us evs (managed_by managed handed).told)
+      (put : (e : EventName) → parts_of e evs' ≡ (if same_event k.event e then after else parts_of e evs)) (places : (e : EventName) → event_place e evs' ≡ event_place e evs) (size : length evs' ≡ length evs)
+      (enrolled : x'.enrolled ≡ x.enrolled) (booked : (e : ℕ) (p : Pair) → index.was_handed x'.handed e p ≡ (index.was_handed x.handed e p || ((e == j) && has_pair ps p)))
+      (told : (e q : ℕ) → marks.was_handed handed' e q ≡ (marks.was_handed handed e q || ((e == j) && has_place (places_by (length us) qs bs) q))) where
+    made : IsMade rows s past us bs evs evs' x x' (managed_by managed handed) (managed_by managed handed') k j after ps (has_place (places_by (length us) qs bs)) given
+    made = record {
+      place = there;
+      applied = is;
+      put = put;
+      places = places;
+      enrolled = enrolled;
+      booked = booked;
+      gives = λ u. refl;
+      brought = plain_brought;
+      kept = λ o n. refl;
+      told = told;
+      calls = λ o n t q place. called_places starts past us evs x managed handed agree numbered k j there xs up are after now_is (λ o i t none. undelivered (Managed o i t) none) o n t q place;
+    }
 
-  -- by a call
-  pub agrees_called : (a : UnitName) (c : Call) (r : Reply) → MakesNoUnit rows c r → answer rows s past a c ≡ (r, Effect.Commit k) → MakesNoManaged rows c r → ((st : OwnState) → own rows s past a ≡ Some st → subscribes st c r ≡ None) → All (λ z. z.unit < length us) x.enrolled → ((event : ℕ) (p : Pair) → length us ≤ p.0 → index.was_handed x'.handed event p ≡ false) →
-      Agrees rows s (Done a c r (Effect.Commit k) ∷ past) (moved_at a (moved_row rows c r (Effect.Commit k)) (map (with_news given) us) ++ bs) evs' x' (managed_by managed handed')
-  agrees_called a c r childless right unfixed makes within seated =
-      agrees_commit rows s (row_taking_laws starts) past us bs evs evs' x x' (managed_by managed handed) (managed_by managed handed') a c r k j after ps (has_place (places_by (length us) qs bs)) given agree unfixed right makes made within seated known.seated
-      (births (Done a c r (Effect.Commit k)) refl (λ path. makes_none rows s c r childless (same a (Root (maker_of path))) (number_of path) (own_plain rows s past (maker_of path))))
+    -- by a call
+    pub agrees_called : (a : UnitName) (c : Call) (r : Reply) → MakesNoUnit rows c r → answer rows s past a c ≡ (r, Effect.Commit k) → MakesNoManaged rows c r → ((st : OwnState) → own rows s past a ≡ Some st → subscribes st c r ≡ None) → All (λ z. z.unit < length us) x.enrolled → ((event : ℕ) (p : Pair) → length us ≤ p.0 → index.was_handed x'.handed event p ≡ false) →
+        Agrees rows s (Done a c r (Effect.Commit k) ∷ past) (moved_at a (moved_row rows c r (Effect.Commit k)) (map (with_news given) us) ++ bs) evs' x' (managed_by managed handed')
+    agrees_called a c r childless right unfixed makes within seated =
+        agrees_commit rows s (row_taking_laws starts) past us bs evs evs' x x' (managed_by managed handed) (managed_by managed handed') a c r k j after ps (has_place (places_by (length us) qs bs)) given agree unfixed right makes made within seated known.seated
+        (births (Done a c r (Effect.Commit k)) refl (λ path. makes_none rows s c r childless (same a (Root (maker_of path))) (number_of path) (own_plain rows s past (maker_of path))))
 
-  -- and where it is emitted
-  pub agrees_told : All (λ z. z.unit < length us) x.enrolled → ((event : ℕ) (p : Pair) → length us ≤ p.0 → index.was_handed x'.handed event p ≡ false) →
-      Agrees rows s (Emitted k ∷ past) (map (with_news given) us ++ bs) evs' x' (managed_by managed handed')
-  agrees_told within seated =
-      agrees_emitted rows s (row_taking_laws starts) past us bs evs evs' x x' (managed_by managed handed) (managed_by managed handed') k j after ps (has_place (places_by (length us) qs bs)) given agree made within seated known.seated
-      (births (Emitted k) refl (λ path. refl))
+    -- and where it is emitted
+    pub agrees_told : All (λ z. z.unit < length us) x.enrolled → ((event : ℕ) (p : Pair) → length us ≤ p.0 → index.was_handed x'.handed event p ≡ false) →
+        Agrees rows s (Emitted k ∷ past) (map (with_news given) us ++ bs) evs' x' (managed_by managed handed')
+    agrees_told within seated =
+        agrees_emitted rows s (row_taking_laws starts) past us bs evs evs' x x' (managed_by managed handed) (managed_by managed handed') k j after ps (has_place (places_by (length us) qs bs)) given agree made within seated known.seated
+        (births (Emitted k) refl (λ path. refl))
 
-  -- no more is told of who has no row
-  pub within_called : (vs : List Unit) → length vs ≡ length us + length bs → AreWithin vs evs' (managed_by managed handed').told
-  within_called vs rows_are = record {
-    fresh = λ e q h.
-        let inside = place_within k.event evs j there in
-        told e q ∙ ap (λ (b : Bool). b || ((e == j) && has_place (places_by (length us) qs bs) q)) (known.fresh e q (omega (arith, size, h)))
-        ∙ ap (λ (b : Bool). b && has_place (places_by (length us) qs bs) q) (ne_eqb e j (λ z. omega (arith, inside, size, h, z)));
-    seated = λ e q h.
-        told e q ∙ ap (λ (b : Bool). b || ((e == j) && has_place (places_by (length us) qs bs) q)) (known.seated e q (omega (arith, rows_are, h)))
-        ∙ ap (λ (b : Bool). (e == j) && b)
-        (places_both (length us) q qs bs
-        ∙ ap (λ (l : List Pair). not (is_nil l) || has_place (places_from (length us) bs) q) (pairs_far managed numbered us handed j xs q (omega (arith, rows_are, h)))
-        ∙ places_past q (length us) bs (omega (arith, rows_are, h)))
-        ∙ neither (e == j);
-  }
-    where
-      neither : (b : Bool) → (b && false) ≡ false
-      neither true = refl
-      neither false = refl
+    -- no more is told of who has no row
+    pub within_called : (vs : List Unit) → length vs ≡ length us + length bs → AreWithin vs evs' (managed_by managed handed').told
+    within_called vs rows_are = record {
+      fresh = λ e q h.
+          let inside = place_within k.event evs j there in
+          told e q ∙ ap (λ (b : Bool). b || ((e == j) && has_place (places_by (length us) qs bs) q)) (known.fresh e q (omega (arith, size, h)))
+          ∙ ap (λ (b : Bool). b && has_place (places_by (length us) qs bs) q) (ne_eqb e j (λ z. omega (arith, inside, size, h, z)));
+      seated = λ e q h.
+          told e q ∙ ap (λ (b : Bool). b || ((e == j) && has_place (places_by (length us) qs bs) q)) (known.seated e q (omega (arith, rows_are, h)))
+          ∙ ap (λ (b : Bool). (e == j) && b)
+          (places_both (length us) q qs bs
+          ∙ ap (λ (l : List Pair). not (is_nil l) || has_place (places_from (length us) bs) q) (pairs_far managed numbered us handed j xs q (omega (arith, rows_are, h)))
+          ∙ places_past q (length us) bs (omega (arith, rows_are, h)))
+          ∙ neither (e == j);
+    }
+      where
+        neither : (b : Bool) → (b && false) ≡ false
+        neither true = refl
+        neither false = refl

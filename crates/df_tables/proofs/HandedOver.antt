@@ -100,8 +100,8 @@ module _ (g : List Unit → List Unit) (named : (us : List Unit) → names_of (g
   news : IsNews brings k.event after done.ready.receivers.items us
   news =
       subst (λ (ps : List Pair). IsNews brings k.event after ps us) (sym (done.made.receivers ∙ ap (λ (ps : List Pair). done.ready.to ++ ps) done.made.called.pairs))
-      (news_called starts past us done.opened.events new.events done.opened.index new.index done.opened.managed done.opened.marks.handed new.marks.handed before.agrees before.numbered before.within there.apart k done.ready.place after done.made.place done.made.after
-      done.ready.to (inputs us) refl done.made.ascending done.made.due xs done.made.called.ascending are done.parts done.places done.size done.enrolled done.handed told)
+      (news_called starts past us done.opened.events done.opened.index done.opened.managed done.opened.marks.handed before.agrees before.numbered there.apart k done.ready.place after done.made.place done.made.after
+      done.ready.to (inputs us) refl done.made.ascending done.made.due xs done.made.called.ascending are)
 
   -- all who come to exist have their rows behind the others
   pub rows_are : new.rows.items ≡ g (map (with_news brings) us) ++ bs
@@ -129,22 +129,22 @@ module _ (g : List Unit → List Unit) (named : (us : List Unit) → names_of (g
     agrees = subst (λ (l : List Unit). Agrees rows (roots starts) now l new.events new.index (managed_of new)) (sym rows_are)
         (subst (λ (m : List ManagedSubscription). Agrees rows (roots starts) now (g (map (with_news brings) us) ++ bs) new.events new.index (managed_by m new.marks.handed)) (sym done.managed) agrees);
     numbered = subst AreNumbered (sym done.managed) before.numbered;
-    within = within_called starts past us done.opened.events new.events done.opened.index new.index done.opened.managed done.opened.marks.handed new.marks.handed before.agrees before.numbered before.within there.apart k done.ready.place after done.made.place done.made.after
-        done.ready.to (inputs us) refl done.made.ascending done.made.due xs done.made.called.ascending are done.parts done.places done.size done.enrolled done.handed told new.rows.items size;
+    within = within_called starts past us done.opened.events done.opened.index done.opened.managed done.opened.marks.handed before.agrees before.numbered there.apart k done.ready.place after done.made.place done.made.after
+        done.ready.to (inputs us) refl done.made.ascending done.made.due xs done.made.called.ascending are new.events new.index new.marks.handed before.within done.parts done.places done.size done.enrolled done.handed told new.rows.items size;
   }
 
   -- they agree with an emitted one
   agrees_here : Agrees rows (roots starts) (Emitted k ∷ past) (map (with_news brings) us ++ bs) new.events new.index (managed_by done.opened.managed new.marks.handed)
   agrees_here =
-      agrees_told starts past us done.opened.events new.events done.opened.index new.index done.opened.managed done.opened.marks.handed new.marks.handed before.agrees before.numbered before.within there.apart k done.ready.place after done.made.place done.made.after
-      done.ready.to (inputs us) refl done.made.ascending done.made.due xs done.made.called.ascending are done.parts done.places done.size done.enrolled done.handed told there.enrolled unmarked
+      agrees_told starts past us done.opened.events done.opened.index done.opened.managed done.opened.marks.handed before.agrees before.numbered there.apart k done.ready.place after done.made.place done.made.after
+      done.ready.to (inputs us) refl done.made.ascending done.made.due xs done.made.called.ascending are new.events new.index new.marks.handed before.within done.parts done.places done.size done.enrolled done.handed told there.enrolled unmarked
 
   -- they agree with a call's
   agrees_done : (a : UnitName) (c : Call) (r : Reply) → MakesNoUnit rows c r → answer rows (roots starts) past a c ≡ (r, Effect.Commit k) → MakesNoManaged rows c r → ((st : OwnState) → own rows (roots starts) past a ≡ Some st → subscribes st c r ≡ None) →
       Agrees rows (roots starts) (Done a c r (Effect.Commit k) ∷ past) (moved_at a (moved_row rows c r (Effect.Commit k)) (map (with_news brings) us) ++ bs) new.events new.index (managed_by done.opened.managed new.marks.handed)
   agrees_done a c r childless right unfixed makes =
-      agrees_called starts past us done.opened.events new.events done.opened.index new.index done.opened.managed done.opened.marks.handed new.marks.handed before.agrees before.numbered before.within there.apart k done.ready.place after done.made.place done.made.after
-      done.ready.to (inputs us) refl done.made.ascending done.made.due xs done.made.called.ascending are done.parts done.places done.size done.enrolled done.handed told
+      agrees_called starts past us done.opened.events done.opened.index done.opened.managed done.opened.marks.handed before.agrees before.numbered there.apart k done.ready.place after done.made.place done.made.after
+      done.ready.to (inputs us) refl done.made.ascending done.made.due xs done.made.called.ascending are new.events new.index new.marks.handed before.within done.parts done.places done.size done.enrolled done.handed told
       a c r childless right unfixed makes there.enrolled unmarked
 
 -- after an emitted commit

@@ -35,3 +35,4 @@ pub mod HandedOver
 pub mod Alike
 pub mod Swapped
 pub mod FirstRoll
+pub mod Receiving

@@ -1,6 +1,6 @@
 -- When a board agrees with a journal.
-use Rattle.std.specs.Prelude.{◌≡◌, ◌↔◌, ℕ, ◌+◌, ◌≤◌, ◌==◌, ◌&&◌, ◌||◌, if◌then◌else◌, List, ◌∷◌, ◌++◌, Option, Some, None, length, map, slice_index_or, vec_capacity, vec_len}
-use Rattle.std.specs.List.{Contains}
+use Rattle.std.specs.Prelude.{◌≡◌, ◌↔◌, ℕ, ◌+◌, ◌≤◌, ◌==◌, ◌&&◌, ◌||◌, if◌then◌else◌, Bool, List, ◌∷◌, ◌++◌, Option, Some, None, length, map, nat_lt, slice_index_or, vec_capacity, vec_len}
+use Rattle.std.specs.List.{Contains, list_any}
 use Rattle.std.specs.List.Sorted.{IsStrictlySortedBy}
 use Rattle.df_filter.specs.declared.clause.Clause.{Clause}
 use Rattle.df_index.specs.Due.{Pair, has_pair, pair_cmp}
@@ -10,6 +10,7 @@ use Rattle.df_instances.specs.Marks as marks
 use Rattle.df_instances.specs.Named.{AreNumbered, kept_in}
 use Rattle.df_instances.specs.declared.subscription.ManagedSubscription.{ManagedSubscription}
 use Rattle.df_local.specs.Locally.{row_answer}
+use Rattle.df_rules.specs.Deliveries.{deliveries}
 use Rattle.df_rules.specs.Start.{rows, roots}
 use Rattle.df_label.specs.declared.label.Label.{Label}
 use Rattle.df_label.specs.declared.privilege.Privilege.{Privilege}
@@ -18,7 +19,8 @@ use Rattle.df_unit.specs.declared.call.Call.TheVariants.{Instantiate}
 use Rattle.df_unit.specs.declared.entry.Effect.{Effect}
 use Rattle.df_unit.specs.declared.entry.Entry.{Entry}
 use Rattle.df_unit.specs.declared.entry.Entry.TheVariants.{Done, Emitted}
-use Rattle.df_unit.specs.Name.{same_event}
+use Rattle.df_unit.specs.Name.{same, same_event}
+use Rattle.df_unit.specs.OwnState.{OwnState}
 use Rattle.df_unit.specs.declared.commit.Commit.{Commit}
 use Rattle.df_unit.specs.declared.commit.Given.{Given}
 use Rattle.df_unit.specs.declared.name.EventName.{EventName}
@@ -96,6 +98,17 @@ IsEmitted commit old new = (starts : List (Label × List Privilege)) (past : Lis
 abbrev pub IsKept : Board → Board → Type 0
 IsKept old new = (starts : List (Label × List Privilege)) (past : List Entry) →
     TellsOf starts past old → TellsOf starts past new
+
+-- whether a commit, as the next entry, brings the unit a delivery
+abbrev pub is_brought : List OwnState → List Entry → Commit → UnitName → Bool
+is_brought s past commit n = nat_lt (length (deliveries rows s past n))
+    (length (deliveries rows s (Emitted commit ∷ past) n))
+
+-- these are the units to which a commit, as the next entry, is handed
+abbrev pub AreReceivers : Commit → List UnitName → Board → Type 0
+AreReceivers commit names b = (starts : List (Label × List Privilege)) (past : List Entry) →
+    TellsOf starts past b → (n : UnitName) →
+    list_any (λ m. same m n) names ≡ is_brought (roots starts) past commit n
 
 -- the rows and the subscriptions stay, and at most a row of the event is new, without parts
 pub record IsOpenedBoard (event : EventName) (old new : Board) : Type 0 where

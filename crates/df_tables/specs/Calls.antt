@@ -1,5 +1,5 @@
 -- Which instances a commit is handed to, by the tables.
-use Rattle.std.specs.Prelude.{◌≡◌, ℕ, ◌+◌, if◌then◌else◌, is_none, List, [], ◌∷◌, ◌++◌, map, Option, Some, None, slice_get}
+use Rattle.std.specs.Prelude.{◌≡◌, ℕ, ◌+◌, if◌then◌else◌, is_none, List, [], ◌∷◌, ◌++◌, map, Option, Some, None, option_to_list, slice_get}
 use Rattle.std.specs.List.{All, flat_map}
 use Rattle.std.specs.List.Sorted.{IsStrictlySortedBy}
 use Rattle.df_index.specs.Due.{Pair}
@@ -13,10 +13,11 @@ use Rattle.df_part.specs.declared.part.Part.{Part}
 use Rattle.df_unit.specs.Beginnings.{readable_at}
 use Rattle.df_unit.specs.declared.commit.Commit.{Commit}
 use Rattle.df_unit.specs.declared.name.EventName.{EventName}
+use Rattle.df_unit.specs.declared.name.UnitName.{UnitName}
 use Rattle.df_unit.specs.declared.name.UnitName.TheVariants.{Managed}
 use Rattle.df_tables.specs.Births.{IsNewborn, instance_row, rows_in}
 use Rattle.df_tables.specs.Hand.{given_to}
-use Rattle.df_tables.specs.Table.{place_of}
+use Rattle.df_tables.specs.Table.{names_of, place_of}
 use Rattle.df_tables.specs.declared.calling.Called.{Called}
 use Rattle.df_tables.specs.declared.units.Unit.{Unit}
 
@@ -67,6 +68,14 @@ places_from n (b ∷ bs) = n ∷ places_from (n + 1) bs
 -- the places of those that are handed the event, where there are n rows
 abbrev pub places_by : ℕ → List Pair → List Unit → List ℕ
 places_by n pairs births = map (λ p. p.0) pairs ++ places_from n births
+
+-- the unit of the row at a place, if there is one
+abbrev pub name_at : List Unit → ℕ → List UnitName
+name_at us q = names_of (option_to_list (slice_get us q))
+
+-- the units of the rows at the places of receivers
+abbrev pub names_at : List Unit → List Pair → List UnitName
+names_at us ps = flat_map (λ p. name_at us p.0) ps
 
 -- the pairs and the rows are those of the instances to which the choices of the commit give its
 -- event, where the board has these rows, managed subscriptions and marks

@@ -11,6 +11,7 @@ mod handing;
 mod line;
 mod managing;
 mod moves;
+mod receivers;
 mod runs;
 mod units;
 

@@ -1,8 +1,9 @@
 -- What is kept of a unit's deliveries, as the journal grows.
-use Rattle.std.proofs.Common.{◌≡◌, ◌⊎◌, inl, inr, ℕ, zero, suc, ◌+◌, ◌-◌, ◌<◌, ◌≤◌, List, [], ◌∷◌, ◌++◌, Bool, true, false, ◌&&◌, length, get_or, replicate, refl, sym, ◌∙◌, ap, subst, Option, Some, None, arith}
-use Rattle.std.specs.Prelude.{◌==◌, is_some, nat_le, nat_lt}
+use Rattle.std.proofs.Common.{◌≡◌, ◌⊎◌, inl, inr, ℕ, zero, suc, ◌+◌, ◌-◌, ◌<◌, ◌≤◌, List, [], ◌∷◌, ◌++◌, Bool, true, false, ◌&&◌, length, replicate, refl, sym, ◌∙◌, ap, subst, Option, Some, None, arith}
+use Rattle.std.specs.Prelude.{◌==◌, nat_le, nat_lt, slice_get}
 use Rattle.std.proofs.lemmas.Bool.{cases_lt, le-leb, leb-true, lt-ltb, ltb-true}
-use Rattle.std.proofs.lemmas.List.{append-nil, length-append}
+use Rattle.std.proofs.lemmas.List.{append-nil, length-append, length-replicate}
+use Rattle.std.proofs.lemmas.Option.{slice_get-get_or, slice_get_within}
 use Rattle.df_rules.specs.Commits.{commit_of}
 use Rattle.df_rules.specs.Deliveries.{deliveries, instance_news, plain_news}
 use Rattle.df_rules.specs.Own.{fixed, own_plain}
@@ -21,71 +22,24 @@ use Rattle.df_why.proofs.News.{deliveries_more, news}
 use Rattle.df_why.proofs.Picked.{eq_refl}
 use Rattle.df_why.proofs.Turning.{apart}
 
--- lists of places
-
-at_end : {A : Type 0} (xs : List A) (n m : ℕ) (x d : A) → length xs ≤ m → m < length xs + n → get_or (xs ++ replicate n x) m d ≡ x
-at_end [] zero m x d le lt = absurd (omega (arith, lt))
-at_end [] (suc n) zero x d le lt = refl
-at_end [] (suc n) (suc m) x d le lt = at_end [] n m x d (omega arith) (omega (arith, lt))
-at_end (y ∷ xs) n zero x d le lt = absurd (omega (arith, le))
-at_end (y ∷ xs) n (suc m) x d le lt = at_end xs n m x d (omega (arith, le)) (omega (arith, lt))
-
-pub in_front : {A : Type 0} (xs ys : List A) (m : ℕ) (d : A) → m < length xs → get_or (xs ++ ys) m d ≡ get_or xs m d
-in_front [] ys m d lt = absurd (omega (arith, lt))
-in_front (x ∷ xs) ys zero d lt = refl
-in_front (x ∷ xs) ys (suc m) d lt = in_front xs ys m d (omega (arith, lt))
-
-beyond : {A : Type 0} (xs : List A) (m : ℕ) (d : A) → length xs ≤ m → get_or xs m d ≡ d
-beyond [] m d le = refl
-beyond (x ∷ xs) zero d le = absurd (omega (arith, le))
-beyond (x ∷ xs) (suc m) d le = beyond xs m d (omega (arith, le))
-
-size_replicate : {A : Type 0} (n : ℕ) (x : A) → length (replicate n x) ≡ n
-size_replicate zero x = refl
-size_replicate (suc n) x = let rest = size_replicate n x in ap suc rest
-
--- what is found is within
-found_within : (xs : List (Option ℕ)) (m p : ℕ) → get_or xs m None ≡ Some p → m < length xs
-found_within xs m p h = go (cases_lt m (length xs))
+-- an element of a list with copies of another behind it is an old one, or that
+added_cases : (xs : List ℕ) (n here m p : ℕ) → slice_get (xs ++ replicate n here) m ≡ Some p
+    → (slice_get xs m ≡ Some p) ⊎ ((here ≡ p) × (length xs ≤ m) × (m < length xs + n))
+added_cases [] zero here m p h = absurd (let z : ⊥ = cc in z)
+added_cases [] (suc n) here zero p h = inr ((let z = h in cc), omega arith, omega arith)
+added_cases [] (suc n) here (suc m) p h = go (added_cases [] n here m p h)
   where
-    go : (m < length xs) ⊎ (length xs ≤ m) → m < length xs
-    go (inl lt) = lt
-    go (inr le) = let none = beyond xs m None le in absurd (let z : None ≡ Some p = sym none ∙ h in let w : ⊥ = cc in w)
-
-pub size_extended : (xs : List (Option ℕ)) (n : ℕ) (o : Option ℕ) → length xs ≤ n → length (extended xs n o) ≡ n
-size_extended xs n o le =
-    let a = length-append xs (replicate (n - length xs) o) in
-    let b = size_replicate (n - length xs) o in
-    omega (arith, a, b, le)
-
--- an element of the extended list is an old one, or this
-extended_cases : (xs : List (Option ℕ)) (n : ℕ) (o : Option ℕ) (m p : ℕ) → get_or (extended xs n o) m None ≡ Some p
-    → (get_or xs m None ≡ Some p) ⊎ ((o ≡ Some p) × (length xs ≤ m) × (m < n))
-extended_cases xs n o m p h = go (cases_lt m (length xs))
+    go : (slice_get {X = ℕ} [] m ≡ Some p) ⊎ ((here ≡ p) × (0 ≤ m) × (m < 0 + n))
+        → (slice_get {X = ℕ} [] (suc m) ≡ Some p) ⊎ ((here ≡ p) × (0 ≤ suc m) × (suc m < 0 + suc n))
+    go (inl none) = absurd (let z : ⊥ = cc in z)
+    go (inr is) = let lt = is.2 in inr (is.0, omega arith, omega (arith, lt))
+added_cases (x ∷ xs) n here zero p h = inl h
+added_cases (x ∷ xs) n here (suc m) p h = go (added_cases xs n here m p h)
   where
-    go : (m < length xs) ⊎ (length xs ≤ m) → (get_or xs m None ≡ Some p) ⊎ ((o ≡ Some p) × (length xs ≤ m) × (m < n))
-    go (inl lt) = inl (sym (in_front xs (replicate (n - length xs) o) m None lt) ∙ h)
-    go (inr le) =
-        let within = found_within (extended xs n o) m p h in
-        let a = length-append xs (replicate (n - length xs) o) in
-        let b = size_replicate (n - length xs) o in
-        let lt : m < n = omega (arith, within, a, b, le) in
-        inr (sym (at_end xs (n - length xs) m o None le (omega (arith, lt, le))) ∙ h, le, lt)
-
-extended_all : (xs : List (Option ℕ)) (n p : ℕ) → ((m : ℕ) → m < length xs → is_some (get_or xs m None) ≡ true) → length xs ≤ n → (m : ℕ)
-    → m < length (extended xs n (Some p)) → is_some (get_or (extended xs n (Some p)) m None) ≡ true
-extended_all xs n p known le m lt = go (cases_lt m (length xs))
-  where
-    go : (m < length xs) ⊎ (length xs ≤ m) → is_some (get_or (extended xs n (Some p)) m None) ≡ true
-    go (inl inside) = ap (λ (o : Option ℕ). is_some o) (in_front xs (replicate (n - length xs) (Some p)) m None inside) ∙ known m inside
-    go (inr beyond) =
-        let a = length-append xs (replicate (n - length xs) (Some p)) in
-        let b = size_replicate (n - length xs) (Some p) in
-        ap (λ (o : Option ℕ). is_some o) (at_end xs (n - length xs) m (Some p) None beyond (omega (arith, lt, a, b, beyond)))
-
--- nothing is added to what is long enough
-pub extended_none : (xs : List (Option ℕ)) (n : ℕ) (o : Option ℕ) → n ≤ length xs → extended xs n o ≡ xs
-extended_none xs n o le = let k : n - length xs ≡ 0 = omega (arith, le) in ap (λ (k : ℕ). xs ++ replicate k o) k ∙ append-nil xs
+    go : (slice_get xs m ≡ Some p) ⊎ ((here ≡ p) × (length xs ≤ m) × (m < length xs + n))
+        → (slice_get (x ∷ xs) (suc m) ≡ Some p) ⊎ ((here ≡ p) × (length (x ∷ xs) ≤ suc m) × (suc m < length (x ∷ xs) + n))
+    go (inl old) = inl old
+    go (inr is) = let le = is.1 in let lt = is.2 in inr (is.0, omega (arith, le), omega (arith, lt))
 
 module _ (R : Rules) (s : List OwnState) (u : UnitName) where
   abbrev count : List Entry → ℕ
@@ -140,99 +94,71 @@ module _ (R : Rules) (s : List OwnState) (u : UnitName) where
       let total : count past ≡ count (newer ++ x ∷ older) = ap count split in
       not_brought m older x (λ below above. omega (arith, le, grows, total, above))
 
-  -- all is known
-  pub whole_answers : (past : List Entry) (q : QueueState) → IsQueue R s past u q → IsWhole R s past u q → (m : ℕ)
-      → IsAnswer R s past u m (get_or q.places m None)
-  whole_answers past q queue whole m = go (cases_lt m (length q.places))
+  -- where the place of each delivery is kept, the answer is the one that is kept
+  pub whole_answers : (past : List Entry) (q : QueueState) → IsWhole R s past u q → (m : ℕ) → IsAnswer R s past u m (slice_get q.places m)
+  whole_answers past q whole m = go (slice_get q.places m) refl
     where
-      known : (o : Option ℕ) → get_or q.places m None ≡ o → is_some o ≡ true → IsAnswer R s past u m o
-      known None is h = absurd (let z : ⊥ = cc in z)
-      known (Some p) is h = queue.known m p is
+      go : (o : Option ℕ) → slice_get q.places m ≡ o → IsAnswer R s past u m o
+      go (Some p) is = whole.queue.known m p is
+      go None is = answer_none past m (beyond (cases_lt m (length q.places)))
+        where
+          beyond : (m < length q.places) ⊎ (length q.places ≤ m) → count past ≤ m
+          beyond (inl lt) = absurd (let z : None ≡ Some _ = sym is ∙ slice_get-get_or q.places m 0 lt in let w : ⊥ = cc in w)
+          beyond (inr le) = let size = whole.count in omega (arith, le, size)
 
-      go : (m < length q.places) ⊎ (length q.places ≤ m) → IsAnswer R s past u m (get_or q.places m None)
-      go (inl lt) = known (get_or q.places m None) refl (whole.known m lt)
-      go (inr le) = subst (IsAnswer R s past u m) (sym (beyond q.places m None le)) (answer_none past m (let size = whole.count in omega (arith, le, size)))
-
-  -- the queue with one more entry, before what it brings is known
+  -- the queue with one more entry, before what it brings is kept
   pub queue_later : (past : List Entry) (e : Entry) (q q' : QueueState) → IsQueue R s past u q → q'.taken ≡ length (received u (e ∷ past))
       → q'.places ≡ q.places → IsQueue R s (e ∷ past) u q'
   queue_later past e q q' queue taken places = record {
     taken = taken;
-    short = (let grows = count_grows (e ∷ []) past in let short = queue.short in let size = ap (λ (l : List (Option ℕ)). length l) places in omega
+    short = (let grows = count_grows (e ∷ []) past in let short = queue.short in let size = ap (λ (l : List ℕ). length l) places in omega
         (arith, grows, short, size));
     before = λ m p h. (let below = queue.before m p (old m p h) in omega (arith, below));
     known = λ m p h. answer_later past e m p (within m p (old m p h)) (queue.before m p (old m p h)) (queue.known m p (old m p h));
   }
     where
-      old : (m p : ℕ) → get_or q'.places m None ≡ Some p → get_or q.places m None ≡ Some p
-      old m p h = ap (λ (l : List (Option ℕ)). get_or l m None) (sym places) ∙ h
+      old : (m p : ℕ) → slice_get q'.places m ≡ Some p → slice_get q.places m ≡ Some p
+      old m p h = ap (λ (l : List ℕ). slice_get l m) (sym places) ∙ h
 
-      within : (m p : ℕ) → get_or q.places m None ≡ Some p → m < count past
-      within m p h = let inside = found_within q.places m p h in let short = queue.short in omega (arith, inside, short)
-
-  -- the queue with places that aren't known
-  pub queue_padded : (past : List Entry) (q q' : QueueState) → IsQueue R s past u q → q'.taken ≡ q.taken → q'.places ≡ extended q.places (count past) None
-      → IsQueue R s past u q'
-  queue_padded past q q' queue taken places = record {
-    taken = taken ∙ queue.taken;
-    short = (let size = ap (λ (l : List (Option ℕ)). length l) places ∙ size_extended q.places (count past) None queue.short in omega (arith, size));
-    before = λ m p h. queue.before m p (old m p h);
-    known = λ m p h. queue.known m p (old m p h);
-  }
-    where
-      old : (m p : ℕ) → get_or q'.places m None ≡ Some p → get_or q.places m None ≡ Some p
-      old m p h = go (extended_cases q.places (count past) None m p (ap (λ (l : List (Option ℕ)). get_or l m None) (sym places) ∙ h))
-        where
-          go : (get_or q.places m None ≡ Some p) ⊎ ((None ≡ Some p) × (length q.places ≤ m) × (m < count past)) → get_or q.places m None ≡ Some p
-          go (inl is) = is
-          go (inr is) = let no = is.0 in absurd (let z : ⊥ = cc in z)
+      within : (m p : ℕ) → slice_get q.places m ≡ Some p → m < count past
+      within m p h = let inside = slice_get_within q.places m p h in let short = queue.short in omega (arith, inside, short)
 
   -- the queue with the places of what the newest entry brought
-  pub queue_filled : (past : List Entry) (e : Entry) (q q' : QueueState) → IsQueue R s (e ∷ past) u q → count past ≤ length q.places → q'.taken ≡ q.taken
-      → q'.places ≡ extended q.places (count (e ∷ past)) (Some (length past)) → IsQueue R s (e ∷ past) u q'
-  queue_filled past e q q' queue long taken places = record {
-    taken = taken ∙ queue.taken;
-    short = (let size = ap (λ (l : List (Option ℕ)). length l) places
-        ∙ size_extended q.places (count (e ∷ past)) (Some (length past)) queue.short in omega (arith, size));
-    before = λ m p h. before m p (cases m p h);
-    known = λ m p h. known m p (cases m p h);
+  pub queue_filled : (past : List Entry) (e : Entry) (q : QueueState) (left : ℕ) → IsQueue R s (e ∷ past) u q → count past ≤ length q.places
+      → q.taken ≤ length q.places → q.taken + left ≡ count (e ∷ past) → IsWhole R s (e ∷ past) u (extended q left (length past))
+  queue_filled past e q left queue long few all = record {
+    queue = record {
+      taken = queue.taken;
+      short = (let s = size in omega (arith, s));
+      before = λ m p h. before m p (added_cases q.places more (length past) m p h);
+      known = λ m p h. known m p (added_cases q.places more (length past) m p h);
+    };
+    count = size;
   }
     where
-      Cases : ℕ → ℕ → Type 0
-      Cases m p = (get_or q.places m None ≡ Some p) ⊎ ((Some (length past) ≡ Some p) × (length q.places ≤ m) × (m < count (e ∷ past)))
+      more : ℕ
+      more = left - (length q.places - q.taken)
 
-      cases : (m p : ℕ) → get_or q'.places m None ≡ Some p → Cases m p
-      cases m p h = extended_cases q.places (count (e ∷ past)) (Some (length past)) m p (ap (λ (l : List (Option ℕ)). get_or l m None) (sym places) ∙ h)
+      total : length q.places + more ≡ count (e ∷ past)
+      total = let short = queue.short in omega (arith, short, few, all)
+
+      size : length (q.places ++ replicate more (length past)) ≡ count (e ∷ past)
+      size = length-append q.places (replicate more (length past)) ∙ ap (λ (n : ℕ). length q.places + n) (length-replicate more (length past)) ∙ total
+
+      Cases : ℕ → ℕ → Type 0
+      Cases m p = (slice_get q.places m ≡ Some p) ⊎ ((length past ≡ p) × (length q.places ≤ m) × (m < length q.places + more))
 
       before : (m p : ℕ) → Cases m p → p < length (e ∷ past)
       before m p (inl is) = queue.before m p is
-      before m p (inr is) = let some = is.0 in let same : length past ≡ p = (cc) in omega (arith, same)
+      before m p (inr is) = let same = is.0 in omega (arith, same)
 
       known : (m p : ℕ) → Cases m p → IsAnswer R s (e ∷ past) u m (Some p)
       known m p (inl is) = queue.known m p is
-      known m p (inr is) = let le = is.1 in subst (IsAnswer R s (e ∷ past) u m) is.0 (answer_here past e m (omega (arith, le, long)) is.2)
-
-  -- what is whole has nothing to be padded
-  pub whole_padded : (past : List Entry) (q q' : QueueState) → IsWhole R s past u q → q'.places ≡ extended q.places (count past) None → IsWhole R s past u q'
-  whole_padded past q q' whole places =
-      let size = whole.count in
-      let kept : q'.places ≡ q.places = places ∙ extended_none q.places (count past) None (omega (arith, size)) in
-      record {
-        count = ap (λ (l : List (Option ℕ)). length l) kept ∙ whole.count;
-        known = λ m lt. ap (λ (l : List (Option ℕ)). is_some (get_or l m None)) kept ∙ whole.known m (subst (λ (l : List (Option ℕ)). m < length l) kept lt);
-      }
-
-  pub whole_filled : (past : List Entry) (e : Entry) (q q' : QueueState) → IsWhole R s past u q
-      → q'.places ≡ extended q.places (count (e ∷ past)) (Some (length past)) → IsWhole R s (e ∷ past) u q'
-  whole_filled past e q q' whole places =
-      let size = whole.count in
-      let grows = count_grows (e ∷ []) past in
-      record {
-        count = ap (λ (l : List (Option ℕ)). length l) places ∙ size_extended q.places (count (e ∷ past)) (Some (length past)) (omega (arith, size, grows));
-        known = λ m lt. ap (λ (l : List (Option ℕ)). is_some (get_or l m None)) places
-            ∙ extended_all q.places (count (e ∷ past)) (length past) whole.known (omega (arith, size, grows)) m
-            (subst (λ (l : List (Option ℕ)). m < length l) places lt);
-      }
+      known m p (inr is) =
+          let le = is.1 in
+          let lt = is.2 in
+          let t = total in
+          subst (λ (n : ℕ). IsAnswer R s (e ∷ past) u m (Some n)) is.0 (answer_here past e m (omega (arith, le, long)) (omega (arith, lt, t)))
 
   -- an entry without a commit brings nothing
   pub quiet_count : (past : List Entry) (e : Entry) → commit_of e ≡ None → count (e ∷ past) ≡ count past

@@ -25,7 +25,7 @@ use Rattle.df_unit.specs.declared.name.UnitName.TheVariants.{Managed, Root}
 use Rattle.df_unit.specs.declared.reply.Reply.{Reply}
 use Rattle.df_why.specs.Grounds.{brings, is_met, is_of, is_on, on_one}
 use Rattle.df_why.specs.code.Leads.{begins, leads, subscribes}
-use Rattle.df_why.specs.code.Links.{AreEnough, AreFound, IsEnough, found_at, link_of, made_for}
+use Rattle.df_why.specs.code.Links.{AreFound, IsFound, found_at, link_of, made_for}
 use Rattle.df_why.specs.code.Names.{Key, actor_of, commit_key, key_cmp, key_of, made_of, origin_in, origin_of}
 use Rattle.df_why.specs.code.Numbers.{Finds}
 use Rattle.df_why.specs.code.Tracks.{AreNumbered, AreTracked, IsTrack, is_instance_in, is_met_in, least_place, makes_at, track_at}
@@ -155,7 +155,7 @@ module _ (s : List OwnState) (j : List Entry) (tables : Tables) (tracks : List T
   made_within : (t : Track) (k : ℕ) → k < btree_map_len tables.origins → (p : ℕ) → get_or made k None ≡ Some p → p < length tracks
   made_within t k lt p h = least_below (λ p. points (track_at tracks p).makes k) (length tracks) p (sym (places k lt) ∙ h)
 
-  module _ (enough : AreEnough rows s (reverse j) tracks finds) where
+  module _ (found : AreFound rows s (reverse j) finds) where
     -- an entry of a unit
     module _ (newer middle older : List Entry) (u : UnitName) (c : Call) (r : Reply) (f : Effect) (to : Entry)
         (split : reverse j ≡ newer ++ Done u c r f ∷ (middle ++ to ∷ older)) where
@@ -180,8 +180,8 @@ module _ (s : List OwnState) (j : List Entry) (tables : Tables) (tracks : List T
       to_is : IsTrack tables to t'
       to_is = track_of (newer ++ Done u c r f ∷ middle) older to whole
 
-      is_enough : IsEnough rows s before u t x
-      is_enough = enough newer before u c r f split
+      is_found : IsFound rows s before u x
+      is_found = found newer before u c r f split
 
       right : IsRight rows s before (Done u c r f)
       right = right_at s (reverse j) legal newer before (Done u c r f) split
@@ -206,7 +206,7 @@ module _ (s : List OwnState) (j : List Entry) (tables : Tables) (tracks : List T
               ∙ ap (λ (v : UnitName). begins rows s v older to || subscribes rows s v older to) (sym is)
           by (Managed o n ts) is =
               let instance : t.is_instance ≡ true = from_is.is_instance ∙ ap (λ (v : UnitName). is_instance_in (Done v c r f)) is in
-              let begun : points x.first (length older) ≡ brings rows s u 0 older to = sym (is_enough.first here instance middle older to refl) in
+              let begun : points x.first (length older) ≡ brings rows s u 0 older to = sym (is_found.first middle older to refl) in
               ap (λ (b : Bool). points (cond b x.first None) (length older) || points (made_for made t.origin) (length older)) instance
               ∙ ap (λ (b : Bool). b || points (made_for made t.origin) (length older))
               (begun ∙ ap (λ (v : UnitName). brings rows s v 0 older to) is ∙ sym (begins_brings rows s o n ts older to))
@@ -217,7 +217,7 @@ module _ (s : List OwnState) (j : List Entry) (tables : Tables) (tracks : List T
       next = go t.is_met refl
         where
           go : (b : Bool) → t.is_met ≡ b → points (cond b x.next None) (length older) ≡ (is_met c r && brings rows s u (length (received u before)) older to)
-          go true h = sym (is_enough.next h middle older to refl)
+          go true h = sym (is_found.next middle older to refl)
               ∙ ap (λ (b : Bool). b && brings rows s u (length (received u before)) older to) (sym h ∙ from_is.met)
           go false h = ap (λ (b : Bool). b && brings rows s u (length (received u before)) older to) (sym h ∙ from_is.met)
 
@@ -281,8 +281,7 @@ module _ (s : List OwnState) (j : List Entry) (tables : Tables) (tracks : List T
         ∙ ap (λ (l : Link). leads_to (link_at links (length (middle ++ to ∷ older))) (length older) l)
         (sym (each (length older) (let n = length-append middle (to ∷ older) in omega (arith, lt, size, n))))
 
-  -- their numbers are within
-  module _ (found : AreFound rows s (reverse j) finds) where
+    -- their numbers are within
     fits_of : (newer older : List Entry) (e : Entry) → reverse j ≡ newer ++ e ∷ older
         → Fits (length tracks) (btree_map_len tables.units) (btree_map_len tables.events) (link_of made (track_at tracks (length older)) (found_at finds (length older)))
     fits_of newer older e split = record {

@@ -20,5 +20,4 @@ pub mod Making
 pub mod Queueing
 pub mod Finding
 pub mod Growing
-pub mod Enough
 pub mod Grounding

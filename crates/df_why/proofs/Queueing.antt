@@ -1,29 +1,18 @@
 -- What is kept of units is right, as a machine goes over a journal.
-use Rattle.std.proofs.Common.{◌≡◌, ◌⊎◌, inl, inr, ℕ, zero, suc, ◌-◌, ◌<◌, ◌≤◌, List, [], ◌∷◌, Bool, true, false, length, get_or, replicate, refl, sym, ◌∙◌, ap, subst, Option, Some, None, arith}
-use Rattle.std.specs.Prelude.{◌==◌, slice_get}
+use Rattle.std.proofs.Common.{◌≡◌, ◌⊎◌, inl, inr, ℕ, zero, suc, List, [], ◌∷◌, Bool, true, false, refl, sym, ◌∙◌, ap, subst, Option, Some, None}
+use Rattle.std.specs.Prelude.{◌||◌, slice_get}
 use Rattle.std.specs.BTreeMap.{BTreeMap, get}
-use Rattle.std.proofs.lemmas.Bool.{cases_eq, eqb-true}
-use Rattle.std.proofs.lemmas.List.{length-append}
-use Rattle.std.proofs.lemmas.Option.{get_or_from_slice_get, slice_get_within}
+use Rattle.std.specs.List.{list_any}
+use Rattle.std.proofs.lemmas.Bool.{cases_eq}
 use Rattle.df_machine.specs.Journal.{State}
-use Rattle.df_unit.proofs.SameFacts.{same_name-exact, same_name_decides}
+use Rattle.df_unit.proofs.SameFacts.{same_name-exact}
 use Rattle.df_unit.specs.Name.{same}
 use Rattle.df_unit.specs.UnitOrder.{unit_cmp}
-use Rattle.df_unit.specs.declared.call.Call.{Call}
-use Rattle.df_unit.specs.declared.entry.Effect.{Effect}
-use Rattle.df_unit.specs.declared.entry.Entry.{Entry}
-use Rattle.df_unit.specs.declared.entry.Entry.TheVariants.{Done, Emitted}
 use Rattle.df_unit.specs.declared.name.UnitName.{UnitName}
-use Rattle.df_unit.specs.declared.reply.Reply.{Reply}
-use Rattle.df_why.specs.Grounds.{set_of}
-use Rattle.df_why.specs.code.Arising.{QueueState, extended}
-use Rattle.df_why.specs.code.Queues.{all_grown, grown, grown_at, grown_for, modify}
-use Rattle.df_why.specs.code.Tracks.{AreNumbered, AreTracked, IsTrack, no_track}
+use Rattle.df_why.specs.code.Arising.{QueueState}
+use Rattle.df_why.specs.code.Queues.{all_grown, grown, grown_at, modify}
+use Rattle.df_why.specs.code.Tracks.{AreNumbered}
 use Rattle.df_why.specs.declared.tracks.Tables.{Tables}
-use Rattle.df_why.specs.declared.tracks.Track.{Track}
-use Rattle.df_why.proofs.Leads.{by_or}
-use Rattle.df_why.proofs.Picked.{eq_refl}
-use Rattle.df_why.proofs.Sets.{or_left, or_right}
 
 -- a changed element
 
@@ -38,13 +27,6 @@ unmodified zero zero f (y ∷ xs) h = absurd (h refl)
 unmodified zero (suc m) f (y ∷ xs) h = refl
 unmodified (suc k) zero f (y ∷ xs) h = refl
 unmodified (suc k) (suc m) f (y ∷ xs) h = unmodified k m f xs (λ e. h (ap suc e))
-
-pub longer : (xs : List (Option ℕ)) (n : ℕ) (o : Option ℕ) → length xs ≤ length (extended xs n o)
-longer xs n o = let size = length-append xs (replicate (n - length xs) o) in omega (arith, size)
-
--- the entry at the place is one of the unit
-abbrev pub IsOf : List Entry → ℕ → UnitName → Type 0
-IsOf j p u = (c : Call) × (r : Reply) × (f : Effect) × (slice_get j p ≡ Some (Done u c r f))
 
 -- so it is of each unit's queue
 abbrev pub OfQueues : BTreeMap UnitName ℕ → List QueueState → (UnitName → QueueState → Type 0) → Type 0
@@ -77,99 +59,52 @@ module _ (tables : Tables) (numbered : AreNumbered tables) where
       → ((u : UnitName) (q : QueueState) → P u q → Q u q) → OfQueues tables.units queues Q
   same_each P Q queues all weaker u k h = let old = all u k h in (old.0, old.1, weaker u old.0 old.2)
 
-  module _ (j : List Entry) (tracks : List Track) (tracked : AreTracked tables tracks j) (core : State) (here : Option ℕ) where
-    track_is : (p : ℕ) (e : Entry) (t : Track) → slice_get j p ≡ Some e → slice_get tracks p ≡ Some t → IsTrack tables e t
-    track_is p e t he ht =
-        subst (λ (x : Entry). IsTrack tables x t) (get_or_from_slice_get j p e e he)
-        (subst (IsTrack tables (get_or j p e)) (get_or_from_slice_get tracks p t no_track ht) (tracked.each p e (slice_get_within j p e he)))
+  -- what growing brings to a queue, it brings to those of all units that are named
+  module _ (core : State) (here : ℕ) (P Q : UnitName → QueueState → Type 0) (stays : (u : UnitName) (q : QueueState) → Q u q → P u q)
+      (brings : (u : UnitName) (q : QueueState) → P u q → Q u (grown core u here q)) where
+    -- so far these units have it
+    abbrev Come : (UnitName → Bool) → UnitName → QueueState → Type 0
+    Come done u q = P u q × (done u ≡ true → Q u q)
 
-    -- the queue of the entry at a place is grown
-    one : (P Q : UnitName → QueueState → Type 0) (p : ℕ) (queues : List QueueState) → OfQueues tables.units queues P →
-        ((u : UnitName) (q : QueueState) → (IsOf j p u → ⊥) → P u q → Q u q)
-        → ((a : UnitName) (q : QueueState) → IsOf j p a → P a q → Q a (grown core a here q)) → OfQueues tables.units
-        (grown_for core (slice_get j p) (slice_get tracks p) here queues) Q
-    one P Q p queues all other mine = go (slice_get j p) refl (slice_get tracks p) refl
+    one : (done : UnitName → Bool) (n : UnitName) (queues : List QueueState) → OfQueues tables.units queues (Come done)
+        → OfQueues tables.units (grown_at core n (get unit_cmp tables.units n) here queues) (Come (λ u. done u || same n u))
+    one done n queues all = go (get unit_cmp tables.units n) refl
       where
-        Goal : Option Entry → Option Track → Type 0
-        Goal oe ot = OfQueues tables.units (grown_for core oe ot here queues) Q
+        or_old : (a b : Bool) → b ≡ false → (a || b) ≡ true → a ≡ true
+        or_old true b e h = refl
+        or_old false true e h = absurd (let z : ⊥ = cc in z)
+        or_old false false e h = absurd (let z : ⊥ = cc in z)
 
-        nobody : slice_get j p ≡ None → OfQueues tables.units queues Q
-        nobody is = same_each P Q queues all
-            (λ u q. other u q (λ of. let w = of.3 in let z : None ≡ Some (Done u of.0 of.1 of.2) = sym is ∙ w in let y : ⊥ = cc in y))
-
-        by_entry : (e : Entry) → slice_get j p ≡ Some e → (t : Track) → slice_get tracks p ≡ Some t → Goal (Some e) (Some t)
-        by_entry (Emitted k) is t ht = same_each P Q queues all
-            (λ u q. other u q (λ of. let w = of.3 in let z : Some (Emitted k) ≡ Some (Done u of.0 of.1 of.2) = sym is ∙ w in let y : ⊥ = cc in y))
-        by_entry (Done a c r f) is t ht =
-            let tr = (track_is p (Done a c r f) t is ht).actor in
-            subst (λ (n : Option ℕ). OfQueues tables.units (grown_at core (Done a c r f) n here queues) Q) (sym tr.1)
-            (changed P Q queues (grown core a here) a tr.0 tr.2 all
-            (λ u q differs. other u q
-            (λ of. let w = of.3 in let z : Some (Done a c r f) ≡ Some (Done u of.0 of.1 of.2) = sym is ∙ w in differs (let y : u ≡ a = cc in y)))
-            (λ q. mine a q (c, r, f, is)))
-
-        go : (oe : Option Entry) → slice_get j p ≡ oe → (ot : Option Track) → slice_get tracks p ≡ ot → Goal oe ot
-        go None is ot ht = nobody is
-        go (Some e) is (Some t) ht = by_entry e is t ht
-        go (Some e) is None ht =
-            let a = slice_get_within j p e is in
-            let n = tracked.count in
-            absurd (some_track (slice_get_some tracks p (omega (arith, a, n))))
+        other : (u : UnitName) → (u ≡ n → ⊥) → same n u ≡ false
+        other u differs = by (same n u) refl
           where
-            slice_get_some : (ts : List Track) (k : ℕ) → k < length ts → (t : Track) × (slice_get ts k ≡ Some t)
-            slice_get_some [] k lt = absurd (omega (arith, lt))
-            slice_get_some (t ∷ ts) zero lt = (t, refl)
-            slice_get_some (t ∷ ts) (suc k) lt = slice_get_some ts k (omega (arith, lt))
+            by : (b : Bool) → same n u ≡ b → b ≡ false
+            by false e = refl
+            by true e = absurd (differs (sym (same_name-exact n u e)))
 
-            some_track : (t : Track) × (slice_get tracks p ≡ Some t) → ⊥
-            some_track t = let w = t.1 in let z : None ≡ Some t.0 = sym ht ∙ w in let y : ⊥ = cc in y
+        still : (u : UnitName) (q : QueueState) → (u ≡ n → ⊥) → Come done u q → Come (λ v. done v || same n v) u q
+        still u q differs old = (old.0, λ h. old.1 (or_old (done u) (same n u) (other u differs) h))
 
-    decide_of : (p : ℕ) (u : UnitName) → (IsOf j p u) ⊎ (IsOf j p u → ⊥)
-    decide_of p u = go (slice_get j p) refl
+        go : (o : Option ℕ) → get unit_cmp tables.units n ≡ o → OfQueues tables.units (grown_at core n o here queues) (Come (λ u. done u || same n u))
+        go None none = λ u k h.
+            let old = all u k h in
+            let differs : u ≡ n → ⊥ = λ e. (let z : Some k ≡ None = sym h ∙ ap (get unit_cmp tables.units) e ∙ none in let w : ⊥ = cc in w) in
+            (old.0, old.1, still u old.0 differs old.2)
+        go (Some k) at = changed (Come done) (Come (λ u. done u || same n u)) queues (grown core n here) n k at all still
+            (λ q old. (stays n (grown core n here q) (brings n q old.0), λ h. brings n q old.0))
+
+    pub all_come : (names : List UnitName) (done : UnitName → Bool) (queues : List QueueState) → OfQueues tables.units queues (Come done)
+        → OfQueues tables.units (all_grown core tables.units names here queues) (Come (λ u. done u || list_any (λ n. same n u) names))
+    all_come [] done queues all = same_each (Come done) (Come (λ u. done u || false)) queues all (λ u q old. (old.0, λ h. old.1 (or_false (done u) h)))
       where
-        go : (oe : Option Entry) → slice_get j p ≡ oe → (IsOf j p u) ⊎ (IsOf j p u → ⊥)
-        go None is = inr (λ of. let w = of.3 in let z : None ≡ Some (Done u of.0 of.1 of.2) = sym is ∙ w in let y : ⊥ = cc in y)
-        go (Some (Emitted k)) is = inr (λ of. let w = of.3 in let z : Some (Emitted k) ≡ Some (Done u of.0 of.1 of.2) = sym is ∙ w in let y : ⊥ = cc in y)
-        go (Some (Done a c r f)) is = by (same a u) refl
-          where
-            by : (b : Bool) → same a u ≡ b → (IsOf j p u) ⊎ (IsOf j p u → ⊥)
-            by true e = inl (c, r, f, subst (λ (v : UnitName). slice_get j p ≡ Some (Done v c r f)) (same_name-exact a u e) is)
-            by false e = inr (λ of.
-                let w = of.3 in
-                let z : Some (Done a c r f) ≡ Some (Done u of.0 of.1 of.2) = sym is ∙ w in
-                let y : a ≡ u = cc in
-                let x : true ≡ false = sym ((same_name_decides a u).1 y) ∙ e in let v : ⊥ = cc in v)
-
-    in_rest : (p p' : ℕ) (ps : List ℕ) → set_of ps p' ≡ true → set_of (p ∷ ps) p' ≡ true
-    in_rest p p' ps has = or_right (p == p') (set_of ps p') has
-
-    in_first : (p : ℕ) (ps : List ℕ) → set_of (p ∷ ps) p ≡ true
-    in_first p ps = or_left (p == p) (set_of ps p) (eq_refl p)
-
-    -- what each step keeps, all keep
-    pub all_keep : (P : UnitName → QueueState → Type 0) (asked : List ℕ)
-        → ((p : ℕ) (a : UnitName) (q : QueueState) → set_of asked p ≡ true → IsOf j p a → P a q → P a (grown core a here q)) → (queues : List QueueState)
-        → OfQueues tables.units queues P → OfQueues tables.units (all_grown core j tracks asked here queues) P
-    all_keep P [] keeps queues all = all
-    all_keep P (p ∷ ps) keeps queues all =
-        all_keep P ps (λ p' a q has. keeps p' a q (in_rest p p' ps has)) (grown_for core (slice_get j p) (slice_get tracks p) here queues)
-        (one P P p queues all (λ u q no was. was) (λ a q of. keeps p a q (in_first p ps) of))
-
-    -- what one step brings to the units that are asked, all bring
-    pub all_bring : (A : UnitName → Type 0) (P Q : UnitName → QueueState → Type 0)
-        → ((a : UnitName) (q : QueueState) → A a → P a q → P a (grown core a here q))
-        → ((a : UnitName) (q : QueueState) → A a → P a q → Q a (grown core a here q))
-        → ((a : UnitName) (q : QueueState) → A a → Q a q → Q a (grown core a here q)) →
-        (asked : List ℕ) → ((p : ℕ) (a : UnitName) → set_of asked p ≡ true → IsOf j p a → A a) → (queues : List QueueState) → OfQueues tables.units queues P
-        → (p : ℕ) (u : UnitName) → set_of asked p ≡ true → IsOf j p u →
-        OfQueues tables.units (all_grown core j tracks asked here queues) (λ v q. v ≡ u → Q v q)
-    all_bring A P Q pp pq qq [] cover queues all p u has of = absurd (let z : ⊥ = cc in z)
-    all_bring A P Q pp pq qq (p0 ∷ ps) cover queues all p u has of = by_or (p0 == p) (set_of ps p) has
-        (λ e. all_keep (λ v q. v ≡ u → Q v q) ps (λ p' a q in_ps of_a was is. qq a q (cover p' a (in_rest p0 p' ps in_ps) of_a) (was is))
-        (grown_for core (slice_get j p0) (slice_get tracks p0) here queues)
-        (one P (λ v q. v ≡ u → Q v q) p0 queues all
-        (λ v q no was is. absurd (no (subst (λ (w : UnitName). IsOf j p0 w) (sym is) (subst (λ (n : ℕ). IsOf j n u) (sym (eqb-true p0 p e)) of))))
-        (λ a q of_a was is. pq a q (cover p0 a (in_first p0 ps) of_a) was)))
-        (λ more. all_bring A P Q pp pq qq ps (λ p' a in_ps of_a. cover p' a (in_rest p0 p' ps in_ps) of_a)
-        (grown_for core (slice_get j p0) (slice_get tracks p0) here queues)
-        (one P P p0 queues all (λ v q no was. was) (λ a q of_a was. pp a q (cover p0 a (in_first p0 ps) of_a) was)) p u more of)
+        or_false : (b : Bool) → (b || false) ≡ true → b ≡ true
+        or_false true h = refl
+        or_false false h = absurd (let z : ⊥ = cc in z)
+    all_come (n ∷ ns) done queues all = same_each (Come (λ u. (done u || same n u) || list_any (λ m. same m u) ns)) (Come (λ u. done u || list_any (λ m. same m u) (n ∷ ns)))
+        (all_grown core tables.units ns here (grown_at core n (get unit_cmp tables.units n) here queues))
+        (all_come ns (λ u. done u || same n u) (grown_at core n (get unit_cmp tables.units n) here queues) (one done n queues all))
+        (λ u q old. (old.0, λ h. old.1 (or_assoc (done u) (same n u) (list_any (λ m. same m u) ns) h)))
+      where
+        or_assoc : (a b c : Bool) → (a || (b || c)) ≡ true → ((a || b) || c) ≡ true
+        or_assoc true b c h = refl
+        or_assoc false b c h = h

@@ -1,7 +1,7 @@
 -- The entries by numbers, as far as they are tracked.
 use Rattle.std.proofs.Common.{◌≡◌, ◌⊎◌, inl, inr, ℕ, ◌+◌, ◌<◌, ◌≤◌, List, [], ◌∷◌, ◌++◌, length, get_or, sym, ◌∙◌, ap, subst, arith}
 use Rattle.std.proofs.lemmas.Bool.{cases_lt}
-use Rattle.std.proofs.lemmas.List.{get_or_default, length-append}
+use Rattle.std.proofs.lemmas.List.{get_or_append_left, get_or_default, length-append}
 use Rattle.std.proofs.Math.Seq.{get_or-append_seam}
 use Rattle.df_unit.specs.UnitOrder.{unit_cmp}
 use Rattle.df_unit.specs.declared.entry.Entry.{Entry}
@@ -9,7 +9,6 @@ use Rattle.df_why.specs.code.Names.{actor_of, event_of, key_cmp, made_of, origin
 use Rattle.df_why.specs.code.Tracks.{AreNumbered, AreTracked, IsTrack, KeepNumbers, no_track, track_at}
 use Rattle.df_why.specs.declared.tracks.Tables.{Tables}
 use Rattle.df_why.specs.declared.tracks.Track.{Track}
-use Rattle.df_why.proofs.Arising.{in_front}
 use Rattle.df_why.proofs.Numbering.{finds_kept}
 
 -- the first entries are tracked
@@ -42,7 +41,7 @@ so_far_more journal i d old new tracks now t inside so numbered kept is pushed =
     go : (p : ℕ) (e : Entry) → p < i + 1 → (p < i) ⊎ (i ≤ p) → IsTrack new (get_or journal p e) (track_at (tracks ++ t ∷ []) p)
     go p e lt (inl before) =
         let n = so.count in
-        subst (IsTrack new (get_or journal p e)) (sym (in_front tracks (t ∷ []) p no_track (omega (arith, before, n))))
+        subst (IsTrack new (get_or journal p e)) (sym (get_or_append_left tracks (t ∷ []) no_track p (omega (arith, before, n))))
         (track_kept old new kept (get_or journal p e) (track_at tracks p) (so.each p e before))
     go p e lt (inr after) =
         let n = so.count in

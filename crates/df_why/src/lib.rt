@@ -4,7 +4,6 @@
 mod firsts;
 mod found;
 mod links;
-mod listeners;
 mod names;
 mod numbers;
 mod queue;

@@ -20,13 +20,14 @@ pub(crate) fn actor_of(entry: &Entry) -> Result<Option<UnitName>, NoMemory>
 }
 
 /// What an event is found by.
-pub(crate) fn key_of(event: &EventName) -> Result<(u32, UnitName), NoMemory>
+fn key_of(event: &EventName) -> Result<(u32, UnitName), NoMemory>
     ensures { IfOk result (λ key. key ≡ key_of event.now) }
 {
     Ok((event.number, event.unit.copy()?))
 }
 
-fn commit_of(entry: &Entry) -> Option<&Commit>
+/// The entry's commit.
+pub(crate) fn commit_of(entry: &Entry) -> Option<&Commit>
     ensures { option_copied result ≡ commit_of entry.now }
 {
     match entry {

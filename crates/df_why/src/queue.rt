@@ -1,18 +1,17 @@
-//! What is known of a unit's deliveries.
+//! Where a unit's deliveries arose.
 
-ghost use Rattle.std.specs.Prelude.{◌≡◌, ◌+◌, ◌<◌, ◌≤◌, [], None, OnOk, get_or, length};
+ghost use Rattle.std.specs.Prelude.{◌≡◌, ◌+◌, ◌<◌, [], OnOk, slice_get};
 ghost use Rattle.df_why.specs.code.Arising.{extended};
 
 use df_label::NoMemory;
 use std::alloc::Global;
 use std::marker::Model;
 
-/// Of a unit, how many deliveries it took, and where its first deliveries arose, as far as that is
-/// known.
+/// Of a unit, how many deliveries it took, and where each of its deliveries arose.
 #[derive(Drop)]
 pub(crate) struct Queue {
     taken: usize,
-    places: Vec<Option<usize>>,
+    places: Vec<usize>,
 }
 
 impl Model for Queue {
@@ -26,7 +25,7 @@ impl Model for Queue {
 }
 
 impl Queue {
-    /// Nothing is known, and nothing was taken.
+    /// Nothing arose, and nothing was taken.
     pub(crate) fn new(alloc: Global) -> Queue
         ensures { result ≡ record { taken = 0; places = [] } }
     {
@@ -36,28 +35,18 @@ impl Queue {
         }
     }
 
-    /// Where the delivery of a number arose, if that is known.
-    fn place(&self, number: usize) -> Option<usize>
-        ensures { result ≡ get_or self.now.places number None }
-    {
-        match self.places.get(number) {
-            Some(place) => *place,
-            None => None,
-        }
-    }
-
     /// Where the next delivery arose that the unit takes.
     pub(crate) fn next(&self) -> Option<usize>
-        ensures { result ≡ get_or self.now.places self.now.taken None }
+        ensures { result ≡ slice_get self.now.places self.now.taken }
     {
-        self.place(self.taken)
+        self.places.get(self.taken).copied()
     }
 
     /// Where the first delivery arose.
     pub(crate) fn first(&self) -> Option<usize>
-        ensures { result ≡ get_or self.now.places 0 None }
+        ensures { result ≡ slice_get self.now.places 0 }
     {
-        self.place(0)
+        self.places.first().copied()
     }
 
     /// Takes one, where it took fewer than `most`.
@@ -69,38 +58,14 @@ impl Queue {
         self.taken += 1;
     }
 
-    /// Each delivery that was taken, and of which nothing is known, arose there.
-    fn reach(&mut self, place: Option<usize>) -> Result<(), NoMemory>
-        ensures { OnOk result (self.new
-            ≡ record self.old { places = extended self.old.places self.old.taken place }) }
+    /// So many are left. Those of which no place is kept arose there.
+    pub(crate) fn extend(&mut self, left: usize, place: usize) -> Result<(), NoMemory>
+        ensures { OnOk result (self.new ≡ extended self.old left place) }
     {
-        if self.places.len() < self.taken {
-            self.places.resize(self.taken, place)?;
-        }
-        Ok(())
-    }
-
-    /// So many are left. Each of which nothing is known arose there.
-    fn add(&mut self, left: usize, place: Option<usize>) -> Result<(), NoMemory>
-        requires { self.old.taken ≤ length self.old.places }
-        ensures { OnOk result (self.new ≡ record self.old {
-          places = extended self.old.places (self.old.taken + left) place;
-        }) }
-    {
-        let known = self.places.len() - self.taken;
+        let known = self.places.len().saturating_sub(self.taken);
         for _ in 0..left.saturating_sub(known) {
             self.places.push(place)?;
         }
         Ok(())
-    }
-
-    /// So many are left. Each delivery of which nothing is known arose there.
-    pub(crate) fn extend(&mut self, left: usize, place: Option<usize>) -> Result<(), NoMemory>
-        ensures { OnOk result (self.new ≡ record self.old {
-          places = extended self.old.places (self.old.taken + left) place;
-        }) }
-    {
-        self.reach(place)?;
-        self.add(left, place)
     }
 }

@@ -1,26 +1,28 @@
 //! Where deliveries arise, as a machine goes over a journal.
 
-ghost use Rattle.std.specs.Prelude.{◌≡◌, ◌+◌, ◌<◌, ◌≤◌, ℕ, [], List, IfOk, None, OnOk, Some, length, get_or, replicate, reverse, slice_get};
+ghost use Rattle.std.specs.Prelude.{◌≡◌, ◌<◌, ℕ, [], IfOk, OnOk, get_or, length, replicate, reverse};
+ghost use Rattle.std.specs.BTreeMap.{get};
 ghost use Rattle.df_machine.specs.Journal.{firsts};
 ghost use Rattle.df_replay.specs.Replay.{replayed};
 ghost use Rattle.df_rules.specs.Legal.{Legal};
 ghost use Rattle.df_rules.specs.Start.{rows};
+ghost use Rattle.df_unit.specs.UnitOrder.{unit_cmp};
 ghost use Rattle.df_unit.specs.declared.entry.Entry.{Entry};
-ghost use Rattle.df_why.specs.code.Arising.{QueueState};
 ghost use Rattle.df_why.specs.code.Links.{AreFound};
-ghost use Rattle.df_why.specs.code.Queues.{AreAllFound, IsTakenBelow, all_grown, found_in, grown_at, taken_at};
+ghost use Rattle.df_why.specs.code.Queues.{AreBrought, IsStepped, IsTakenBelow, all_grown, found_in, grown_at, taken_at};
 ghost use Rattle.df_why.specs.code.Tracks.{AreNumbered, AreTracked, track_at};
 
 use crate::found::Found;
-use crate::listeners::Listeners;
+use crate::names::commit_of;
 use crate::queue::Queue;
 use crate::tracks::{Track, Tracked};
 use df_label::NoMemory;
 use df_machine::Core;
 use df_replay::{begin, replay};
 use df_start::Start;
-use df_unit::Entry;
+use df_unit::{Entry, UnitName};
 use std::alloc::Global;
+use std::collections::BTreeMap;
 
 fn no_queues(alloc: Global, count: usize) -> Result<Vec<Queue>, NoMemory>
     ensures { IfOk result (λ queues.
@@ -33,41 +35,43 @@ fn no_queues(alloc: Global, count: usize) -> Result<Vec<Queue>, NoMemory>
     Ok(queues)
 }
 
-/// Extends the queue of the entry's unit.
+/// Extends the queue of a unit, if it has a number.
 fn extend_at(
     core: &Core,
     queues: &mut [Queue],
-    entry: &Entry,
-    track: &Track,
-    place: Option<usize>,
+    unit: &UnitName,
+    number: Option<usize>,
+    place: usize,
 ) -> Result<(), NoMemory>
-    ensures { OnOk result (queues.new
-        ≡ grown_at core.now entry.now track.now.actor place queues.old) }
+    ensures { OnOk result (queues.new ≡ grown_at core.now unit.now number place queues.old) }
 {
-    if let (Entry::Done { actor, .. }, Some(number)) = (entry, track.actor) {
+    if let Some(number) = number {
         if number < queues.len() {
-            queues[number].extend(core.left(actor), place)?;
+            queues[number].extend(core.left(unit), place)?;
         }
     }
     Ok(())
 }
 
-/// Extends the queues of all units that are asked.
+fn number_of(units: &BTreeMap<UnitName, usize>, unit: &UnitName) -> Option<usize>
+    ensures { result ≡ get unit_cmp units.now unit.now }
+{
+    units.get(unit).copied()
+}
+
+/// Extends the queues of these units.
 fn extend_all(
     core: &Core,
+    units: &BTreeMap<UnitName, usize>,
     queues: &mut [Queue],
-    journal: &[Entry],
-    tracks: &[Track],
-    asked: &[usize],
-    place: Option<usize>,
+    names: &[UnitName],
+    place: usize,
 ) -> Result<(), NoMemory>
     ensures { OnOk result (queues.new
-        ≡ all_grown core.now journal.now tracks.now asked.now place queues.old) }
+        ≡ all_grown core.now units.now names.now place queues.old) }
 {
-    for of in asked {
-        if *of < journal.len() && *of < tracks.len() {
-            extend_at(core, queues, &journal[*of], &tracks[*of], place)?;
-        }
+    for name in names {
+        extend_at(core, queues, name, number_of(units, name), place)?;
     }
     Ok(())
 }
@@ -100,41 +104,48 @@ fn take(queues: &mut [Queue], track: &Track, most: usize)
     }
 }
 
-/// The machine takes an entry in, and units are asked before and after.
+/// The units to which an entry brings a delivery.
+fn receivers(alloc: Global, core: &mut Core, entry: &Entry) -> Result<Vec<UnitName>, NoMemory>
+    ensures same { core.new ≡ core.old }
+    ensures brought { IfOk result (λ names. AreBrought core.old entry.now names.items) }
+{
+    match commit_of(entry) {
+        Some(commit) => core.receivers(commit),
+        None => Ok(Vec::new(alloc)),
+    }
+}
+
+/// The machine takes an entry in. What the entry brings arose at its place.
 fn step(
+    alloc: Global,
     core: &mut Core,
     queues: &mut [Queue],
     journal: &[Entry],
-    tracks: &[Track],
-    asked: &[usize],
+    all: &Tracked,
     place: usize,
 ) -> Result<(), NoMemory>
     requires place { place < length journal.now }
-    requires track { place < length tracks.now }
-    requires taken { (qs : List QueueState) →
-        qs ≡ all_grown core.old journal.now tracks.now asked.now None queues.old →
-        IsTakenBelow (length journal.now) (track_at tracks.now place).actor qs }
+    requires track { place < length all.now.tracks.items }
+    requires taken { IsTakenBelow (length journal.now)
+        (track_at all.now.tracks.items place).actor queues.old }
     ensures core { (d : Entry) →
         OnOk result (core.new ≡ replayed core.old (get_or journal.now place d)) }
-    ensures queues { OnOk result (queues.new
-        ≡ all_grown core.new journal.now tracks.now asked.now (Some place)
-        (taken_at (track_at tracks.now place)
-        (all_grown core.old journal.now tracks.now asked.now None queues.old))) }
+    ensures queues { (d : Entry) → OnOk result (IsStepped core.old core.new
+        (get_or journal.now place d) all.now.tables.units (track_at all.now.tracks.items place)
+        place queues.old queues.new) }
 {
-    extend_all(core, queues, journal, tracks, asked, None)?;
+    let names = receivers(alloc, core, &journal[place])?;
     replay(core, &journal[place])?;
-    take(queues, &tracks[place], journal.len());
-    extend_all(core, queues, journal, tracks, asked, Some(place))
+    take(queues, &all.tracks[place], journal.len());
+    extend_all(core, &all.tables.units, queues, names.as_slice(), place)
 }
 
-/// What is known for each entry of a unit, where these are asked. It is all for those that are
-/// asked at each commit.
+/// Where the delivery arose that each entry's unit takes next, and where its first one arose.
 pub(crate) fn find(
     alloc: Global,
     start: &Start,
     journal: &[Entry],
     all: &Tracked,
-    listeners: &Listeners,
 ) -> Result<Vec<Found>, NoMemory>
     requires legal { Legal rows (firsts start.now) (reverse journal.now) }
     requires numbered { AreNumbered all.now.tables }
@@ -142,25 +153,15 @@ pub(crate) fn find(
     ensures count { IfOk result (λ finds. length finds.items ≡ length journal.now) }
     ensures found { IfOk result (λ finds.
         AreFound rows (firsts start.now) (reverse journal.now) finds.items) }
-    ensures all { IfOk result (λ finds. AreAllFound rows (firsts start.now)
-        (reverse journal.now) listeners.now finds.items) }
 {
     let mut core = begin(alloc, start)?;
     let mut queues = no_queues(alloc, all.tables.units.len())?;
     let tracks = all.tracks.as_slice();
     let mut finds = Vec::new(alloc);
     for place in 0..journal.len() {
-        let track = tracks[place];
-        let asked = listeners.asked(&track);
-        finds.push(found(queues.as_slice(), &track))?;
-        step(
-            &mut core,
-            queues.as_mut_slice(),
-            journal,
-            tracks,
-            asked,
-            place,
-        )?;
+        finds.push(found(queues.as_slice(), &tracks[place]))?;
+        let of = queues.as_mut_slice();
+        step(alloc, &mut core, of, journal, all, place)?;
     }
     Ok(finds)
 }

@@ -4,7 +4,7 @@ ghost use Rattle.std.specs.Prelude.{◌≡◌, IfOk, OnOk};
 ghost use Rattle.df_why.specs.Grounds.{is_met};
 ghost use Rattle.df_why.specs.code.Tracks.{AreNumbered, AreTracked, IsTrack, KeepNumbers, is_given, is_instance_in, is_met_in, is_there_in};
 
-use crate::names::{actor_of, event_of, key_of, made_of, origin_in};
+use crate::names::{actor_of, event_of, made_of, origin_in};
 use crate::numbers::number;
 use df_label::NoMemory;
 use df_unit::{Call, Effect, Entry, Reply, UnitName};
@@ -30,8 +30,6 @@ pub(crate) struct Track {
     pub is_met: bool,
     /// Whether it is handed an event.
     pub is_given: bool,
-    /// The event that it is handed, where that has a number.
-    pub given: Option<usize>,
 }
 
 /// The numbers of units, events, and of what must be made before units begin.
@@ -105,23 +103,6 @@ fn is_given(entry: &Entry) -> bool
     }
 }
 
-/// The number of the event that an entry is handed.
-fn given(
-    events: &BTreeMap<(u32, UnitName), usize>,
-    entry: &Entry,
-) -> Result<Option<usize>, NoMemory> {
-    match entry {
-        Entry::Done {
-            effect: Effect::Given(given),
-            ..
-        } => {
-            let key = key_of(&given.event)?;
-            Ok(events.get(&key).copied())
-        }
-        _ => Ok(None),
-    }
-}
-
 /// The entry by numbers. Names without a number get one.
 fn by_numbers(alloc: Global, tables: &mut Tables, entry: &Entry) -> Result<Track, NoMemory>
     requires { AreNumbered tables.old }
@@ -133,7 +114,6 @@ fn by_numbers(alloc: Global, tables: &mut Tables, entry: &Entry) -> Result<Track
     let event = number(&mut tables.events, event_of(entry)?)?;
     let origin = number(&mut tables.origins, origin_in(alloc, entry)?)?;
     let makes = number(&mut tables.origins, made_of(alloc, entry)?)?;
-    let given = given(&tables.events, entry)?;
     Ok(Track {
         actor,
         is_there: is_there_in(entry),
@@ -143,7 +123,6 @@ fn by_numbers(alloc: Global, tables: &mut Tables, entry: &Entry) -> Result<Track
         event,
         is_met: is_met_in(entry),
         is_given: is_given(entry),
-        given,
     })
 }
 

@@ -1,6 +1,5 @@
 -- The links of an entry, by numbers and places.
-use Rattle.std.specs.Prelude.{◌≡◌, ◌<◌, ◌++◌, ◌∷◌, ◌&&◌, ◌||◌, ℕ, Bool, true, is_none, if◌then◌else◌, List, IfSome, Option, Some, None, get_or, is_some, length}
-use Rattle.std.specs.Option.{option_or}
+use Rattle.std.specs.Prelude.{◌≡◌, ◌<◌, ◌++◌, ◌∷◌, ℕ, if◌then◌else◌, List, IfSome, Option, Some, None, get_or, length}
 use Rattle.df_rules.specs.Received.{received}
 use Rattle.df_rules.specs.Rules.{Rules}
 use Rattle.df_unit.specs.OwnState.{OwnState}
@@ -11,7 +10,6 @@ use Rattle.df_unit.specs.declared.entry.Entry.TheVariants.{Done}
 use Rattle.df_unit.specs.declared.name.UnitName.{UnitName}
 use Rattle.df_unit.specs.declared.reply.Reply.{Reply}
 use Rattle.df_why.specs.code.Arising.{IsAnswer}
-use Rattle.df_why.specs.code.Tracks.{track_at}
 use Rattle.df_why.specs.declared.found.Found.{Found}
 use Rattle.df_why.specs.declared.tracks.Track.{Track}
 use Rattle.df_why.specs.declared.walk.Link.{Link}
@@ -27,20 +25,8 @@ pub record IsFound (R : Rules) (s : List OwnState) (past : List Entry) (u : Unit
     : Type 0 where
   pub next_in : IfSome f.next (λ p. p < length past)
   pub first_in : IfSome f.first (λ p. p < length past)
-  pub next : is_some f.next ≡ true → IsAnswer R s past u (length (received u past)) f.next
-  pub first : is_some f.first ≡ true → IsAnswer R s past u 0 f.first
-
--- it is found where there is anything to be found
-pub record IsAllFound (R : Rules) (s : List OwnState) (past : List Entry) (u : UnitName)
-    (f : Found) : Type 0 where
   pub next : IsAnswer R s past u (length (received u past)) f.next
   pub first : IsAnswer R s past u 0 f.first
-
--- all that counts for an entry with this track is found
-pub record IsEnough (R : Rules) (s : List OwnState) (past : List Entry) (u : UnitName) (t : Track)
-    (f : Found) : Type 0 where
-  pub next : t.is_met ≡ true → IsAnswer R s past u (length (received u past)) f.next
-  pub first : t.is_there ≡ true → t.is_instance ≡ true → IsAnswer R s past u 0 f.first
 
 -- so it is of each entry of a unit: by the unit, the entries before it and its place
 abbrev pub OfEntries : List Entry → (UnitName → List Entry → Type 0) → Type 0
@@ -50,19 +36,6 @@ OfEntries j P = (newer past : List Entry) (u : UnitName) (c : Call) (r : Reply) 
 abbrev pub AreFound : Rules → List OwnState → List Entry → List Found → Type 0
 AreFound R s j finds =
     OfEntries j (λ u past. IsFound R s past u (found_at finds (length past)))
-
-abbrev pub AreEnough : Rules → List OwnState → List Entry → List Track → List Found → Type 0
-AreEnough R s j tracks finds = OfEntries j (λ u past.
-    IsEnough R s past u (track_at tracks (length past)) (found_at finds (length past)))
-
--- whether something isn't found that counts for an entry with this track
-abbrev pub is_lacking : Track → Found → Bool
-is_lacking t f = (t.is_met && is_none f.next)
-    || (t.is_there && (t.is_instance && is_none f.first))
-
--- what either tells
-abbrev pub merged : Found → Found → Found
-merged f g = record { next = option_or f.next g.next; first = option_or f.first g.first }
 
 abbrev pub made_for : List (Option ℕ) → Option ℕ → Option ℕ
 made_for made None = None

@@ -1,17 +1,17 @@
 -- What a machine keeps of units, as it goes over a journal.
-use Rattle.std.specs.Prelude.{⊤, ◌≡◌, ◌+◌, ◌<◌, ℕ, zero, suc, true, if◌then◌else◌, List, [], ◌∷◌, Option, Some, None, get_or, length, slice_get}
-use Rattle.df_machine.specs.Journal.{State, left_in}
-use Rattle.df_rules.specs.Rules.{Rules}
-use Rattle.df_unit.specs.OwnState.{OwnState}
+use Rattle.std.specs.Prelude.{◌≡◌, ◌+◌, ◌<◌, ℕ, zero, suc, if◌then◌else◌, List, [], ◌∷◌, Option, Some, None, length, nat_lt, slice_get}
+use Rattle.std.specs.BTreeMap.{BTreeMap, get}
+use Rattle.std.specs.List.{list_any}
+use Rattle.df_machine.specs.Journal.{State, firsts, left_in}
+use Rattle.df_rules.specs.Deliveries.{deliveries}
+use Rattle.df_rules.specs.Start.{rows}
+use Rattle.df_unit.specs.Name.{same}
+use Rattle.df_unit.specs.UnitOrder.{unit_cmp}
 use Rattle.df_unit.specs.declared.entry.Entry.{Entry}
-use Rattle.df_unit.specs.declared.entry.Entry.TheVariants.{Done, Emitted}
 use Rattle.df_unit.specs.declared.name.UnitName.{UnitName}
-use Rattle.df_why.specs.Grounds.{set_of}
 use Rattle.df_why.specs.code.Arising.{QueueState, extended}
-use Rattle.df_why.specs.code.Links.{IsAllFound, OfEntries, found_at, nothing_found}
+use Rattle.df_why.specs.code.Links.{nothing_found}
 use Rattle.df_why.specs.declared.found.Found.{Found}
-use Rattle.df_why.specs.declared.listeners.Listeners.{Listeners}
-use Rattle.df_why.specs.declared.listeners.Listeners.TheVariants.{Always, OfEvents}
 use Rattle.df_why.specs.declared.tracks.Track.{Track}
 
 -- the element at a place changed
@@ -21,27 +21,20 @@ modify zero f (x ∷ xs) = f x ∷ xs
 modify (suc k) f (x ∷ xs) = x ∷ modify k f xs
 
 -- the queue with all deliveries of the unit; those that it lacked arose here
-abbrev pub grown : State → UnitName → Option ℕ → QueueState → QueueState
-grown core u here q = record q { places = extended q.places (q.taken + left_in core u) here }
+abbrev pub grown : State → UnitName → ℕ → QueueState → QueueState
+grown core u here q = extended q (left_in core u) here
 
--- the queue of an entry's unit, which has this number, with all its deliveries
-abbrev pub grown_at : State → Entry → Option ℕ → Option ℕ → List QueueState → List QueueState
-grown_at core (Done u c r f) None here queues = queues
-grown_at core (Done u c r f) (Some k) here queues = modify k (grown core u here) queues
-grown_at core (Emitted c) n here queues = queues
+-- the queue of a unit, if it has a number, with all its deliveries
+abbrev pub grown_at : State → UnitName → Option ℕ → ℕ → List QueueState → List QueueState
+grown_at core u None here queues = queues
+grown_at core u (Some k) here queues = modify k (grown core u here) queues
 
-abbrev pub grown_for : State → Option Entry → Option Track → Option ℕ → List QueueState →
+-- so the queues of all these units
+abbrev pub all_grown : State → BTreeMap UnitName ℕ → List UnitName → ℕ → List QueueState →
     List QueueState
-grown_for core None t here queues = queues
-grown_for core (Some e) None here queues = queues
-grown_for core (Some e) (Some t) here queues = grown_at core e t.actor here queues
-
--- so the queues of the units at all these places
-abbrev pub all_grown : State → List Entry → List Track → List ℕ → Option ℕ → List QueueState →
-    List QueueState
-all_grown core j tracks [] here queues = queues
-all_grown core j tracks (p ∷ ps) here queues =
-    all_grown core j tracks ps here (grown_for core (slice_get j p) (slice_get tracks p) here queues)
+all_grown core units [] here queues = queues
+all_grown core units (u ∷ us) here queues =
+    all_grown core units us here (grown_at core u (get unit_cmp units u) here queues)
 
 -- one more delivery was taken
 abbrev pub taken_more : QueueState → QueueState
@@ -63,27 +56,23 @@ IsTakenBelow most n queues = (k : ℕ) (q : QueueState) → n ≡ Some k → sli
 abbrev pub found_for : Option QueueState → Found
 found_for None = nothing_found
 found_for (Some q) = record {
-  next = get_or q.places q.taken None;
-  first = get_or q.places 0 None;
+  next = slice_get q.places q.taken;
+  first = slice_get q.places 0;
 }
 
 abbrev pub found_in : List QueueState → Option ℕ → Found
 found_in queues None = nothing_found
 found_in queues (Some k) = found_for (slice_get queues k)
 
--- the places of those that are asked at each commit
-abbrev pub always : Listeners → List ℕ
-always (OfEvents hear) = []
-always (Always places) = places.items
+-- the units are those to which an entry brings a delivery
+abbrev pub AreBrought : State → Entry → List UnitName → Type 0
+AreBrought core e names = (u : UnitName) → list_any (λ n. same n u) names
+    ≡ nat_lt (length (deliveries rows (firsts core.0) core.1 u))
+    (length (deliveries rows (firsts core.0) (e ∷ core.1) u))
 
--- those of them that are asked at each commit are asked at a commit on an event, if it is one
-abbrev pub Asks : Listeners → Option ℕ → List ℕ → Type 0
-Asks (OfEvents hear) event asked = ⊤
-Asks (Always places) None asked = ⊤
-Asks (Always places) (Some event) asked = asked ≡ places.items
-
--- all is found for the entries at these places
-abbrev pub AreAllFound : Rules → List OwnState → List Entry → Listeners → List Found → Type 0
-AreAllFound R s j listeners finds = OfEntries j (λ u past.
-    set_of (always listeners) (length past) ≡ true →
-    IsAllFound R s past u (found_at finds (length past)))
+-- the queues after an entry at a place: what it is handed was taken, and what it brings arose there
+pub record IsStepped (old new : State) (e : Entry) (units : BTreeMap UnitName ℕ) (t : Track)
+    (here : ℕ) (before after : List QueueState) : Type 0 where
+  pub names : List UnitName
+  pub brought : AreBrought old e names
+  pub queues : after ≡ all_grown new units names here (taken_at t before)

@@ -76,7 +76,6 @@ no_track = record {
   event = None;
   is_met = false;
   is_given = false;
-  given = None;
 }
 
 abbrev pub track_at : List Track → ℕ → Track

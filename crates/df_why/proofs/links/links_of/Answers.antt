@@ -14,8 +14,8 @@ returns-clause-known c =
     let value = c.as_slice-tracks.ensures.value in
     links_known (firsts c.args.start.now) c.args.journal.now c.args.all.now.tables tracks c.in_ok-finds.finds.items c.in_ok-made.made.items c.requires.legal
     c.requires.numbered c.requires.tracked
-    (λ k lt. c.in_ok-made.ensures k (subst (λ (n : ℕ). k < n) (sym c.len-2.ensures.len) lt) ∙ ap (λ (l : List Track). makes_at k l (length l)) value)
-    c.in_ok-finds.ensures.enough c.in_ok-links.links.items (c.in_ok-links.ensures.count ∙ ap (λ (l : List Track). length l) value)
+    (λ k lt. c.in_ok-made.ensures k (subst (λ (n : ℕ). k < n) (sym c.len.ensures.len) lt) ∙ ap (λ (l : List Track). makes_at k l (length l)) value)
+    c.in_ok-finds.ensures.found c.in_ok-links.links.items (c.in_ok-links.ensures.count ∙ ap (λ (l : List Track). length l) value)
     (λ p lt.
     c.in_ok-links.ensures.each p (subst (λ (l : List Track). p < length l) (sym value) lt)
     ∙ ap (λ (l : List Track). link_of c.as_slice.result.now (track_at l p) (found_at c.as_slice-2.result.now p)) value
@@ -29,7 +29,7 @@ returns-clause-within c =
     let value = c.as_slice-tracks.ensures.value in
     links_within (firsts c.args.start.now) c.args.journal.now c.args.all.now.tables tracks c.in_ok-finds.finds.items c.in_ok-made.made.items c.requires.legal
     c.requires.numbered c.requires.tracked
-    (λ k lt. c.in_ok-made.ensures k (subst (λ (n : ℕ). k < n) (sym c.len-2.ensures.len) lt) ∙ ap (λ (l : List Track). makes_at k l (length l)) value)
+    (λ k lt. c.in_ok-made.ensures k (subst (λ (n : ℕ). k < n) (sym c.len.ensures.len) lt) ∙ ap (λ (l : List Track). makes_at k l (length l)) value)
     c.in_ok-finds.ensures.found c.in_ok-links.links.items (c.in_ok-links.ensures.count ∙ ap (λ (l : List Track). length l) value)
     (λ p lt.
     c.in_ok-links.ensures.each p (subst (λ (l : List Track). p < length l) (sym value) lt)

@@ -1,0 +1,245 @@
+-- The units to which a commit is handed are those of its receivers' rows and those that come by it.
+use Rattle.std.proofs.Common.{◌≡◌, ◌↔◌, ℕ, ◌+◌, ◌<◌, ◌==◌, ◌||◌, Bool, true, false, not, if◌then◌else◌, List, [], ◌∷◌, ◌++◌, get_or, length, map, option_map, slice_get, Option, Some, None, refl, ap, sym, subst, ◌∙◌, arith, eq-eqb, ◌&&◌}
+use Rattle.std.specs.Prelude.{is_some, nat_lt, option_to_list}
+use Rattle.std.specs.List.{Contains, filter, list_any}
+use Rattle.std.specs.List.Sorted.{IsStrictlySortedBy}
+use Rattle.std.proofs.lemmas.Bool.{eqb-true, le-ltb, lt-ltb, ne_eqb}
+use Rattle.std.proofs.lemmas.List.{append-nil, length-append}
+use Rattle.std.proofs.lemmas.List.Folds.{list_any-append}
+use Rattle.std.proofs.lemmas.Option.{get_or_from_slice_get, slice_get-get_or, slice_get_within}
+use Rattle.df_index.specs.Due.{Pair, pair_cmp}
+use Rattle.df_index.specs.IndexState.{IsReceiver}
+use Rattle.df_instances.specs.Chosen.{AreChosen, instance_cmp}
+use Rattle.df_instances.specs.Named.{AreNumbered}
+use Rattle.df_instances.specs.declared.instances.Instance.{Instance}
+use Rattle.df_instances.specs.declared.subscription.ManagedSubscription.{ManagedSubscription}
+use Rattle.df_label.specs.declared.label.Label.{Label}
+use Rattle.df_label.specs.declared.privilege.Privilege.{Privilege}
+use Rattle.df_part.specs.Contents.{apply}
+use Rattle.df_part.specs.declared.part.Part.{Part}
+use Rattle.df_rules.specs.Choices.{matches}
+use Rattle.df_rules.specs.Commits.{contents}
+use Rattle.df_rules.specs.Deliveries.{deliveries, deliveries_instance, instance_news, was_handed}
+use Rattle.df_rules.specs.Own.{fixed, is_given}
+use Rattle.df_rules.specs.Start.{rows, roots}
+use Rattle.df_unit.specs.Name.{same}
+use Rattle.df_unit.specs.OwnState.{Fixed, OwnState}
+use Rattle.df_unit.specs.Rows.{is_nil}
+use Rattle.df_unit.specs.declared.commit.Commit.{Commit}
+use Rattle.df_unit.specs.declared.commit.Given.{Given}
+use Rattle.df_unit.specs.declared.entry.Entry.{Entry}
+use Rattle.df_unit.specs.declared.entry.Entry.TheVariants.{Emitted}
+use Rattle.df_unit.specs.declared.name.UnitName.{UnitName}
+use Rattle.df_unit.specs.declared.name.UnitName.TheVariants.{Managed, Root}
+use Rattle.df_unit.proofs.SameFacts.{same_name-exact, same_name_decides}
+use Rattle.df_tables.specs.Agree.{Agrees, AreApart, FilterIndex, IsSeat}
+use Rattle.df_tables.specs.Births.{rows_in}
+use Rattle.df_tables.specs.Board.{AreReceivers, IsBoard, IsOpenedBoard, IsReady, TellsOf, is_brought, managed_by}
+use Rattle.df_tables.specs.Calls.{births_by, name_at, names_at, pairs_by}
+use Rattle.df_tables.specs.Events.{event_place}
+use Rattle.df_tables.specs.Hand.{given_to, news_at, pairs_of}
+use Rattle.df_tables.specs.Labels.{inputs}
+use Rattle.df_tables.specs.Table.{find, names_of, parts_of, place_of}
+use Rattle.df_tables.specs.declared.board.Board.{Board}
+use Rattle.df_tables.specs.declared.commits.Ready.{Ready}
+use Rattle.df_tables.specs.declared.events.EventRow.{EventRow}
+use Rattle.df_tables.specs.declared.units.Unit.{Unit}
+use Rattle.df_tables.proofs.Boards.{whole_opened}
+use Rattle.df_tables.proofs.Booked.{brought, kept_opened, place_in}
+use Rattle.df_tables.proofs.Brings.{both_ways}
+use Rattle.df_tables.proofs.Brought.{none_pass}
+use Rattle.df_tables.proofs.Calls.{births_unplaced}
+use Rattle.df_tables.proofs.Called.{row_if}
+use Rattle.df_tables.proofs.Committed.{news_called, undelivered}
+use Rattle.df_tables.proofs.Fresh.{AreUnplaced}
+use Rattle.df_tables.proofs.Instances.{born_called, born_plain}
+use Rattle.df_tables.proofs.Seats.{absent, passes_at}
+use Rattle.df_tables.proofs.Steps.{delivered_at, news_of, none_news}
+
+-- a list with more behind it is longer
+longer : {A : Type 0} (xs ys : List A) → nat_lt (length xs) (length (xs ++ ys)) ≡ not (is_nil ys)
+longer {A} xs [] = ap (λ (l : List A). nat_lt (length xs) (length l)) (append-nil xs) ∙ le-ltb (length xs) (length xs) (omega arith)
+longer xs (y ∷ ys) = let size = length-append xs (y ∷ ys) in lt-ltb (length xs) (length (xs ++ y ∷ ys)) (omega (arith, size))
+
+mapped_nil : {A B : Type 0} (f : A → B) (xs : List A) → is_nil (map f xs) ≡ is_nil xs
+mapped_nil f [] = refl
+mapped_nil f (x ∷ xs) = refl
+
+twice : (b : Bool) → not (not b) ≡ b
+twice true = refl
+twice false = refl
+
+-- the names of rows at places, and of rows that come
+module _ (us : List Unit) (apart : AreApart us) (n : UnitName) where
+  abbrev is_it : UnitName → Bool
+  is_it m = same m n
+
+  -- the row at a place is the one of its unit
+  placed : (p : ℕ) (u : Unit) → slice_get us p ≡ Some u → is_it u.local.unit ≡ true → place_of n us ≡ Some p
+  placed p u at is =
+      let name : u.local.unit ≡ n = same_name-exact u.local.unit n is in
+      let here : get_or us p u ≡ u = get_or_from_slice_get us p u u at in
+      subst (λ (m : UnitName). place_of m us ≡ Some p) name
+      (subst (λ (v : Unit). place_of v.local.unit us ≡ Some p) here (apart p u (slice_get_within us p u at)))
+
+  one_place : (q : ℕ) → place_of n us ≡ Some q → (p : ℕ) → list_any is_it (name_at us p) ≡ (p == q)
+  one_place q place p = go (slice_get us p) refl
+    where
+      go : (o : Option Unit) → slice_get us p ≡ o → list_any is_it (names_of (option_to_list o)) ≡ (p == q)
+      go None none = sym (ne_eqb p q (λ e. elsewhere e us refl))
+        where
+          elsewhere : p ≡ q → (vs : List Unit) → us ≡ vs → ⊥
+          elsewhere e [] is = let z : place_of n [] ≡ Some q = ap (place_of n) (sym is) ∙ place in (let w : ⊥ = cc in w)
+          elsewhere e (v ∷ vs) is =
+              let z : None ≡ Some (get_or us q v) = sym none ∙ ap (slice_get us) e ∙ slice_get-get_or us q v (place_in n us q place) in
+              (let w : ⊥ = cc in w)
+      go (Some u) at = or_none (is_it u.local.unit) ∙ both_ways (is_it u.local.unit) (p == q) forth back
+        where
+          or_none : (b : Bool) → (b || false) ≡ b
+          or_none true = refl
+          or_none false = refl
+
+          forth : is_it u.local.unit ≡ true → (p == q) ≡ true
+          forth is = let z : Some p ≡ Some q = sym (placed p u at is) ∙ place in eq-eqb p q (let y : p ≡ q = cc in y)
+
+          back : (p == q) ≡ true → is_it u.local.unit ≡ true
+          back e =
+              let here : get_or us p u ≡ u = get_or_from_slice_get us p u u at in
+              let there : get_or us q u ≡ u = ap (λ (i : ℕ). get_or us i u) (sym (eqb-true p q e)) ∙ here in
+              subst (λ (v : Unit). is_it v.local.unit ≡ true) there (passes_at (λ (v : Unit). is_it v.local.unit) us q u place)
+
+  any_placed : (q : ℕ) → place_of n us ≡ Some q → (ps : List Pair) → list_any is_it (names_at us ps) ≡ list_any (λ p. p.0 == q) ps
+  any_placed q place [] = refl
+  any_placed q place (p ∷ ps) =
+      list_any-append is_it (name_at us p.0) (names_at us ps)
+      ∙ ap (λ (b : Bool). b || list_any is_it (names_at us ps)) (one_place q place p.0)
+      ∙ ap (λ (b : Bool). (p.0 == q) || b) (any_placed q place ps)
+
+  no_place : place_of n us ≡ None → (p : ℕ) → list_any is_it (name_at us p) ≡ false
+  no_place none p = go (slice_get us p) refl
+    where
+      go : (o : Option Unit) → slice_get us p ≡ o → list_any is_it (names_of (option_to_list o)) ≡ false
+      go None at = refl
+      go (Some u) at = by (is_it u.local.unit) refl
+        where
+          by : (b : Bool) → is_it u.local.unit ≡ b → (b || false) ≡ false
+          by false e = refl
+          by true e = absurd (let z : None ≡ Some p = sym none ∙ placed p u at e in (let w : ⊥ = cc in w))
+
+  any_unplaced : place_of n us ≡ None → (ps : List Pair) → list_any is_it (names_at us ps) ≡ false
+  any_unplaced none [] = refl
+  any_unplaced none (p ∷ ps) =
+      list_any-append is_it (name_at us p.0) (names_at us ps)
+      ∙ ap (λ (b : Bool). b || list_any is_it (names_at us ps)) (no_place none p.0)
+      ∙ any_unplaced none ps
+
+  any_found : (bs : List Unit) → list_any is_it (names_of bs) ≡ is_some (find n bs)
+  any_found [] = refl
+  any_found (b ∷ bs) = by (is_it b.local.unit) (any_found bs)
+    where
+      by : (c : Bool) → list_any is_it (names_of bs) ≡ is_some (find n bs) → (c || list_any is_it (names_of bs)) ≡ is_some (if c then Some b else find n bs)
+      by true rest = refl
+      by false rest = rest
+
+  none_come : (q : ℕ) → place_of n us ≡ Some q → (bs : List Unit) → AreUnplaced us bs → list_any is_it (names_of bs) ≡ false
+  none_come q place [] none = refl
+  none_come q place (b ∷ bs) none = by (is_it b.local.unit) refl (none_come q place bs none.1)
+    where
+      by : (c : Bool) → is_it b.local.unit ≡ c → list_any is_it (names_of bs) ≡ false → (c || list_any is_it (names_of bs)) ≡ false
+      by false e rest = rest
+      by true e rest =
+          let gone : place_of n us ≡ None = subst (λ (m : UnitName). place_of m us ≡ None) (same_name-exact b.local.unit n e) none.0 in
+          absurd (let z : None ≡ Some q = sym gone ∙ place in (let w : ⊥ = cc in w))
+
+module _ (starts : List (Label × List Privilege)) (past : List Entry) (us : List Unit) (evs : List EventRow) (x : FilterIndex) (managed : List ManagedSubscription) (handed : List (List ℕ))
+    (agree : Agrees rows (roots starts) past us evs x (managed_by managed handed)) (numbered : AreNumbered managed) (apart : AreApart us)
+    (k : Commit) (j : ℕ) (after : List Part) (there : event_place k.event evs ≡ Some j) (is : after ≡ apply k.edit (parts_of k.event evs))
+    (ps : List Pair) (labels : List Label) (inputs_are : labels ≡ inputs us) (sorted : IsStrictlySortedBy pair_cmp ps)
+    (due : (p : Pair) → Contains ps p ↔ IsReceiver matches labels x j after k.edit p)
+    (xs : List Instance) (up : IsStrictlySortedBy instance_cmp xs) (are : AreChosen managed (contents past k.event) k.edit xs) where
+  abbrev s : List OwnState
+  s = roots starts
+
+  abbrev qs : List Pair
+  qs = pairs_by us managed handed j xs
+
+  abbrev bs : List Unit
+  bs = births_by us managed k.event after xs
+
+  abbrev brings : UnitName → List Given
+  brings n = news_of rows s past n (Some k)
+
+  now_is : after ≡ apply k.edit (contents past k.event)
+  now_is = is ∙ ap (apply k.edit) (agree.parts k.event)
+
+  -- a unit that has a row is brought what its receivers bring
+  at_place : (n : UnitName) (q : ℕ) → place_of n us ≡ Some q → list_any (λ p. p.0 == q) (ps ++ qs) ≡ not (is_nil (brings n))
+  at_place n q place =
+      let news = brought brings k.event after (ps ++ qs) us
+      (news_called starts past us evs x managed handed agree numbered apart k j after there is ps labels inputs_are sorted due xs up are) n q place in
+      sym (twice (list_any (λ p. p.0 == q) (ps ++ qs)))
+      ∙ ap not (none_pass (λ (p : Pair). p.0 == q) (ps ++ qs) ∙ sym (mapped_nil (given_to k.event after news.0) (pairs_of q (ps ++ qs))))
+      ∙ ap (λ (l : List Given). not (is_nil l)) (sym news.1)
+
+  -- one that has none is brought what comes with its row
+  comes : (n : UnitName) → place_of n us ≡ None → is_some (find n bs) ≡ not (is_nil (brings n))
+  unfolding news_of
+  comes (Root path) none =
+      ap (λ (o : Option Unit). is_some o) (born_plain starts past us evs x managed handed agree numbered k j there xs up are after now_is path none)
+      ∙ sym (ap (λ (l : List Given). not (is_nil l)) (none_news rows s past path (Some k) (absent rows s past us (Root path) agree.seats none)))
+  comes (Managed o i t) none =
+      ap (λ (w : Option Unit). is_some w) (born_called starts past us evs x managed handed agree numbered k j there xs up are after now_is o i t none)
+      ∙ by (fixed rows s past o i)
+    where
+      ds : List Given
+      ds = deliveries_instance rows s past o i t
+
+      nothing : ds ≡ []
+      nothing = undelivered starts past us evs x managed handed agree numbered apart k j after there is ps labels inputs_are sorted due xs up are (Managed o i t)
+          (absent rows s past us (Managed o i t) agree.seats none)
+
+      cases : (d : Given) (u : Unit) (b : Bool) → is_some (if b then Some u else None) ≡ not (is_nil (if b && not (was_handed ds k.event i) then d ∷ [] else []))
+      cases d u false = refl
+      cases d u true = sym (ap (λ (l : List Given). not (is_nil (if not (was_handed l k.event i) then d ∷ [] else []))) nothing)
+
+      by : (f : Option Fixed) → is_some (row_if starts past k after now_is o i t f) ≡ not (is_nil (instance_news f i t ds past (Some k)))
+      by None = refl
+      by (Some f) = cases _ _ (is_given (Some f) t past (Some k))
+
+  pub receivers_are : (n : UnitName) → list_any (λ m. same m n) (names_at us (ps ++ qs) ++ names_of bs) ≡ is_brought s past k n
+  receivers_are n =
+      list_any-append (λ m. same m n) (names_at us (ps ++ qs)) (names_of bs)
+      ∙ by (place_of n us) refl
+      ∙ sym (ap (λ (ds : List Given). nat_lt (length (deliveries rows s past n)) (length ds)) (delivered_at rows s past (Emitted k) n)
+      ∙ longer (deliveries rows s past n) (brings n))
+    where
+      or_none : (b : Bool) → (b || false) ≡ b
+      or_none true = refl
+      or_none false = refl
+
+      by : (o : Option ℕ) → place_of n us ≡ o → (list_any (λ m. same m n) (names_at us (ps ++ qs)) || list_any (λ m. same m n) (names_of bs)) ≡ not (is_nil (brings n))
+      by (Some q) place =
+          ap (λ (b : Bool). list_any (λ m. same m n) (names_at us (ps ++ qs)) || b) (none_come us apart n q place bs (births_unplaced managed numbered us k.event after xs))
+          ∙ or_none (list_any (λ m. same m n) (names_at us (ps ++ qs)))
+          ∙ any_placed us apart n q place (ps ++ qs)
+          ∙ at_place n q place
+      by None none =
+          ap (λ (b : Bool). b || list_any (λ m. same m n) (names_of bs)) (any_unplaced us apart n none (ps ++ qs))
+          ∙ any_found us apart n bs
+          ∙ comes n none
+
+-- what is made ready tells the receivers
+pub ready_receivers : (k : Commit) (old opened : Board) (ready : Ready) (names : List UnitName) → IsBoard old → IsOpenedBoard k.event old opened → IsReady k opened ready
+    → names ≡ names_at opened.rows.items ready.receivers.items ++ names_of (rows_in ready.called.born.items) → AreReceivers k names old
+ready_receivers k old opened ready names board opening made names_are starts past tells n =
+    let us = opened.rows.items in
+    let before = kept_opened k.event old opened board.whole opening starts past tells in
+    let there = whole_opened k.event old opened opening board.whole in
+    let xs = made.called.instances in
+    let is : ready.after ≡ apply k.edit (contents past k.event) = made.after ∙ ap (apply k.edit) (before.agrees.parts k.event) in
+    ap (list_any (λ m. same m n))
+    (names_are
+    ∙ ap (λ (rs : List Pair). names_at us rs ++ names_of (rows_in ready.called.born.items)) (made.receivers ∙ ap (λ (qs : List Pair). ready.to ++ qs) made.called.pairs)
+    ∙ ap (λ (bs : List Unit). names_at us (ready.to ++ pairs_by us opened.managed opened.marks.handed ready.place xs) ++ names_of bs) made.called.born)
+    ∙ receivers_are starts past us opened.events opened.index opened.managed opened.marks.handed before.agrees before.numbered there.apart k ready.place ready.after made.place made.after
+    ready.to (inputs us) refl made.ascending made.due xs made.called.ascending (made.called.chosen (contents past k.event) is) n

@@ -1,0 +1,7 @@
+use Rattle.std.proofs.Common.{◌≡◌, ◌++◌, take}
+use Rattle.df_tables.specs.Births.{rows_in}
+use Rattle.df_tables.specs.Table.{names_of}
+use Rattle.df_tables.proofs.receivers.put_names.Given as goal
+
+abbrev pub invariant-loop-one : goal.invariant-loop-one
+invariant-loop-one l = l.to.items ≡ l.fn.to.items ++ names_of (rows_in (take l.one-index l.born))
