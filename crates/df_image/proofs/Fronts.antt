@@ -8,7 +8,7 @@ use Rattle.df_disk.specs.Found.{BeginsWith}
 use Rattle.df_disk.specs.Records.{opened, record_text}
 use Rattle.df_disk.proofs.Crash.{opened-push}
 use Rattle.df_disk.proofs.Heads.{length-record}
-use Rattle.df_image.proofs.Records.{one_record}
+use Rattle.df_image.proofs.SameRecords.{one_record}
 use Rattle.df_image.specs.Image.{BreaksAt, IsKept, IsNext, State, entry_record, records_of, start_record}
 use Rattle.df_image.specs.Front.{IsFront, KeepsTo, TakesAnswer, TakesNone}
 use Rattle.df_journal_file.specs.Journal.{IsWholeEntry}

@@ -7,7 +7,7 @@ use Rattle.std.proofs.lemmas.List.Elements.{All-from_recursion, All-nil, recursi
 use Rattle.df_disk.specs.Records.{IsEmpty, opened, record_text}
 use Rattle.df_image.specs.Image.{BreaksAt, IsDamagedAt, IsKept, IsNext, KeepsJournal, LacksEntry, LacksStart, State, entry_record, records_of, start_record}
 use Rattle.df_image.proofs.Readings.{no_roots}
-use Rattle.df_image.proofs.Records.{one_record}
+use Rattle.df_image.proofs.SameRecords.{one_record}
 use Rattle.df_journal_file.specs.Journal.{IsWholeEntry}
 use Rattle.df_journal_text.specs.Fits.{AreRoots, IsJournal, IsNoteOf, IsNoted}
 use Rattle.df_journal_text.specs.Line.{line}

@@ -1,4 +1,4 @@
 pub mod Fronts
 pub mod Images
 pub mod Readings
-pub mod Records
+pub mod SameRecords
