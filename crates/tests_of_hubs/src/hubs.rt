@@ -31,7 +31,7 @@ fn root(number: u32) -> UnitName {
 }
 
 /// A root at the public label and without privileges.
-fn public_root(alloc: Global) -> RootStart {
+pub(crate) fn public_root(alloc: Global) -> RootStart {
     RootStart {
         label: Label {
             s: TagSet::new(alloc),
@@ -42,7 +42,7 @@ fn public_root(alloc: Global) -> RootStart {
 }
 
 /// A hub of units with these brains, with its first pass.
-fn hub_by(
+pub(crate) fn hub_by(
     alloc: Global,
     start: Start,
     brains: Vec<Player>,
@@ -216,7 +216,7 @@ fn is_absent<R: Wait>(
 }
 
 /// How many entries a finished hub has, and whether it is quiet.
-fn finished<R: Wait>(
+pub(crate) fn finished<R: Wait>(
     rt: &R,
     hub: &Hub<Player>,
     pass: Pass<Crew<Player>>,

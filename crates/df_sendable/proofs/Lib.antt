@@ -1,0 +1,10 @@
+pub mod Records
+pub mod Labels
+pub mod Values
+pub mod Parts
+pub mod Units
+pub mod Locals
+pub mod Indexes
+pub mod Tables
+pub mod Crews
+pub mod Hubs

@@ -1,0 +1,2 @@
+//! Which types may cross threads. There is no code here.
+#![tactic(auto)]

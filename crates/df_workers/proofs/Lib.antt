@@ -1,0 +1,7 @@
+pub mod Prefixed
+mod Others
+mod Turned
+mod Stepped
+mod Serving
+pub mod Gathered
+pub mod Crossing
