@@ -12,6 +12,7 @@ _defcon_forms=(
     'lint SCRIPT'
     'gen KEY N'
     'floor CONFIG TICKS'
+    'floor CONFIG TICKS --workers N'
     'load KEY N'
     '--help'
     '--version'
@@ -26,13 +27,17 @@ _defcon() {
         return
     fi
     for form in "${_defcon_forms[@]}"; do
-        if [ "${form%% *}" = "${COMP_WORDS[1]}" ]; then
-            read -ra words <<<"$form"
-            kind="${words[COMP_CWORD - 1]:-none}"
-            break
-        fi
+        read -ra words <<<"$form"
+        [ "${words[0]}" = "${COMP_WORDS[1]}" ] || continue
+        kind="${words[COMP_CWORD - 1]:-$kind}"
     done
-    [[ $kind != @(LABEL|PLACE|KEY|N|none) ]] || compopt +o default
+    case $kind in
+        --*)
+            compopt +o default
+            mapfile -t COMPREPLY < <(compgen -W "$kind" -- "${COMP_WORDS[COMP_CWORD]}")
+            ;;
+        LABEL | PLACE | KEY | N | none) compopt +o default ;;
+    esac
 }
 
 # Where the function gives nothing and leaves the default, bash completes the name of a file.

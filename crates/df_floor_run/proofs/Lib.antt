@@ -6,3 +6,6 @@ mod Opens
 mod LoadForm
 mod Told
 mod Whole
+mod Worked
+mod Works
+mod Crossing

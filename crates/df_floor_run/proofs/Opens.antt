@@ -64,16 +64,16 @@ module _ (c : Config) (ticks : List Tick) (in_form : IsConfig c) where
       lengths = length-map (map begun (floor_start c)) root_of ∙ length-map (floor_start c) begun
 
   module _ (opened : CrewState Mind) (run : IsOpening floor_brain c.max_steps fresh opened) where
-    grown : IsMore fresh opened
+    pub grown : IsMore fresh opened
     grown = opened_more floor_brain c.max_steps (pred (length (floor_start c))) fresh opened run
 
-    silent : has_entry first opened.core.1 ≡ false
+    pub silent : has_entry first opened.core.1 ≡ false
     silent = opened_none floor_brain c.max_steps (pred (length (floor_start c))) fresh opened run refl
 
-    opened_opens : Opens floor_brain opened.brains opened.core.1
+    pub opened_opens : Opens floor_brain opened.brains opened.core.1
     opened_opens = opens_none floor_brain opened.brains opened.core.1 silent
 
-    waits : is_full c.max_steps opened ≡ false → OthersWait floor_brain opened.brains opened.core.1
+    pub waits : is_full c.max_steps opened ≡ false → OthersWait floor_brain opened.brains opened.core.1
     waits below = λ k x e.
         let inside = slice_get_within (floor_brains c ticks) (suc k) x (subst (λ (bs : List Mind). slice_get bs (suc k) ≡ Some x) grown.brains e) in
         let same = paired c ticks in_form in

@@ -58,7 +58,10 @@ runs_to : (c : Config) (ticks : List Tick) → IsConfig c → (after : CrewState
     RunsTo c ticks after
 runs_to c ticks in_form after end r =
     let journal = of_floor c ticks after end r in
-    record { run = r.run; journal = journal; opens = floor_opens c ticks after in_form r.run journal }
+    record {
+      run = r.run;
+      crew = record { start = r.start; brains = r.brains; journal = journal; opens = floor_opens c ticks after in_form r.run journal };
+    }
 
 pub floor_run : (c : Config) (ticks : List Tick) → IsConfig c → (before : CrewState Mind) → before ≡ fresh_crew c ticks → (text : List ℕ) (end : FloorEnd) →
     TellsRun c.max_steps before text end → IsFloorRun c ticks text end
@@ -79,7 +82,7 @@ settled : (key n : ℕ) → n ≤ 4_000 → length (generated key n) ≡ n → (
     EndsWith load_config.max_steps after end → IsQuiet floor_brain after
 settled key n h count after runs Quiet quiet = quiet
 settled key n h count after runs (Unsettled steps) stops =
-    let most : length after.core.1 ≤ most_entries 3 4 (length (generated key n)) = settles load_config (generated key n) after.core.1 load_form runs.journal in
+    let most : length after.core.1 ≤ most_entries 3 4 (length (generated key n)) = settles load_config (generated key n) after.core.1 load_form runs.crew.journal in
     let least = few (length (generated key n)) (omega (arith, h, count)) in
     absurd (let full : 1_000_000 ≤ steps = stops.full in let counted = stops.counted in let z : ⊥ = omega (arith, most, least, full, counted) in z)
 

@@ -22,12 +22,18 @@ use Rattle.df_floor_run.specs.declared.run.FloorEnd.TheVariants.{Quiet, Unsettle
 abbrev pub fresh_crew : Config → List Tick → CrewState Mind
 fresh_crew c ticks = record { core = (floor_start c, []); brains = floor_brains c ticks }
 
--- the plain run of a floor leads to this crew; its journal is one of the floor, in which each root
--- but the first waits before the first root's first entry
-pub record RunsTo (c : Config) (ticks : List Tick) (after : CrewState Mind) : Type 0 where
-  pub run : IsPlainRun floor_brain c.max_steps (fresh_crew c ticks) after
+-- a crew of the floor after some turns: its journal is one of the floor, in which each root but the
+-- first waits before the first root's first entry
+pub record IsFloorCrew (c : Config) (ticks : List Tick) (after : CrewState Mind) : Type 0 where
+  pub start : after.core.0 ≡ floor_start c
+  pub brains : after.brains ≡ floor_brains c ticks
   pub journal : IsFloorJournal c ticks after.core.1
   pub opens : Opens floor_brain (floor_brains c ticks) after.core.1
+
+-- the plain run of a floor leads to this crew
+pub record RunsTo (c : Config) (ticks : List Tick) (after : CrewState Mind) : Type 0 where
+  pub run : IsPlainRun floor_brain c.max_steps (fresh_crew c ticks) after
+  pub crew : IsFloorCrew c ticks after
 
 -- the summary of a journal, whose newest entry stands first
 abbrev pub report_text : List Entry → List ℕ
@@ -54,5 +60,13 @@ pub record IsFloorRun (c : Config) (ticks : List Tick) (text : List ℕ) (end : 
     Type 0 where
   pub after : CrewState Mind
   pub runs : RunsTo c ticks after
+  pub told : text ≡ run_text (floor_start c) after.core.1
+  pub ends : EndsWith c.max_steps after end
+
+-- the text of a floor whose units took turns in some order, and how the run ends
+pub record IsWorkedRun (c : Config) (ticks : List Tick) (text : List ℕ) (end : FloorEnd) :
+    Type 0 where
+  pub after : CrewState Mind
+  pub crew : IsFloorCrew c ticks after
   pub told : text ≡ run_text (floor_start c) after.core.1
   pub ends : EndsWith c.max_steps after end

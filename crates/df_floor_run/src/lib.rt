@@ -5,6 +5,8 @@ mod journal;
 mod load;
 mod run;
 mod running;
+mod workers;
 
 pub use load::{load_config, run_load};
 pub use run::{FloorEnd, FloorRun, run_floor};
+pub use workers::run_floor_by;

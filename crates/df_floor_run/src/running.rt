@@ -44,12 +44,20 @@ fn told_end(ended: Ended, steps: u64) -> FloorEnd
     }
 }
 
+/// How many entries the journal of a crew has.
+pub(crate) fn entries(crew: &Crew<FloorBrain>) -> u64
+    ensures { result ≡ length crew.now.core.1 }
+{
+    crew.core().journal().len() as u64
+}
+
 /// How a run ended that led to a crew.
-fn end_of(ended: Ended, crew: &Crew<FloorBrain>) -> FloorEnd
+pub(crate) fn end_of(ended: Ended, crew: &Crew<FloorBrain>) -> FloorEnd
     ensures end { result ≡ end_of ended (length crew.now.core.1) }
     ensures followed { IsFollowed floor_brain crew.now.brains crew.now.core }
 {
-    told_end(ended, crew.core().journal().len() as u64)
+    let core = crew.core();
+    told_end(ended, core.journal().len() as u64)
 }
 
 /// Makes the plain run of a crew.

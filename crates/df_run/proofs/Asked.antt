@@ -1,6 +1,6 @@
 -- Where a command was read, the words ask for it, and name its files.
 use Rattle.std.proofs.Common.{◌≡◌, ◌<◌, List, ℕ, length, Ok, refl, sym, subst, arith}
-use Rattle.df_words.specs.Words.{Ask, files_of}
+use Rattle.df_words.specs.Words.{Ask, IsCommandOf, files_of}
 use Rattle.df_run.specs.Making.{IsPlainCommandOf}
 use Rattle.df_run.specs.Outcome.{AskPlainly}
 use Rattle.df_words.specs.declared.command.Command.{Command}
@@ -9,6 +9,9 @@ use Rattle.df_words.specs.declared.command.Files.TheVariants as files
 
 pub asks : (words : List (List ℕ)) (command : Command) → IsPlainCommandOf words (Ok command) → AskPlainly words command
 asks words command read = (read command).0 refl
+
+pub asks_any : (words : List (List ℕ)) (command : Command) → IsCommandOf words (Ok command) → Ask words command
+asks_any words command read = (read command).0 refl
 
 one_is : (a b : ℕ) → files.One a ≡ files.One b → a ≡ b
 one_is a b e = cc

@@ -1,13 +1,14 @@
 -- The status of a run that made a text.
 use Rattle.std.proofs.Common.{◌≡◌, ◌⊎◌, ℕ, List, Option, ap, inl, inr, refl, sym, subst}
 use Rattle.df_run.specs.Making.{IsWritten, status_of}
-use Rattle.df_run.specs.Outcome.{BadInputIsDue, BadInputIsExact, DoesInput, IsHindered, IsOfACommand, IsTextOfSome, IsToldBad, IsToldLong, NoPlaceIsDue, NoPlaceIsExact, OfTold, Reaches, TooLongIsDue, TooLongIsExact, UnsettledIsDue, UnsettledIsExact, WereRead, WrongIsDue, WrongIsExact}
-use Rattle.df_run.specs.Tasks.{IsNoPlaceInput, IsRightInput, IsText, IsUnsettledInput, IsWrongInput}
+use Rattle.df_io.specs.Pieces.{HasAll}
+use Rattle.df_run.specs.Outcome.{BadInputIsDue, BadInputIsExact, DoesInput, IsHindered, IsOfACommand, IsOutcome, IsTextOfSome, IsToldBad, IsToldLong, NoPlaceIsDue, NoPlaceIsExact, OfTold, Reaches, TooLongIsDue, TooLongIsExact, UnsettledIsDue, UnsettledIsExact, WereRead, WriteFaultIsDue, Writes, WrongIsDue, WrongIsExact}
+use Rattle.df_run.specs.Tasks.{IsCutInput, IsNoPlaceInput, IsRightInput, IsText, IsWrongInput}
 use Rattle.df_run.specs.declared.status.Status.{Status}
 use Rattle.df_run.specs.declared.status.Status.TheVariants as status
 use Rattle.df_run.specs.declared.tasks.End.{End}
 use Rattle.df_run.specs.declared.tasks.End.TheVariants as end
-use Rattle.df_run.proofs.Inputs.{EndsSo, ends_inputs, ends_once, text_ends}
+use Rattle.df_run.proofs.Inputs.{EndsSo, MustEnd, ends_inputs, ends_once, text_ends}
 use Rattle.df_run.proofs.Reaching.{ToldBad, ToldLong, if_all_told-all, if_all_told-read, none_is_bad, told_bad, told_long}
 use Rattle.df_words.specs.declared.command.Command.{Command}
 
@@ -43,8 +44,8 @@ no_read_fault (end.Unsettled steps) same = cc
 no_read_fault (end.NoPlace count) same = cc
 
 module _ (c : Command) (files : List (Option (List ℕ))) (read : List (List ℕ)) (were : WereRead files read) where
-  -- the status of what was read is that of any end that it has
-  one_status : (d e : End) → EndsSo c read d → EndsSo c read e → (status_of d ≡ status_of e) ⊎ IsHindered (status_of d)
+  -- the status of what was read is that of the end that it has in any run
+  one_status : (d e : End) → EndsSo c read d → MustEnd c read e → (status_of d ≡ status_of e) ⊎ IsHindered (status_of d)
   one_status d e v w = inl (ap status_of (ends_once c read d e v w))
 
   wrong_due : (e : End) → EndsSo c read e → WrongIsDue c files (status_of e)
@@ -75,7 +76,7 @@ module _ (c : Command) (files : List (Option (List ℕ))) (read : List (List ℕ
   unsettled : (e : End) → EndsSo c read e → UnsettledIsExact c files (status_of e)
   unsettled e h = (
     unsettled_due e h,
-    if_all_told-read files read (λ r. (steps : ℕ) → IsUnsettledInput c r steps → (status_of e ≡ status.Unsettled steps) ⊎ IsHindered (status_of e)) were
+    if_all_told-read files read (λ r. (steps : ℕ) → IsCutInput c r steps → (status_of e ≡ status.Unsettled steps) ⊎ IsHindered (status_of e)) were
         (λ steps cut. one_status e (end.Unsettled steps) h cut),
   )
 
@@ -91,6 +92,14 @@ module _ (c : Command) (files : List (Option (List ℕ))) (read : List (List ℕ
       if_all_told-read files read (λ r. IsRightInput c r → (status_of e ≡ status.Done) ⊎ IsHindered (status_of e)) were
       (λ right. one_status e end.Done h right)
 
+-- the whole text of a run that ended so was written
+all_writes : (c : Command) (files : List (Option (List ℕ))) (e : End) (text : List ℕ) → IsTextOfSome c files e text → (old new : Option (List ℕ))
+    → HasAll old text new → Writes c files old new (status_of e)
+all_writes c files end.Done text h old new all = (text, h, all)
+all_writes c files (end.Wrong place) text h old new all = (text, h, all)
+all_writes c files (end.Unsettled steps) text h old new all = (text, h, all)
+all_writes c files (end.NoPlace count) text h old new all = (text, h, all)
+
 module _ (c : Command) (files : List (Option (List ℕ))) (e : End) (text : List ℕ) (h : IsTextOfSome c files e text) (old new : Option (List ℕ)) (s : Status)
     (w : IsWritten e text old new s) where
   ends : EndsSo c h.0 e
@@ -103,45 +112,66 @@ module _ (c : Command) (files : List (Option (List ℕ))) (e : End) (text : List
   not_long : (input : ℕ) → Reaches OfTold c 1 files input IsToldLong → ⊥
   not_long input bad = none_is_bad c ToldLong (told_long c) 1 files h.0 input h.1 (ends_inputs c h.0 e ends) bad
 
-  pub end_asked : IsOfACommand s
+  end_asked : IsOfACommand s
   end_asked = written IsOfACommand e text old new s w (no_usage e) (λ same. cc)
 
-  pub end_bad_input : BadInputIsExact c files s
+  end_bad_input : BadInputIsExact c files s
   end_bad_input = (
     written (BadInputIsDue c files) e text old new s w (no_bad_input c files e) tt,
     λ input bad. absurd (not_bad input bad),
   )
 
-  pub end_too_long : TooLongIsExact c files s
+  end_too_long : TooLongIsExact c files s
   end_too_long = (
     written (TooLongIsDue c files) e text old new s w (no_too_long c files e) tt,
     λ input bad. absurd (not_long input bad),
   )
 
-  pub end_wrong : WrongIsExact c files s
+  end_wrong : WrongIsExact c files s
   end_wrong = written (WrongIsExact c files) e text old new s w (wrong c files h.0 h.1 e ends) (
     tt,
     if_all_told-all files (λ r. (place : ℕ) → IsWrongInput c r place → (status.WriteFault ≡ status.Wrong place) ⊎ IsHindered status.WriteFault)
         (λ r place bad. inr (inl refl)),
   )
 
-  pub end_unsettled : UnsettledIsExact c files s
+  end_unsettled : UnsettledIsExact c files s
   end_unsettled = written (UnsettledIsExact c files) e text old new s w (unsettled c files h.0 h.1 e ends) (
     tt,
-    if_all_told-all files (λ r. (steps : ℕ) → IsUnsettledInput c r steps → (status.WriteFault ≡ status.Unsettled steps) ⊎ IsHindered status.WriteFault)
+    if_all_told-all files (λ r. (steps : ℕ) → IsCutInput c r steps → (status.WriteFault ≡ status.Unsettled steps) ⊎ IsHindered status.WriteFault)
         (λ r steps cut. inr (inl refl)),
   )
 
-  pub end_no_place : NoPlaceIsExact c files s
+  end_no_place : NoPlaceIsExact c files s
   end_no_place = written (NoPlaceIsExact c files) e text old new s w (no_place c files h.0 h.1 e ends) (
     tt,
     if_all_told-all files (λ r. (count : ℕ) → IsNoPlaceInput c r count → (status.WriteFault ≡ status.NoPlace count) ⊎ IsHindered status.WriteFault)
         (λ r count lacks. inr (inl refl)),
   )
 
-  pub end_does : DoesInput c files s
+  end_does : DoesInput c files s
   end_does = written (DoesInput c files) e text old new s w (does c files h.0 h.1 e ends)
       (if_all_told-all files (λ r. IsRightInput c r → (status.WriteFault ≡ status.Done) ⊎ IsHindered status.WriteFault) (λ r right. inr (inl refl)))
 
-  pub end_no_read_fault : s ≡ status.ReadFault → ⊥
+  end_no_read_fault : s ≡ status.ReadFault → ⊥
   end_no_read_fault = written (λ r. r ≡ status.ReadFault → ⊥) e text old new s w (no_read_fault e) (λ same. cc)
+
+  end_writes : Writes c files old new s
+  end_writes = elim w [
+    | inl all ↦ subst (Writes c files old new) (sym all.0) (all_writes c files e text h old new all.1)
+    | inr front ↦ subst (Writes c files old new) (sym front.0) (text, e, h, front.1)
+  ]
+
+  pub end_outcome : (shelf_before shelf_after sink_before sink_after : ℕ) → WriteFaultIsDue sink_before sink_after s
+      → IsOutcome c files shelf_before shelf_after sink_before sink_after old new s
+  end_outcome shelf_before shelf_after sink_before sink_after due = record {
+    asked = end_asked;
+    bad_input = end_bad_input;
+    too_long = end_too_long;
+    wrong = end_wrong;
+    unsettled = end_unsettled;
+    no_place = end_no_place;
+    read_fault = λ is. absurd (end_no_read_fault is);
+    write_fault = due;
+    writes = end_writes;
+    does = end_does;
+  }

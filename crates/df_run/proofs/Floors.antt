@@ -7,7 +7,7 @@ use Rattle.df_config.specs.ConfigForm.{IsConfig}
 use Rattle.df_config.specs.declared.config.Config.{Config}
 use Rattle.df_floor.specs.Brains.{floor_brains}
 use Rattle.df_floor.specs.Starting.{floor_start}
-use Rattle.df_floor_run.specs.FloorRun.{IsFloorRun}
+use Rattle.df_floor_run.specs.FloorRun.{IsFloorRun, IsWorkedRun}
 use Rattle.df_floor_run.specs.declared.run.FloorEnd.{FloorEnd}
 use Rattle.df_floor_run.specs.declared.run.FloorEnd.TheVariants as floor
 use Rattle.df_io.specs.Faults.{Rose}
@@ -22,9 +22,9 @@ use Rattle.df_ticks.specs.TickFile.{IsTickFile}
 use Rattle.df_ticks.specs.declared.tick.Tick.{Tick}
 use Rattle.df_unit.specs.declared.entry.Entry.{Entry}
 use Rattle.df_words.specs.declared.command.Command.{Command}
-use Rattle.df_words.specs.declared.command.Command.TheVariants.{Floor}
-use Rattle.df_run.specs.Floor.{FollowsPurged, RunsFloor}
-use Rattle.df_run.specs.Making.{Stops, StopsAt, TellsFloor, end_of_floor}
+use Rattle.df_words.specs.declared.command.Command.TheVariants.{Auction, Check, Floor, FloorWorkers, Gen, Lint, Load, Purge, Steps, Upgrade, Why}
+use Rattle.df_run.specs.Floor.{FollowsPurged, IsFloorPast, RunsFloor, WorksFloor}
+use Rattle.df_run.specs.Making.{IsOfFloor, Stops, StopsAt, TellsFloor, TellsWork, end_of_floor}
 use Rattle.df_run.specs.Outcome.{IsTextOfSome, OfRead, told_at}
 use Rattle.df_run.specs.Tasks.{BlamesBytes, IsInput, IsText}
 use Rattle.df_run.specs.declared.status.Status.{Status}
@@ -95,13 +95,18 @@ module _ (config : Config) (ticks : List Tick) where
   purge_of_floor past j l =
       purge_follows floor_brain rows (first_states config) (floor_brains config ticks) (row_laws (map begun (floor_start config))) l past j.follows
 
-  runs_floor : (text : List ℕ) (e : FloorEnd) → IsConfig config → IsFloorRun config ticks text e → RunsFloor config ticks e text
-  runs_floor text e form h = record {
-    run = h;
-    sound = legal_is_sound (floor_start config) h.after.core.1 h.runs.journal.legal;
-    purged = purge_of_floor h.after.core.1 h.runs.journal;
-    bounded = settles config ticks h.after.core.1 form h.runs.journal;
+  floor_past : (past : List Entry) → IsConfig config → IsFloorJournal config ticks past → IsFloorPast config ticks past
+  floor_past past form j = record {
+    sound = legal_is_sound (floor_start config) past j.legal;
+    purged = purge_of_floor past j;
+    bounded = settles config ticks past form j;
   }
+
+  runs_floor : (text : List ℕ) (e : FloorEnd) → IsConfig config → IsFloorRun config ticks text e → RunsFloor config ticks e text
+  runs_floor text e form h = record { run = h; past = floor_past h.after.core.1 form h.runs.crew.journal }
+
+  works_floor : (text : List ℕ) (e : FloorEnd) → IsConfig config → IsWorkedRun config ticks text e → WorksFloor config ticks e text
+  works_floor text e form h = record { run = h; past = floor_past h.after.core.1 form h.crew.journal }
 
   run_tells : (text : List ℕ) (e : FloorEnd) → IsConfig config → IsFloorRun config ticks text e → TellsFloor config ticks (end_of_floor e) text
   run_tells text floor.Quiet form h = runs_floor text floor.Quiet form h
@@ -111,6 +116,15 @@ module _ (config : Config) (ticks : List Tick) where
       → TellsFloor config ticks d out
   run_told text out e d form h ends same =
       subst (λ (x : End). TellsFloor config ticks x out) (sym ends) (subst (TellsFloor config ticks (end_of_floor e)) (sym same) (run_tells text e form h))
+
+  work_tells : (text : List ℕ) (e : FloorEnd) → IsConfig config → IsWorkedRun config ticks text e → TellsWork config ticks (end_of_floor e) text
+  work_tells text floor.Quiet form h = works_floor text floor.Quiet form h
+  work_tells text (floor.Unsettled steps) form h = works_floor text (floor.Unsettled steps) form h
+
+  pub work_told : (text out : List ℕ) (e : FloorEnd) (d : End) → IsConfig config → IsWorkedRun config ticks text e → d ≡ end_of_floor e → out ≡ text
+      → TellsWork config ticks d out
+  work_told text out e d form h ends same =
+      subst (λ (x : End). TellsWork config ticks x out) (sym ends) (subst (TellsWork config ticks (end_of_floor e)) (sym same) (work_tells text e form h))
 
   module _ (first second : ℕ) where
     floor_text : (one other : List ℕ) (e : End) (text : List ℕ) → IsConfigFile one config → IsTickFile other ticks → TellsFloor config ticks e text
@@ -124,6 +138,35 @@ module _ (config : Config) (ticks : List Tick) where
         → OfRead other (λ bytes. IsTickFile bytes ticks) → TellsFloor config ticks e text → IsTextOfSome (Floor first second) (one ∷ other ∷ []) e text
     floor_told one other e text p q h = (p.0 ∷ q.0 ∷ [], (p.1, (q.1, tt)), floor_text p.0 q.0 e text p.2 q.2 h)
 
-pub config_good : (first second : ℕ) (one : Option (List ℕ)) (config : Config) → OfRead one (λ bytes. IsConfigFile bytes config)
-    → OfRead one (IsInput (Floor first second) 1)
-config_good first second one config p = (p.0, p.1, (config, p.2))
+    module _ (workers : ℕ) where
+      work_text : (one other : List ℕ) (e : End) (text : List ℕ) → IsConfigFile one config → IsTickFile other ticks → TellsWork config ticks e text
+          → IsText (FloorWorkers first second workers) (one ∷ other ∷ []) e text
+      work_text one other end.Done text c t h = (config, ticks, c, t, h)
+      work_text one other (end.Wrong place) text c t h = absurd h
+      work_text one other (end.Unsettled steps) text c t h = (config, ticks, c, t, h)
+      work_text one other (end.NoPlace count) text c t h = absurd h
+
+      pub works_told : (one other : Option (List ℕ)) (e : End) (text : List ℕ) → OfRead one (λ bytes. IsConfigFile bytes config)
+          → OfRead other (λ bytes. IsTickFile bytes ticks) → TellsWork config ticks e text
+          → IsTextOfSome (FloorWorkers first second workers) (one ∷ other ∷ []) e text
+      works_told one other e text p q h = (p.0 ∷ q.0 ∷ [], (p.1, (q.1, tt)), work_text p.0 q.0 e text p.2 q.2 h)
+
+-- ---- a command that reads a configuration and ticks
+
+-- what holds of a floor, and of one with workers, holds of each such command
+pub of_each : (P : Command → Type 0) → ((a b : ℕ) → P (Floor a b)) → ((a b w : ℕ) → P (FloorWorkers a b w)) → (c : Command) → IsOfFloor c → P c
+of_each P plain works (Floor a b) h = plain a b
+of_each P plain works (FloorWorkers a b w) h = works a b w
+of_each P plain works (Steps file) h = absurd h
+of_each P plain works (Check journal) h = absurd h
+of_each P plain works (Purge label journal) h = absurd h
+of_each P plain works (Upgrade journal) h = absurd h
+of_each P plain works (Why journal place) h = absurd h
+of_each P plain works (Auction orders) h = absurd h
+of_each P plain works (Lint script) h = absurd h
+of_each P plain works (Gen key n) h = absurd h
+of_each P plain works (Load key n) h = absurd h
+
+pub config_good : (c : Command) → IsOfFloor c → (one : Option (List ℕ)) (config : Config) → OfRead one (λ bytes. IsConfigFile bytes config)
+    → OfRead one (IsInput c 1)
+config_good c h one config p = of_each (λ (k : Command). OfRead one (IsInput k 1)) (λ a b. (p.0, p.1, (config, p.2))) (λ a b w. (p.0, p.1, (config, p.2))) c h

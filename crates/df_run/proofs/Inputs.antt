@@ -1,4 +1,5 @@
 -- How what was read ends, and what is written of it tells.
+use Rattle.std.specs.Prelude.{⊤}
 use Rattle.std.proofs.Common.{◌≡◌, ◌≤◌, ◌<◌, ℕ, suc, List, [], ◌∷◌, length, refl, ap, subst, sym, ◌∙◌, arith}
 use Rattle.df_audit.proofs.Exact.{one_count, one_place, right_is_not_wrong}
 use Rattle.df_audit.specs.Audit.{HasPlace, IsCheckOf, IsPurgeOf, IsRightJournal, IsUpgradeOf, IsWhyOf, IsWrongAt, LacksPlace, OfJournal, TellsCount, TellsPlace, past_in}
@@ -15,12 +16,12 @@ use Rattle.df_settling.specs.Settling.{settling_bound}
 use Rattle.df_ticks.specs.declared.tick.Tick.{Tick}
 use Rattle.df_words.specs.declared.command.Command.{Command}
 use Rattle.df_words.specs.declared.command.Command.TheVariants.{Steps, Check, Purge, Upgrade, Why, Auction, Lint, Gen, Floor, FloorWorkers, Load}
-use Rattle.df_run.proofs.OneRun.{one_cut, quiet_settles, settles_or_cut}
+use Rattle.df_run.proofs.OneRun.{one_cut, one_floor, quiet_settles, settles_or_cut}
 use Rattle.df_run.proofs.Reaching.{AreInputs}
-use Rattle.df_run.specs.Floor.{IsCutAt, OfFloor, RunsFloor, Settles}
+use Rattle.df_run.specs.Floor.{IsCutAt, MayBeCutAt, OfFloor, RunsFloor, Settles, SettlesAnyhow, WorksFloor}
 use Rattle.df_run.specs.Lint.{LintsScript}
 use Rattle.df_run.specs.Steps.{RecordsScript}
-use Rattle.df_run.specs.Tasks.{IsCountTold, IsCutRun, IsInput, IsNoPlaceInput, IsOrders, IsOutput, IsReport, IsRightInput, IsText, IsUnsettledInput, IsWrongInput, OfOne, OfTwo}
+use Rattle.df_run.specs.Tasks.{IsCountTold, IsCutInput, IsCutRun, IsInput, IsNoPlaceInput, IsOrders, IsOutput, IsReport, IsRightInput, IsText, IsUnsettledInput, IsWrongInput, OfOne, OfTwo}
 use Rattle.df_run.specs.declared.tasks.End.{End}
 use Rattle.df_run.specs.declared.tasks.End.TheVariants as end
 
@@ -51,12 +52,24 @@ of_two-both (one ∷ other ∷ more ∷ read) P Q f p q = absurd p
 
 -- ---- what was read is what the command reads
 
--- what was read ends so
+-- what was read may be done: it is right, or a floor of which workers may take any turns
+abbrev pub IsDoneInput : Command → List (List ℕ) → Type 0
+IsDoneInput (FloorWorkers config ticks workers) read = OfTwo read (λ one other. OfFloor one other (λ c t. ⊤))
+IsDoneInput c read = IsRightInput c read
+
+-- what was read may end so
 abbrev pub EndsSo : Command → List (List ℕ) → End → Type 0
-EndsSo c read end.Done = IsRightInput c read
+EndsSo c read end.Done = IsDoneInput c read
 EndsSo c read (end.Wrong place) = IsWrongInput c read place
 EndsSo c read (end.Unsettled steps) = IsUnsettledInput c read steps
 EndsSo c read (end.NoPlace count) = IsNoPlaceInput c read count
+
+-- what was read ends so in any run
+abbrev pub MustEnd : Command → List (List ℕ) → End → Type 0
+MustEnd c read end.Done = IsRightInput c read
+MustEnd c read (end.Wrong place) = IsWrongInput c read place
+MustEnd c read (end.Unsettled steps) = IsCutInput c read steps
+MustEnd c read (end.NoPlace count) = IsNoPlaceInput c read count
 
 one_input : (c : Command) (read : List (List ℕ)) (P : List ℕ → Type 0) → ((bytes : List ℕ) → P bytes → IsInput c 1 bytes) → OfOne read P → AreInputs c 1 read
 one_input c [] P f h = absurd h
@@ -69,6 +82,13 @@ two_inputs config ticks [] P h = absurd h
 two_inputs config ticks (bytes ∷ []) P h = absurd h
 two_inputs config ticks (one ∷ other ∷ []) P h = ((h.0, h.2), ((h.1, h.3), tt))
 two_inputs config ticks (one ∷ other ∷ more ∷ read) P h = absurd h
+
+work_inputs : (config ticks workers : ℕ) (read : List (List ℕ)) (P : Config → List Tick → Type 0) → OfTwo read (λ one other. OfFloor one other P)
+    → AreInputs (FloorWorkers config ticks workers) 1 read
+work_inputs config ticks workers [] P h = absurd h
+work_inputs config ticks workers (bytes ∷ []) P h = absurd h
+work_inputs config ticks workers (one ∷ other ∷ []) P h = ((h.0, h.2), ((h.1, h.3), tt))
+work_inputs config ticks workers (one ∷ other ∷ more ∷ read) P h = absurd h
 
 -- a command without a file reads anything
 any_ticks : (key m n : ℕ) (read : List (List ℕ)) → AreInputs (Gen key m) n read
@@ -143,7 +163,7 @@ nothing p text h = h
 
 module _ (c : Command) (read : List (List ℕ)) (no_wrong : (p : ℕ) → IsWrongInput c read p → ⊥) (no_cut : (p : ℕ) → IsUnsettledInput c read p → ⊥)
     (no_lack : (p : ℕ) → IsNoPlaceInput c read p → ⊥) where
-  done_inputs : (IsRightInput c read → AreInputs c 1 read) → (e : End) → EndsSo c read e → AreInputs c 1 read
+  done_inputs : (IsDoneInput c read → AreInputs c 1 read) → (e : End) → EndsSo c read e → AreInputs c 1 read
   done_inputs f end.Done h = f h
   done_inputs f (end.Wrong place) h = absurd (no_wrong place h)
   done_inputs f (end.Unsettled steps) h = absurd (no_cut steps h)
@@ -160,7 +180,7 @@ module _ (c : Command) (read : List (List ℕ)) (no_wrong : (p : ℕ) → IsWron
 
 module _ (c : Command) (read : List (List ℕ)) (no_report : (p : ℕ) (text : List ℕ) → IsReport c read p text → ⊥)
     (no_cut : (p : ℕ) (text : List ℕ) → IsCutRun c read p text → ⊥) (no_count : (p : ℕ) (text : List ℕ) → IsCountTold c read p text → ⊥) where
-  done_text : (text : List ℕ) → (IsOutput c read text → IsRightInput c read) → (e : End) → IsText c read e text → EndsSo c read e
+  done_text : (text : List ℕ) → (IsOutput c read text → IsDoneInput c read) → (e : End) → IsText c read e text → EndsSo c read e
   done_text text f end.Done h = f h
   done_text text f (end.Wrong place) h = absurd (no_report place text h)
   done_text text f (end.Unsettled steps) h = absurd (no_cut steps text h)
@@ -168,7 +188,7 @@ module _ (c : Command) (read : List (List ℕ)) (no_report : (p : ℕ) (text : L
 
 -- ---- a command that asks whether a journal is right
 
-module _ (c : Command) (read : List (List ℕ)) (right : IsRightInput c read → IsRight read) (wrong : (p : ℕ) → IsWrongInput c read p → IsWrong read p)
+module _ (c : Command) (read : List (List ℕ)) (right : IsDoneInput c read → IsRight read) (wrong : (p : ℕ) → IsWrongInput c read p → IsWrong read p)
     (no_cut : (p : ℕ) → IsUnsettledInput c read p → ⊥) (no_lack : (p : ℕ) → IsNoPlaceInput c read p → ⊥) where
   audit_inputs : ((bytes : List ℕ) → IsEitherText bytes → IsInput c 1 bytes) → (e : End) → EndsSo c read e → AreInputs c 1 read
   audit_inputs reads end.Done h = journal_input c read reads IsRightJournal (right h)
@@ -188,7 +208,7 @@ module _ (c : Command) (read : List (List ℕ)) (right : IsRightInput c read →
   audit_once (end.Unsettled p) e v w = absurd (no_cut p v)
   audit_once (end.NoPlace p) e v w = absurd (no_lack p v)
 
-module _ (c : Command) (read : List (List ℕ)) (text : List ℕ) (right : IsOutput c read text → IsRightInput c read)
+module _ (c : Command) (read : List (List ℕ)) (text : List ℕ) (right : IsOutput c read text → IsDoneInput c read)
     (wrong : (p : ℕ) → IsReport c read p text → IsWrongInput c read p) (no_cut : (p : ℕ) (text : List ℕ) → IsCutRun c read p text → ⊥)
     (no_count : (p : ℕ) (text : List ℕ) → IsCountTold c read p text → ⊥) where
   audit_text : (e : End) → IsText c read e text → EndsSo c read e
@@ -246,7 +266,7 @@ IsCut read steps = OfTwo read (λ one other. OfFloor one other (IsCutAt steps))
 -- a run that was cut off has so many entries as its journal, which is bounded
 cut_of : (config : Config) (ticks : List Tick) (steps : ℕ) (text : List ℕ) → RunsFloor config ticks (floor.Unsettled steps) text → IsCutAt steps config ticks
 cut_of config ticks steps text h =
-    (text, h.run, subst (λ n. n ≤ settling_bound config ticks) (sym h.run.ends.counted) h.bounded)
+    (text, h.run, subst (λ n. n ≤ settling_bound config ticks) (sym h.run.ends.counted) h.past.bounded)
 
 -- what holds of the floor that was read, where something else does
 of_floor : (read : List (List ℕ)) (P Q : Config → List Tick → Type 0) → ((c : Config) (t : List Tick) → P c t → Q c t)
@@ -289,6 +309,80 @@ module _ (config ticks : ℕ) (read : List (List ℕ)) where
       (λ c t p. cut_of c t steps text p) h
   floor_text (end.NoPlace count) text h = absurd h
 
+-- a floor with workers
+
+work_cut : (config : Config) (ticks : List Tick) (steps : ℕ) (text : List ℕ) → WorksFloor config ticks (floor.Unsettled steps) text
+    → MayBeCutAt steps config ticks
+work_cut config ticks steps text h = record {
+  text = text;
+  run = h.run;
+  bounded = subst (λ n. n ≤ settling_bound config ticks) (sym h.run.ends.counted) h.past.bounded;
+}
+
+-- a floor whose bound is below its limit isn't cut off
+never_cut : (read : List (List ℕ)) (steps : ℕ) → OfTwo read (λ one other. OfFloor one other SettlesAnyhow)
+    → OfTwo read (λ one other. OfFloor one other (MayBeCutAt steps)) → ⊥
+never_cut read steps v w = of_two-both read (λ one other. OfFloor one other SettlesAnyhow) (λ one other. OfFloor one other (MayBeCutAt steps))
+    (λ one other p q. one_floor one other SettlesAnyhow (MayBeCutAt steps)
+    (λ c t settles cut. let full = cut.run.ends.full in let bounded = cut.bounded in omega (arith, settles, full, bounded)) p q) v w
+
+module _ (config ticks workers : ℕ) (read : List (List ℕ)) where
+  workers_inputs : (e : End) → EndsSo (FloorWorkers config ticks workers) read e → AreInputs (FloorWorkers config ticks workers) 1 read
+  workers_inputs end.Done h = work_inputs config ticks workers read (λ c t. ⊤) h
+  workers_inputs (end.Wrong place) h = absurd h
+  workers_inputs (end.Unsettled steps) h = work_inputs config ticks workers read (MayBeCutAt steps) h
+  workers_inputs (end.NoPlace count) h = absurd h
+
+  workers_once : (d e : End) → EndsSo (FloorWorkers config ticks workers) read d → MustEnd (FloorWorkers config ticks workers) read e → d ≡ e
+  workers_once end.Done end.Done v w = refl
+  workers_once (end.Wrong p) end.Done v w = absurd v
+  workers_once (end.Unsettled p) end.Done v w = absurd (never_cut read p w v)
+  workers_once (end.NoPlace p) end.Done v w = absurd v
+  workers_once d (end.Wrong q) v w = absurd w
+  workers_once d (end.Unsettled q) v w = absurd w
+  workers_once d (end.NoPlace q) v w = absurd w
+
+  workers_text : (e : End) (text : List ℕ) → IsText (FloorWorkers config ticks workers) read e text → EndsSo (FloorWorkers config ticks workers) read e
+  workers_text end.Done text h = of_floor read (λ c t. WorksFloor c t floor.Quiet text) (λ c t. ⊤) (λ c t p. tt) h
+  workers_text (end.Wrong place) text h = absurd h
+  workers_text (end.Unsettled steps) text h = of_floor read (λ c t. WorksFloor c t (floor.Unsettled steps) text) (MayBeCutAt steps)
+      (λ c t p. work_cut c t steps text p) h
+  workers_text (end.NoPlace count) text h = absurd h
+
+-- what ends so in any run may end so
+
+right_done : (c : Command) (read : List (List ℕ)) → IsRightInput c read → IsDoneInput c read
+right_done (FloorWorkers config ticks workers) read h = of_floor read SettlesAnyhow (λ c t. ⊤) (λ c t p. tt) h
+right_done (Steps file) read h = h
+right_done (Check journal) read h = h
+right_done (Purge label journal) read h = h
+right_done (Upgrade journal) read h = h
+right_done (Why journal place) read h = h
+right_done (Auction orders) read h = h
+right_done (Lint script) read h = h
+right_done (Gen key n) read h = h
+right_done (Floor config ticks) read h = h
+right_done (Load key n) read h = h
+
+cut_unsettled : (c : Command) (read : List (List ℕ)) (steps : ℕ) → IsCutInput c read steps → IsUnsettledInput c read steps
+cut_unsettled (FloorWorkers config ticks workers) read steps h = absurd h
+cut_unsettled (Steps file) read steps h = h
+cut_unsettled (Check journal) read steps h = h
+cut_unsettled (Purge label journal) read steps h = h
+cut_unsettled (Upgrade journal) read steps h = h
+cut_unsettled (Why journal place) read steps h = h
+cut_unsettled (Auction orders) read steps h = h
+cut_unsettled (Lint script) read steps h = h
+cut_unsettled (Gen key n) read steps h = h
+cut_unsettled (Floor config ticks) read steps h = h
+cut_unsettled (Load key n) read steps h = h
+
+pub must_may : (c : Command) (read : List (List ℕ)) (e : End) → MustEnd c read e → EndsSo c read e
+must_may c read end.Done h = right_done c read h
+must_may c read (end.Wrong place) h = h
+must_may c read (end.Unsettled steps) h = cut_unsettled c read steps h
+must_may c read (end.NoPlace count) h = h
+
 -- ---- each command
 
 -- what was read, whichever way it ends, is what the command reads
@@ -302,22 +396,22 @@ ends_inputs (Auction orders) read e h = done_inputs (Auction orders) read none n
 ends_inputs (Lint script) read e h = done_inputs (Lint script) read none none none (one_input (Lint script) read IsScriptText (λ bytes p. p)) e h
 ends_inputs (Gen key n) read e h = any_ticks key n 1 read
 ends_inputs (Floor config ticks) read e h = floor_inputs config ticks read e h
-ends_inputs (FloorWorkers config ticks workers) read e h = done_inputs (FloorWorkers config ticks workers) read none none none (λ no. absurd no) e h
+ends_inputs (FloorWorkers config ticks workers) read e h = workers_inputs config ticks workers read e h
 ends_inputs (Load key n) read e h = any_load key n 1 read
 
--- what was read ends in one way
-pub ends_once : (c : Command) (read : List (List ℕ)) (d e : End) → EndsSo c read d → EndsSo c read e → d ≡ e
-ends_once (Steps file) read d e v w = done_once (Steps file) read none none none d e v w
-ends_once (Check journal) read d e v w = audit_once (Check journal) read (λ p. p) (λ p q. q) none none d e v w
-ends_once (Purge label journal) read d e v w = audit_once (Purge label journal) read (λ p. p) (λ p q. q) none none d e v w
-ends_once (Upgrade journal) read d e v w = audit_once (Upgrade journal) read (λ p. p) (λ p q. q) none none d e v w
-ends_once (Why journal place) read d e v w = why_once journal place read d e v w
-ends_once (Auction orders) read d e v w = done_once (Auction orders) read none none none d e v w
-ends_once (Lint script) read d e v w = done_once (Lint script) read none none none d e v w
-ends_once (Gen key n) read d e v w = done_once (Gen key n) read none none none d e v w
-ends_once (Floor config ticks) read d e v w = floor_once config ticks read d e v w
-ends_once (FloorWorkers config ticks workers) read d e v w = done_once (FloorWorkers config ticks workers) read none none none d e v w
-ends_once (Load key n) read d e v w = done_once (Load key n) read none none none d e v w
+-- what ends so in any run ends in no other way
+pub ends_once : (c : Command) (read : List (List ℕ)) (d e : End) → EndsSo c read d → MustEnd c read e → d ≡ e
+ends_once (Steps file) read d e v w = done_once (Steps file) read none none none d e v (must_may (Steps file) read e w)
+ends_once (Check journal) read d e v w = audit_once (Check journal) read (λ p. p) (λ p q. q) none none d e v (must_may (Check journal) read e w)
+ends_once (Purge label journal) read d e v w = audit_once (Purge label journal) read (λ p. p) (λ p q. q) none none d e v (must_may (Purge label journal) read e w)
+ends_once (Upgrade journal) read d e v w = audit_once (Upgrade journal) read (λ p. p) (λ p q. q) none none d e v (must_may (Upgrade journal) read e w)
+ends_once (Why journal place) read d e v w = why_once journal place read d e v (must_may (Why journal place) read e w)
+ends_once (Auction orders) read d e v w = done_once (Auction orders) read none none none d e v (must_may (Auction orders) read e w)
+ends_once (Lint script) read d e v w = done_once (Lint script) read none none none d e v (must_may (Lint script) read e w)
+ends_once (Gen key n) read d e v w = done_once (Gen key n) read none none none d e v (must_may (Gen key n) read e w)
+ends_once (Floor config ticks) read d e v w = floor_once config ticks read d e v (must_may (Floor config ticks) read e w)
+ends_once (FloorWorkers config ticks workers) read d e v w = workers_once config ticks workers read d e v w
+ends_once (Load key n) read d e v w = done_once (Load key n) read none none none d e v (must_may (Load key n) read e w)
 
 -- what is written of what was read tells how it ends
 pub text_ends : (c : Command) (read : List (List ℕ)) (e : End) (text : List ℕ) → IsText c read e text → EndsSo c read e
@@ -338,6 +432,5 @@ text_ends (Lint script) read e text h = done_text (Lint script) read nothing not
     (of_one-map read (λ bytes. LintsScript bytes text) IsScriptText (λ bytes p. (p.0, p.1, p.2, p.3))) e h
 text_ends (Gen key n) read e text h = done_text (Gen key n) read nothing nothing nothing text (λ p. tt) e h
 text_ends (Floor config ticks) read e text h = floor_text config ticks read e text h
-text_ends (FloorWorkers config ticks workers) read e text h = done_text (FloorWorkers config ticks workers) read nothing nothing nothing text
-    (λ no. absurd no) e h
+text_ends (FloorWorkers config ticks workers) read e text h = workers_text config ticks workers read e text h
 text_ends (Load key n) read e text h = done_text (Load key n) read nothing nothing nothing text (λ p. tt) e h

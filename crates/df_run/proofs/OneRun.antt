@@ -89,9 +89,9 @@ one_config bytes c d p q =
     some_inj c d (sym p.2 ∙ ap config_of table ∙ q.2)
 
 -- what is said of the floor of two files is said of one floor
-both : {R : Type 0} (one other : List ℕ) (P Q : Config → List Tick → Type 0) → ((c : Config) (ticks : List Tick) → P c ticks → Q c ticks → R)
+pub one_floor : {R : Type 0} (one other : List ℕ) (P Q : Config → List Tick → Type 0) → ((c : Config) (ticks : List Tick) → P c ticks → Q c ticks → R)
     → OfFloor one other P → OfFloor one other Q → R
-both one other P Q f p q =
+one_floor one other P Q f p q =
     let config : q.0 ≡ p.0 = one_config one q.0 p.0 q.2 p.2 in
     let ticks : q.1 ≡ p.1 = ticks_are_one other q.1 p.1 q.3 p.3 in
     f p.0 p.1 p.4 (subst (λ (t : List Tick). Q p.0 t) ticks (subst (λ (c : Config). Q c q.1) config q.4))
@@ -107,8 +107,8 @@ pub quiet_settles : (config : Config) (ticks : List Tick) (text : List ℕ) → 
 quiet_settles config ticks text quiet = λ steps cut. no_end steps (ends_once config ticks text cut.0 floor.Quiet (floor.Unsettled steps) quiet.run cut.1)
 
 pub one_cut : (one other : List ℕ) (m n : ℕ) → OfFloor one other (IsCutAt m) → OfFloor one other (IsCutAt n) → m ≡ n
-one_cut one other m n p q = both one other (IsCutAt m) (IsCutAt n)
+one_cut one other m n p q = one_floor one other (IsCutAt m) (IsCutAt n)
     (λ c ticks a b. unsettled_inj m n (ends_once c ticks a.0 b.0 (floor.Unsettled m) (floor.Unsettled n) a.1 b.1)) p q
 
 pub settles_or_cut : (one other : List ℕ) (steps : ℕ) → OfFloor one other Settles → OfFloor one other (IsCutAt steps) → ⊥
-settles_or_cut one other steps p q = both one other Settles (IsCutAt steps) (λ c ticks settles cut. settles steps cut) p q
+settles_or_cut one other steps p q = one_floor one other Settles (IsCutAt steps) (λ c ticks settles cut. settles steps cut) p q

@@ -1,12 +1,12 @@
 -- The status of a run that writes nothing.
 use Rattle.std.proofs.Common.{◌≡◌, ◌⊎◌, ℕ, List, Option, ap, inl, inr, refl}
 use Rattle.df_run.specs.Making.{Stops}
-use Rattle.df_run.specs.Outcome.{BadInputIsExact, BlamesFile, DoesInput, IfAllTold, IsCutOff, IsHindered, IsOfACommand, IsToldBad, IsToldLong, NoPlaceIsDue, NoPlaceIsExact, OfTold, Reaches, TooLongIsExact, UnsettledIsDue, UnsettledIsExact, Writes, WrongIsDue, WrongIsExact}
-use Rattle.df_run.specs.Tasks.{IsNoPlaceInput, IsRightInput, IsUnsettledInput, IsWrongInput}
+use Rattle.df_run.specs.Outcome.{BadInputIsExact, BlamesFile, DoesInput, IfAllTold, IsCutOff, IsHindered, IsOfACommand, IsOutcome, IsToldBad, IsToldLong, NoPlaceIsDue, NoPlaceIsExact, OfTold, Reaches, TooLongIsExact, UnsettledIsDue, UnsettledIsExact, Writes, WrongIsDue, WrongIsExact}
+use Rattle.df_run.specs.Tasks.{IsCutInput, IsNoPlaceInput, IsRightInput, IsWrongInput}
 use Rattle.df_run.specs.declared.status.Status.{Status}
 use Rattle.df_run.specs.declared.status.Status.TheVariants as status
 use Rattle.df_run.specs.declared.tasks.End.TheVariants as end
-use Rattle.df_run.proofs.Inputs.{ends_inputs}
+use Rattle.df_run.proofs.Inputs.{ends_inputs, must_may}
 use Rattle.df_run.proofs.Reaching.{AreInputs, ReadBad, ReadLong, ToldBad, ToldLong, bad_or_long, if_all_told-all, if_all_told-map, long_or_bad, one_stop, read_bad, read_long, stopped_is_bad, told_bad, told_long}
 use Rattle.df_words.specs.declared.command.Command.{Command}
 
@@ -95,7 +95,7 @@ module _ (c : Command) (files : List (Option (List ℕ))) (before now : ℕ) whe
   no_place_due (status.Wrong place) stops = tt
   no_place_due (status.Unsettled steps) stops = tt
 
-  pub stop_asked : (s : Status) → Stops c files before now s → IsOfACommand s
+  stop_asked : (s : Status) → Stops c files before now s → IsOfACommand s
   stop_asked status.Usage stops = absurd stops.stop
   stop_asked status.ReadFault stops = λ e. cc
   stop_asked status.NoMemory stops = λ e. cc
@@ -107,7 +107,7 @@ module _ (c : Command) (files : List (Option (List ℕ))) (before now : ℕ) whe
   stop_asked (status.Unsettled steps) stops = λ e. cc
   stop_asked (status.NoPlace count) stops = λ e. cc
 
-  pub stop_writes : (w : Option (List ℕ)) (s : Status) → Stops c files before now s → Writes c files w w s
+  stop_writes : (w : Option (List ℕ)) (s : Status) → Stops c files before now s → Writes c files w w s
   stop_writes w status.ReadFault stops = refl
   stop_writes w status.NoMemory stops = refl
   stop_writes w (status.BadInput i line kind) stops = refl
@@ -119,7 +119,7 @@ module _ (c : Command) (files : List (Option (List ℕ))) (before now : ℕ) whe
   stop_writes w (status.Unsettled steps) stops = absurd stops.stop
   stop_writes w (status.NoPlace count) stops = absurd stops.stop
 
-  pub no_write_fault : (s : Status) → Stops c files before now s → s ≡ status.WriteFault → ⊥
+  no_write_fault : (s : Status) → Stops c files before now s → s ≡ status.WriteFault → ⊥
   no_write_fault status.WriteFault stops e = stops.stop
   no_write_fault status.Usage stops e = stops.stop
   no_write_fault status.ReadFault stops e = cc
@@ -132,13 +132,13 @@ module _ (c : Command) (files : List (Option (List ℕ))) (before now : ℕ) whe
   no_write_fault (status.NoPlace count) stops e = stops.stop
 
   module _ (s : Status) (stops : Stops c files before now s) where
-    pub stop_bad_input : BadInputIsExact c files s
+    stop_bad_input : BadInputIsExact c files s
     stop_bad_input = (stops.bad_input, blamed s stops)
 
-    pub stop_too_long : TooLongIsExact c files s
+    stop_too_long : TooLongIsExact c files s
     stop_too_long = (stops.too_long, long s stops)
 
-    pub stop_wrong : WrongIsExact c files s
+    stop_wrong : WrongIsExact c files s
     stop_wrong = (
       wrong_due s stops,
       if_all_told-map files (λ read. AreInputs c 1 read → IsHindered s)
@@ -146,15 +146,15 @@ module _ (c : Command) (files : List (Option (List ℕ))) (before now : ℕ) whe
           (λ read free place wrong. inr (free (ends_inputs c read (end.Wrong place) wrong))) (hindered s stops),
     )
 
-    pub stop_unsettled : UnsettledIsExact c files s
+    stop_unsettled : UnsettledIsExact c files s
     stop_unsettled = (
       unsettled_due s stops,
       if_all_told-map files (λ read. AreInputs c 1 read → IsHindered s)
-          (λ read. (steps : ℕ) → IsUnsettledInput c read steps → (s ≡ status.Unsettled steps) ⊎ IsHindered s)
-          (λ read free steps cut. inr (free (ends_inputs c read (end.Unsettled steps) cut))) (hindered s stops),
+          (λ read. (steps : ℕ) → IsCutInput c read steps → (s ≡ status.Unsettled steps) ⊎ IsHindered s)
+          (λ read free steps cut. inr (free (ends_inputs c read (end.Unsettled steps) (must_may c read (end.Unsettled steps) cut)))) (hindered s stops),
     )
 
-    pub stop_no_place : NoPlaceIsExact c files s
+    stop_no_place : NoPlaceIsExact c files s
     stop_no_place = (
       no_place_due s stops,
       if_all_told-map files (λ read. AreInputs c 1 read → IsHindered s)
@@ -162,6 +162,20 @@ module _ (c : Command) (files : List (Option (List ℕ))) (before now : ℕ) whe
           (λ read free count lacks. inr (free (ends_inputs c read (end.NoPlace count) lacks))) (hindered s stops),
     )
 
-    pub stop_does : DoesInput c files s
+    stop_does : DoesInput c files s
     stop_does = if_all_told-map files (λ read. AreInputs c 1 read → IsHindered s) (λ read. IsRightInput c read → (s ≡ status.Done) ⊎ IsHindered s)
-        (λ read free right. inr (free (ends_inputs c read end.Done right))) (hindered s stops)
+        (λ read free right. inr (free (ends_inputs c read end.Done (must_may c read end.Done right)))) (hindered s stops)
+
+    pub stop_outcome : (sink : ℕ) (written : Option (List ℕ)) → IsOutcome c files before now sink sink written written s
+    stop_outcome sink written = record {
+      asked = stop_asked s stops;
+      bad_input = stop_bad_input;
+      too_long = stop_too_long;
+      wrong = stop_wrong;
+      unsettled = stop_unsettled;
+      no_place = stop_no_place;
+      read_fault = stops.read_fault;
+      write_fault = λ is. absurd (no_write_fault s stops is);
+      writes = stop_writes written s stops;
+      does = stop_does;
+    }

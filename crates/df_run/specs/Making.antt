@@ -3,7 +3,7 @@ use Rattle.std.specs.Prelude.{◌≡◌, ◌⊎◌, ◌↔◌, ⊤, ℕ, ◌<◌
 use Rattle.df_io.specs.Faults.{Rose}
 use Rattle.df_io.specs.Limits.{longest_file}
 use Rattle.df_io.specs.Pieces.{HasAll, HasFront}
-use Rattle.df_run.specs.Outcome.{AskNothingPlain, AskPlainly, BadInputIsDue, IfTold, OfRead, ReadFaultIsDue, TooLongIsDue}
+use Rattle.df_run.specs.Outcome.{AskPlainly, AsksNothing, BadInputIsDue, IfTold, OfRead, ReadFaultIsDue, TooLongIsDue}
 use Rattle.df_run.specs.Tasks.{BlamesBytes}
 use Rattle.df_run.specs.declared.status.Status.{Status}
 use Rattle.df_run.specs.declared.status.Status.TheVariants as status
@@ -12,9 +12,10 @@ use Rattle.df_run.specs.declared.tasks.End.TheVariants as end
 use Rattle.df_config.specs.declared.config.Config.{Config}
 use Rattle.df_floor_run.specs.declared.run.FloorEnd.{FloorEnd}
 use Rattle.df_floor_run.specs.declared.run.FloorEnd.TheVariants as floor
-use Rattle.df_run.specs.Floor.{RunsFloor}
+use Rattle.df_run.specs.Floor.{RunsFloor, WorksFloor}
 use Rattle.df_ticks.specs.declared.tick.Tick.{Tick}
 use Rattle.df_words.specs.declared.command.Command.{Command}
+use Rattle.df_words.specs.declared.command.Command.TheVariants.{Floor, FloorWorkers}
 use Rattle.df_words.specs.declared.command.WordsRefused.{WordsRefused}
 use Rattle.df_words.specs.declared.command.WordsRefused.TheVariants as refused
 
@@ -70,9 +71,23 @@ TellsFloor config ticks (end.Unsettled steps) text =
     RunsFloor config ticks (floor.Unsettled steps) text
 TellsFloor config ticks (end.NoPlace count) text = ⊥
 
+-- the text and the end are those of a run of the floor by workers
+abbrev pub TellsWork : Config → List Tick → End → List ℕ → Type 0
+TellsWork config ticks end.Done text = WorksFloor config ticks floor.Quiet text
+TellsWork config ticks (end.Wrong place) text = ⊥
+TellsWork config ticks (end.Unsettled steps) text =
+    WorksFloor config ticks (floor.Unsettled steps) text
+TellsWork config ticks (end.NoPlace count) text = ⊥
+
+-- the command reads a configuration and ticks
+abbrev pub IsOfFloor : Command → Type 0
+IsOfFloor (Floor config ticks) = ⊤
+IsOfFloor (FloorWorkers config ticks workers) = ⊤
+IsOfFloor _ = ⊥
+
 -- the answer is the command without workers for which the words ask, or Usage where they ask for
 -- none, unless there was no memory
 abbrev pub IsPlainCommandOf : List (List ℕ) → Result Command WordsRefused → Type 0
 IsPlainCommandOf words (Ok command) = (c : Command) → (command ≡ c) ↔ AskPlainly words c
-IsPlainCommandOf words (Err refused.Usage) = AskNothingPlain words
+IsPlainCommandOf words (Err refused.Usage) = AsksNothing AskPlainly words
 IsPlainCommandOf words (Err refused.NoMemory) = ⊤

@@ -7,7 +7,7 @@ use Rattle.df_io.specs.Limits.{longest_file}
 use Rattle.df_io.specs.Pieces.{HasAll, HasFront}
 use Rattle.df_run.specs.declared.status.Status.{Status}
 use Rattle.df_run.specs.declared.status.Status.TheVariants as status
-use Rattle.df_run.specs.Tasks.{BlamesBytes, IsInput, IsNoPlaceInput, IsRightInput, IsText, IsUnsettledInput, IsWrongInput}
+use Rattle.df_run.specs.Tasks.{BlamesBytes, IsCutInput, IsInput, IsNoPlaceInput, IsRightInput, IsText, IsUnsettledInput, IsWrongInput}
 use Rattle.df_run.specs.declared.tasks.End.{End}
 use Rattle.df_run.specs.declared.tasks.End.TheVariants as end
 use Rattle.df_words.specs.Words.{Ask, files_of, is_plain}
@@ -19,13 +19,14 @@ use Rattle.df_words.specs.declared.command.Files.TheVariants as count
 abbrev pub AskPlainly : List (List ℕ) → Command → Type 0
 AskPlainly words c = Ask words c × (is_plain c ≡ true)
 
--- the words ask for nothing, or for workers
-abbrev pub AskNothingPlain : List (List ℕ) → Type 0
-AskNothingPlain words = (c : Command) → ¬ AskPlainly words c
+-- the words ask for none of these commands
+abbrev pub AsksNothing : (List (List ℕ) → Command → Type 0) → List (List ℕ) → Type 0
+AsksNothing asks words = (c : Command) → ¬ asks words c
 
--- what holds of the command for which the words ask, where they ask for one without workers
-abbrev pub IfAsked : List (List ℕ) → (Command → Type 0) → Type 0
-IfAsked words P = (c : Command) → AskPlainly words c → P c
+-- what holds of the command for which the words ask, where they ask for one of these
+abbrev pub IfAsked : (List (List ℕ) → Command → Type 0) → List (List ℕ) → (Command → Type 0)
+    → Type 0
+IfAsked asks words P = (c : Command) → asks words c → P c
 
 -- ---- what is told of files, and what was read of them
 
@@ -94,10 +95,10 @@ Reaches Of command n (told ∷ files) input P =
 
 -- ---- statuses
 
--- Usage comes exactly where the words ask for nothing or for workers, unless there was no memory
-abbrev pub UsageIsExact : List (List ℕ) → Status → Type 0
-UsageIsExact words result = (result ≡ status.Usage → AskNothingPlain words)
-    × (AskNothingPlain words → (result ≡ status.Usage) ⊎ (result ≡ status.NoMemory))
+-- Usage comes exactly where the words ask for none of these commands, unless there was no memory
+abbrev pub UsageIsExact : (List (List ℕ) → Command → Type 0) → List (List ℕ) → Status → Type 0
+UsageIsExact asks words result = (result ≡ status.Usage → AsksNothing asks words)
+    × (AsksNothing asks words → (result ≡ status.Usage) ⊎ (result ≡ status.NoMemory))
 
 -- the status is one of a command's run
 abbrev pub IsOfACommand : Status → Type 0
@@ -185,11 +186,12 @@ UnsettledIsDue command files (status.Unsettled steps) =
 UnsettledIsDue command files _ = ⊤
 
 -- Unsettled comes exactly where the files, read whole, are a floor whose run is cut off, with the
--- number of its entries; a fault may come in its place
+-- number of its entries; a fault may come in its place. With workers it comes only where a run may be
+-- cut off so.
 abbrev pub UnsettledIsExact : Command → List (Option (List ℕ)) → Status → Type 0
 UnsettledIsExact command files result =
     UnsettledIsDue command files result
-    × IfAllTold files (λ read. (steps : ℕ) → IsUnsettledInput command read steps →
+    × IfAllTold files (λ read. (steps : ℕ) → IsCutInput command read steps →
     (result ≡ status.Unsettled steps) ⊎ IsHindered result)
 
 -- a status that says that a journal hasn't a place tells how many entries what was read has
@@ -240,3 +242,22 @@ Writes command files old new (status.NoPlace count) =
 Writes command files old new status.WriteFault =
     (text : List ℕ) × (e : End) × IsTextOfSome command files e text × HasFront old text new
 Writes command files old new _ = new ≡ old
+
+-- ---- all of it
+
+-- what is promised of a run of the command on these files: each status comes when it is due, and what
+-- is written then. The shelf's and the sink's counts of faults, and what is written, are those before
+-- and after the run.
+pub record IsOutcome (command : Command) (files : List (Option (List ℕ)))
+    (shelf_before shelf_after sink_before sink_after : ℕ) (old new : Option (List ℕ))
+    (result : Status) : Type 0 where
+  pub asked : IsOfACommand result
+  pub bad_input : BadInputIsExact command files result
+  pub too_long : TooLongIsExact command files result
+  pub wrong : WrongIsExact command files result
+  pub unsettled : UnsettledIsExact command files result
+  pub no_place : NoPlaceIsExact command files result
+  pub read_fault : ReadFaultIsDue shelf_before shelf_after result
+  pub write_fault : WriteFaultIsDue sink_before sink_after result
+  pub writes : Writes command files old new result
+  pub does : DoesInput command files result

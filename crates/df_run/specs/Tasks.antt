@@ -20,7 +20,7 @@ use Rattle.df_ticks.specs.TickFile as ticks
 use Rattle.df_ticks.specs.TickText.{ticks_text}
 use Rattle.df_words.specs.declared.command.Command.{Command}
 use Rattle.df_words.specs.declared.command.Command.TheVariants.{Steps, Check, Purge, Upgrade, Why, Auction, Lint, Gen, Floor, FloorWorkers, Load}
-use Rattle.df_run.specs.Floor.{IsConfiguration, IsCutAt, IsTicks, OfFloor, RunsFloor, Settles}
+use Rattle.df_run.specs.Floor.{IsConfiguration, IsCutAt, IsTicks, MayBeCutAt, OfFloor, RunsFloor, Settles, SettlesAnyhow, WorksFloor}
 use Rattle.df_run.specs.Lint.{LintsScript}
 use Rattle.df_run.specs.Steps.{RecordsScript}
 use Rattle.df_run.specs.declared.status.BadKind.{BadKind}
@@ -66,7 +66,7 @@ OfTwo (one ∷ other ∷ []) P = P one other
 OfTwo _ P = ⊥
 
 -- what was read is right: it is what the command reads, a journal is right and has the place that
--- the command names, and a floor settles
+-- the command names, and a floor settles, with workers in whatever order they take turns
 abbrev pub IsRightInput : Command → List (List ℕ) → Type 0
 IsRightInput (Steps file) read = OfOne read IsScriptText
 IsRightInput (Check journal) read = OfOne read (λ bytes. OfJournal bytes IsRightJournal)
@@ -77,7 +77,8 @@ IsRightInput (Auction orders) read = OfOne read IsOrders
 IsRightInput (Lint script) read = OfOne read IsScriptText
 IsRightInput (Gen key n) read = ⊤
 IsRightInput (Floor config ticks) read = OfTwo read (λ one other. OfFloor one other Settles)
-IsRightInput (FloorWorkers config ticks workers) read = ⊥
+IsRightInput (FloorWorkers config ticks workers) read =
+    OfTwo read (λ one other. OfFloor one other SettlesAnyhow)
 IsRightInput (Load key n) read = ⊤
 
 -- what was read is a journal that is wrong, first at this place
@@ -99,11 +100,19 @@ IsNoPlaceInput (Why journal place) read count =
     OfOne read (λ bytes. OfJournal bytes (LacksPlace place count))
 IsNoPlaceInput command read count = ⊥
 
--- what was read is a floor that doesn't settle: its run is cut off with so many entries
+-- what was read is a floor that doesn't settle: its run is cut off with so many entries, or a run by
+-- workers may be
 abbrev pub IsUnsettledInput : Command → List (List ℕ) → ℕ → Type 0
 IsUnsettledInput (Floor config ticks) read steps =
     OfTwo read (λ one other. OfFloor one other (IsCutAt steps))
+IsUnsettledInput (FloorWorkers config ticks workers) read steps =
+    OfTwo read (λ one other. OfFloor one other (MayBeCutAt steps))
 IsUnsettledInput command read steps = ⊥
+
+-- what was read is a floor whose only run is cut off with so many entries
+abbrev pub IsCutInput : Command → List (List ℕ) → ℕ → Type 0
+IsCutInput (FloorWorkers config ticks workers) read steps = ⊥
+IsCutInput command read steps = IsUnsettledInput command read steps
 
 -- ---- what is written
 
@@ -123,7 +132,8 @@ IsOutput (Lint script) read text = OfOne read (λ bytes. LintsScript bytes text)
 IsOutput (Gen key n) read text = text ≡ ticks_text (generated key n)
 IsOutput (Floor config ticks) read text =
     OfTwo read (λ one other. OfFloor one other (λ c t. RunsFloor c t floor.Quiet text))
-IsOutput (FloorWorkers config ticks workers) read text = ⊥
+IsOutput (FloorWorkers config ticks workers) read text =
+    OfTwo read (λ one other. OfFloor one other (λ c t. WorksFloor c t floor.Quiet text))
 IsOutput (Load key n) read text = IsLoadText key n text
 
 -- the text is what the command writes of a journal that is wrong, first at this place
@@ -149,6 +159,8 @@ IsCountTold command read count text = ⊥
 abbrev pub IsCutRun : Command → List (List ℕ) → ℕ → List ℕ → Type 0
 IsCutRun (Floor config ticks) read steps text =
     OfTwo read (λ one other. OfFloor one other (λ c t. RunsFloor c t (floor.Unsettled steps) text))
+IsCutRun (FloorWorkers config ticks workers) read steps text =
+    OfTwo read (λ one other. OfFloor one other (λ c t. WorksFloor c t (floor.Unsettled steps) text))
 IsCutRun command read steps text = ⊥
 
 -- the text is what the command writes of what was read where it ends so

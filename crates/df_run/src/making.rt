@@ -8,14 +8,17 @@ ghost use Rattle.df_run.specs.declared.status.Status.TheVariants as status;
 ghost use Rattle.df_words.specs.Words.{Ask, files_of, texts};
 ghost use Rattle.df_words.specs.declared.command.Files.TheVariants as files;
 
-use crate::floor::floor_of;
+use crate::floor::{floor_by, floor_of};
 use crate::input::input_of;
 use crate::status::Status;
 use crate::tasks::{End, Output, Refused, output_of, output_of_key};
 use df_io::{Shelf, Sink, write_all};
 use df_label::NoMemory;
 use df_words::{Command, Files, WordsRefused, read_words};
+use df_workers::Gate;
 use std::alloc::Global;
+use std::sync::Wait;
+use std::thread::Threads;
 
 /// The command for which the words ask, unless it asks for workers.
 pub fn plain_command(alloc: Global, words: &[String]) -> Result<Command, WordsRefused>
@@ -48,6 +51,32 @@ pub fn made_of<F: Shelf>(
         Files::None => made_of_key(alloc, command),
         Files::One { file } => made_of_file(alloc, command, words, file, shelf),
         Files::Two { first, second } => floor_of(alloc, words, first, second, shelf),
+    }
+}
+
+/// What a command writes, by workers where it asks for them.
+pub fn made_by<R: Threads + Wait + Sync, F: Shelf, G: Gate + Sync>(
+    rt: &R,
+    alloc: Global,
+    command: &Command,
+    words: &[String],
+    shelf: &mut F,
+    gate: &G,
+) -> Result<Output, Status>
+    requires { Ask (texts words.now) command.now }
+    ensures makes { IfOk result (λ o. IsTextOfSome command.now
+        (files_told (F.bytes shelf.old) (texts words.now) command.now) o.end o.text.items) }
+    ensures stops { IfErr result (Stops command.now
+        (files_told (F.bytes shelf.old) (texts words.now) command.now)
+        (F.faults shelf.old) (F.faults shelf.new)) }
+{
+    match command {
+        Command::FloorWorkers {
+            config,
+            ticks,
+            workers,
+        } => floor_by(rt, alloc, words, *config, *ticks, *workers, shelf, gate),
+        _ => made_of(alloc, command, words, shelf),
     }
 }
 

@@ -5,9 +5,12 @@ ghost use Rattle.df_run.specs.Status.{code_of};
 use crate::run::run_main;
 use crate::status::Status;
 use df_io::{FileShelf, OutSink};
+use df_workers::OpenGate;
 use std::env::Env;
 use std::process::ExitCode;
 use std::rt::Files;
+use std::sync::Wait;
+use std::thread::Threads;
 use std::{env, io};
 
 /// What `--help` prints.
@@ -20,6 +23,7 @@ const HELP: &str = "usage: defcon steps SCRIPT
        defcon lint SCRIPT
        defcon gen KEY N
        defcon floor CONFIG TICKS
+       defcon floor CONFIG TICKS --workers N
        defcon load KEY N
 
 steps runs the unit calls of the file SCRIPT, and writes the journal of all calls, replies,
@@ -32,7 +36,9 @@ quantity trades, and the trades. lint makes none of the calls of SCRIPT: of its 
 for each root and each privilege, whether the units of the root's family may ever hold it. gen
 writes a tick file of N ticks, at most 100,000, which are the same for the same number KEY. floor
 runs the trading floor of the file CONFIG on the tick file TICKS, and writes its journal and what
-it comes to. load writes what a fixed floor comes to on N ticks of KEY, at most 4,000.
+it comes to; with --workers N, at most 16, so many threads give its units their turns, and one of
+the floor's journals comes of it. load writes what a fixed floor comes to on N ticks of KEY, at
+most 4,000.
 
   --help     this text
   --version  the version
@@ -78,9 +84,9 @@ fn told(words: &[String]) -> Option<&'static str> {
 
 /// The program: answers a lone `--help` or `--version`, and else does what the user's words ask for
 /// on the real files and the real output. A status other than Done is one line on standard error.
-pub fn run_program<R: Env + AllocGlobal + Files + Print + Eprint + Clone + Drop>(
-    rt: &R,
-) -> ExitCode {
+pub fn run_program<
+    R: Env + AllocGlobal + Files + Print + Eprint + Threads + Wait + Sync + Clone + Drop,
+>(rt: &R) -> ExitCode {
     let status = match own_words(rt) {
         Ok(words) => done(rt, words.as_slice()),
         Err(status) => status,
@@ -89,7 +95,10 @@ pub fn run_program<R: Env + AllocGlobal + Files + Print + Eprint + Clone + Drop>
 }
 
 /// Does what the words ask for.
-fn done<R: AllocGlobal + Files + Print + Clone + Drop>(rt: &R, words: &[String]) -> Status {
+fn done<R: AllocGlobal + Files + Print + Threads + Wait + Sync + Clone + Drop>(
+    rt: &R,
+    words: &[String],
+) -> Status {
     if let Some(text) = told(words) {
         return match print!(rt; "{text}") {
             Ok(()) => Status::Done,
@@ -101,7 +110,7 @@ fn done<R: AllocGlobal + Files + Print + Clone + Drop>(rt: &R, words: &[String])
     };
     let mut shelf = FileShelf::new(rt.alloc(), files);
     let mut out = OutSink::new(io::writer(rt));
-    run_main(rt.alloc(), words, &mut shelf, &mut out)
+    run_main(rt, rt.alloc(), words, &mut shelf, &mut out, &OpenGate)
 }
 
 /// Prints the status line, but for Done, and gives the code with which the program ends.

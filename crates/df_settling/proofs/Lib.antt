@@ -21,5 +21,6 @@ pub mod Orders
 pub mod Selling
 pub mod Sales
 pub mod Counts
+pub mod Silent
 pub mod Runs
 pub mod ExampleFloor

@@ -80,7 +80,7 @@ no_instance_news : (fx : Option Fixed) (n : ℕ) (t : List (List ℕ)) (ds : Lis
 no_instance_news None n t ds past = refl
 no_instance_news (Some f) n t ds past = refl
 
-no_news : (s : List OwnState) (past : List Entry) (n : UnitName) → news s past n None ≡ []
+pub no_news : (s : List OwnState) (past : List Entry) (n : UnitName) → news s past n None ≡ []
 no_news s past (Root path) = no_plain_news (own_plain rows s past path) (subscriptions rows s past (Root path)) (deliveries_plain rows s past path) past
 no_news s past (UnitName.Managed o n t) = no_instance_news (fixed rows s past o n) n t (deliveries_instance rows s past o n t) past
 

@@ -7,7 +7,10 @@ use crate::tell::tell;
 use crate::text::{Text, append_body, append_line};
 use df_io::{FileShelf, MemoryShelf, MemorySink, read_file};
 use df_run::run_main;
+use df_workers::OpenGate;
 use std::alloc::Global;
+use std::sync::Wait;
+use std::thread::Threads;
 
 /// One run of a row of a table.
 #[derive(Clone, Copy, Debug)]
@@ -71,24 +74,34 @@ fn path_bytes(rt: HostRuntime, path: &str, fill: Option<&[u8]>) -> Result<Vec<u8
 const RUN_ROOM: usize = 8_388_608;
 
 /// What the run of these words writes, over this shelf.
-fn run_bytes(
-    alloc: Global,
+fn run_bytes<R: Threads + Wait + Sync>(
+    rt: HostRuntime,
+    threads: &R,
     line: &str,
     fill: Option<&[u8]>,
     shelf: &mut MemoryShelf,
 ) -> Result<Vec<u8>, Stop> {
+    let alloc = rt.alloc();
     let mut words = Vec::new(alloc);
     append_line_words(&mut words, &Line::Words(line), fill)?;
     let mut sink = MemorySink::new(alloc, RUN_ROOM, usize::MAX)?;
-    run_main(alloc, words.as_slice(), shelf, &mut sink);
+    run_main(
+        threads,
+        alloc,
+        words.as_slice(),
+        shelf,
+        &mut sink,
+        &OpenGate,
+    );
     let mut bytes = Vec::new(alloc);
     bytes.extend_from_slice(sink.bytes())?;
     Ok(bytes)
 }
 
 /// The bytes of this source, where these lines follow, and the files before it are on the shelf.
-fn source_bytes(
+fn source_bytes<R: Threads + Wait + Sync>(
     rt: HostRuntime,
+    threads: &R,
     source: Source<'_>,
     behind: &[Line<'_>],
     fill: Option<&[u8]>,
@@ -96,7 +109,7 @@ fn source_bytes(
 ) -> Result<Vec<u8>, Stop> {
     match source {
         Source::Path(path) => path_bytes(rt, path, fill),
-        Source::Run(words) => run_bytes(rt.alloc(), words, fill, shelf),
+        Source::Run(words) => run_bytes(rt, threads, words, fill, shelf),
         Source::Lines(times) => texts_bytes(rt.alloc(), texts_of(behind), times, fill),
     }
 }
@@ -175,15 +188,16 @@ fn front(text: &[u8], length: Option<usize>) -> &[u8] {
 }
 
 /// Puts the files of the run on the shelf.
-fn put_files(
+fn put_files<R: Threads + Wait + Sync>(
     rt: HostRuntime,
+    threads: &R,
     case: Case<'_>,
     fill: Option<&[u8]>,
     shelf: &mut MemoryShelf,
 ) -> Result<(), Stop> {
     for (place, line) in case.row.iter().enumerate() {
         if let Line::File(name, source) = line {
-            let bytes = source_bytes(rt, *source, behind(case.row, place), fill, shelf)?;
+            let bytes = source_bytes(rt, threads, *source, behind(case.row, place), fill, shelf)?;
             shelf.put(name, front(bytes.as_slice(), case.run.front))?;
         }
     }
@@ -191,15 +205,16 @@ fn put_files(
 }
 
 /// What the row tells of what is written, and how much of it that is, where nothing fails.
-fn output_of(
+fn output_of<R: Threads + Wait + Sync>(
     rt: HostRuntime,
+    threads: &R,
     case: Case<'_>,
     fill: Option<&[u8]>,
     shelf: &mut MemoryShelf,
 ) -> Result<(Share, Vec<u8>), Stop> {
     for (place, line) in case.row.iter().enumerate() {
         if let Line::Output(share, source) = line {
-            let bytes = source_bytes(rt, *source, behind(case.row, place), fill, shelf)?;
+            let bytes = source_bytes(rt, threads, *source, behind(case.row, place), fill, shelf)?;
             return Ok((*share, bytes));
         }
     }
@@ -230,8 +245,9 @@ fn room_of(share: Share, told: usize) -> usize {
 }
 
 /// Whether the run on this shelf comes out as told, with this output.
-fn is_told_on(
+fn is_told_on<R: Threads + Wait + Sync>(
     rt: HostRuntime,
+    threads: &R,
     case: Case<'_>,
     words: &[String],
     shelf: &mut MemoryShelf,
@@ -245,7 +261,7 @@ fn is_told_on(
         Some(Fault::Write(call)) => sink.fail(call)?,
         None => {}
     }
-    let status = run_main(alloc, words, shelf, &mut sink);
+    let status = run_main(threads, alloc, words, shelf, &mut sink, &OpenGate);
     tell(
         rt,
         case,
@@ -256,28 +272,46 @@ fn is_told_on(
 }
 
 /// Whether the run with these words comes out as told.
-fn is_told_by(
+fn is_told_by<R: Threads + Wait + Sync>(
     rt: HostRuntime,
+    threads: &R,
     case: Case<'_>,
     fill: Option<&[u8]>,
     words: &[String],
 ) -> Result<bool, Stop> {
     let mut shelf = MemoryShelf::new(rt.alloc());
-    put_files(rt, case, fill, &mut shelf)?;
-    let (share, output) = output_of(rt, case, fill, &mut shelf)?;
-    is_told_on(rt, case, words, &mut shelf, share, output.as_slice())
+    put_files(rt, threads, case, fill, &mut shelf)?;
+    let (share, output) = output_of(rt, threads, case, fill, &mut shelf)?;
+    is_told_on(
+        rt,
+        threads,
+        case,
+        words,
+        &mut shelf,
+        share,
+        output.as_slice(),
+    )
 }
 
 /// Whether the run with its holes so filled comes out as told.
-fn is_told_filled(rt: HostRuntime, case: Case<'_>, fill: Option<&[u8]>) -> Result<bool, Stop> {
+fn is_told_filled<R: Threads + Wait + Sync>(
+    rt: HostRuntime,
+    threads: &R,
+    case: Case<'_>,
+    fill: Option<&[u8]>,
+) -> Result<bool, Stop> {
     let words = words_of(rt.alloc(), case.row, fill)?;
-    is_told_by(rt, case, fill, words.as_slice())
+    is_told_by(rt, threads, case, fill, words.as_slice())
 }
 
 /// Whether the run comes out as told. What comes out otherwise is printed.
-pub fn is_told(rt: HostRuntime, case: Case<'_>) -> Result<bool, Stop> {
+pub fn is_told<R: Threads + Wait + Sync>(
+    rt: HostRuntime,
+    threads: &R,
+    case: Case<'_>,
+) -> Result<bool, Stop> {
     match fill_of(rt.alloc(), case.run.fill)? {
-        Some(bytes) => is_told_filled(rt, case, Some(bytes.as_slice())),
-        None => is_told_filled(rt, case, None),
+        Some(bytes) => is_told_filled(rt, threads, case, Some(bytes.as_slice())),
+        None => is_told_filled(rt, threads, case, None),
     }
 }

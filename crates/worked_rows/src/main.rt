@@ -45,6 +45,8 @@ use crate::stop::Stop;
 use crate::table::{Line, read_table, row_of};
 use std::env;
 use std::process::ExitCode;
+use std::sync::Wait;
+use std::thread::Threads;
 
 /// How many rows, runs, and runs that came out otherwise there are.
 #[derive(Clone, Copy)]
@@ -71,8 +73,9 @@ impl Tally {
 }
 
 /// Runs a row.
-fn run_row<'a>(
+fn run_row<'a, R: Threads + Wait + Sync>(
     rt: HostRuntime,
+    threads: &R,
     table: &'a str,
     name: &'a str,
     row: &'a [Line<'a>],
@@ -89,7 +92,7 @@ fn run_row<'a>(
             row,
             run: *run,
         };
-        let otherwise = if is_told(rt, case)? { 0 } else { 1 };
+        let otherwise = if is_told(rt, threads, case)? { 0 } else { 1 };
         tally = tally.and(Tally {
             rows: 0,
             runs: 1,
@@ -100,25 +103,34 @@ fn run_row<'a>(
 }
 
 /// Runs the rows of these lines.
-fn run_rows<'a>(rt: HostRuntime, table: &'a str, lines: &'a [Line<'a>]) -> Result<Tally, Stop> {
+fn run_rows<'a, R: Threads + Wait + Sync>(
+    rt: HostRuntime,
+    threads: &R,
+    table: &'a str,
+    lines: &'a [Line<'a>],
+) -> Result<Tally, Stop> {
     let mut tally = Tally::NONE;
     for (place, line) in lines.iter().enumerate() {
         if let Line::Row(name) = line {
             let behind = lines.get(place.saturating_add(1)..).unwrap_or(&[]);
-            tally = tally.and(run_row(rt, table, name, row_of(behind))?);
+            tally = tally.and(run_row(rt, threads, table, name, row_of(behind))?);
         }
     }
     Ok(tally)
 }
 
 /// Runs a table.
-fn run_table(rt: HostRuntime, table: &str) -> Result<Tally, Stop> {
+fn run_table<R: Threads + Wait + Sync>(
+    rt: HostRuntime,
+    threads: &R,
+    table: &str,
+) -> Result<Tally, Stop> {
     let bytes = data_of(rt, table)?;
     let Ok(text) = str::from_utf8(bytes.as_slice()) else {
         return Err(Stop::Line(0));
     };
     let lines = read_table(rt.alloc(), text)?;
-    run_rows(rt, table, lines.as_slice())
+    run_rows(rt, threads, table, lines.as_slice())
 }
 
 /// Says why a table wasn't run to its end.
@@ -133,8 +145,12 @@ fn tell_stop(rt: HostRuntime, table: &str, stop: Stop) {
 }
 
 /// Runs a table, and says how many rows and runs it has.
-fn told_table(rt: HostRuntime, table: &str) -> Option<Tally> {
-    match run_table(rt, table) {
+fn told_table<R: Threads + Wait + Sync>(
+    rt: HostRuntime,
+    threads: &R,
+    table: &str,
+) -> Option<Tally> {
+    match run_table(rt, threads, table) {
         Ok(tally) => {
             let rows = tally.rows;
             let runs = tally.runs;
@@ -149,16 +165,16 @@ fn told_table(rt: HostRuntime, table: &str) -> Option<Tally> {
 }
 
 /// Runs the tables.
-fn run_tables(rt: HostRuntime) -> Option<Tally> {
+fn run_tables<R: Threads + Wait + Sync>(rt: HostRuntime, threads: &R) -> Option<Tally> {
     let mut tally = Tally::NONE;
     for table in env::args(&rt).ok()?.skip(1) {
-        tally = tally.and(told_table(rt, table.as_str())?);
+        tally = tally.and(told_table(rt, threads, table.as_str())?);
     }
     Some(tally)
 }
 
 fn main(rt: HostRuntime) -> ExitCode {
-    let Some(tally) = run_tables(rt) else {
+    let Some(tally) = run_tables(rt, &rt) else {
         return ExitCode::from(2);
     };
     let otherwise = tally.otherwise;
