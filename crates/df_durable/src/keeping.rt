@@ -1,13 +1,14 @@
 //! A start and entries are put on a disk, each behind a gate of its own.
-ghost use Rattle.std.specs.Prelude.{◌≡◌, ◌≤◌, ◌<◌, ◌∷◌, ℕ, [], List, IfErr, IfOk, IfSome, None, OnErr, OnOk, length, slice_get};
+ghost use Rattle.std.specs.Prelude.{◌≡◌, ◌≤◌, ◌<◌, ◌∷◌, ℕ, [], List, IfErr, IfOk, IfSome, IsSomeAnd, None, OnErr, OnOk, length, slice_get};
 ghost use Rattle.df_disk.specs.Disk.{IsSettled, LeavesOnly};
 ghost use Rattle.df_disk.specs.Records.{IsAtRest, IsEmpty, KeepsOrOneMore, frame_text};
 ghost use Rattle.df_image.specs.Image.{start_record};
-ghost use Rattle.df_image.specs.Reading.{IsEntryRecord, IsStartRecord};
+ghost use Rattle.df_image.specs.Reading.{IsEntryRecord};
 ghost use Rattle.df_durable.specs.Keeping.{AppendsTo, HasCause, IsBeforeOrAfter, IsEmptyOrFirst, IsEmptyOrStarted, IsOnDisk, KeepsBeforeOrAfter, next_entry};
 ghost use Rattle.df_io.specs.Faults.{Counts};
 ghost use Rattle.df_journal_text.specs.Fits.{AreRoots};
 ghost use Rattle.df_machine.specs.Journal.{answer_in, appended};
+ghost use Rattle.df_spelled.specs.Spelled.{IsJoined};
 
 use crate::NotKept;
 use df_disk::{Disk, DiskFailed, append, begin, frame};
@@ -15,6 +16,7 @@ use df_image::{entry_record, start_record};
 use df_label::NoMemory;
 use df_machine::Core;
 use df_replay::copy_call;
+use df_spelled::an_answer_is_joined;
 use df_start::Start;
 use df_unit::{Call, Reply, UnitName};
 use std::alloc::Global;
@@ -47,27 +49,15 @@ fn keep<D: Disk>(alloc: Global, disk: &mut D, gate: u64, text: &[u8]) -> Result<
     }
 }
 
-/// The record of a start.
-fn first_record(alloc: Global, start: &Start) -> Result<Vec<u8>, NoMemory>
-    ensures { IfOk result (λ text. IsStartRecord start.now text.items) }
-{
-    match start_record(alloc, start)? {
-        Some(text) => Ok(text),
-        None => Err(NoMemory),
-    }
-}
-
-/// The record of the newest entry.
+/// The record of the newest entry, of which there is one.
 fn newest_record(alloc: Global, core: &Core) -> Result<Vec<u8>, NoMemory>
+    requires { IsSomeAnd (slice_get core.now.1 0) IsJoined }
     ensures { IfOk result (λ text. IfSome (slice_get core.now.1 0) (λ entry.
         IsEntryRecord entry text.items)) }
 {
-    let Some(entry) = core.newest() else {
-        return Err(NoMemory);
-    };
-    match entry_record(alloc, entry)? {
-        Some(text) => Ok(text),
-        None => Err(NoMemory),
+    match core.newest() {
+        Some(entry) => entry_record(alloc, entry),
+        None => unreachable!(),
     }
 }
 
@@ -85,7 +75,7 @@ fn first_of(alloc: Global, start: Start) -> Result<First, NotKept>
     ensures roots { OnOk result (AreRoots start) }
     ensures cause { IfErr result (λ e. e ≡ NotKept.NoMemory) }
 {
-    let text = first_record(alloc, &start)?;
+    let text = start_record(alloc, &start)?;
     let framed = frame(alloc, &text)?;
     let core = Core::start(alloc, start)?;
     Ok(First { core, framed })
@@ -166,6 +156,7 @@ fn make_spelled(
     ensures stops { OnErr result (IsBeforeOrAfter actor.now call.now core.old core.new) }
 {
     let reply = make_call(core, actor, call)?;
+    an_answer_is_joined();
     match newest_record(alloc, core) {
         Ok(text) => Ok(Made { reply, text }),
         Err(why) => {

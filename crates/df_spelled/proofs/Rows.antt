@@ -1,0 +1,246 @@
+-- The answers of the rows belong together.
+use Rattle.std.proofs.Common.{◌<◌, ◌+◌, ℕ, List, [], ◌∷◌, Bool, true, false, ◌&&◌, length, refl, cond, Option, Some, None, arith}
+use Rattle.std.specs.Prelude.{⊤}
+use Rattle.df_journal_file.specs.Journal.{ChangesSome, EditsSome, ShowsSome, IsWholeEntry}
+use Rattle.df_journal_text.specs.Fits.{IsEffectOf}
+use Rattle.df_label.specs.declared.label.Label.{Label}
+use Rattle.df_label.specs.declared.privilege.Privilege.{Privilege}
+use Rattle.df_part.specs.declared.edit.Spot.{Spot}
+use Rattle.df_part.specs.declared.part.Part.{Part}
+use Rattle.df_rules.specs.Deliveries.{deliveries}
+use Rattle.df_rules.specs.Legal.{answer_of, answered, left}
+use Rattle.df_rules.specs.Own.{own}
+use Rattle.df_rules.specs.Start.{rows}
+use Rattle.df_spelled.specs.Spelled.{IsJoined, IsOutput, IsWorded, TellsGiven}
+use Rattle.df_spelled.proofs.Deliveries.{AreShown, deliveries_shown, shown_drop}
+use Rattle.df_unit.specs.Drafts.{relabelled, shown, visible_named}
+use Rattle.df_unit.specs.Handles.{handle_at, is_full, least_free}
+use Rattle.df_unit.specs.OwnState.{OwnState}
+use Rattle.df_unit.specs.Rows.{at_handle, effect, first_given, handed, is_accepted, is_nil, published, refused_write, released, reply, subscribed, unless_lacking, unwritable, where_held}
+use Rattle.df_unit.specs.declared.call.Call.{Call}
+use Rattle.df_unit.specs.declared.call.Call.TheVariants.{CreateEvent, AddPart, DelPart, ReadPart, CloneEvent, AttachPrivilege, ChangeOutLabel, CreateTag, DropEvent, Subscribe, SubscribeManaged, Get, Publish, Release, ChangeInOut, Instantiate}
+use Rattle.df_unit.specs.declared.commit.Given.{Given}
+use Rattle.df_unit.specs.declared.entry.Effect.{Effect}
+use Rattle.df_unit.specs.declared.entry.Entry.{Entry}
+use Rattle.df_unit.specs.declared.entry.Entry.TheVariants.{Done, Emitted}
+use Rattle.df_unit.specs.declared.handle.Handle.{Handle}
+use Rattle.df_unit.specs.declared.name.UnitName.{UnitName}
+use Rattle.df_unit.specs.declared.reply.Reply.{Reply}
+
+-- an entry whose words are literals and that belongs together is whole
+
+effect_of : (f : Effect) (r : Reply) → IsOutput f → TellsGiven f r → IsEffectOf f r
+effect_of Effect.Nothing r words told = tt
+effect_of (Effect.Commit c) r words told = words
+effect_of (Effect.Given d) (Reply.Event h sub) words told = (told, words.0, words.1)
+effect_of (Effect.Given d) _ words told = absurd told
+
+pub whole_of : (entry : Entry) → IsWorded entry → IsJoined entry → IsWholeEntry entry
+whole_of (Done actor call r f) words joined = ((words.0, words.1, words.2, effect_of f r words.3 joined.0), (joined.1, joined.2))
+whole_of (Emitted commit) words joined = (words, joined)
+
+-- which replies show a part, or need show none
+
+record Shows (r : Reply) : Type 0 where
+  it : ShowsSome r
+
+shows_if : (b : Bool) (p q : Reply) → Shows p → Shows q → Shows (cond b p q)
+shows_if true p q h k = h
+shows_if false p q h k = k
+
+shows_at : (o : Option Handle) (f : Handle → Reply) → ((d : Handle) → Shows (f d)) → Shows (at_handle o f)
+shows_at None f h = record { it = tt }
+shows_at (Some d) f h = h d
+
+-- what needs no part is shown as it is
+ok : Shows Reply.Ok
+ok = record { it = tt }
+
+no_part : Shows Reply.NoSuchPart
+no_part = record { it = tt }
+
+not_managed : Shows Reply.NotInManaged
+not_managed = record { it = tt }
+
+full : Shows Reply.TooManyHandles
+full = record { it = tt }
+
+exhausted : Shows Reply.Exhausted
+exhausted = record { it = tt }
+
+handle : (h : ℕ) → Shows (Reply.Handle h)
+handle h = record { it = tt }
+
+many : (n : ℕ) → Shows (Reply.TooManyParts n)
+many n = record { it = tt }
+
+lacks : (q : Privilege) → Shows (Reply.Lacks q)
+lacks q = record { it = tt }
+
+unwritten : (out part : Label) → Shows (Reply.CannotWrite out part)
+unwritten out part = record { it = tt }
+
+shows_held : (st : OwnState) (q : Privilege) → Shows (where_held st q Reply.Ok)
+shows_held st q = shows_if _ _ _ ok (lacks q)
+
+shows_unless : (o : Option Privilege) (n : ℕ) → Shows (unless_lacking o (Reply.Unit n))
+shows_unless None n = record { it = tt }
+shows_unless (Some q) n = lacks q
+
+shows_write : (out : Label) (o : Option Spot) → Shows (refused_write out o)
+shows_write out None = ok
+shows_write out (Some d) = unwritten out d.label
+
+shows_sub : (n : ℕ) (b : Bool) → Shows (cond b Reply.TooManySubs (Reply.Sub n))
+shows_sub n true = record { it = tt }
+shows_sub n false = record { it = tt }
+
+shows_subscribed : (u : UnitName) (st : OwnState) → Shows (subscribed u st)
+shows_subscribed u st = shows_if _ _ _ not_managed (shows_sub st.subs _)
+
+-- a read shows what it finds
+shows_read : (parts : List Part) → Shows (cond (is_nil parts) Reply.NoSuchPart (Reply.Parts (shown parts)))
+shows_read [] = no_part
+shows_read (p ∷ ps) = record { it = omega arith }
+
+shows_event : (h sub : ℕ) (b : Bool) → Shows (cond b Reply.TooManyHandles (Reply.Event h sub))
+shows_event h sub true = full
+shows_event h sub false = record { it = tt }
+
+shows_handed : (st : OwnState) (ds : List Given) → Shows (handed st ds)
+shows_handed st [] = record { it = tt }
+shows_handed st (d ∷ ds) = shows_event (least_free st.handles) d.sub (is_full st.handles)
+
+shows_tag : (t : List ℕ) (b : Bool) → Shows (cond b Reply.Exhausted (Reply.Tag t))
+shows_tag t true = exhausted
+shows_tag t false = record { it = tt }
+
+shows_published : (view none : Bool) → Shows (cond view Reply.NotDraft (cond none Reply.EmptyEvent Reply.Ok))
+shows_published true none = record { it = tt }
+shows_published false true = record { it = tt }
+shows_published false false = ok
+
+shows_released : (b : Bool) (out : Label) (o : Option Spot) → Shows (cond b Reply.NotReceived (refused_write out o))
+shows_released true out o = record { it = tt }
+shows_released false out o = shows_write out o
+
+shows_made : (deep many : Bool) (o : Option Privilege) (n : ℕ)
+    → Shows (cond deep Reply.TooDeep (cond many Reply.TooManyUnits (unless_lacking o (Reply.Unit n))))
+shows_made true many o n = record { it = tt }
+shows_made false true o n = record { it = tt }
+shows_made false false o n = shows_unless o n
+
+shows : (u : UnitName) (st : OwnState) (ds : List Given) (call : Call) → Shows (reply u st ds call)
+shows u st ds CreateEvent = shows_if _ _ _ full (shows_if _ _ _ exhausted (handle (least_free st.handles)))
+shows u st ds (AddPart h label name value) = shows_at (handle_at st.handles h) _ (λ d. shows_if _ _ _ (many _) ok)
+shows u st ds (DelPart h label name) = shows_at (handle_at st.handles h) _
+    (λ d. shows_if _ _ _ ok (shows_if _ _ _ no_part (shows_if _ _ _ (unwritten st.output label) ok)))
+shows u st ds (ReadPart h name) = shows_at (handle_at st.handles h) _ (λ d. shows_read (visible_named st.input name d))
+shows u st ds (CloneEvent h label) = shows_at (handle_at st.handles h) _
+    (λ d. shows_if _ _ _ full (shows_if _ _ _ (many _) (shows_if _ _ _ exhausted (handle (least_free st.handles)))))
+shows u st ds (AttachPrivilege h label name p) = shows_at (handle_at st.handles h) _ (λ d. shows_if _ _ _ no_part (shows_held st _))
+shows u st ds (ChangeOutLabel half act tag) = shows_held st _
+shows u st ds CreateTag = shows_if _ _ _ not_managed (shows_tag _ _)
+shows u st ds (DropEvent h) = shows_at (handle_at st.handles h) _ (λ d. ok)
+shows u st ds (Subscribe filter) = shows_subscribed u st
+shows u st ds (SubscribeManaged filter) = shows_subscribed u st
+shows u st ds Get = shows_handed st ds
+shows u st ds (Publish h) = shows_at (handle_at st.handles h) _ (λ d. shows_published d.is_view (is_nil d.drafted))
+shows u st ds (Release h) = shows_at (handle_at st.handles h) _ (λ d. shows_released _ st.output (unwritable st.output d.named))
+shows u st ds (ChangeInOut half act tag) = shows_if _ _ _ not_managed (shows_held st _)
+shows u st ds (Instantiate s privileges) = shows_if _ _ _ not_managed (shows_made _ _ _ st.units)
+
+-- which effects belong to their reply and change something
+
+abbrev Belongs : Effect → Reply → Type 0
+Belongs f r = TellsGiven f r × ChangesSome f
+
+-- the answer to a get, by whether the handles are full
+abbrev told : OwnState → Given → Bool → Reply
+told st d b = cond b Reply.TooManyHandles (Reply.Event (least_free st.handles) d.sub)
+
+belongs_get : (st : OwnState) (ds : List Given) → AreShown ds → Belongs (cond (is_accepted (handed st ds)) (first_given ds) Effect.Nothing) (handed st ds)
+belongs_get st [] h = (tt, tt)
+belongs_get st (d ∷ ds) h = go (is_full st.handles)
+  where
+    r : Bool → Reply
+    r b = cond b Reply.TooManyHandles (Reply.Event (least_free st.handles) d.sub)
+
+    go : (b : Bool) → Belongs (cond (is_accepted (cond b Reply.TooManyHandles (Reply.Event (least_free st.handles) d.sub))) (Effect.Given d) Effect.Nothing)
+        (cond b Reply.TooManyHandles (Reply.Event (least_free st.handles) d.sub))
+    go true = (tt, tt)
+    go false = (refl, h.0)
+
+-- whether an effect is a commit with an edit, or nothing
+abbrev Edits : Effect → Type 0
+Edits Effect.Nothing = ⊤
+Edits (Effect.Commit c) = EditsSome c.edit
+Edits (Effect.Given d) = ⊥
+
+belongs_edit : (f : Effect) (r : Reply) → Edits f → Belongs f r
+belongs_edit Effect.Nothing r h = (tt, tt)
+belongs_edit (Effect.Commit c) r h = (tt, h)
+belongs_edit (Effect.Given d) r h = absurd h
+
+some_relabelled : (out : Label) (p : Part) (ps : List Part) (n : ℕ) → 0 < n + length (relabelled out (p ∷ ps))
+some_relabelled out p ps n = omega arith
+
+edits_publish : (st : OwnState) (o : Option Handle)
+    → Edits (cond (is_accepted (at_handle o (λ d. cond d.is_view Reply.NotDraft (cond (is_nil d.drafted) Reply.EmptyEvent Reply.Ok)))) (published st o)
+    Effect.Nothing)
+edits_publish st None = tt
+edits_publish st (Some d) = go d.is_view d.drafted
+  where
+    go : (b : Bool) (drafted : List Part) → Edits (cond (is_accepted (cond b Reply.NotDraft (cond (is_nil drafted) Reply.EmptyEvent Reply.Ok)))
+        (Effect.Commit (record { event = d.event; edit = ([], relabelled st.output drafted) })) Effect.Nothing)
+    go true drafted = tt
+    go false [] = tt
+    go false (p ∷ ps) = some_relabelled st.output p ps 0
+
+edits_released : (st : OwnState) (d : Handle) → Edits (released st (Some d))
+edits_released st d = go d.named d.drafted
+  where
+    go : (named : List Spot) (drafted : List Part) → Edits (cond (is_nil named && is_nil drafted) Effect.Nothing
+        (Effect.Commit (record { event = d.event; edit = (named, relabelled st.output drafted) })))
+    go [] [] = tt
+    go [] (p ∷ ps) = some_relabelled st.output p ps 0
+    go (spot ∷ spots) drafted = omega arith
+
+edits_if : (b : Bool) (f : Effect) → Edits f → Edits (cond b f Effect.Nothing)
+edits_if true f h = h
+edits_if false f h = tt
+
+edits_release : (st : OwnState) (b : Bool) (o : Option Handle) → Edits (cond b (released st o) Effect.Nothing)
+edits_release st b None = edits_if b Effect.Nothing tt
+edits_release st b (Some d) = edits_if b (released st (Some d)) (edits_released st d)
+
+belongs : (u : UnitName) (st : OwnState) (ds : List Given) (call : Call) → AreShown ds → Belongs (effect u st ds call) (reply u st ds call)
+belongs u st ds CreateEvent h = (tt, tt)
+belongs u st ds (AddPart n label name value) h = (tt, tt)
+belongs u st ds (DelPart n label name) h = (tt, tt)
+belongs u st ds (ReadPart n name) h = (tt, tt)
+belongs u st ds (CloneEvent n label) h = (tt, tt)
+belongs u st ds (AttachPrivilege n label name p) h = (tt, tt)
+belongs u st ds (ChangeOutLabel half act tag) h = (tt, tt)
+belongs u st ds CreateTag h = (tt, tt)
+belongs u st ds (DropEvent n) h = (tt, tt)
+belongs u st ds (Subscribe filter) h = (tt, tt)
+belongs u st ds (SubscribeManaged filter) h = (tt, tt)
+belongs u st ds Get h = belongs_get st ds h
+belongs u st ds (Publish n) h = belongs_edit (effect u st ds (Publish n)) (reply u st ds (Publish n)) (edits_publish st (handle_at st.handles n))
+belongs u st ds (Release n) h = belongs_edit (effect u st ds (Release n)) (reply u st ds (Release n))
+    (edits_release st (is_accepted (reply u st ds (Release n))) (handle_at st.handles n))
+belongs u st ds (ChangeInOut half act tag) h = (tt, tt)
+belongs u st ds (Instantiate s privileges) h = (tt, tt)
+
+-- an entry with the answer of the rows
+
+joined_of : (u : UnitName) (o : Option OwnState) (ds : List Given) (call : Call) → AreShown ds
+    → IsJoined (Done u call (answer_of rows u o ds call).0 (answer_of rows u o ds call).1)
+joined_of u None ds call h = (tt, tt, tt)
+joined_of u (Some st) ds call h =
+    let both = belongs u st (left st ds) call (shown_drop st.given ds h) in
+    (both.0, (shows u st (left st ds) call).it, both.1)
+
+pub answered_joined : (s : List OwnState) (past : List Entry) (u : UnitName) (call : Call) → IsJoined (answered rows s past u call)
+answered_joined s past u call = joined_of u (own rows s past u) (deliveries rows s past u) call (deliveries_shown rows s past u)

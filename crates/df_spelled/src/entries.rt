@@ -1,0 +1,230 @@
+//! Calls, replies, effects and entries have a spelling, as their types give it.
+ghost use Rattle.std.specs.Prelude.{◌≡◌, ◌<◌, ◌^◌, true};
+ghost use Rattle.std.specs.List.{All};
+ghost use Rattle.df_frozen.specs.Name.{is_name};
+ghost use Rattle.df_journal_file.specs.Journal.{IsWholeEntry};
+ghost use Rattle.df_journal_text.specs.Fits.{AreRoots, IsCall, IsCommit, IsPart, IsPartRead, IsReply, IsRoot, IsSpot};
+ghost use Rattle.df_spelled.specs.Spelled.{IsJoined, IsOutput, IsWorded};
+ghost use Rattle.df_value_text.specs.Fits.{IsLabel};
+
+use crate::laws::worded_and_joined_is_whole;
+use crate::names::{
+    event_is_spelled, label_is_spelled, name_is_spelled, number_is_short, privilege_is_spelled,
+    privileges_are_spelled, tag_is_spelled, tag_set_is_spelled, unit_is_spelled,
+};
+use crate::values::{filter_is_spelled, frozen_is_spelled};
+use df_frozen::Name;
+use df_label::Label;
+use df_part::{Part, PartRef, Spot};
+use df_start::{RootStart, Start};
+use df_unit::{Call, Commit, Effect, Entry, PartRead, Reply};
+
+/// A number has 64 bits.
+fn count_is_short(count: u64)
+    ensures { count < 2 ^ 64 }
+{
+    let _ = count;
+}
+
+/// A handle, a label and a name have a spelling.
+fn place_is_spelled(h: u32, label: &Label, name: &Name)
+    ensures handle { h < 2 ^ 32 }
+    ensures label { IsLabel label.now }
+    ensures name { is_name name.now ≡ true }
+{
+    number_is_short(h);
+    label_is_spelled(label);
+    name_is_spelled(name);
+}
+
+/// A call has a spelling.
+fn call_is_spelled(call: &Call)
+    ensures { IsCall call.now }
+{
+    match call {
+        Call::CreateEvent | Call::CreateTag | Call::Get => (),
+        Call::AddPart {
+            h,
+            label,
+            name,
+            value,
+        } => {
+            place_is_spelled(*h, label, name);
+            frozen_is_spelled(value);
+        }
+        Call::DelPart { h, label, name } => place_is_spelled(*h, label, name),
+        Call::ReadPart { h, name } => {
+            number_is_short(*h);
+            name_is_spelled(name);
+        }
+        Call::CloneEvent { h, label } => {
+            number_is_short(*h);
+            label_is_spelled(label);
+        }
+        Call::AttachPrivilege { h, label, name, p } => {
+            place_is_spelled(*h, label, name);
+            privilege_is_spelled(p);
+        }
+        Call::ChangeOutLabel { tag, .. } | Call::ChangeInOut { tag, .. } => tag_is_spelled(tag),
+        Call::DropEvent { h } | Call::Publish { h } | Call::Release { h } => number_is_short(*h),
+        Call::Subscribe { filter } | Call::SubscribeManaged { filter } => filter_is_spelled(filter),
+        Call::Instantiate { s, privileges } => {
+            tag_set_is_spelled(s);
+            privileges_are_spelled(privileges);
+        }
+    }
+}
+
+/// What a read shows of a part has a spelling.
+fn part_read_is_spelled(part: &PartRead)
+    ensures { IsPartRead part.now }
+{
+    label_is_spelled(&part.label);
+    frozen_is_spelled(&part.value);
+    privileges_are_spelled(&part.privileges);
+}
+
+/// What a read shows has a spelling.
+fn part_reads_are_spelled(parts: &[PartRead])
+    ensures { All IsPartRead parts.now }
+{
+    for part in parts {
+        part_read_is_spelled(part);
+    }
+}
+
+/// A reply has a spelling.
+fn reply_is_spelled(reply: &Reply)
+    ensures { IsReply reply.now }
+{
+    match reply {
+        Reply::Handle(h) => number_is_short(*h),
+        Reply::Tag(tag) => tag_is_spelled(tag),
+        Reply::Sub(n) => number_is_short(*n),
+        Reply::Unit(n) => number_is_short(*n),
+        Reply::Event { h, sub } => {
+            number_is_short(*h);
+            number_is_short(*sub);
+        }
+        Reply::Parts(parts) => part_reads_are_spelled(parts.as_slice()),
+        Reply::TooManyParts { wanted } => count_is_short(*wanted),
+        Reply::Lacks(p) => privilege_is_spelled(p),
+        Reply::CannotWrite { out, part } => {
+            label_is_spelled(out);
+            label_is_spelled(part);
+        }
+        _ => (),
+    }
+}
+
+/// A part has a spelling.
+fn part_is_spelled(part: &Part)
+    ensures { IsPart part.now }
+{
+    name_is_spelled(&part.name);
+    label_is_spelled(&part.label);
+    frozen_is_spelled(&part.value);
+    privileges_are_spelled(&part.privileges);
+}
+
+/// Each of these parts has a spelling.
+fn parts_are_spelled(parts: &[PartRef])
+    ensures { All IsPart parts.now }
+{
+    for part in parts {
+        part_is_spelled(part.part());
+    }
+}
+
+/// A spot has a spelling.
+fn spot_is_spelled(spot: &Spot)
+    ensures { IsSpot spot.now }
+{
+    name_is_spelled(&spot.name);
+    label_is_spelled(&spot.label);
+}
+
+/// Each of these spots has a spelling.
+fn spots_are_spelled(spots: &[Spot])
+    ensures { All IsSpot spots.now }
+{
+    for spot in spots {
+        spot_is_spelled(spot);
+    }
+}
+
+/// A commit has a spelling.
+fn commit_is_spelled(commit: &Commit)
+    ensures { IsCommit commit.now }
+{
+    event_is_spelled(&commit.event);
+    spots_are_spelled(commit.edit.deleted());
+    parts_are_spelled(commit.edit.added());
+}
+
+/// An effect has a spelling.
+fn effect_is_spelled(effect: &Effect)
+    ensures { IsOutput effect.now }
+{
+    match effect {
+        Effect::Nothing => (),
+        Effect::Commit(commit) => commit_is_spelled(commit),
+        Effect::Given(given) => {
+            event_is_spelled(&given.event);
+            parts_are_spelled(given.parts.as_slice());
+        }
+    }
+}
+
+/// The words of an entry are literals.
+fn entry_is_worded(entry: &Entry)
+    ensures { IsWorded entry.now }
+{
+    match entry {
+        Entry::Done {
+            actor,
+            call,
+            reply,
+            effect,
+        } => {
+            unit_is_spelled(actor);
+            call_is_spelled(call);
+            reply_is_spelled(reply);
+            effect_is_spelled(effect);
+        }
+        Entry::Emitted(commit) => commit_is_spelled(commit),
+    }
+}
+
+/// An entry has a spelling, where its reply and effect belong together.
+pub fn entry_is_spelled(entry: &Entry)
+    requires { IsJoined entry.now }
+    ensures { IsWholeEntry entry.now }
+{
+    entry_is_worded(entry);
+    worded_and_joined_is_whole();
+}
+
+/// A root has a spelling.
+fn root_is_spelled(root: &RootStart)
+    ensures { IsRoot root.now }
+{
+    label_is_spelled(&root.label);
+    privileges_are_spelled(&root.privileges);
+}
+
+/// Each of these roots has a spelling.
+fn roots_are_spelled(roots: &[RootStart])
+    ensures { All IsRoot roots.now }
+{
+    for root in roots {
+        root_is_spelled(root);
+    }
+}
+
+/// A start has a spelling.
+pub fn start_is_spelled(start: &Start)
+    ensures { AreRoots start.now }
+{
+    roots_are_spelled(start.as_slice());
+}

@@ -1,0 +1,10 @@
+//! That each entry of a machine's journal, and each start, has a spelling.
+#![tactic(auto)]
+
+mod entries;
+mod laws;
+mod names;
+mod values;
+
+pub use entries::{entry_is_spelled, start_is_spelled};
+pub use laws::an_answer_is_joined;
