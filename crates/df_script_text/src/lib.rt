@@ -12,6 +12,7 @@ mod word;
 
 pub use file::read_script;
 pub use laws::{a_script_is_read_back, a_text_is_one_script};
-pub use line::{ReadLine, ScriptLine};
+pub use line::{ReadLine, ScriptLine, read_line};
 pub use reader::ScriptReader;
-pub use root::roots_at;
+pub use root::{read_root, roots_at};
+pub use word::Unread;

@@ -30,7 +30,7 @@ pub struct ReadLine<'a> {
     pub line: ScriptLine,
 }
 
-/// A line, without its line feed.
+/// The call of a line, without its line feed; none where the line isn't one of a call.
 pub fn read_line(alloc: Global, line: &[u8]) -> Result<Option<ScriptLine>, Unread>
     ensures { Tells call_line IsScriptLine IsTooLargeLine line.now result }
 {

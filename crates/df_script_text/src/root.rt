@@ -89,7 +89,7 @@ fn read_words(alloc: Global, number: u32, words: &[&[u8]]) -> Result<Option<Root
 }
 
 /// The line of the root that has this number, without its line feed.
-fn read_root(alloc: Global, number: u32, line: &[u8]) -> Result<Option<RootStart>, NoMemory>
+pub fn read_root(alloc: Global, number: u32, line: &[u8]) -> Result<Option<RootStart>, NoMemory>
     ensures { IfOk result (Reads (root_text number) IsRoot line.now) }
 {
     let words = pieces(alloc, line, b' ')?;
