@@ -4,3 +4,6 @@ pub mod Resting
 pub mod Growing
 pub mod Still
 pub mod Seen
+pub mod HasEntry
+pub mod Others
+pub mod Began

@@ -32,12 +32,15 @@ long (x ∷ xs) = ap suc (long xs)
 there : (core : State) (u : UnitName) → is_some (local_of core u) ≡ true → (st : OwnState) × (own rows (firsts core.0) core.1 u ≡ Some st)
 there core u h = by (own rows (firsts core.0) core.1 u) refl h
   where
-    by : (o : Option OwnState) → own rows (firsts core.0) core.1 u ≡ o → is_some (option_map (λ (st : OwnState). let x : LocalState = record { unit = u; own = st } in x) o) ≡ true → (st : OwnState) × (own rows (firsts core.0) core.1 u ≡ Some st)
+    by : (o : Option OwnState) → own rows (firsts core.0) core.1 u ≡ o
+        → is_some (option_map (λ (st : OwnState). let x : LocalState = record { unit = u; own = st } in x) o) ≡ true
+        → (st : OwnState) × (own rows (firsts core.0) core.1 u ≡ Some st)
     by None e k = absurd (let z : ⊥ = cc in z)
     by (Some st) e k = (st, e)
 
 module _ {B : Type 0} (brain : Brain B) where
-  pub manned_start : (start : List RootStart) (bs : List B) (kept : KeptState (B × Last)) (begun : KeptState B) → length bs ≡ length start → ((u : UnitName) → kept_at u kept ≡ None) →
+  pub manned_start : (start : List RootStart) (bs : List B) (kept : KeptState (B × Last)) (begun : KeptState B) → length bs ≡ length start
+      → ((u : UnitName) → kept_at u kept ≡ None) →
       IsManned brain bs kept begun (start, [])
   manned_start start bs kept begun rooted none = record {
     followed = record { legal = tt; unaided = tt; follows = tt };
@@ -47,12 +50,14 @@ module _ {B : Type 0} (brain : Brain B) where
   }
 
   -- where no brain wants to make a unit, only roots and instances exist
-  plain_root : ((b : B) (l : Last) → is_child_wanted (brain.next b l).0 ≡ false) → (s : List OwnState) (bs : List B) (past : List Entry) → Follows brain rows s bs past → (path : List ℕ) → root_at s path ≡ None →
+  plain_root : ((b : B) (l : Last) → is_child_wanted (brain.next b l).0 ≡ false) → (s : List OwnState) (bs : List B) (past : List Entry)
+      → Follows brain rows s bs past → (path : List ℕ) → root_at s path ≡ None →
       own_plain rows s past path ≡ None
   plain_root law s bs [] follows path h = h
   plain_root law s bs (Emitted c ∷ past) follows path h = ap (λ (x : Option OwnState). option_or x None) (plain_root law s bs past follows.0 path h)
   plain_root law s bs (Done a c r f ∷ past) follows path h =
-      ap (λ (x : Option OwnState). option_or (stepped rows (Root path) (Done a c r f) x) (made_by rows (Done a c r f) path (own_plain rows s past (maker_of path)))) (plain_root law s bs past follows.0 path h)
+      ap (λ (x : Option OwnState). option_or (stepped rows (Root path) (Done a c r f) x)
+      (made_by rows (Done a c r f) path (own_plain rows s past (maker_of path)))) (plain_root law s bs past follows.0 path h)
       ∙ ap (λ (x : Option OwnState). option_or x (made_by rows (Done a c r f) path (own_plain rows s past (maker_of path)))) (nobody (same a (Root path)))
       ∙ makes_none brain law s bs past a c r f follows.1 (same a (Root (maker_of path))) (own_plain rows s past (maker_of path)) (number_of path)
     where
@@ -66,13 +71,15 @@ module _ {B : Type 0} (brain : Brain B) where
   get_both f (x ∷ xs) (b ∷ bs) zero e h = absurd (let z : ⊥ = cc in z)
   get_both f (x ∷ xs) (b ∷ bs) (suc k) e h = get_both f xs bs k (let z : length bs ≡ length xs = omega arith in z) h
 
-module _ {B : Type 0} (brain : Brain B) (law : (b : B) (l : Last) → is_child_wanted (brain.next b l).0 ≡ false) (bs : List B) (kept : KeptState (B × Last)) (begun : KeptState B) (core : State)
+module _ {B : Type 0} (brain : Brain B) (law : (b : B) (l : Last) → is_child_wanted (brain.next b l).0 ≡ false) (bs : List B) (kept : KeptState (B × Last))
+    (begun : KeptState B) (core : State)
     (manned : IsManned brain bs kept begun core) where
   -- a plain unit that exists has a brain
   root_there : (o : List ℕ) (st : OwnState) → own_plain rows (firsts core.0) core.1 o ≡ Some st → (x : B) × (root_began bs o ≡ Some x)
   root_there o st h = by o (plain_root brain law (firsts core.0) bs core.1 manned.followed.follows o) h
     where
-      by : (o : List ℕ) → (root_at (firsts core.0) o ≡ None → own_plain rows (firsts core.0) core.1 o ≡ None) → own_plain rows (firsts core.0) core.1 o ≡ Some st → (x : B) × (root_began bs o ≡ Some x)
+      by : (o : List ℕ) → (root_at (firsts core.0) o ≡ None → own_plain rows (firsts core.0) core.1 o ≡ None)
+          → own_plain rows (firsts core.0) core.1 o ≡ Some st → (x : B) × (root_began bs o ≡ Some x)
       by [] none k = let y = none refl in absurd (let z : ⊥ = cc in z)
       by (n ∷ m ∷ path) none k = let y = none refl in absurd (let z : ⊥ = cc in z)
       by (n ∷ []) none k = go (slice_get bs n) refl
@@ -81,7 +88,8 @@ module _ {B : Type 0} (brain : Brain B) (law : (b : B) (l : Last) → is_child_w
           go (Some y) e = (y, e)
           go None e =
               let length_is : length bs ≡ length (map Rattle.df_start.specs.Begun.begun core.0) = manned.rooted ∙ sym (long core.0) in
-              let y = none (get_both brain Rattle.df_rules.specs.Start.root_of (map Rattle.df_start.specs.Begun.begun core.0) bs n length_is e) in absurd (let z : ⊥ = cc in z)
+              let y = none (get_both brain Rattle.df_rules.specs.Start.root_of (map Rattle.df_start.specs.Begun.begun core.0) bs n length_is e) in absurd
+              (let z : ⊥ = cc in z)
 
   -- the brain of an instance that exists began as is kept
   pub seed_began : (o : List ℕ) (n : ℕ) (t : List (List ℕ)) → is_some (local_of core (Managed o n t)) ≡ true →
@@ -102,7 +110,9 @@ module _ {B : Type 0} (brain : Brain B) (law : (b : B) (l : Last) → is_child_w
       let fx = recorded (firsts core.0) core.1 o n t st.0 st.1 in
       let owner = fixed_counted (firsts core.0) core.1 manned.followed.legal o n fx.0 fx.1 in
       let x = root_there o owner.0 owner.1 in
-      ap (λ (y : Option B). is_some (option_map (λ x. brain.instance (wanted brain x (replies_of (Root o) (Rattle.df_rules.specs.Exercised.before_fixed rows (firsts core.0) core.1 o n))).1 n) y)) x.1
+      ap (λ (y : Option B). is_some
+      (option_map (λ x. brain.instance
+      (wanted brain x (replies_of (Root o) (Rattle.df_rules.specs.Exercised.before_fixed rows (firsts core.0) core.1 o n))).1 n) y)) x.1
 
 module _ {B : Type 0} (brain : Brain B) (bs : List B) (kept : KeptState (B × Last)) (begun : KeptState B) (core : State)
     (manned : IsManned brain bs kept begun core) (u : UnitName) where
@@ -124,9 +134,11 @@ some_of (Some b) x e h = refl
 some_of None x e h = absurd (let z : ⊥ = (let y = ap is_some e in cc) in z)
 
 -- who exists has a brain, where it is looked for
-pub found_there : {B : Type 0} (brain : Brain B) → ((b : B) (l : Last) → is_child_wanted (brain.next b l).0 ≡ false) → (bs : List B) (kept : KeptState (B × Last)) (begun : KeptState B) (core : State) → IsManned brain bs kept begun core →
+pub found_there : {B : Type 0} (brain : Brain B) → ((b : B) (l : Last) → is_child_wanted (brain.next b l).0 ≡ false)
+    → (bs : List B) (kept : KeptState (B × Last)) (begun : KeptState B) (core : State) → IsManned brain bs kept begun core →
     (u : UnitName) → is_some (local_of core u) ≡ true → (o : Option (Bor B)) → option_copied o ≡ began_with brain rows (firsts core.0) bs core.1 u → IsSome o
-found_there brain law bs kept begun core manned u h o e = some_of o (began_with brain rows (firsts core.0) bs core.1 u) e (begun_there brain law bs kept begun core manned u h)
+found_there brain law bs kept begun core manned u h o e = some_of o (began_with brain rows (firsts core.0) bs core.1 u) e
+    (begun_there brain law bs kept begun core manned u h)
 
 -- a turn has room for a local call
 most_some : (n : ℕ) × (most_local ≡ suc n)
@@ -134,19 +146,24 @@ unfolding most_local
 most_some = (1_023, refl)
 
 -- a unit that waits, with no delivery left, does nothing
-pub still_waiting : {B : Type 0} (brain : Brain B) (crew : CrewState B) (u : UnitName) (m : B × Last) → mind_in brain crew.brains crew.core u ≡ Some m → (brain.next m.0 m.1).0 ≡ Wait →
+pub still_waiting : {B : Type 0} (brain : Brain B) (crew : CrewState B) (u : UnitName) (m : B × Last) → mind_in brain crew.brains crew.core u ≡ Some m
+    → (brain.next m.0 m.1).0 ≡ Wait →
     has_delivery_in crew.core u ≡ false → turned brain u crew ≡ crew
 still_waiting brain crew u m mind waits none =
     ap (λ (n : ℕ). record crew { core = turn_of brain crew.brains n u crew.core }) most_some.1
-    ∙ ap (λ (w : Option Want). record crew { core = cond (is_local_want w) (turn_of brain crew.brains most_some.0 u (asked_by crew.core u w)) (asked_by crew.core u w) })
+    ∙ ap (λ (w : Option Want). record crew
+    { core = cond (is_local_want w) (turn_of brain crew.brains most_some.0 u (asked_by crew.core u w)) (asked_by crew.core u w) })
     (ap (want_by brain (own rows (firsts crew.core.0) crew.core.1 u)) mind)
     ∙ by (own rows (firsts crew.core.0) crew.core.1 u)
   where
     none_asked : cond (has_delivery_in crew.core u) (Rattle.df_machine.specs.Journal.appended u Rattle.df_unit.specs.declared.call.Call.TheVariants.Get crew.core) crew.core ≡ crew.core
-    none_asked = ap (λ (b : Bool). cond b (Rattle.df_machine.specs.Journal.appended u Rattle.df_unit.specs.declared.call.Call.TheVariants.Get crew.core) crew.core) none
+    none_asked = ap (λ (b : Bool). cond b (Rattle.df_machine.specs.Journal.appended u Rattle.df_unit.specs.declared.call.Call.TheVariants.Get crew.core)
+        crew.core) none
 
     by : (o : Option OwnState) → (let w : Option Want = want_by brain o (Some m) in
         record crew { core = cond (is_local_want w) (turn_of brain crew.brains most_some.0 u (asked_by crew.core u w)) (asked_by crew.core u w) }) ≡ crew
     by None = refl
-    by (Some st) = ap (λ (w : Want). record crew { core = cond (is_local_want (Some w)) (turn_of brain crew.brains most_some.0 u (asked_by crew.core u (Some w))) (asked_by crew.core u (Some w)) }) waits
+    by (Some st) = ap (λ (w : Want). record crew
+        { core = cond (is_local_want (Some w)) (turn_of brain crew.brains most_some.0 u (asked_by crew.core u (Some w))) (asked_by crew.core u (Some w)) })
+        waits
         ∙ ap (λ (k : State). record crew { core = k }) none_asked

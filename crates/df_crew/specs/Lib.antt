@@ -3,3 +3,4 @@ pub mod Booking
 pub mod Growing
 pub mod Resting
 pub mod Seen
+pub mod Since

@@ -9,12 +9,14 @@ ghost use Rattle.df_crew.specs.Booking.{IsRefused, IsUntold};
 ghost use Rattle.df_crew.specs.Growing.{IsMore};
 ghost use Rattle.df_booking.specs.CrewState.{mind_in};
 ghost use Rattle.df_crew.specs.Resting.{IsResting};
+ghost use Rattle.df_crew.specs.Since.{WasCurrent};
 ghost use Rattle.df_booking.specs.Turns.{turned};
 ghost use Rattle.df_unit.specs.Rows.{is_instance};
 ghost use Rattle.df_unit.specs.declared.name.UnitName.{UnitName};
 ghost use Rattle.df_rules.specs.Start.{rows};
 
 use crate::roster::units;
+use crate::since::has_entry;
 use df_booking::{book_kept, seed_name};
 use df_brain::{Brain, Last};
 use df_kept::Kept;
@@ -277,6 +279,21 @@ impl<B: Brain> Crew<B> {
                 cause: BookCause::Stale,
             });
         }
+        self.book_there(turn)
+    }
+
+    /// Books a turn whose unit and brain are as the turn began.
+    #[tactic(auto, using(crate::proofs::Growing::more_refl))]
+    fn book_there(&mut self, turn: Turn<B>) -> Result<u64, NotTurned<B>>
+        requires { IsCurrent (brain_of B.next B.instance) turn self.old }
+        ensures ok { OnOk result (self.new
+            ≡ booked (brain_of B.next B.instance) turn self.old) }
+        ensures more { IsMore self.old self.new }
+        ensures count { IfOk result (λ n. length self.new.core.1 ≡ n + length self.old.core.1) }
+        ensures short { IfErr result (λ e. e.cause ≡ BookCause.NoMemory) }
+        ensures unchanged { OnErr result (self.new ≡ self.old) }
+        ensures back { IfErr result (λ e. e.turn ≡ turn) }
+    {
         match self.book_current(turn) {
             Ok(count) => Ok(count),
             Err(turn) => Err(NotTurned {
@@ -284,6 +301,29 @@ impl<B: Brain> Crew<B> {
                 cause: BookCause::NoMemory,
             }),
         }
+    }
+
+    /// Books a turn as `book` does, where it is known that the turn began when the journal had
+    /// `count` entries. The unit and its brain are compared only where the unit made one of the
+    /// entries behind these.
+    #[tactic(auto, using(crate::proofs::Growing::more_refl))]
+    pub fn book_since(&mut self, turn: Turn<B>, count: u64) -> Result<u64, NotTurned<B>>
+        requires { WasCurrent (brain_of B.next B.instance) turn count self.old }
+        ensures ok { OnOk result (self.new
+            ≡ booked (brain_of B.next B.instance) turn self.old) }
+        ensures more { IsMore self.old self.new }
+        ensures count { IfOk result (λ n. length self.new.core.1 ≡ n + length self.old.core.1) }
+        ensures current { OnOk result (IsCurrent (brain_of B.next B.instance) turn self.old) }
+        ensures refused { IfErr result (λ e.
+            IsRefused e.cause (brain_of B.next B.instance) turn self.old) }
+        ensures unchanged { OnErr result (self.new ≡ self.old) }
+        ensures back { IfErr result (λ e. e.turn ≡ turn) }
+    {
+        let behind = &self.core.journal()[count as usize..];
+        if has_entry(turn.unit().name(), behind) {
+            return self.book(turn);
+        }
+        self.book_there(turn)
     }
 
     /// Whether it is known that a unit waits, and no delivery is left to it. Takes no memory, and

@@ -5,6 +5,7 @@ mod crew;
 mod journaled;
 mod origin;
 mod roster;
+mod since;
 
 pub use crew::{BeginRefused, BookCause, Crew, NotTurned};
 pub use origin::Origin;

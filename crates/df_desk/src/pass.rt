@@ -70,4 +70,11 @@ impl<V: Journaled> Pass<V> {
     {
         self.holds
     }
+
+    /// How many entries the list has that the pass has seen.
+    pub fn count(&self) -> u64
+        ensures { result ≡ length self.now.seen }
+    {
+        self.seen
+    }
 }

@@ -36,6 +36,11 @@ module _ {B : Type 0} (brain : Brain B) (origin : Origin B) where
     pub current : IsCurrent brain t (crew_at origin found)
     pub journal : seen ≡ seen_of (booked brain t (crew_at origin found))
 
+  -- the turn began in this journal, which has so many entries
+  pub record BeganThere (t : TurnState B) (count : ℕ) (seen : List Entry) : Type 0 where
+    pub current : IsCurrent brain t (crew_at origin seen)
+    pub counted : length seen ≡ count
+
 -- so many entries were appended to what was found, and there are then so many
 pub record IsCounted (found seen : List Entry) (appended entries : ℕ) : Type 0 where
   pub grown : length seen ≡ appended + length found

@@ -1,6 +1,6 @@
 //! A crew on a desk.
 
-ghost use Rattle.std.specs.Prelude.{◌≡◌, ◌↔◌, Err, IfErr, IfOk, IsOk, None, OnErr, OnOk, length};
+ghost use Rattle.std.specs.Prelude.{◌≡◌, ◌↔◌, ◌+◌, Err, IfErr, IfOk, IfSome, IsOk, None, OnErr, OnOk, length};
 ghost use mathlib.Core.List.{IsPrefix};
 ghost use Rattle.df_booking.specs.Booked.{IsCurrent, booked};
 ghost use Rattle.df_booking.specs.Manned.{IsFollowed};
@@ -8,9 +8,10 @@ ghost use Rattle.df_crew.specs.Booking.{IsRefused};
 ghost use Rattle.df_crew.specs.Growing.{IsMore};
 ghost use Rattle.df_crew.specs.Locally.{IsBegun};
 ghost use Rattle.df_crew.specs.Seen.{core_at, crew_at, origin_of, seen_of};
+ghost use Rattle.df_crew.specs.Since.{WasCurrent};
 ghost use Rattle.df_crew.specs.declared.crew.BeginRefused.TheVariants.{NoSuchUnit};
 ghost use Rattle.df_desk.specs.Pass.{Holds, IsFree, IsNew, longer_list, one_more};
-ghost use Rattle.df_hub.specs.Steps.{IsBooked, IsCounted, IsJournal, Looks, TakesOnce};
+ghost use Rattle.df_hub.specs.Steps.{BeganThere, IsBooked, IsCounted, IsJournal, Looks, TakesOnce};
 ghost use Rattle.df_machine.specs.Journal.{IsRoll, local_of};
 ghost use Rattle.df_rules.specs.Follows.{brain_of};
 ghost use Rattle.df_unit.specs.declared.name.UnitName.{UnitName};
@@ -91,13 +92,40 @@ fn answer<B: Brain>(crew: &Crew<B>, unit: Result<UnitName, NoMemory>, appended: 
     }
 }
 
-/// Books a turn of a unit, and begins its next one.
+/// Books a turn, which began when the journal had so many entries, where that is known.
+fn book_turn<B: Brain>(
+    crew: &mut Crew<B>,
+    turn: Turn<B>,
+    since: Option<u64>,
+) -> Result<u64, NotTurned<B>>
+    requires { IfSome since (λ count.
+        WasCurrent (brain_of B.next B.instance) turn count crew.old) }
+    ensures booked { OnOk result (crew.new ≡ booked (brain_of B.next B.instance) turn crew.old) }
+    ensures more { IsMore crew.old crew.new }
+    ensures count { IfOk result (λ n. length crew.new.core.1 ≡ n + length crew.old.core.1) }
+    ensures current { OnOk result (IsCurrent (brain_of B.next B.instance) turn crew.old) }
+    ensures refused { IfErr result (λ e.
+        IsRefused e.cause (brain_of B.next B.instance) turn crew.old) }
+    ensures unchanged { OnErr result (crew.new ≡ crew.old) }
+    ensures back { IfErr result (λ e. e.turn ≡ turn) }
+{
+    match since {
+        Some(count) => crew.book_since(turn, count),
+        None => crew.book(turn),
+    }
+}
+
+/// Books a turn of a unit, which began when the journal had so many entries, where that is known,
+/// and begins its next one.
 fn book<B: Brain>(
     crew: &mut Crew<B>,
     unit: Result<UnitName, NoMemory>,
     turn: Turn<B>,
+    since: Option<u64>,
 ) -> Result<Stepped<B>, NotTurned<B>>
-    requires { IfOk unit (λ name. name ≡ turn.unit.unit) }
+    requires unit { IfOk unit (λ name. name ≡ turn.unit.unit) }
+    requires since { IfSome since (λ count.
+        WasCurrent (brain_of B.next B.instance) turn count crew.old) }
     ensures more { IsMore crew.old crew.new }
     ensures current { OnOk result (IsCurrent (brain_of B.next B.instance) turn crew.old) }
     ensures booked { OnOk result (crew.new ≡ booked (brain_of B.next B.instance) turn crew.old) }
@@ -110,7 +138,7 @@ fn book<B: Brain>(
     ensures unchanged { OnErr result (crew.new ≡ crew.old) }
     ensures back { IfErr result (λ e. e.turn ≡ turn) }
 {
-    match crew.book(turn) {
+    match book_turn(crew, turn, since) {
         Ok(appended) => Ok(answer(crew, unit, appended)),
         Err(refused) => Err(refused),
     }
@@ -207,9 +235,65 @@ impl<B: Brain> Hub<B> {
         ensures unchanged { OnErr result (pass.new.seen ≡ pass.new.found) }
         ensures back { IfErr result (λ e. e.turn ≡ turn) }
     {
+        self.step_since(rt, pass, turn, None)
+    }
+
+    /// Books a turn as `step` does, where it began in the journal that the pass has seen. The unit
+    /// and its brain are compared only where the unit has made an entry since.
+    pub fn step_seen<R: Wait>(
+        &self,
+        rt: &R,
+        pass: &mut Pass<Crew<B>>,
+        turn: Turn<B>,
+    ) -> Result<Stepped<B>, NotTurned<B>>
+        requires pass { IsFree self.now pass.old }
+        requires turn { IsCurrent (brain_of B.next B.instance) turn
+            (crew_at self.now.origin pass.old.seen) }
+        ensures takes { TakesOnce self.now pass.old pass.new }
+        ensures journal { IsJournal (brain_of B.next B.instance) self.now.origin pass.new.seen }
+        ensures booked { OnOk result (IsBooked (brain_of B.next B.instance) self.now.origin turn
+            pass.new.found pass.new.seen) }
+        ensures counted { IfOk result (λ s.
+            IsCounted pass.new.found pass.new.seen s.appended s.entries) }
+        ensures anew { IfOk result (λ s. IfOk s.turn (λ t. IsBegun (brain_of B.next B.instance)
+            self.now.origin.brains (core_at self.now.origin pass.new.seen) turn.unit.unit t)) }
+        ensures refused { IfErr result (λ e. IsRefused e.cause (brain_of B.next B.instance) turn
+            (crew_at self.now.origin pass.new.found)) }
+        ensures unchanged { OnErr result (pass.new.seen ≡ pass.new.found) }
+        ensures back { IfErr result (λ e. e.turn ≡ turn) }
+    {
+        let count = pass.count();
+        self.step_since(rt, pass, turn, Some(count))
+    }
+
+    /// Books a turn, which began in the journal that the pass has seen, where the length of that
+    /// is told.
+    fn step_since<R: Wait>(
+        &self,
+        rt: &R,
+        pass: &mut Pass<Crew<B>>,
+        turn: Turn<B>,
+        since: Option<u64>,
+    ) -> Result<Stepped<B>, NotTurned<B>>
+        requires pass { IsFree self.now pass.old }
+        requires since { IfSome since (λ count. BeganThere (brain_of B.next B.instance)
+            self.now.origin turn count pass.old.seen) }
+        ensures takes { TakesOnce self.now pass.old pass.new }
+        ensures journal { IsJournal (brain_of B.next B.instance) self.now.origin pass.new.seen }
+        ensures booked { OnOk result (IsBooked (brain_of B.next B.instance) self.now.origin turn
+            pass.new.found pass.new.seen) }
+        ensures counted { IfOk result (λ s.
+            IsCounted pass.new.found pass.new.seen s.appended s.entries) }
+        ensures anew { IfOk result (λ s. IfOk s.turn (λ t. IsBegun (brain_of B.next B.instance)
+            self.now.origin.brains (core_at self.now.origin pass.new.seen) turn.unit.unit t)) }
+        ensures refused { IfErr result (λ e. IsRefused e.cause (brain_of B.next B.instance) turn
+            (crew_at self.now.origin pass.new.found)) }
+        ensures unchanged { OnErr result (pass.new.seen ≡ pass.new.found) }
+        ensures back { IfErr result (λ e. e.turn ≡ turn) }
+    {
         let unit = turn.unit().name().copy();
         let mut crew = self.take(rt, pass);
-        let stepped = book(&mut crew, unit, turn);
+        let stepped = book(&mut crew, unit, turn, since);
         follow(&crew);
         self.give(pass, crew);
         stepped

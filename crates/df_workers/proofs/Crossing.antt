@@ -20,9 +20,11 @@ use Rattle.df_unit.specs.contracts.entry.Entry as Entry
 use Rattle.df_workers.specs.contracts.worker.Share as Share
 use Rattle.df_workers.specs.contracts.worker.Worker as Worker
 
-pub worker_send : (B : RattleType) (brain : Brain.Ghosts B.Denot) (steps : StepFunction.Ghosts B.Denot) → IsSend B → IsSync B → IsSend (Worker.the_row B brain steps)
+pub worker_send : (B : RattleType) (brain : Brain.Ghosts B.Denot) (steps : StepFunction.Ghosts B.Denot) → IsSend B → IsSync B
+    → IsSend (Worker.the_row B brain steps)
 worker_send B brain steps sent seen = record_send (Worker.the_type B brain steps) (
-  pass_send (Crew.the_row B steps) (crew_send B steps sent seen) (Origin.the_row B) Entry.the_row (crew.ghosts B brain crew.no_dict steps crew.no_dict crew.no_dict),
+  pass_send (Crew.the_row B steps) (crew_send B steps sent seen) (Origin.the_row B) Entry.the_row
+      (crew.ghosts B brain crew.no_dict steps crew.no_dict crew.no_dict),
   (search sendable depth 40, tt),
 )
 
@@ -32,13 +34,17 @@ share_sync ℓ = record_sync (Share.the_type ℓ) (search (unit_name_sync, senda
 -- the runtime, the hub, the gate, the share and the limit
 module _ (R H G : RattleType) (κ₁ κ₂ κ₃ κ₄ κ₅ κ₆ : Lft) where
   abbrev kinds : List RattleType
-  kinds = ShrRef static κ₁ R ∷ ShrRef static κ₂ H ∷ ShrRef static κ₃ G ∷ ShrRef static κ₄ (Share.the_row (record { mir = static; lft = κ₅ })) ∷ ShrRef static κ₆ u64-field.row ∷ []
+  kinds = ShrRef static κ₁ R ∷ ShrRef static κ₂ H ∷ ShrRef static κ₃ G ∷ ShrRef static κ₄ (Share.the_row (record { mir = static; lft = κ₅ })) ∷ ShrRef static
+      κ₆ u64-field.row ∷ []
 
   pub tools_sync : IsSync R → IsSync H → IsSync G → IsSync (TupleAt [] kinds)
   tools_sync rt hub gate = record_sync (type_at [] kinds) (
     shr_sync static κ₁ R rt,
     (
       shr_sync static κ₂ H hub,
-      (shr_sync static κ₃ G gate, (shr_sync static κ₄ _ (share_sync (record { mir = static; lft = κ₅ })), (shr_sync static κ₆ u64-field.row (search sendable depth 20), tt))),
+      (
+        shr_sync static κ₃ G gate,
+        (shr_sync static κ₄ _ (share_sync (record { mir = static; lft = κ₅ })), (shr_sync static κ₆ u64-field.row (search sendable depth 20), tt)),
+      ),
     ),
   )

@@ -80,7 +80,8 @@ module _ {B : Type 0} where
   some_at (w ∷ ws) (suc k) h = some_at ws k (let z : k < length ws = omega arith in z)
 
 -- so many workers are left, and those behind them were joined
-pub record IsGathering {B : Type 0} (desk : DeskId (Origin B)) (before : List Entry) (all left : List (Worker B)) (pass : PassState (Origin B) Entry) (came : Came) : Type 0 where
+pub record IsGathering {B : Type 0} (desk : DeskId (Origin B)) (before : List Entry) (all left : List (Worker B)) (pass : PassState (Origin B) Entry)
+    (came : Came) : Type 0 where
   pub free : IsFree desk pass
   pub frees : Each (λ w. IsFree desk w.pass) left
   pub begins : IsPrefix before pass.seen
@@ -90,7 +91,8 @@ pub record IsGathering {B : Type 0} (desk : DeskId (Origin B)) (before : List En
   pub came_is : CameOf taken came
 
 module _ {B : Type 0} (desk : DeskId (Origin B)) (before : List Entry) (all : List (Worker B)) where
-  pub gathering_first : (pass : PassState (Origin B) Entry) → IsFree desk pass → Each (λ w. IsFree desk w.pass) all → before ≡ pass.seen → IsGathering desk before all all pass Still
+  pub gathering_first : (pass : PassState (Origin B) Entry) → IsFree desk pass → Each (λ w. IsFree desk w.pass) all → before ≡ pass.seen
+      → IsGathering desk before all all pass Still
   gathering_first pass free frees is = record {
     free = free;
     frees = frees;
@@ -102,11 +104,13 @@ module _ {B : Type 0} (desk : DeskId (Origin B)) (before : List Entry) (all : Li
   }
 
   -- the last of those that are left has a pass of the desk
-  pub gathering_last : (left rest : List (Worker B)) (w : Worker B) (pass : PassState (Origin B) Entry) (came : Came) → IsGathering desk before all left pass came → left ≡ rest ++ w ∷ [] → IsFree desk w.pass
+  pub gathering_last : (left rest : List (Worker B)) (w : Worker B) (pass : PassState (Origin B) Entry) (came : Came)
+      → IsGathering desk before all left pass came → left ≡ rest ++ w ∷ [] → IsFree desk w.pass
   gathering_last left rest w pass came g is = g.frees (length rest) w (ap (λ (ws : List (Worker B)). slice_get ws (length rest)) is ∙ get_last rest w)
 
   -- it is joined
-  pub gathering_next : (left rest : List (Worker B)) (w : Worker B) (pass later : PassState (Origin B) Entry) (came : Came) → IsGathering desk before all left pass came → left ≡ rest ++ w ∷ [] →
+  pub gathering_next : (left rest : List (Worker B)) (w : Worker B) (pass later : PassState (Origin B) Entry) (came : Came)
+      → IsGathering desk before all left pass came → left ≡ rest ++ w ∷ [] →
       IsFree desk later → IsPrefix pass.seen later.seen → IsPrefix w.pass.seen later.seen → IsGathering desk before all rest later (came_then came w.came)
   gathering_next left rest w pass later came g is free longer own = record {
     free = free;
@@ -115,7 +119,8 @@ module _ {B : Type 0} (desk : DeskId (Origin B)) (before : List Entry) (all : Li
     taken = w ∷ g.taken;
     all_is = g.all_is ∙ ap (λ (ws : List (Worker B)). ws ++ g.taken) is ∙ append_assoc rest (w ∷ []) g.taken;
     each = each_more (λ v. IsPrefix v.pass.seen later.seen) w g.taken own
-        (each_map (λ v. IsPrefix v.pass.seen pass.seen) (λ v. IsPrefix v.pass.seen later.seen) g.taken (λ v p. prefix_trans v.pass.seen pass.seen later.seen p longer) g.each);
+        (each_map (λ v. IsPrefix v.pass.seen pass.seen) (λ v. IsPrefix v.pass.seen later.seen) g.taken
+        (λ v p. prefix_trans v.pass.seen pass.seen later.seen p longer) g.each);
     came_is = came_more w g.taken came g.came_is;
   }
 
@@ -130,7 +135,8 @@ module _ {B : Type 0} (desk : DeskId (Origin B)) (before : List Entry) (all : Li
     gathered_came = subst (λ (ws : List (Worker B)). CameOf ws came) all_taken g.came_is
 
 -- who exists goes on to exist
-pub exists_longer : (s : List OwnState) (a b : List Entry) → IsPrefix a b → (u : UnitName) → exists rows s (reverse a) u ≡ true → exists rows s (reverse b) u ≡ true
+pub exists_longer : (s : List OwnState) (a b : List Entry) → IsPrefix a b → (u : UnitName) → exists rows s (reverse a) u ≡ true
+    → exists rows s (reverse b) u ≡ true
 exists_longer s a b p u h = by (own rows s (reverse a) u) refl h
   where
     longer : reverse b ≡ reverse p.0 ++ reverse a
@@ -158,25 +164,29 @@ get_below (y ∷ ys) (suc k) x h = let r = get_below ys k x h in omega (arith, r
 module _ {B : Type 0} (brain : Brain B) (desk : DeskId (Origin B)) (max workers : ℕ) (units : List UnitName) (olds news : List (Worker B)) where
   -- at each place, what a worker was before its work and is behind it
   pub have_worked : length news ≡ length olds → ((k : ℕ) (d : Worker B) → k < length olds →
-      (a : Worker B) × (b : Worker B) × (a ≡ slice_index_or olds k d) × (b ≡ slice_index_or news k d) × HasWorked brain desk max workers units k a b) → HaveWorked brain desk max workers units olds news
+      (a : Worker B) × (b : Worker B) × (a ≡ slice_index_or olds k d) × (b ≡ slice_index_or news k d) × HasWorked brain desk max workers units k a b)
+      → HaveWorked brain desk max workers units olds news
   have_worked count each = record {
     count = count;
     each = λ k old new before after.
         let at = each k new (get_below olds k old before) in
         let from = at.2 ∙ get_or_from_slice_get olds k old new before in
         let to = at.3 ∙ get_or_from_slice_get news k new new after in
-        subst (λ (w : Worker B). HasWorked brain desk max workers units k w new) from (subst (λ (w : Worker B). HasWorked brain desk max workers units k at.0 w) to at.4);
+        subst (λ (w : Worker B). HasWorked brain desk max workers units k w new) from
+        (subst (λ (w : Worker B). HasWorked brain desk max workers units k at.0 w) to at.4);
   }
 
 -- a round: the workers that were hired, and what they came to
-pub record IsRound {B : Type 0} (brain : Brain B) (desk : DeskId (Origin B)) (max workers : ℕ) (units : List UnitName) (seen : List Entry) (olds news : List (Worker B)) : Type 0 where
+pub record IsRound {B : Type 0} (brain : Brain B) (desk : DeskId (Origin B)) (max workers : ℕ) (units : List UnitName) (seen : List Entry)
+    (olds news : List (Worker B)) : Type 0 where
   pub some : 0 < workers
   pub length_is : length news ≡ workers
   pub worked : (k : ℕ) (w : Worker B) → slice_get news k ≡ Some w → (old : Worker B) × (old.pass.seen ≡ seen) × HasWorked brain desk max workers units k old w
 
 -- the workers that were hired have worked
 pub round_made : {B : Type 0} (brain : Brain B) (desk : DeskId (Origin B)) (max workers : ℕ) (units : List UnitName) (seen : List Entry) (olds news : List (Worker B)) →
-    HaveWorked brain desk max workers units olds news → 0 < workers → length olds ≡ workers → All (IsHired desk seen) olds → IsRound brain desk max workers units seen olds news
+    HaveWorked brain desk max workers units olds news → 0 < workers → length olds ≡ workers → All (IsHired desk seen) olds → IsRound brain desk max workers
+    units seen olds news
 round_made brain desk max workers units seen olds news have some count hired = record {
   some = some;
   length_is = have.count ∙ count;
@@ -201,7 +211,8 @@ module _ {B : Type 0} (brain : Brain B) (desk : DeskId (Origin B)) (max workers 
       let number = spot.0 % workers in
       let w = some_at news number (let n = r.length_is in let s = r.some in let z : number < length news = omega (arith, n, s) in z) in
       let own = r.worked number w.0 w.1 in
-      let served = unless_is {P = AreServedOf brain desk.origin workers number units own.0.pass.seen w.0.pass.seen} w.0.came (going number w.0 w.1) own.2.served spot.0 u spot.1 refl in
+      let served = unless_is {P = AreServedOf brain desk.origin workers number units own.0.pass.seen w.0.pass.seen} w.0.came (going number w.0 w.1)
+      own.2.served spot.0 u spot.1 refl in
       served_behind brain desk.origin u seen w.0.pass.seen after
       (subst (λ (es : List Entry). IsServed brain desk.origin u es w.0.pass.seen) own.1 served) (each number w.0 w.1)
 
@@ -227,40 +238,49 @@ written_whole (x ∷ xs) (y ∷ ys) zero e h = absurd (let z : ⊥ = omega (arit
 written_whole (x ∷ xs) (y ∷ ys) (suc n) e h = ap (λ (zs : List _). x ∷ zs) (written_whole xs ys n (omega (arith, e)) (omega (arith, h)))
 
 -- a round whose workers have come back: as they were hired, as they worked, and as they lie there
-pub record IsHeld {B : Type 0} (brain : Brain B) (desk : DeskId (Origin B)) (max workers : ℕ) (units : List UnitName) (seen : List Entry) (olds news all : List (Worker B)) : Type 0 where
+pub record IsHeld {B : Type 0} (brain : Brain B) (desk : DeskId (Origin B)) (max workers : ℕ) (units : List UnitName) (seen : List Entry)
+    (olds news all : List (Worker B)) : Type 0 where
   pub round : IsRound brain desk max workers units seen olds news
   pub roll : IsRoll (core_at desk.origin seen) units
   pub all_is : all ≡ news
 
-module _ {B : Type 0} (brain : Brain B) (desk : DeskId (Origin B)) (max workers : ℕ) (units : List UnitName) (seen : List Entry) (olds news : List (Worker B)) where
-  pub held : (names : List UnitName) (kept : List (Worker B)) (len : ℕ) → HaveWorked brain desk max workers units olds news → 0 < workers → olds ≡ kept → length kept ≡ len → len ≡ workers →
-      All (IsHired desk seen) kept → units ≡ names → IsRoll (core_at desk.origin seen) names →
-      IsHeld brain desk max workers units seen olds news (take len (news ++ drop (length news) kept))
-  held names kept len have some same whole count hired read roll = record {
-    round = round_made brain desk max workers units seen olds news have some (ap (λ (ws : List (Worker B)). length ws) same ∙ whole ∙ count) (subst (All (IsHired desk seen)) (sym same) hired);
-    roll = subst (IsRoll (core_at desk.origin seen)) (sym read) roll;
-    all_is = written_whole news kept len (have.count ∙ ap (λ (ws : List (Worker B)). length ws) same) whole;
-  }
+module _ {B : Type 0} (brain : Brain B) (desk : DeskId (Origin B)) (max workers : ℕ) (units : List UnitName) (seen : List Entry) (olds news : List (Worker B))
+  where
+    pub held : (names : List UnitName) (kept : List (Worker B)) (len : ℕ) → HaveWorked brain desk max workers units olds news → 0 < workers → olds ≡ kept
+        → length kept ≡ len → len ≡ workers →
+        All (IsHired desk seen) kept → units ≡ names → IsRoll (core_at desk.origin seen) names →
+        IsHeld brain desk max workers units seen olds news (take len (news ++ drop (length news) kept))
+    held names kept len have some same whole count hired read roll = record {
+      round = round_made brain desk max workers units seen olds news have some (ap (λ (ws : List (Worker B)). length ws) same ∙ whole ∙ count)
+          (subst (All (IsHired desk seen)) (sym same) hired);
+      roll = subst (IsRoll (core_at desk.origin seen)) (sym read) roll;
+      all_is = written_whole news kept len (have.count ∙ ap (λ (ws : List (Worker B)). length ws) same) whole;
+    }
 
-  module _ (all : List (Worker B)) (h : IsHeld brain desk max workers units seen olds news all) where
-    pub held_free : Each (λ w. IsFree desk w.pass) all
-    held_free = subst (Each (λ w. IsFree desk w.pass)) (sym h.all_is) (λ k w at. (h.round.worked k w at).2.free)
+    module _ (all : List (Worker B)) (h : IsHeld brain desk max workers units seen olds news all) where
+      pub held_free : Each (λ w. IsFree desk w.pass) all
+      held_free = subst (Each (λ w. IsFree desk w.pass)) (sym h.all_is) (λ k w at. (h.round.worked k w at).2.free)
 
-    module _ (before after : List Entry) (p : IsPrefix before seen) (each : Each (λ w. IsPrefix w.pass.seen after) all) (came : Came) (of : CameOf all came) where
-      here_each : Each (λ w. IsPrefix w.pass.seen after) news
-      here_each = subst (Each (λ w. IsPrefix w.pass.seen after)) h.all_is each
+      module _ (before after : List Entry) (p : IsPrefix before seen) (each : Each (λ w. IsPrefix w.pass.seen after) all) (came : Came) (of : CameOf all came)
+        where
+          here_each : Each (λ w. IsPrefix w.pass.seen after) news
+          here_each = subst (Each (λ w. IsPrefix w.pass.seen after)) h.all_is each
 
-      here_came : CameOf news came
-      here_came = subst (λ (ws : List (Worker B)). CameOf ws came) h.all_is of
+          here_came : CameOf news came
+          here_came = subst (λ (ws : List (Worker B)). CameOf ws came) h.all_is of
 
-      pub held_grew : Grew max came before after
-      held_grew = grew_before max came before seen after p (round_grew brain desk max workers units seen olds news h.round h.roll after here_each came here_came)
+          pub held_grew : Grew max came before after
+          held_grew = grew_before max came before seen after p
+              (round_grew brain desk max workers units seen olds news h.round h.roll after here_each came here_came)
 
-      pub held_served : UnlessOver came (AreServed brain desk.origin before after)
-      held_served = unless_then Still came refl (all_before brain desk.origin before seen after p) (round_served brain desk max workers units seen olds news h.round h.roll after here_each came here_came)
+          pub held_served : UnlessOver came (AreServed brain desk.origin before after)
+          held_served = unless_then Still came refl (all_before brain desk.origin before seen after p)
+              (round_served brain desk max workers units seen olds news h.round h.roll after here_each came here_came)
 
 -- behind the last round
-pub run_done : {B : Type 0} (brain : Brain B) (o : Origin B) (max : ℕ) (before seen after : List Entry) (came : Came) → IsPrefix before seen → (came ≡ Still) ⊎ (came ≡ Full) → Grew max came seen after →
+pub run_done : {B : Type 0} (brain : Brain B) (o : Origin B) (max : ℕ) (before seen after : List Entry) (came : Came) → IsPrefix before seen
+    → (came ≡ Still) ⊎ (came ≡ Full) → Grew max came seen after →
     UnlessOver came (AreServed brain o seen after) → HaveRun brain o max before after
-run_done brain o max before seen after came p (inl e) g u = inr (all_before brain o before seen after p (subst (λ (c : Came). UnlessOver c (AreServed brain o seen after)) e u))
+run_done brain o max before seen after came p (inl e) g u = inr
+    (all_before brain o before seen after p (subst (λ (c : Came). UnlessOver c (AreServed brain o seen after)) e u))
 run_done brain o max before seen after came p (inr e) g u = inl (subst (λ (c : Came). Grew max c seen after) e g)

@@ -34,7 +34,8 @@ grew_behind max Full x y z p g = let k = prefix_length y z p in let w : max ≤ 
 grew_behind max NoMemory x y z p g = tt
 
 -- steps, and others behind them
-pub grew_then : (max : ℕ) (a b : Came) (x y z : List Entry) → is_over a ≡ false → IsPrefix x y → IsPrefix y z → Grew max a x y → Grew max b y z → Grew max (came_then a b) x z
+pub grew_then : (max : ℕ) (a b : Came) (x y z : List Entry) → is_over a ≡ false → IsPrefix x y → IsPrefix y z → Grew max a x y → Grew max b y z
+    → Grew max (came_then a b) x z
 grew_then max Still b x y z over p q g h = grew_before max b x y z p h
 grew_then max Moved Still x y z over p q g h = grew_behind max Moved x y z q g
 grew_then max Moved Moved x y z over p q g h = grew_behind max Moved x y z q g
@@ -77,7 +78,8 @@ unless_is Full h p = absurd (let w : ⊥ = cc in w)
 unless_is NoMemory h p = absurd (let w : ⊥ = cc in w)
 
 -- so many steps of a unit were made, and the worker goes on with this turn
-pub record IsServing {B : Type 0} (brain : Brain B) (desk : DeskId (Origin B)) (max : ℕ) (u : UnitName) (before : List Entry) (made : ℕ) (pass : PassState (Origin B) Entry) (turn : TurnState B) (came : Came) : Type 0 where
+pub record IsServing {B : Type 0} (brain : Brain B) (desk : DeskId (Origin B)) (max : ℕ) (u : UnitName) (before : List Entry) (made : ℕ)
+    (pass : PassState (Origin B) Entry) (turn : TurnState B) (came : Came) : Type 0 where
   pub free : IsFree desk pass
   pub begins : IsPrefix before pass.seen
   pub begun : IsBegun brain desk.origin.brains (core_at desk.origin pass.seen) u turn
@@ -89,7 +91,8 @@ module _ {B : Type 0} (brain : Brain B) (desk : DeskId (Origin B)) (max : ℕ) (
   abbrev o : Origin B
   o = desk.origin
 
-  pub serving_first : (before : List Entry) (pass : PassState (Origin B) Entry) (t : TurnState B) (came : Came) → IsFree desk pass → IsPrefix before pass.seen → IsFirst brain o u pass.seen (Goes t came) →
+  pub serving_first : (before : List Entry) (pass : PassState (Origin B) Entry) (t : TurnState B) (came : Came) → IsFree desk pass → IsPrefix before pass.seen
+      → IsFirst brain o u pass.seen (Goes t came) →
       IsServing brain desk max u before 0 pass t came
   serving_first before pass t came free p (begun, is) = record {
     free = free;
@@ -101,15 +104,18 @@ module _ {B : Type 0} (brain : Brain B) (desk : DeskId (Origin B)) (max : ℕ) (
   }
 
   -- without a turn no step is made
-  pub first_ends : (before seen : List Entry) → IsPrefix before seen → (came : Came) → IsFirst brain o u seen (Ends came) → Grew max came before seen × UnlessOver came (IsServed brain o u before seen)
+  pub first_ends : (before seen : List Entry) → IsPrefix before seen → (came : Came) → IsFirst brain o u seen (Ends came)
+      → Grew max came before seen × UnlessOver came (IsServed brain o u before seen)
   first_ends before seen p Still h = (tt, inr (record { journal = seen; from = p; to = prefix_refl seen; resting = h }))
   first_ends before seen p Moved h = absurd h
   first_ends before seen p Full h = absurd h
   first_ends before seen p NoMemory h = (tt, tt)
 
-  module _ (before : List Entry) (made : ℕ) (pass later : PassState (Origin B) Entry) (t : TurnState B) (came : Came) (s : IsServing brain desk max u before made pass t came) (free : IsFree desk later)
+  module _ (before : List Entry) (made : ℕ) (pass later : PassState (Origin B) Entry) (t : TurnState B) (came : Came)
+      (s : IsServing brain desk max u before made pass t came) (free : IsFree desk later)
       (p : IsPrefix pass.seen later.seen) where
-    pub serving_next : (next : TurnState B) (of : Came) → IsNext brain o max u pass.seen later.seen (Goes next of) → IsServing brain desk max u before (made + 1) later next (came_then came of)
+    pub serving_next : (next : TurnState B) (of : Came) → IsNext brain o max u pass.seen later.seen (Goes next of)
+        → IsServing brain desk max u before (made + 1) later next (came_then came of)
     serving_next next of (begun, moved, grew, going) = record {
       free = free;
       begins = prefix_trans before pass.seen later.seen s.begins p;
@@ -119,14 +125,16 @@ module _ {B : Type 0} (brain : Brain B) (desk : DeskId (Origin B)) (max : ℕ) (
       moved = inr (moved_before u before pass.seen later.seen s.begins moved);
     }
 
-    pub serving_ends : (of : Came) → IsNext brain o max u pass.seen later.seen (Ends of) → Grew max (came_then came of) before later.seen × UnlessOver (came_then came of) (IsServed brain o u before later.seen)
+    pub serving_ends : (of : Came) → IsNext brain o max u pass.seen later.seen (Ends of)
+        → Grew max (came_then came of) before later.seen × UnlessOver (came_then came of) (IsServed brain o u before later.seen)
     serving_ends of (served, grew) = (
       grew_then max came of before pass.seen later.seen s.going s.begins p s.grew grew,
       unless_then came of s.going (served_before brain o u before pass.seen later.seen s.begins) served,
     )
 
   -- after the last step the unit has been served
-  pub serving_done : (before : List Entry) (made : ℕ) (pass : PassState (Origin B) Entry) (t : TurnState B) (came : Came) → IsServing brain desk max u before made pass t came → 0 < made → UnlessOver came (IsServed brain o u before pass.seen)
+  pub serving_done : (before : List Entry) (made : ℕ) (pass : PassState (Origin B) Entry) (t : TurnState B) (came : Came)
+      → IsServing brain desk max u before made pass t came → 0 < made → UnlessOver came (IsServed brain o u before pass.seen)
   serving_done before made pass t came s some = unless_going came (by s.moved)
     where
       by : ((made ≡ 0) ⊎ HasMoved u before pass.seen) → IsServed brain o u before pass.seen
@@ -134,7 +142,8 @@ module _ {B : Type 0} (brain : Brain B) (desk : DeskId (Origin B)) (max : ℕ) (
       by (inr m) = inl m
 
 -- a worker has served its units up to a place
-pub record IsSharing {B : Type 0} (brain : Brain B) (desk : DeskId (Origin B)) (max workers number : ℕ) (units : List UnitName) (before : List Entry) (place : ℕ) (pass : PassState (Origin B) Entry) (came : Came) : Type 0 where
+pub record IsSharing {B : Type 0} (brain : Brain B) (desk : DeskId (Origin B)) (max workers number : ℕ) (units : List UnitName) (before : List Entry)
+    (place : ℕ) (pass : PassState (Origin B) Entry) (came : Came) : Type 0 where
   pub free : IsFree desk pass
   pub begins : IsPrefix before pass.seen
   pub grew : Grew max came before pass.seen
@@ -142,7 +151,8 @@ pub record IsSharing {B : Type 0} (brain : Brain B) (desk : DeskId (Origin B)) (
   pub served : (k : ℕ) (u : UnitName) → k < place → slice_get units k ≡ Some u → k % workers ≡ number → IsServed brain desk.origin u before pass.seen
 
 module _ {B : Type 0} (brain : Brain B) (desk : DeskId (Origin B)) (max workers number : ℕ) (units : List UnitName) (before : List Entry) where
-  pub sharing_first : (pass : PassState (Origin B) Entry) → IsFree desk pass → before ≡ pass.seen → IsSharing brain desk max workers number units before 0 pass Still
+  pub sharing_first : (pass : PassState (Origin B) Entry) → IsFree desk pass → before ≡ pass.seen
+      → IsSharing brain desk max workers number units before 0 pass Still
   sharing_first pass free is = record {
     free = free;
     begins = subst (λ (es : List Entry). IsPrefix before es) is (prefix_refl before);
@@ -168,13 +178,15 @@ module _ {B : Type 0} (brain : Brain B) (desk : DeskId (Origin B)) (max workers 
         split : (k : ℕ) → k < place + 1 → (k < place) ⊎ (k ≡ place)
         split k few = grind arith
 
-    module _ (u : UnitName) (at : slice_get units place ≡ Some u) (later : PassState (Origin B) Entry) (of : Came) (free : IsFree desk later) (p : IsPrefix pass.seen later.seen) (grew : Grew max of pass.seen later.seen)
+    module _ (u : UnitName) (at : slice_get units place ≡ Some u) (later : PassState (Origin B) Entry) (of : Came) (free : IsFree desk later)
+        (p : IsPrefix pass.seen later.seen) (grew : Grew max of pass.seen later.seen)
         (served : UnlessOver of (IsServed brain desk.origin u pass.seen later.seen)) where
       all_grew : Grew max (came_then came of) before later.seen
       all_grew = grew_then max came of before pass.seen later.seen s.going s.begins p s.grew grew
 
       -- it was served, and the worker goes on
-      pub sharing_served : is_over (came_then came of) ≡ false → is_over of ≡ false → IsSharing brain desk max workers number units before (place + 1) later (came_then came of)
+      pub sharing_served : is_over (came_then came of) ≡ false → is_over of ≡ false
+          → IsSharing brain desk max workers number units before (place + 1) later (came_then came of)
       sharing_served going on = record {
         free = free;
         begins = prefix_trans before pass.seen later.seen s.begins p;

@@ -21,7 +21,7 @@ use Rattle.df_unit.specs.declared.call.Call.{Call}
 use Rattle.df_unit.specs.declared.entry.Entry.{Entry}
 use Rattle.df_unit.specs.declared.name.UnitName.{UnitName}
 use Rattle.df_workers.specs.Serving.{HasMoved}
-use Rattle.df_workers.proofs.Prefixed.{entry_behind, entry_reverse}
+use Rattle.df_crew.proofs.HasEntry.{entry_behind, entry_reverse}
 
 -- nothing was appended, or entries of which one is the unit's; the newest stand first
 record Moves (u : UnitName) (old new : List Entry) : Type 0 where
@@ -76,7 +76,8 @@ module _ {B : Type 0} (brain : Brain B) where
     pub booked_behind : IsPrefix found seen
     booked_behind =
         subst (λ (es : List Entry). IsPrefix es seen) (reverse-reverse found)
-        (subst (λ (es : List Entry). IsPrefix (seen_of crew) es) (sym b.journal) (more_seen crew (booked brain t crew) (more_booked brain t crew (booked brain t crew) refl)))
+        (subst (λ (es : List Entry). IsPrefix (seen_of crew) es) (sym b.journal)
+        (more_seen crew (booked brain t crew) (more_booked brain t crew (booked brain t crew) refl)))
 
     module _ (ready : t.is_ready ≡ true) where
       taken : seen ≡ seen_of (turned brain t.unit.unit crew)
@@ -95,7 +96,8 @@ module _ {B : Type 0} (brain : Brain B) where
 
           none : m.more ≡ [] → length seen ≤ length found
           none e =
-              let k = ap (λ (es : List Entry). length es) (taken ∙ ap (λ (es : List Entry). reverse es) (m.journal ∙ ap (λ (es : List Entry). es ++ reverse found) e) ∙ reverse-reverse found) in
+              let k = ap (λ (es : List Entry). length es)
+              (taken ∙ ap (λ (es : List Entry). reverse es) (m.journal ∙ ap (λ (es : List Entry). es ++ reverse found) e) ∙ reverse-reverse found) in
               omega (arith, k)
 
           by : ((m.more ≡ []) ⊎ (has_entry t.unit.unit m.more ≡ true)) → has_entry t.unit.unit m.more ≡ true

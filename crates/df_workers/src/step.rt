@@ -145,7 +145,7 @@ fn book<B: Brain, R: Wait>(
     ensures next { IsNext (brain_of B.next B.instance) hub.now.origin max unit.now
         pass.old.seen pass.new.seen result }
 {
-    match hub.step(rt, pass, turn) {
+    match hub.step_seen(rt, pass, turn) {
         Ok(stepped) => booked(stepped, max),
         Err(not_turned) => refused(rt, hub, pass, unit, not_turned),
     }

@@ -11,8 +11,10 @@ gather-requires-clause-workers g c =
     let news = c.work_all.new.all in
     let all = take len (news ++ drop (length news) kept) in
     let hub = c.args.hub.now in
-    let h = held brain hub c.args.max c.args.workers c.as_slice.result.now c.units.new.pass.seen c.as_mut_slice.result.now news c.in_ok-units.units.items kept len c.work_all.ensures
-    c.requires.workers c.as_mut_slice.ensures.value (let o = c.in_ok-all.all.ok.0 in omega (arith, o)) c.in_ok-all.ensures.count c.in_ok-all.ensures.hired c.as_slice.ensures.value c.in_ok-units.ensures.units in
+    let h = held brain hub c.args.max c.args.workers c.as_slice.result.now c.units.new.pass.seen c.as_mut_slice.result.now news c.in_ok-units.units.items kept
+    len c.work_all.ensures
+    c.requires.workers c.as_mut_slice.ensures.value (let o = c.in_ok-all.all.ok.0 in omega (arith, o)) c.in_ok-all.ensures.count c.in_ok-all.ensures.hired
+    c.as_slice.ensures.value c.in_ok-units.ensures.units in
     held_free brain hub c.args.max c.args.workers c.as_slice.result.now c.units.new.pass.seen c.as_mut_slice.result.now news all h
 
 pub returns-clause-grew : goal.returns-clause-grew
@@ -23,10 +25,13 @@ returns-clause-grew g c =
     let news = c.work_all.new.all in
     let all = take len (news ++ drop (length news) kept) in
     let hub = c.args.hub.now in
-    let h = held brain hub c.args.max c.args.workers c.as_slice.result.now c.units.new.pass.seen c.as_mut_slice.result.now news c.in_ok-units.units.items kept len c.work_all.ensures
-    c.requires.workers c.as_mut_slice.ensures.value (let o = c.in_ok-all.all.ok.0 in omega (arith, o)) c.in_ok-all.ensures.count c.in_ok-all.ensures.hired c.as_slice.ensures.value c.in_ok-units.ensures.units in
+    let h = held brain hub c.args.max c.args.workers c.as_slice.result.now c.units.new.pass.seen c.as_mut_slice.result.now news c.in_ok-units.units.items kept
+    len c.work_all.ensures
+    c.requires.workers c.as_mut_slice.ensures.value (let o = c.in_ok-all.all.ok.0 in omega (arith, o)) c.in_ok-all.ensures.count c.in_ok-all.ensures.hired
+    c.as_slice.ensures.value c.in_ok-units.ensures.units in
     held_grew brain hub c.args.max c.args.workers c.as_slice.result.now c.units.new.pass.seen c.as_mut_slice.result.now news all h
-    c.args.pass.now.seen c.gather.new.pass.seen (let t = c.in_ok-units.ensures.looks in rw t.seen t.once.found) c.gather.ensures.each c.gather.result c.gather.ensures.came
+    c.args.pass.now.seen c.gather.new.pass.seen (let t = c.in_ok-units.ensures.looks in rw t.seen t.once.found) c.gather.ensures.each c.gather.result
+    c.gather.ensures.came
 
 pub returns-clause-served : goal.returns-clause-served
 returns-clause-served g c =
@@ -36,7 +41,10 @@ returns-clause-served g c =
     let news = c.work_all.new.all in
     let all = take len (news ++ drop (length news) kept) in
     let hub = c.args.hub.now in
-    let h = held brain hub c.args.max c.args.workers c.as_slice.result.now c.units.new.pass.seen c.as_mut_slice.result.now news c.in_ok-units.units.items kept len c.work_all.ensures
-    c.requires.workers c.as_mut_slice.ensures.value (let o = c.in_ok-all.all.ok.0 in omega (arith, o)) c.in_ok-all.ensures.count c.in_ok-all.ensures.hired c.as_slice.ensures.value c.in_ok-units.ensures.units in
+    let h = held brain hub c.args.max c.args.workers c.as_slice.result.now c.units.new.pass.seen c.as_mut_slice.result.now news c.in_ok-units.units.items kept
+    len c.work_all.ensures
+    c.requires.workers c.as_mut_slice.ensures.value (let o = c.in_ok-all.all.ok.0 in omega (arith, o)) c.in_ok-all.ensures.count c.in_ok-all.ensures.hired
+    c.as_slice.ensures.value c.in_ok-units.ensures.units in
     held_served brain hub c.args.max c.args.workers c.as_slice.result.now c.units.new.pass.seen c.as_mut_slice.result.now news all h
-    c.args.pass.now.seen c.gather.new.pass.seen (let t = c.in_ok-units.ensures.looks in rw t.seen t.once.found) c.gather.ensures.each c.gather.result c.gather.ensures.came
+    c.args.pass.now.seen c.gather.new.pass.seen (let t = c.in_ok-units.ensures.looks in rw t.seen t.once.found) c.gather.ensures.each c.gather.result
+    c.gather.ensures.came

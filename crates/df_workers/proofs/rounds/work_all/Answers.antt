@@ -23,7 +23,8 @@ for_each_mut-requires g c κs =
         (
           record {
             shared =
-                (tools_sync (param 1 g.row.R) (Hub.the_row (param 0 g.row.B) brain steps) (param 2 g.row.G) κs.1.1.1.1.1.1.0 κs.1.1.1.1.1.1.1.0 κs.1.1.1.1.1.1.1.1.0 κs.1.1.1.1.1.1.1.1.1.0
+                (tools_sync (param 1 g.row.R) (Hub.the_row (param 0 g.row.B) brain steps) (param 2 g.row.G) κs.1.1.1.1.1.1.0 κs.1.1.1.1.1.1.1.0
+                κs.1.1.1.1.1.1.1.1.0 κs.1.1.1.1.1.1.1.1.1.0
                 κs.1.1.1.1.1.1.1.1.1.1.0 κs.1.1.1.1.1.1.1.1.1.1.1.0 c.type_bounds.sync-R hub c.type_bounds.sync-G).shared;
           },
           (c.requires.workers, λ i p lt e. (subst (λ w. IsFree c.args.hub.now w.pass) (sym e) (c.requires.free i p.now lt), c.requires.workers)),
@@ -33,5 +34,6 @@ for_each_mut-requires g c κs =
 
 pub returns : goal.returns
 returns g c =
-    have_worked (brain_of g.B.StepFunction.next g.B.StepFunction.instance) c.args.hub.now c.args.max c.args.share.now.workers c.args.share.now.units.now c.args.all.now c.for_each_mut.new.s
+    have_worked (brain_of g.B.StepFunction.next g.B.StepFunction.instance) c.args.hub.now c.args.max c.args.share.now.workers c.args.share.now.units.now
+    c.args.all.now c.for_each_mut.new.s
     c.for_each_mut.auto.s (λ k d lt. let at = (c.for_each_mut.ensures k d lt).1 in (at.argument.now, at.after_call.now, at.argument_is, at.left, at.call))

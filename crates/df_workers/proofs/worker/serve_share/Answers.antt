@@ -15,11 +15,18 @@ loop-place-preserved g c =
     let units = c.args.share.now.units.now in
     let l = c.loop-place in
     elim c.if-place-share.branch [
-      | then-place-share+else-is_over w ↦ (let going : is_over (came_then l.came w.serve.result) ≡ false = (let a = w.is_over.ensures in let b = w.if-is_over in let h = w.then-came.ensures in cc) in
-          let at : slice_get units l.place ≡ Some c.unit-item.result = slice_get_read units _ l.place c.unit-item.result refl c.loop-place-test.true c.unit-item.is in
-          rw (w.pass-is, w.came-is, w.then-came.ensures) (sharing_served brain c.args.hub.now c.args.max c.args.share.now.workers c.args.number units c.args.pass.now.seen l.place l.pass l.came l.invariant
-          c.unit-item.result at w.serve.new.pass w.serve.result w.serve.ensures.free w.serve.ensures.begins w.serve.ensures.grew w.serve.ensures.served going (then_over l.came w.serve.result l.invariant.going going)))
-      | else-place-share w ↦ rw (w.pass-is, w.came-is) (sharing_passed brain c.args.hub.now c.args.max c.args.share.now.workers c.args.number units c.args.pass.now.seen l.place l.pass l.came l.invariant
+      | then-place-share+else-is_over w ↦
+          (let going : is_over
+          (came_then l.came w.serve.result) ≡ false = (let a = w.is_over.ensures in let b = w.if-is_over in let h = w.then-came.ensures in cc) in
+          let at : slice_get units l.place ≡ Some c.unit-item.result = slice_get_read units _ l.place c.unit-item.result refl c.loop-place-test.true
+          c.unit-item.is in
+          rw (w.pass-is, w.came-is, w.then-came.ensures)
+          (sharing_served brain c.args.hub.now c.args.max c.args.share.now.workers c.args.number units c.args.pass.now.seen l.place l.pass l.came
+          l.invariant
+          c.unit-item.result at w.serve.new.pass w.serve.result w.serve.ensures.free w.serve.ensures.begins w.serve.ensures.grew w.serve.ensures.served going
+          (then_over l.came w.serve.result l.invariant.going going)))
+      | else-place-share w ↦ rw (w.pass-is, w.came-is)
+          (sharing_passed brain c.args.hub.now c.args.max c.args.share.now.workers c.args.number units c.args.pass.now.seen l.place l.pass l.came l.invariant
           (λ e. let f = w.if-place-share in let z : ⊥ = grind (arith, nat_tests) in z))
     ]
 

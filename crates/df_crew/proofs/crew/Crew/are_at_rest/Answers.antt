@@ -9,7 +9,8 @@ use Rattle.df_unit.specs.declared.name.UnitName.{UnitName}
 pub is_at_rest-requires : goal.is_at_rest-requires
 is_at_rest-requires g c =
     let core = c.args.self.now.core in
-    subst (λ (u : UnitName). is_some (local_of core u) ≡ true) (sym c.unit-item.is) (exists_named core c.args.units.now c.requires c.loop-unit.unit-index c.unit-item.result c.loop-unit-test.true)
+    subst (λ (u : UnitName). is_some (local_of core u) ≡ true) (sym c.unit-item.is)
+    (exists_named core c.args.units.now c.requires c.loop-unit.unit-index c.unit-item.result c.loop-unit-test.true)
 
 pub returns : goal.returns
 returns g c = (

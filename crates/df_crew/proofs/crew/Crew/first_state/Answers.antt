@@ -15,8 +15,10 @@ returns-in_ok-seed_name-in-Managed-clause-state g c =
     let u = c.args.unit.now in
     let core = c.self.inside.core in
     let bs = c.self.inside.brains.items in
-    let here = subst (λ (v : UnitName). is_some (local_of core v) ≡ true) c.in-Managed.is (subst (λ (x : CrewState _). is_some (local_of x.core u) ≡ true) (sym c.self.view_is) c.requires) in
+    let here = subst (λ (v : UnitName). is_some (local_of core v) ≡ true) c.in-Managed.is
+    (subst (λ (x : CrewState _). is_some (local_of x.core u) ≡ true) (sym c.self.view_is) c.requires) in
     subst (λ (x : CrewState _). option_copied c.get.result ≡ began_with brain rows (firsts x.core.0) x.brains x.core.1 u) c.self.view_is
     (c.get.ensures ∙ ap (λ (n : UnitName). kept_at n c.self.inside.seeds) (c.in_ok-seed_name-in-Managed.ensures)
-    ∙ seed_began brain g.met.B.Brain.makes_no_unit bs c.self.inside.minds c.self.inside.seeds core c.self.invariant c.in-Managed.owner c.in-Managed.sub c.in-Managed.s here
+    ∙ seed_began brain g.met.B.Brain.makes_no_unit bs c.self.inside.minds c.self.inside.seeds core c.self.invariant c.in-Managed.owner c.in-Managed.sub
+    c.in-Managed.s here
     ∙ ap (λ (v : UnitName). began_with brain rows (firsts core.0) bs core.1 v) (sym c.in-Managed.is))

@@ -1,4 +1,4 @@
-use Rattle.std.proofs.Common.{ap, sym, ◌∙◌}
+use Rattle.std.proofs.Common.{ap, ◌∙◌}
 use Rattle.df_hub.proofs.hub.Hub.take.Goals as goal
 
 pub returns-clause-begins : goal.returns-clause-begins

@@ -1,4 +1,4 @@
-use Rattle.std.proofs.Common.{◌≡◌, sym, ◌∙◌}
+use Rattle.std.proofs.Common.{sym, ◌∙◌}
 use Rattle.std.specs.Prelude.{IfOk}
 use Rattle.df_booking.specs.CrewState.{CrewState}
 use Rattle.df_machine.specs.Journal.{IsRoll}

@@ -1,4 +1,4 @@
-use Rattle.std.proofs.Common.{◌≡◌, List, refl, sym, ◌∙◌, ap, subst}
+use Rattle.std.proofs.Common.{List, refl, sym, ◌∙◌, ap, subst}
 use Rattle.std.specs.Prelude.{IfErr, IfOk}
 use mathlib.Core.List.{IsPrefix}
 use Rattle.df_booking.specs.CrewState.{CrewState}
@@ -9,8 +9,8 @@ use Rattle.df_crew.specs.Seen.{seen_of}
 use Rattle.df_rules.specs.Follows.{brain_of}
 use Rattle.df_unit.specs.declared.entry.Entry.{Entry}
 use Rattle.df_hub.specs.Steps.{IsCounted}
-use Rattle.df_hub.proofs.At.{booked_at, journal_at, on_both, on_err, there}
-use Rattle.df_hub.proofs.hub.Hub.step.Goals as goal
+use Rattle.df_hub.proofs.At.{booked_at, journal_at, on_both, on_err, there, was_current}
+use Rattle.df_hub.proofs.hub.Hub.step_since.Goals as goal
 
 pub give-requires-clause-origin : goal.give-requires-clause-origin
 give-requires-clause-origin g c = more_origin c.take-crew.result c.book-stepped.new.crew c.book-stepped.ensures.more ∙ c.take-crew.ensures.origin
@@ -50,3 +50,8 @@ returns-clause-refused g c =
 pub returns-clause-unchanged : goal.returns-clause-unchanged
 returns-clause-unchanged g c =
     on_err c.book-stepped.result (λ same. c.give.ensures.seen ∙ ap (λ (k : CrewState _). seen_of k) same ∙ c.take-crew.ensures.found ∙ sym c.give.ensures.found) c.book-stepped.ensures.unchanged
+
+pub book-stepped-requires-clause-since : goal.book-stepped-requires-clause-since
+book-stepped-requires-clause-since g c =
+    was_current (brain_of g.B.StepFunction.next g.B.StepFunction.instance) c.args.self.now.origin c.args.turn c.args.pass.now.seen c.take-crew.result c.take-crew.ensures.origin
+    (subst (λ (es : List Entry). IsPrefix c.args.pass.now.seen es) (sym c.take-crew.ensures.found) c.take-crew.ensures.begins) c.args.since c.requires.since

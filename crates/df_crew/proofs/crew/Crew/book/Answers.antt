@@ -1,7 +1,0 @@
-use Rattle.df_crew.proofs.Growing.{more_booked}
-use Rattle.df_crew.proofs.crew.Crew.book.Goals as goal
-use Rattle.df_rules.specs.Follows.{brain_of}
-
-pub returns-in-Ok-book_current-clause-more : goal.returns-in-Ok-book_current-clause-more
-returns-in-Ok-book_current-clause-more g c =
-    more_booked (brain_of g.B.StepFunction.next g.B.StepFunction.instance) c.args.turn c.args.self.now c.book_current.new.self c.in-Ok-book_current.ensures.ok
