@@ -21,7 +21,7 @@ use Rattle.df_run.proofs.Reaching.{AreInputs}
 use Rattle.df_run.specs.Floor.{IsCutAt, MayBeCutAt, OfFloor, RunsFloor, Settles, SettlesAnyhow, WorksFloor}
 use Rattle.df_run.specs.Lint.{LintsScript}
 use Rattle.df_run.specs.Steps.{RecordsScript}
-use Rattle.df_run.specs.Tasks.{IsCountTold, IsCutInput, IsCutRun, IsInput, IsNoPlaceInput, IsOrders, IsOutput, IsReport, IsRightInput, IsText, IsUnsettledInput, IsWrongInput, OfOne, OfTwo}
+use Rattle.df_run.specs.Tasks.{IsCutInput, IsInput, IsNoPlaceInput, IsOrders, IsRightInput, IsText, IsUnsettledInput, IsWrongInput, OfOne, OfTwo}
 use Rattle.df_run.specs.declared.tasks.End.{End}
 use Rattle.df_run.specs.declared.tasks.End.TheVariants as end
 
@@ -178,9 +178,10 @@ module _ (c : Command) (read : List (List ℕ)) (no_wrong : (p : ℕ) → IsWron
   done_once : (d e : End) → EndsSo c read d → EndsSo c read e → d ≡ e
   done_once d e v w = done_only d v ∙ sym (done_only e w)
 
-module _ (c : Command) (read : List (List ℕ)) (no_report : (p : ℕ) (text : List ℕ) → IsReport c read p text → ⊥)
-    (no_cut : (p : ℕ) (text : List ℕ) → IsCutRun c read p text → ⊥) (no_count : (p : ℕ) (text : List ℕ) → IsCountTold c read p text → ⊥) where
-  done_text : (text : List ℕ) → (IsOutput c read text → IsDoneInput c read) → (e : End) → IsText c read e text → EndsSo c read e
+module _ (c : Command) (read : List (List ℕ)) (no_report : (p : ℕ) (text : List ℕ) → IsText c read (end.Wrong p) text → ⊥)
+    (no_cut : (p : ℕ) (text : List ℕ) → IsText c read (end.Unsettled p) text → ⊥)
+        (no_count : (p : ℕ) (text : List ℕ) → IsText c read (end.NoPlace p) text → ⊥) where
+  done_text : (text : List ℕ) → (IsText c read end.Done text → IsDoneInput c read) → (e : End) → IsText c read e text → EndsSo c read e
   done_text text f end.Done h = f h
   done_text text f (end.Wrong place) h = absurd (no_report place text h)
   done_text text f (end.Unsettled steps) h = absurd (no_cut steps text h)
@@ -208,9 +209,9 @@ module _ (c : Command) (read : List (List ℕ)) (right : IsDoneInput c read → 
   audit_once (end.Unsettled p) e v w = absurd (no_cut p v)
   audit_once (end.NoPlace p) e v w = absurd (no_lack p v)
 
-module _ (c : Command) (read : List (List ℕ)) (text : List ℕ) (right : IsOutput c read text → IsDoneInput c read)
-    (wrong : (p : ℕ) → IsReport c read p text → IsWrongInput c read p) (no_cut : (p : ℕ) (text : List ℕ) → IsCutRun c read p text → ⊥)
-    (no_count : (p : ℕ) (text : List ℕ) → IsCountTold c read p text → ⊥) where
+module _ (c : Command) (read : List (List ℕ)) (text : List ℕ) (right : IsText c read end.Done text → IsDoneInput c read)
+    (wrong : (p : ℕ) → IsText c read (end.Wrong p) text → IsWrongInput c read p) (no_cut : (p : ℕ) (text : List ℕ) → IsText c read (end.Unsettled p) text → ⊥)
+    (no_count : (p : ℕ) (text : List ℕ) → IsText c read (end.NoPlace p) text → ⊥) where
   audit_text : (e : End) → IsText c read e text → EndsSo c read e
   audit_text end.Done h = right h
   audit_text (end.Wrong place) h = wrong place h
@@ -403,7 +404,8 @@ ends_inputs (Load key n) read e h = any_load key n 1 read
 pub ends_once : (c : Command) (read : List (List ℕ)) (d e : End) → EndsSo c read d → MustEnd c read e → d ≡ e
 ends_once (Steps file) read d e v w = done_once (Steps file) read none none none d e v (must_may (Steps file) read e w)
 ends_once (Check journal) read d e v w = audit_once (Check journal) read (λ p. p) (λ p q. q) none none d e v (must_may (Check journal) read e w)
-ends_once (Purge label journal) read d e v w = audit_once (Purge label journal) read (λ p. p) (λ p q. q) none none d e v (must_may (Purge label journal) read e w)
+ends_once (Purge label journal) read d e v w = audit_once (Purge label journal) read (λ p. p) (λ p q. q) none none d e v
+    (must_may (Purge label journal) read e w)
 ends_once (Upgrade journal) read d e v w = audit_once (Upgrade journal) read (λ p. p) (λ p q. q) none none d e v (must_may (Upgrade journal) read e w)
 ends_once (Why journal place) read d e v w = why_once journal place read d e v (must_may (Why journal place) read e w)
 ends_once (Auction orders) read d e v w = done_once (Auction orders) read none none none d e v (must_may (Auction orders) read e w)

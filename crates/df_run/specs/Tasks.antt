@@ -1,16 +1,19 @@
 -- What each command reads and writes. `read` are the bytes of its files, in order.
 use Rattle.std.specs.Prelude.{◌≡◌, ⊤, ℕ, zero, suc, List, [], ◌∷◌}
-use Rattle.df_audit.specs.Audit.{HasPlace, IsCheckOf, IsPurgeOf, IsRightJournal, IsUpgradeOf, IsWhyOf, IsWrongAt, LacksPlace, OfJournal, TellsCount, TellsPlace}
+use Rattle.df_audit.specs.Audit.{Explains, HasPlace, IsCheckOf, IsRightJournal, IsWrongAt, LacksPlace, OfJournal, Purges, TellsCount, Upgrades}
 use Rattle.df_audit.specs.declared.audit.Finding.{Finding}
 use Rattle.df_audit.specs.declared.audit.Finding.TheVariants as finding
 use Rattle.df_auction.specs.AuctionText.{IsTextOfFile}
 use Rattle.df_auction.specs.OrderFile.{IsBadAt, IsOrderFile}
 use Rattle.df_book.specs.declared.order.Order.{Order}
+use Rattle.df_config.specs.declared.config.Config.{Config}
 use Rattle.df_floor_run.specs.Load.{IsLoadText}
+use Rattle.df_floor_run.specs.declared.run.FloorEnd.{FloorEnd}
 use Rattle.df_floor_run.specs.declared.run.FloorEnd.TheVariants as floor
 use Rattle.df_gen.specs.Generated.{generated}
 use Rattle.df_journal_file.specs.Either.{IsEitherText}
 use Rattle.df_journal_file.specs.TooLarge.{IsLargeIn}
+use Rattle.df_journal_file.specs.declared.file.Journal.{Journal}
 use Rattle.df_lines.specs.Refused.{NamesBadLine}
 use Rattle.df_lines.specs.declared.refused.FileRefused.{FileRefused}
 use Rattle.df_lines.specs.declared.refused.FileRefused.TheVariants as file
@@ -18,6 +21,7 @@ use Rattle.df_script_text.specs.Script.{IsScriptText}
 use Rattle.df_script_text.specs.TooLarge.{IsTooLargeIn}
 use Rattle.df_ticks.specs.TickFile as ticks
 use Rattle.df_ticks.specs.TickText.{ticks_text}
+use Rattle.df_ticks.specs.declared.tick.Tick.{Tick}
 use Rattle.df_words.specs.declared.command.Command.{Command}
 use Rattle.df_words.specs.declared.command.Command.TheVariants.{Steps, Check, Purge, Upgrade, Why, Auction, Lint, Gen, Floor, FloorWorkers, Load}
 use Rattle.df_run.specs.Floor.{IsConfiguration, IsCutAt, IsTicks, MayBeCutAt, OfFloor, RunsFloor, Settles, SettlesAnyhow, WorksFloor}
@@ -30,7 +34,7 @@ use Rattle.df_run.specs.declared.tasks.End.TheVariants as end
 use Rattle.df_run.specs.declared.tasks.Refused.{Refused}
 use Rattle.df_run.specs.declared.tasks.Refused.TheVariants as refused
 
--- ---- what is read
+-- ---- files
 
 -- the bytes are an order file
 abbrev pub IsOrders : List ℕ → Type 0
@@ -41,19 +45,7 @@ abbrev pub IsFloorInput : ℕ → List ℕ → Type 0
 IsFloorInput (suc zero) bytes = IsConfiguration bytes
 IsFloorInput _ bytes = IsTicks bytes
 
--- the bytes are what the command reads as its file of this number, the first being 1
-abbrev pub IsInput : Command → ℕ → List ℕ → Type 0
-IsInput (Steps file) number bytes = IsScriptText bytes
-IsInput (Check journal) number bytes = IsEitherText bytes
-IsInput (Purge label journal) number bytes = IsEitherText bytes
-IsInput (Upgrade journal) number bytes = IsEitherText bytes
-IsInput (Why journal place) number bytes = IsEitherText bytes
-IsInput (Auction orders) number bytes = IsOrders bytes
-IsInput (Lint script) number bytes = IsScriptText bytes
-IsInput (Gen key n) number bytes = ⊤
-IsInput (Floor config ticks) number bytes = IsFloorInput number bytes
-IsInput (FloorWorkers config ticks workers) number bytes = IsFloorInput number bytes
-IsInput (Load key n) number bytes = ⊤
+-- ---- one command
 
 -- one file was read, and this holds of its bytes
 abbrev pub OfOne : List (List ℕ) → (List ℕ → Type 0) → Type 0
@@ -65,110 +57,159 @@ abbrev pub OfTwo : List (List ℕ) → (List ℕ → List ℕ → Type 0) → Ty
 OfTwo (one ∷ other ∷ []) P = P one other
 OfTwo _ P = ⊥
 
+-- what a command reads as its file of a number, the first being 1; what was read where its run ends
+-- so, or, by workers, may end so; and what it then writes
+pub record Task : Type 1 where
+  pub reads : ℕ → List ℕ → Type 0
+  pub ends : End → List (List ℕ) → Type 0
+  pub writes : End → List (List ℕ) → List ℕ → Type 0
+
+-- what was read so is done, and ends in no other way
+abbrev pub only_done : (List (List ℕ) → Type 0) → End → List (List ℕ) → Type 0
+only_done P end.Done read = P read
+only_done P _ read = ⊥
+
+-- where it is done, this is written
+abbrev pub done_with
+    : (List (List ℕ) → List ℕ → Type 0) → End → List (List ℕ) → List ℕ → Type 0
+done_with P end.Done read text = P read text
+done_with P _ read text = ⊥
+
+-- of a file that is this, this is written
+abbrev pub file_task : (List ℕ → Type 0) → (List ℕ → List ℕ → Type 0) → Task
+file_task Reads Writes = record {
+  reads = λ number bytes. Reads bytes;
+  ends = only_done (λ read. OfOne read Reads);
+  writes = done_with (λ read text. OfOne read (λ bytes. Writes bytes text));
+}
+
+-- what is done is a journal of which this holds; one that is wrong ends with its first wrong place
+abbrev pub journal_ends : (Journal → Type 0) → End → List (List ℕ) → Type 0
+journal_ends Right end.Done read = OfOne read (λ bytes. OfJournal bytes Right)
+journal_ends Right (end.Wrong place) read =
+    OfOne read (λ bytes. OfJournal bytes (λ j. IsWrongAt j place))
+journal_ends Right _ read = ⊥
+
+-- what is written of a journal by what was found of it
+abbrev pub journal_writes
+    : (Journal → Finding → List ℕ → Type 0) → End → List (List ℕ) → List ℕ → Type 0
+journal_writes Writes end.Done read text =
+    OfOne read (λ bytes. OfJournal bytes (λ j. Writes j finding.Right text))
+journal_writes Writes (end.Wrong place) read text =
+    OfOne read (λ bytes. OfJournal bytes (λ j. Writes j (finding.Wrong place) text))
+journal_writes Writes _ read text = ⊥
+
+-- each right journal is done, and this is written by what was found
+abbrev pub journal_task : (Journal → Finding → List ℕ → Type 0) → Task
+journal_task Writes = record {
+  reads = λ number bytes. IsEitherText bytes;
+  ends = journal_ends IsRightJournal;
+  writes = journal_writes Writes;
+}
+
+-- a right journal that hasn't the place ends with the number of its entries
+abbrev pub why_ends : ℕ → End → List (List ℕ) → Type 0
+why_ends place (end.NoPlace count) read =
+    OfOne read (λ bytes. OfJournal bytes (LacksPlace place count))
+why_ends place e read = journal_ends (HasPlace place) e read
+
+-- what is written then tells that number
+abbrev pub why_writes : ℕ → End → List (List ℕ) → List ℕ → Type 0
+why_writes place (end.NoPlace count) read text =
+    OfOne read (λ bytes. OfJournal bytes (λ j. TellsCount place j count text))
+why_writes place e read text = journal_writes (Explains place) e read text
+
+-- the grounds of the entry at a place are written
+abbrev pub why_task : ℕ → Task
+why_task place = record {
+  reads = λ number bytes. IsEitherText bytes;
+  ends = why_ends place;
+  writes = why_writes place;
+}
+
+-- a command without a file writes this
+abbrev pub key_task : (List ℕ → Type 0) → Task
+key_task Writes = record {
+  reads = λ number bytes. ⊤;
+  ends = only_done (λ read. ⊤);
+  writes = done_with (λ read text. Writes text);
+}
+
+-- a floor is done or cut off with so many entries
+abbrev pub floor_ends
+    : (Config → List Tick → Type 0) → (ℕ → Config → List Tick → Type 0) → End → List (List ℕ)
+    → Type 0
+floor_ends Rests IsCut end.Done read = OfTwo read (λ one other. OfFloor one other Rests)
+floor_ends Rests IsCut (end.Unsettled steps) read =
+    OfTwo read (λ one other. OfFloor one other (IsCut steps))
+floor_ends Rests IsCut _ read = ⊥
+
+-- this is written of a floor by how its run ends
+abbrev pub floor_writes
+    : (Config → List Tick → FloorEnd → List ℕ → Type 0) → End → List (List ℕ) → List ℕ → Type 0
+floor_writes Runs end.Done read text =
+    OfTwo read (λ one other. OfFloor one other (λ c t. Runs c t floor.Quiet text))
+floor_writes Runs (end.Unsettled steps) read text =
+    OfTwo read (λ one other. OfFloor one other (λ c t. Runs c t (floor.Unsettled steps) text))
+floor_writes Runs _ read text = ⊥
+
+-- a floor rests or is cut off, and this is written of its run
+abbrev pub floor_task
+    : (Config → List Tick → Type 0) → (ℕ → Config → List Tick → Type 0)
+    → (Config → List Tick → FloorEnd → List ℕ → Type 0) → Task
+floor_task Rests IsCut Runs = record {
+  reads = IsFloorInput;
+  ends = floor_ends Rests IsCut;
+  writes = floor_writes Runs;
+}
+
+-- ---- the commands
+
+-- what each command does
+abbrev pub task_of : Command → Task
+task_of (Steps file) = file_task IsScriptText RecordsScript
+task_of (Check journal) = journal_task IsCheckOf
+task_of (Purge label journal) = journal_task (Purges label)
+task_of (Upgrade journal) = journal_task Upgrades
+task_of (Why journal place) = why_task place
+task_of (Auction orders) = file_task IsOrders IsTextOfFile
+task_of (Lint script) = file_task IsScriptText LintsScript
+task_of (Gen key n) = key_task (λ text. text ≡ ticks_text (generated key n))
+task_of (Load key n) = key_task (IsLoadText key n)
+task_of (Floor config ticks) = floor_task Settles IsCutAt RunsFloor
+task_of (FloorWorkers config ticks workers) = floor_task SettlesAnyhow MayBeCutAt WorksFloor
+
+-- the bytes are what the command reads as its file of this number
+abbrev pub IsInput : Command → ℕ → List ℕ → Type 0
+IsInput command = (task_of command).reads
+
 -- what was read is right: it is what the command reads, a journal is right and has the place that
 -- the command names, and a floor settles, with workers in whatever order they take turns
 abbrev pub IsRightInput : Command → List (List ℕ) → Type 0
-IsRightInput (Steps file) read = OfOne read IsScriptText
-IsRightInput (Check journal) read = OfOne read (λ bytes. OfJournal bytes IsRightJournal)
-IsRightInput (Purge label journal) read = OfOne read (λ bytes. OfJournal bytes IsRightJournal)
-IsRightInput (Upgrade journal) read = OfOne read (λ bytes. OfJournal bytes IsRightJournal)
-IsRightInput (Why journal place) read = OfOne read (λ bytes. OfJournal bytes (HasPlace place))
-IsRightInput (Auction orders) read = OfOne read IsOrders
-IsRightInput (Lint script) read = OfOne read IsScriptText
-IsRightInput (Gen key n) read = ⊤
-IsRightInput (Floor config ticks) read = OfTwo read (λ one other. OfFloor one other Settles)
-IsRightInput (FloorWorkers config ticks workers) read =
-    OfTwo read (λ one other. OfFloor one other SettlesAnyhow)
-IsRightInput (Load key n) read = ⊤
+IsRightInput command read = (task_of command).ends end.Done read
 
 -- what was read is a journal that is wrong, first at this place
 abbrev pub IsWrongInput : Command → List (List ℕ) → ℕ → Type 0
-IsWrongInput (Check journal) read place =
-    OfOne read (λ bytes. OfJournal bytes (λ j. IsWrongAt j place))
-IsWrongInput (Purge label journal) read place =
-    OfOne read (λ bytes. OfJournal bytes (λ j. IsWrongAt j place))
-IsWrongInput (Upgrade journal) read place =
-    OfOne read (λ bytes. OfJournal bytes (λ j. IsWrongAt j place))
-IsWrongInput (Why journal asked) read place =
-    OfOne read (λ bytes. OfJournal bytes (λ j. IsWrongAt j place))
-IsWrongInput command read place = ⊥
+IsWrongInput command read place = (task_of command).ends (end.Wrong place) read
 
 -- what was read is a right journal of so many entries, which hasn't the place that the command
 -- names
 abbrev pub IsNoPlaceInput : Command → List (List ℕ) → ℕ → Type 0
-IsNoPlaceInput (Why journal place) read count =
-    OfOne read (λ bytes. OfJournal bytes (LacksPlace place count))
-IsNoPlaceInput command read count = ⊥
+IsNoPlaceInput command read count = (task_of command).ends (end.NoPlace count) read
 
 -- what was read is a floor that doesn't settle: its run is cut off with so many entries, or a run by
 -- workers may be
 abbrev pub IsUnsettledInput : Command → List (List ℕ) → ℕ → Type 0
-IsUnsettledInput (Floor config ticks) read steps =
-    OfTwo read (λ one other. OfFloor one other (IsCutAt steps))
-IsUnsettledInput (FloorWorkers config ticks workers) read steps =
-    OfTwo read (λ one other. OfFloor one other (MayBeCutAt steps))
-IsUnsettledInput command read steps = ⊥
+IsUnsettledInput command read steps = (task_of command).ends (end.Unsettled steps) read
 
 -- what was read is a floor whose only run is cut off with so many entries
 abbrev pub IsCutInput : Command → List (List ℕ) → ℕ → Type 0
 IsCutInput (FloorWorkers config ticks workers) read steps = ⊥
 IsCutInput command read steps = IsUnsettledInput command read steps
 
--- ---- what is written
-
--- the text is what the command writes of what was read, where it is done
-abbrev pub IsOutput : Command → List (List ℕ) → List ℕ → Type 0
-IsOutput (Steps file) read text = OfOne read (λ bytes. RecordsScript bytes text)
-IsOutput (Check journal) read text =
-    OfOne read (λ bytes. OfJournal bytes (λ j. IsCheckOf j finding.Right text))
-IsOutput (Purge label journal) read text =
-    OfOne read (λ bytes. OfJournal bytes (λ j. IsPurgeOf label j text))
-IsOutput (Upgrade journal) read text =
-    OfOne read (λ bytes. OfJournal bytes (λ j. IsUpgradeOf j text))
-IsOutput (Why journal place) read text =
-    OfOne read (λ bytes. OfJournal bytes (λ j. IsWhyOf place j text))
-IsOutput (Auction orders) read text = OfOne read (λ bytes. IsTextOfFile bytes text)
-IsOutput (Lint script) read text = OfOne read (λ bytes. LintsScript bytes text)
-IsOutput (Gen key n) read text = text ≡ ticks_text (generated key n)
-IsOutput (Floor config ticks) read text =
-    OfTwo read (λ one other. OfFloor one other (λ c t. RunsFloor c t floor.Quiet text))
-IsOutput (FloorWorkers config ticks workers) read text =
-    OfTwo read (λ one other. OfFloor one other (λ c t. WorksFloor c t floor.Quiet text))
-IsOutput (Load key n) read text = IsLoadText key n text
-
--- the text is what the command writes of a journal that is wrong, first at this place
-abbrev pub IsReport : Command → List (List ℕ) → ℕ → List ℕ → Type 0
-IsReport (Check journal) read place text =
-    OfOne read (λ bytes. OfJournal bytes (λ j. IsCheckOf j (finding.Wrong place) text))
-IsReport (Purge label journal) read place text =
-    OfOne read (λ bytes. OfJournal bytes (λ j. TellsPlace j place text))
-IsReport (Upgrade journal) read place text =
-    OfOne read (λ bytes. OfJournal bytes (λ j. TellsPlace j place text))
-IsReport (Why journal asked) read place text =
-    OfOne read (λ bytes. OfJournal bytes (λ j. TellsPlace j place text))
-IsReport command read place text = ⊥
-
--- the text is what the command writes of a right journal of so many entries, which hasn't the place
--- that the command names
-abbrev pub IsCountTold : Command → List (List ℕ) → ℕ → List ℕ → Type 0
-IsCountTold (Why journal place) read count text =
-    OfOne read (λ bytes. OfJournal bytes (λ j. TellsCount place j count text))
-IsCountTold command read count text = ⊥
-
--- the text is what the command writes of a run that was cut off with so many entries
-abbrev pub IsCutRun : Command → List (List ℕ) → ℕ → List ℕ → Type 0
-IsCutRun (Floor config ticks) read steps text =
-    OfTwo read (λ one other. OfFloor one other (λ c t. RunsFloor c t (floor.Unsettled steps) text))
-IsCutRun (FloorWorkers config ticks workers) read steps text =
-    OfTwo read (λ one other. OfFloor one other (λ c t. WorksFloor c t (floor.Unsettled steps) text))
-IsCutRun command read steps text = ⊥
-
 -- the text is what the command writes of what was read where it ends so
 abbrev pub IsText : Command → List (List ℕ) → End → List ℕ → Type 0
-IsText command read end.Done text = IsOutput command read text
-IsText command read (end.Wrong place) text = IsReport command read place text
-IsText command read (end.Unsettled steps) text = IsCutRun command read steps text
-IsText command read (end.NoPlace count) text = IsCountTold command read count text
+IsText command read e text = (task_of command).writes e read text
 
 -- how an audit ends
 abbrev pub end_of : Finding → End
