@@ -20,7 +20,7 @@ use Rattle.df_run.proofs.OneRun.{one_cut, one_floor, quiet_settles, settles_or_c
 use Rattle.df_run.proofs.Reaching.{AreInputs}
 use Rattle.df_run.specs.Floor.{IsCutAt, MayBeCutAt, OfFloor, RunsFloor, Settles, SettlesAnyhow, WorksFloor}
 use Rattle.df_run.specs.Lint.{LintsScript}
-use Rattle.df_run.specs.Steps.{RecordsScript}
+use Rattle.df_steps.specs.Steps.{RecordsScript}
 use Rattle.df_run.specs.Tasks.{IsCutInput, IsInput, IsNoPlaceInput, IsOrders, IsRightInput, IsText, IsUnsettledInput, IsWrongInput, OfOne, OfTwo}
 use Rattle.df_run.specs.declared.tasks.End.{End}
 use Rattle.df_run.specs.declared.tasks.End.TheVariants as end
@@ -180,7 +180,7 @@ module _ (c : Command) (read : List (List ℕ)) (no_wrong : (p : ℕ) → IsWron
 
 module _ (c : Command) (read : List (List ℕ)) (no_report : (p : ℕ) (text : List ℕ) → IsText c read (end.Wrong p) text → ⊥)
     (no_cut : (p : ℕ) (text : List ℕ) → IsText c read (end.Unsettled p) text → ⊥)
-        (no_count : (p : ℕ) (text : List ℕ) → IsText c read (end.NoPlace p) text → ⊥) where
+    (no_count : (p : ℕ) (text : List ℕ) → IsText c read (end.NoPlace p) text → ⊥) where
   done_text : (text : List ℕ) → (IsText c read end.Done text → IsDoneInput c read) → (e : End) → IsText c read e text → EndsSo c read e
   done_text text f end.Done h = f h
   done_text text f (end.Wrong place) h = absurd (no_report place text h)

@@ -4,8 +4,6 @@ pub mod Ending
 pub mod Files
 pub mod Floors
 pub mod Inputs
-pub mod Journals
 pub mod OneRun
 pub mod Reaching
-pub mod Sound
 pub mod Stopping

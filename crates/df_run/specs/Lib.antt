@@ -3,5 +3,4 @@ pub mod Lint
 pub mod Making
 pub mod Outcome
 pub mod Status
-pub mod Steps
 pub mod Tasks

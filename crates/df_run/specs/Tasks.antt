@@ -26,7 +26,7 @@ use Rattle.df_words.specs.declared.command.Command.{Command}
 use Rattle.df_words.specs.declared.command.Command.TheVariants.{Steps, Check, Purge, Upgrade, Why, Auction, Lint, Gen, Floor, FloorWorkers, Load}
 use Rattle.df_run.specs.Floor.{IsConfiguration, IsCutAt, IsTicks, MayBeCutAt, OfFloor, RunsFloor, Settles, SettlesAnyhow, WorksFloor}
 use Rattle.df_run.specs.Lint.{LintsScript}
-use Rattle.df_run.specs.Steps.{RecordsScript}
+use Rattle.df_steps.specs.Steps.{RecordsScript}
 use Rattle.df_run.specs.declared.status.BadKind.{BadKind}
 use Rattle.df_run.specs.declared.status.BadKind.TheVariants.{Syntax, TooLarge, BadOrder, BadConfig, BadTick}
 use Rattle.df_run.specs.declared.tasks.End.{End}

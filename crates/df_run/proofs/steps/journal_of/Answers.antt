@@ -4,8 +4,8 @@ use Rattle.df_journal_text.specs.Start.{head_text}
 use Rattle.df_lines.specs.Refused.{NamesBadLine}
 use Rattle.df_script_text.specs.Script.{IsScriptText}
 use Rattle.df_script_text.specs.TooLarge.{IsTooLargeIn}
-use Rattle.df_run.proofs.Journals.{written_more, written_none}
-use Rattle.df_run.proofs.Sound.{journal_is_sound, journal_is_unaided}
+use Rattle.df_steps.proofs.Journals.{written_more, written_none}
+use Rattle.df_steps.proofs.Sound.{journal_is_sound, journal_is_unaided}
 use Rattle.df_run.proofs.steps.journal_of.Goals as goal
 
 pub lines-init : goal.lines-init

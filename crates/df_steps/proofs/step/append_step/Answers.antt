@@ -4,8 +4,8 @@ use Rattle.df_machine.specs.Journal.{State, firsts}
 use Rattle.df_rules.specs.Legal.{answered}
 use Rattle.df_rules.specs.Start.{rows}
 use Rattle.df_journal_text.specs.Entry.{entry_text}
-use Rattle.df_run.proofs.Journals.{on_ok-map}
-use Rattle.df_run.proofs.steps.append_step.Goals as goal
+use Rattle.df_steps.proofs.Journals.{on_ok-map}
+use Rattle.df_steps.proofs.step.append_step.Goals as goal
 
 pub append_newest-requires : goal.append_newest-requires
 append_newest-requires c =

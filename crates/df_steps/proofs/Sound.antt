@@ -8,7 +8,7 @@ use Rattle.df_rules.specs.Legal.{IsUnaided}
 use Rattle.df_rules.specs.Start.{rows}
 use Rattle.df_start.specs.declared.start.RootStart.{RootStart}
 use Rattle.df_script_text.specs.declared.line.ScriptLine.{ScriptLine}
-use Rattle.df_run.specs.Steps.{called, journal_of}
+use Rattle.df_steps.specs.Steps.{called, journal_of}
 
 pub journal_is_sound : (begin : List RootStart) (lines : List ScriptLine) → IsSound (firsts begin) (journal_of begin lines)
 journal_is_sound begin lines = legal_is_sound begin (journal_of begin lines) (run_legal rows (firsts begin) (reverse (map called lines)))

@@ -15,7 +15,7 @@ use Rattle.df_unit.specs.declared.name.UnitName.{UnitName}
 use Rattle.df_journal_text.specs.Entry.{noted_text}
 use Rattle.df_journal_text.specs.Start.{head_text}
 use Rattle.df_script_text.specs.declared.line.ScriptLine.{ScriptLine}
-use Rattle.df_run.specs.Steps.{AppendsStep, called, journal_of}
+use Rattle.df_steps.specs.Steps.{AppendsStep, called, journal_of}
 
 -- what follows from what holds where a call is done
 pub on_ok-map : {A E : Type 0} {P Q : Type 0} (r : Result A E) → OnOk r P → (P → Q) → OnOk r Q

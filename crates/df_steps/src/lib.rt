@@ -1,0 +1,6 @@
+//! A script's calls, made one after another, and the text of their journal.
+#![tactic(auto)]
+
+mod step;
+
+pub use step::append_step;
