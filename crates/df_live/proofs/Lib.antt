@@ -1,0 +1,5 @@
+pub mod Answered
+pub mod Heads
+pub mod Parts
+pub mod Starts
+pub mod Taking
