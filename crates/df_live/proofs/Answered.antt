@@ -159,7 +159,8 @@ more_taken left mid after roots lines l words k is taken = consumes-consumes lef
     (subst (λ (u : List ℕ). Consumes mid after (ended u)) is taken)
 
 -- one more call is answered
-pub call_answered : (roots : List RootStart) (lines : List ScriptLine) (left mid after old part new : Option (List ℕ)) (core core' : State) (l : ScriptLine) (words : List ℕ) → HasAnswered roots lines left mid old part core
+pub call_answered : (roots : List RootStart) (lines : List ScriptLine) (left mid after old part new : Option (List ℕ)) (core core' : State) (l : ScriptLine) (words : List ℕ)
+    → HasAnswered roots lines left mid old part core
     → TakesCall mid after words (Some l) → AnswersCall l core core' part new → HasAnswered roots (lines ++ l ∷ []) left after old new core'
 call_answered roots lines left mid after old part new core core' l words h t a =
     let made = more_written roots lines l core core' h.text a.0 h.made h.records a.1 in
@@ -192,7 +193,8 @@ next_line roots lines core n made is = is ∙ ap (λ (c : State). length c.0 + l
     ∙ ap (λ (k : ℕ). length roots + k + 3) (length-journal roots lines)
 
 -- a run that stops where it takes a call
-pub stops_line_stops : (roots : List RootStart) (lines : List ScriptLine) (left mid after old new : Option (List ℕ)) (core : State) (f0 f f' w w' n : ℕ) (s : LiveStatus) → HasAnswered roots lines left mid old new core
+pub stops_line_stops : (roots : List RootStart) (lines : List ScriptLine) (left mid after old new : Option (List ℕ)) (core : State) (f0 f f' w w' n : ℕ) (s : LiveStatus)
+    → HasAnswered roots lines left mid old new core
     → n ≡ length core.0 + length core.1 + 3 → f0 ≤ f → StopsLine IsBadCall n mid after f f' s → Stops left after old new f0 f' w w' s
 stops_line_stops roots lines left mid after old new core f0 f f' w w' n s h count up stop =
     by s stop.due (due_call left mid roots lines n f0 f f' w w' s h.script h.taken (next_line roots lines core n h.made count) up stop.due)
@@ -210,7 +212,8 @@ stops_line_stops roots lines left mid after old new core f0 f f' w w' n s h coun
     by status.WriteFault d due = absurd d
 
 -- a run that stops where it answers a call
-pub stops_answer_stops : (roots : List RootStart) (lines : List ScriptLine) (left mid after old part new : Option (List ℕ)) (core core' : State) (l : ScriptLine) (words : List ℕ) (f f' w0 w w' : ℕ) (s : LiveStatus) → HasAnswered roots lines left mid old part core
+pub stops_answer_stops : (roots : List RootStart) (lines : List ScriptLine) (left mid after old part new : Option (List ℕ)) (core core' : State) (l : ScriptLine) (words : List ℕ) (f f' w0 w w' : ℕ) (s : LiveStatus)
+    → HasAnswered roots lines left mid old part core
     → IsLine words → TakesCall mid after words (Some l) → w0 ≤ w → StopsAnswer l core core' part new w w' s → Stops left after old new f f' w0 w' s
 stops_answer_stops roots lines left mid after old part new core core' l words f f' w0 w w' status.NoMemory h line t up stop = (
   tt,

@@ -1,17 +1,10 @@
 -- What is moved of a piece to a line.
 use Rattle.std.proofs.Common.{◌≡◌, ℕ, ◌+◌, ◌-◌, ◌<◌, ◌≤◌, Bool, true, false, List, [], ◌∷◌, ◌++◌, length, take, drop, slice_range, Option, Some, None, option_map, Ok, Err, refl, sym, ap, subst, ◌∙◌, arith, append_assoc, length-drop, length-take}
 use Rattle.std.proofs.lemmas.List.{drop-drop, drop-take, take-append-drop}
-use Rattle.std.specs.Io.KnownBytes.{Consumes, Keeps}
+use Rattle.std.specs.Io.KnownBytes.{Consumes}
 use Rattle.df_live.specs.Part.{AppendsPart}
 use Rattle.df_live.specs.ReadLines.{Moves, TakesPart}
 use Rattle.df_live.specs.declared.part.Part.{Part}
-
--- what stays as it was still has lost the same
-pub consumes-keeps : (a b c : Option (List ℕ)) (bytes : List ℕ) → Consumes a b bytes → Keeps b c → Consumes a c bytes
-consumes-keeps None b c bytes e k = tt
-consumes-keeps (Some x) None c bytes e k = absurd e
-consumes-keeps (Some x) (Some y) None bytes e k = absurd k
-consumes-keeps (Some x) (Some y) (Some z) bytes e k = e ∙ ap (λ (u : List ℕ). bytes ++ u) (sym k)
 
 -- one loss after the other
 pub consumes-consumes : (a b c : Option (List ℕ)) (front more : List ℕ) → Consumes a b front → Consumes b c more → Consumes a c (front ++ more)
@@ -19,11 +12,6 @@ consumes-consumes None b c front more e f = tt
 consumes-consumes (Some x) None c front more e f = absurd e
 consumes-consumes (Some x) (Some y) None front more e f = absurd f
 consumes-consumes (Some x) (Some y) (Some z) front more e f = e ∙ ap (λ (u : List ℕ). front ++ u) f ∙ sym (append_assoc front more z)
-
--- nothing is lost
-pub consumes-nothing : (a : Option (List ℕ)) → Consumes a a []
-consumes-nothing None = tt
-consumes-nothing (Some x) = refl
 
 -- what stands in front of a piece's rest is lost
 consumes-front : (left moved rest : List ℕ) (more : Option (List ℕ)) → left ≡ moved ++ rest
@@ -49,7 +37,8 @@ range-feed xs a b n within feed =
     let left = slice_range xs a b in
     let some : n + 1 ≤ length left = omega (arith, ap length feed, length-drop n left) in
     let place : a + (n + 1) ≡ a + n + 1 = omega arith in
-    sym (take-append-drop n left) ∙ ap (λ (u : List ℕ). take n left ++ u) (feed ∙ ap (λ (u : List ℕ). 10 ∷ u) (range-drop xs a b (n + 1) some ∙ ap (λ (k : ℕ). slice_range xs k b) place))
+    sym (take-append-drop n left)
+    ∙ ap (λ (u : List ℕ). take n left ++ u) (feed ∙ ap (λ (u : List ℕ). 10 ∷ u) (range-drop xs a b (n + 1) some ∙ ap (λ (k : ℕ). slice_range xs k b) place))
     ∙ sym (append_assoc (take n left) (10 ∷ []) (slice_range xs (a + n + 1) b))
 
 -- a part that is followed by a line feed, or ends with the piece
@@ -82,11 +71,13 @@ takes_part {E = E} xs a b place more old new part p some feed none = record {
     )
 
 -- a part of a line that is too long
-pub takes_long : {E : Type 0} (e : E) (xs : List ℕ) (a b : ℕ) (more : Option (List ℕ)) (old new : List ℕ) (part : Part) → AppendsPart (slice_range xs a b) old new part
+pub takes_long : {E : Type 0} (e : E) (xs : List ℕ) (a b : ℕ) (more : Option (List ℕ)) (old new : List ℕ) (part : Part)
+    → AppendsPart (slice_range xs a b) old new part
     → TakesPart {E = E} (option_map (λ m. slice_range xs a b ++ m) more) (option_map (λ m. slice_range xs (a + part.count) b ++ m) more) old new (Err e)
 takes_long e xs a b more old new part p = record {
   moved = take part.count (slice_range xs a b);
   line = p.line;
   appended = p.appended;
-  source = consumes-front (slice_range xs a b) (take part.count (slice_range xs a b)) (slice_range xs (a + part.count) b) more (range-split xs a b part.count p.within);
+  source = consumes-front (slice_range xs a b) (take part.count (slice_range xs a b)) (slice_range xs (a + part.count) b) more
+      (range-split xs a b part.count p.within);
 }

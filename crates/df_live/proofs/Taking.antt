@@ -32,11 +32,6 @@ pub if_failed : {A E : Type 0} {P : Type 0} (r : Result A E) → is_err r ≡ tr
 if_failed (Ok u) is p = absurd (true≢false (sym is))
 if_failed (Err e) is p = p
 
--- what follows from what holds where a call is done
-pub on_ok-map : {A E : Type 0} {P Q : Type 0} (r : Result A E) → OnOk r P → (P → Q) → OnOk r Q
-on_ok-map (Ok u) p f = f p
-on_ok-map (Err e) p f = tt
-
 -- what holds where a value is told
 if_some : {A : Type 0} (P : A → Type 0) (o : Option A) → ((x : A) → o ≡ Some x → P x) → IfSome o P
 if_some P None f = tt

@@ -1,7 +1,8 @@
 use Rattle.std.proofs.Common.{◌≡◌, IfErr, List, OnOk, ℕ, codes, subst}
 use Rattle.std.proofs.lemmas.Result.{IfErr-weaker, err_from_is_err_and}
 use Rattle.df_live.specs.code.Stops.{IsBadHead, IsTakenAs, RefusesHead}
-use Rattle.df_live.proofs.Taking.{on_ok-map, stops_head, stops_untaken, taken_as}
+use Rattle.df_steps.proofs.Journals.{on_ok-map}
+use Rattle.df_live.proofs.Taking.{stops_head, stops_untaken, taken_as}
 use Rattle.df_live.proofs.head.take_first.Goals as goal
 
 pub returns-in_err-taken-clause-stops : goal.returns-in_err-taken-clause-stops
