@@ -1,13 +1,26 @@
 -- What a binary search of an ascending list tells.
-use Rattle.std.proofs.Common.{◌≡◌, ℕ, zero, suc, ◌<◌, ◌≤◌, false, List, [], ◌∷◌, length, get_or, refl, ap, sym, ◌∙◌, subst, arith, Result, Ok, Err, is_ok, OnOk, IfErr}
+use Rattle.std.proofs.Common.{◌≡◌, ℕ, zero, suc, ◌<◌, ◌≤◌, ◌-◌, true, false, List, [], ◌∷◌, length, get_or, refl, ap, sym, ◌∙◌, subst, arith, Result, Ok, Err, is_ok, OnOk, IfErr}
 use Rattle.std.specs.List.{insert}
+use Rattle.std.specs.Prelude.{Option, Some, slice_get}
 use Rattle.std.specs.List.Sorted.{IsNonDecreasingBy, IsPartitionPoint, IsBinarySearchResult, IsSearchInRange}
 use Rattle.std.specs.declared.cmp.Ordering.{Ordering}
 use Rattle.std.specs.declared.cmp.Ordering.TheVariants.{Less, Equal, Greater}
-use Rattle.std.specs.Ordering.{match_ordering, is_eq, ordering_index}
+use Rattle.std.specs.Ordering.{match_ordering, is_eq, is_lt, ordering_index}
+use Rattle.std.proofs.lemmas.Bool.{true≢false}
 use Rattle.std.proofs.lemmas.List.Folds.{list_any_at}
+use Rattle.std.proofs.lemmas.Option.{get_or_from_slice_get, slice_get_within}
 use Rattle.df_label.specs.Ascending.{IsBelow, IsAscending, contains_by, insert_by}
 use Rattle.df_label.proofs.SetFacts.{IsExactOrder, reversed, insert_present, ascending_insert}
+
+-- what comes no later than `Less` is `Less`
+lowest : (r top : Ordering) → is_lt top ≡ true → ordering_index r ≤ ordering_index top → r ≡ Less
+lowest Less top h k = refl
+lowest Equal Less h k = absurd (omega arith)
+lowest Equal Equal h k = absurd (true≢false (sym h))
+lowest Equal Greater h k = absurd (true≢false (sym h))
+lowest Greater Less h k = absurd (omega arith)
+lowest Greater Equal h k = absurd (true≢false (sym h))
+lowest Greater Greater h k = absurd (true≢false (sym h))
 
 module _ {X : Type 0} (cmp : X → X → Ordering) (o : IsExactOrder cmp) where
   below_at : (x : X) (xs : List X) (k : ℕ) (d : X) → IsBelow cmp x xs → k < length xs → cmp x (get_or xs k d) ≡ Less
@@ -77,3 +90,11 @@ module _ {X : Type 0} (cmp : X → X → Ordering) (o : IsExactOrder cmp) where
     pub searched_ascending : (r : Result ℕ ℕ) → IsSearchInRange r (length xs) → IsBinarySearchResult (λ y. cmp y x) xs r → IfErr r (λ k. IsAscending cmp (insert xs k x))
     searched_ascending (Ok k) h p = tt
     searched_ascending (Err k) h p = subst (IsAscending cmp) (searched_new (Err k) h p) (ascending_insert cmp o xs x s)
+
+    -- where the last element is lower, a search would end behind it
+    pub searched_behind : (last : X) → Some last ≡ slice_get xs (length xs - 1) → is_lt (cmp last x) ≡ true → IsBinarySearchResult (λ y. cmp y x) xs (Err (length xs))
+    searched_behind last e h rise = (λ j d a b. lowest (cmp (get_or xs j d) x) (cmp last x) h (no_later j d b), λ j d a b. absurd (omega arith))
+      where
+        no_later : (j : ℕ) (d : X) → j < length xs → ordering_index (cmp (get_or xs j d) x) ≤ ordering_index (cmp last x)
+        no_later j d b =
+            subst (λ y. ordering_index (cmp (get_or xs j d) x) ≤ ordering_index (cmp y x)) (get_or_from_slice_get xs (length xs - 1) last d (sym e)) (rise j (length xs - 1) d (omega arith) (omega arith))

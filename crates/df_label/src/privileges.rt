@@ -131,7 +131,7 @@ impl Privileges {
     }
 }
 
-// Where the privilege stands, or where it would.
+// Where the privilege stands, or where it would. Those that come in order cost one comparison.
 fn place(list: &[Privilege], p: &Privilege) -> Result<usize, usize>
     requires { IsAscending privilege_cmp list.now }
     ensures found { contains list.now p.now ≡ is_ok result }
@@ -140,6 +140,11 @@ fn place(list: &[Privilege], p: &Privilege) -> Result<usize, usize>
     ensures new { IfErr result (λ k. add list.now p.now ≡ insert_at list.now k p.now) }
     ensures ascending { IfErr result (λ k. IsAscending privilege_cmp (insert_at list.now k p.now)) }
 {
+    if let Some(last) = list.last() {
+        if last.cmp(p).is_lt() {
+            return Err(list.len());
+        }
+    }
     list.binary_search(p)
 }
 
