@@ -1,2 +1,3 @@
 pub mod OpenHandles
+pub mod Slots
 pub mod Views

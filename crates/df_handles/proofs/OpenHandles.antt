@@ -38,13 +38,3 @@ handle_at-open (o ∷ hs) (suc h) d x k e = handle_at-open hs h d x (omega arith
 pub changed_at-open : (hs : List (Option Handle)) (h : ℕ) (d : Option Handle) (x y : Handle) (f : Handle → Handle) → h < length hs → Some x ≡ get_or hs h d → y ≡ f x → set hs h (Some y) ≡ changed_at hs h f
 changed_at-open hs h d x y f k e is =
     ap (λ (z : Handle). set hs h (Some z)) is ∙ ap (replaced hs h f) (sym (handle_at-open hs h d x k e))
-
--- an open handle that is written as it was changes nothing
-pub open_kept : (hs : List (Option Handle)) (h : ℕ) (d : Option Handle) (x y : Handle) → h < length hs → Some x ≡ get_or hs h d → y ≡ x → set hs h (Some y) ≡ hs
-open_kept [] h d x y k e is = absurd (omega arith)
-open_kept (o ∷ hs) zero d x y k e is = ap (λ (p : Option Handle). p ∷ hs) (ap (λ (z : Handle). Some z) is ∙ e)
-open_kept (o ∷ hs) (suc h) d x y k e is = ap (λ l. o ∷ l) (open_kept hs h d x y (omega arith) e is)
-
--- two changes that make the same of the open handle are one
-pub changed_same : (hs : List (Option Handle)) (h : ℕ) (d : Handle) (f g : Handle → Handle) → handle_at hs h ≡ Some d → f d ≡ g d → changed_at hs h f ≡ changed_at hs h g
-changed_same hs h d f g e is = rw e (ap (λ (x : Handle). set hs h (Some x)) is)

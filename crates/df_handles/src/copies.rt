@@ -1,29 +1,35 @@
 //! The same handles once more.
 
 ghost use Rattle.std.specs.Prelude.{◌≡◌, IfOk};
+ghost use Rattle.df_handles.specs.code.Slot.{all_shown, shown};
 
 use crate::parts::copies_of;
+use crate::slot::Slot;
 use df_label::NoMemory;
 use df_part::Part;
 use df_unit::{Drafts, Handle, Spots};
 use std::alloc::Global;
 
-pub fn copies(alloc: Global, handles: &[Option<Handle>]) -> Result<Vec<Option<Handle>>, NoMemory>
-    ensures { IfOk result (λ v. v.items ≡ handles.now) }
+pub fn copies(alloc: Global, slots: &[Slot]) -> Result<Vec<Slot>, NoMemory>
+    ensures { IfOk result (λ v. all_shown v.items ≡ all_shown slots.now) }
 {
-    let mut copies = Vec::with_capacity(alloc, handles.len())?;
-    for handle in handles {
-        copies.push(place_copied(alloc, handle)?)?;
+    let mut copies = Vec::with_capacity(alloc, slots.len())?;
+    for slot in slots {
+        copies.push(slot_copied(alloc, slot)?)?;
     }
     Ok(copies)
 }
 
-fn place_copied(alloc: Global, place: &Option<Handle>) -> Result<Option<Handle>, NoMemory>
-    ensures { IfOk result (λ p. p ≡ place.now) }
+/// A place with the same open handle. The room of a closed one isn't copied.
+fn slot_copied(alloc: Global, slot: &Slot) -> Result<Slot, NoMemory>
+    ensures { IfOk result (λ s. shown s ≡ shown slot.now) }
 {
-    match place {
-        None => Ok(None),
-        Some(handle) => Ok(Some(handle_copied(alloc, handle)?)),
+    match slot.get() {
+        None => Ok(Slot {
+            is_open: false,
+            kept: None,
+        }),
+        Some(handle) => Ok(Slot::of(handle_copied(alloc, handle)?)),
     }
 }
 

@@ -4,10 +4,8 @@ ghost use Rattle.std.specs.Prelude.{◌≡◌, IfOk, OnOk, OnErr, not, map};
 ghost use Rattle.std.specs.List.{filter};
 ghost use Rattle.df_part.specs.Contents.{is_at};
 ghost use Rattle.df_unit.specs.Drafts.{attach, attached_in, deleted_in, has_at, spot, visible};
-ghost use Rattle.df_unit.specs.Handles.{changed_at};
 ghost use Rattle.df_handles.specs.code.Views.{has_seen};
 
-use crate::places::{draft_anew, handle_at};
 use crate::visible::is_visible;
 use df_frozen::Name;
 use df_label::{Label, NoMemory, Privilege};
@@ -15,26 +13,8 @@ use df_part::{Part, PartRef, Spot};
 use df_unit::{Drafts, Handle};
 use std::alloc::Global;
 
-/// Deletes a spot at an open handle.
-pub fn delete_at(handles: &mut Vec<Option<Handle>>, h: u32, spot: Spot) -> Result<(), NoMemory>
-    ensures ok { OnOk result (handles.new.items ≡ changed_at handles.old.items h
-        (deleted_in spot)) }
-    ensures unchanged { OnErr result (handles.new.items ≡ handles.old.items) }
-{
-    let alloc = *handles.allocator();
-    let place = h as usize;
-    if place < handles.len() {
-        if let Some(handle) = &mut handles[place] {
-            let Ok(()) = delete_in(alloc, handle, spot) else {
-                return Err(NoMemory);
-            };
-        }
-    }
-    Ok(())
-}
-
 /// Takes the drafted parts of a spot out. Where there are none, names the spot for deletion.
-fn delete_in(alloc: Global, handle: &mut Handle, spot: Spot) -> Result<(), NoMemory>
+pub fn delete_in(alloc: Global, handle: &mut Handle, spot: Spot) -> Result<(), NoMemory>
     ensures ok { OnOk result (handle.new ≡ deleted_in spot handle.old) }
     ensures unchanged { OnErr result (handle.new ≡ handle.old) }
 {
@@ -50,26 +30,20 @@ fn delete_in(alloc: Global, handle: &mut Handle, spot: Spot) -> Result<(), NoMem
     }
 }
 
-/// Attaches a privilege to the drafted parts of a name and label at an open handle.
-#[tactic(auto, using(crate::proofs::OpenHandles::changed_same))]
-pub fn attach_at(
-    handles: &mut Vec<Option<Handle>>,
-    h: u32,
+/// Attaches a privilege to the drafted parts of a name and label.
+pub fn attach_in(
+    alloc: Global,
+    handle: &mut Handle,
     name: &Name,
     label: &Label,
     p: &Privilege,
 ) -> Result<(), NoMemory>
-    ensures ok { OnOk result (handles.new.items ≡ changed_at handles.old.items h
-        (attached_in (spot name.now label.now) p.now)) }
-    ensures unchanged { OnErr result (handles.new.items ≡ handles.old.items) }
+    ensures ok { OnOk result (handle.new ≡ attached_in (spot name.now label.now) p.now handle.old) }
+    ensures unchanged { OnErr result (handle.new ≡ handle.old) }
 {
-    let alloc = *handles.allocator();
-    let Some(handle) = handle_at(handles.as_slice(), h) else {
-        return Ok(());
-    };
     match attached(alloc, handle.drafted.as_slice(), name, label, p) {
         Ok(drafted) => {
-            draft_anew(handles, h, Drafts::new(drafted));
+            handle.drafted = Drafts::new(drafted);
             Ok(())
         }
         Err(refused) => Err(refused),

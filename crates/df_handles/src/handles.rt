@@ -1,21 +1,22 @@
 //! The handles of a unit, each by its number.
 
 use crate::copies::copies;
-use crate::edits::{attach_at, delete_at};
 use crate::limits::MOST_HANDLES;
-use crate::places::{close, draft, handle_at, least_free, open, open_count};
+use crate::places::{attach, begin, close, delete, draft, handle_at, least_free, open, open_count};
 use crate::same::same;
+use crate::slot::Slot;
 use df_frozen::Name;
 use df_label::{Label, NoMemory, Privilege};
-use df_part::{Part, Spot};
-use df_unit::Handle;
+use df_part::{Part, Parts, Spot};
+use df_unit::{EventName, Handle};
 use std::alloc::Global;
 use std::marker::Model;
 
-/// The handles that a unit has open. A handle's number is its place; those of closed ones are free.
+/// The handles that a unit has open. A handle's number is its place; those of closed ones are free,
+/// and their room is kept for the next.
 #[derive(Drop)]
 pub struct Handles {
-    places: Vec<Option<Handle>>,
+    slots: Vec<Slot>,
 }
 
 impl Model for Handles {
@@ -23,25 +24,26 @@ impl Model for Handles {
     ghost use Rattle.std.specs.Coded.{coded_list, coded_option};
     ghost use Rattle.df_unit.specs.declared.handle.Handle.{Handle};
     ghost use Rattle.df_unit.specs.contracts.handle.Handle as content;
+    ghost use Rattle.df_handles.specs.code.Slot.{all_shown};
 
     ghost Value = { List (Option Handle) };
 
     ghost coded = { coded_list (coded_option content.the_row.coded) };
 
-    ghost view = { λ h. h.places.items };
+    ghost view = { λ h. all_shown h.slots.items };
 }
 
 impl Handles {
     ghost use Rattle.std.specs.Prelude.{◌≡◌, ◌↔◌, ◌∷◌, ◌++◌, [], false, IfOk, IsTrue, OnErr, OnOk, option_copied};
     ghost use Rattle.df_unit.specs.Drafts.{attached_in, deleted_in, spot};
-    ghost use Rattle.df_unit.specs.Handles.{changed_at, closed, handle_at, is_full, least_free, open_count, opened};
+    ghost use Rattle.df_unit.specs.Handles.{changed_at, closed, draft_of, handle_at, is_full, least_free, open_count, opened, view_of};
 
     /// None. Takes no memory.
     pub fn new(alloc: Global) -> Handles
         ensures { result ≡ [] }
     {
         Handles {
-            places: Vec::new(alloc),
+            slots: Vec::new(alloc),
         }
     }
 
@@ -49,22 +51,22 @@ impl Handles {
     pub fn copy(&self) -> Result<Handles, NoMemory>
         ensures { IfOk result (λ h. h ≡ self.now) }
     {
-        let places = copies(*self.places.allocator(), self.places.as_slice())?;
-        Ok(Handles { places })
+        let slots = copies(*self.slots.allocator(), self.slots.as_slice())?;
+        Ok(Handles { slots })
     }
 
     /// Whether the same handles are open under the same numbers, values by their plain content.
     pub fn same(&self, other: &Handles) -> bool
         ensures { IsTrue result ↔ (self.now ≡ other.now) }
     {
-        same(self.places.as_slice(), other.places.as_slice())
+        same(self.slots.as_slice(), other.slots.as_slice())
     }
 
     /// How many are open.
     pub fn count(&self) -> usize
         ensures { result ≡ open_count self.now }
     {
-        open_count(self.places.as_slice())
+        open_count(self.slots.as_slice())
     }
 
     /// Whether no handle more may be opened.
@@ -80,14 +82,14 @@ impl Handles {
         requires { is_full self.now ≡ false }
         ensures { result ≡ least_free self.now }
     {
-        least_free(self.places.as_slice()) as u32
+        least_free(self.slots.as_slice()) as u32
     }
 
     /// The open handle of a number.
     pub fn get(&self, h: u32) -> Option<&Handle>
         ensures { option_copied result ≡ handle_at self.now h }
     {
-        handle_at(self.places.as_slice(), h)
+        handle_at(self.slots.as_slice(), h)
     }
 
     /// Opens a handle at the least number that isn't open.
@@ -95,7 +97,24 @@ impl Handles {
         ensures ok { OnOk result (self.new ≡ opened handle self.old) }
         ensures unchanged { OnErr result (self.new ≡ self.old) }
     {
-        open(&mut self.places, handle)
+        open(&mut self.slots, handle)
+    }
+
+    /// Opens an empty draft, in the room that a closed handle has left.
+    pub fn open_draft(&mut self, event: EventName) -> Result<(), NoMemory>
+        ensures ok { OnOk result (self.new ≡ opened (draft_of event []) self.old) }
+        ensures unchanged { OnErr result (self.new ≡ self.old) }
+    {
+        let alloc = *self.slots.allocator();
+        begin(&mut self.slots, false, event, Parts::new(Vec::new(alloc)))
+    }
+
+    /// Opens a view of an event with these parts, in the room that a closed handle has left.
+    pub fn open_view(&mut self, event: EventName, seen: Parts) -> Result<(), NoMemory>
+        ensures ok { OnOk result (self.new ≡ opened (view_of event seen) self.old) }
+        ensures unchanged { OnErr result (self.new ≡ self.old) }
+    {
+        begin(&mut self.slots, true, event, seen)
     }
 
     /// Drafts a part at an open handle.
@@ -104,7 +123,7 @@ impl Handles {
             (λ d. record d { drafted = d.drafted ++ part ∷ [] })) }
         ensures unchanged { OnErr result (self.new ≡ self.old) }
     {
-        draft(&mut self.places, h, part)
+        draft(&mut self.slots, h, part)
     }
 
     /// Takes the drafted parts of a spot out of an open handle. Where there are none, names the
@@ -113,7 +132,7 @@ impl Handles {
         ensures ok { OnOk result (self.new ≡ changed_at self.old h (deleted_in spot)) }
         ensures unchanged { OnErr result (self.new ≡ self.old) }
     {
-        delete_at(&mut self.places, h, spot)
+        delete(&mut self.slots, h, spot)
     }
 
     /// Attaches a privilege to the drafted parts of a name and label.
@@ -128,13 +147,13 @@ impl Handles {
             (attached_in (spot name.now label.now) p.now)) }
         ensures unchanged { OnErr result (self.new ≡ self.old) }
     {
-        attach_at(&mut self.places, h, name, label, p)
+        attach(&mut self.slots, h, name, label, p)
     }
 
     /// Closes a handle.
     pub fn close(&mut self, h: u32)
         ensures { self.new ≡ closed self.old h }
     {
-        close(&mut self.places, h);
+        close(&mut self.slots, h);
     }
 }

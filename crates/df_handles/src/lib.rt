@@ -10,6 +10,7 @@ mod parts;
 mod places;
 mod read;
 mod same;
+mod slot;
 mod visible;
 
 pub use clone::{cloned, source_count};

@@ -1,19 +1,23 @@
 //! The places of handles: each open or free.
 
 ghost use Rattle.std.specs.Prelude.{◌≡◌, ◌≤◌, ◌∷◌, [], ◌++◌, length, option_copied, OnOk, OnErr};
+ghost use Rattle.df_unit.specs.Drafts.{attached_in, deleted_in, spot};
 ghost use Rattle.df_unit.specs.Handles.{changed_at, closed, handle_at, least_free, open_count, opened};
+ghost use Rattle.df_handles.specs.code.Slot.{all_shown, begun};
 
-use df_label::NoMemory;
-use df_part::Part;
-use df_unit::{Drafts, Handle};
+use crate::slot::{Slot, begun};
+use df_frozen::Name;
+use df_label::{Label, NoMemory, Privilege};
+use df_part::{Part, Parts, Spot};
+use df_unit::{EventName, Handle};
 
 /// How many handles are open.
-pub fn open_count(handles: &[Option<Handle>]) -> usize
-    ensures { result ≡ open_count handles.now }
+pub fn open_count(slots: &[Slot]) -> usize
+    ensures { result ≡ open_count (all_shown slots.now) }
 {
     let mut count = 0;
-    for handle in handles {
-        if handle.is_some() {
+    for slot in slots {
+        if slot.get().is_some() {
             count += 1;
         }
     }
@@ -21,80 +25,121 @@ pub fn open_count(handles: &[Option<Handle>]) -> usize
 }
 
 /// The least number that isn't open.
-pub fn least_free(handles: &[Option<Handle>]) -> usize
-    ensures least { result ≡ least_free handles.now }
-    ensures within { result ≤ length handles.now }
+pub fn least_free(slots: &[Slot]) -> usize
+    ensures least { result ≡ least_free (all_shown slots.now) }
+    ensures within { result ≤ length slots.now }
 {
-    for (h, handle) in handles.iter().enumerate() {
-        if handle.is_none() {
+    for (h, slot) in slots.iter().enumerate() {
+        if slot.get().is_none() {
             return h;
         }
     }
-    handles.len()
+    slots.len()
 }
 
 /// The open handle of a number.
-pub fn handle_at(handles: &[Option<Handle>], h: u32) -> Option<&Handle>
-    ensures { option_copied result ≡ handle_at handles.now h }
+pub fn handle_at(slots: &[Slot], h: u32) -> Option<&Handle>
+    ensures { option_copied result ≡ handle_at (all_shown slots.now) h }
 {
     let place = h as usize;
-    if place < handles.len() {
-        handles[place].as_ref()
+    if place < slots.len() {
+        slots[place].get()
     } else {
         None
     }
 }
 
 /// Opens a handle at the least number that isn't open.
-pub fn open(handles: &mut Vec<Option<Handle>>, handle: Handle) -> Result<(), NoMemory>
-    ensures ok { OnOk result (handles.new.items ≡ opened handle handles.old.items) }
-    ensures unchanged { OnErr result (handles.new.items ≡ handles.old.items) }
+pub fn open(slots: &mut Vec<Slot>, handle: Handle) -> Result<(), NoMemory>
+    ensures ok { OnOk result (all_shown slots.new.items
+        ≡ opened handle (all_shown slots.old.items)) }
+    ensures unchanged { OnErr result (all_shown slots.new.items ≡ all_shown slots.old.items) }
 {
-    let h = least_free(handles.as_slice());
-    if h < handles.len() {
-        handles[h] = Some(handle);
+    let h = least_free(slots.as_slice());
+    if h < slots.len() {
+        slots[h].hold(handle);
         return Ok(());
     }
-    handles.push(Some(handle))?;
+    slots.push(Slot::of(handle))?;
+    Ok(())
+}
+
+/// Opens a handle with nothing named and nothing drafted at the least number that isn't open, in
+/// the room of the one before.
+pub fn begin(
+    slots: &mut Vec<Slot>,
+    is_view: bool,
+    event: EventName,
+    seen: Parts,
+) -> Result<(), NoMemory>
+    ensures ok { OnOk result (all_shown slots.new.items
+        ≡ opened (begun is_view event seen) (all_shown slots.old.items)) }
+    ensures unchanged { OnErr result (all_shown slots.new.items ≡ all_shown slots.old.items) }
+{
+    let alloc = *slots.allocator();
+    let h = least_free(slots.as_slice());
+    if h < slots.len() {
+        slots[h].begin(alloc, is_view, event, seen);
+        return Ok(());
+    }
+    slots.push(Slot::of(begun(alloc, is_view, event, seen)))?;
     Ok(())
 }
 
 /// Drafts a part at an open handle.
-pub fn draft(handles: &mut Vec<Option<Handle>>, h: u32, part: Part) -> Result<(), NoMemory>
-    ensures ok { OnOk result (handles.new.items ≡ changed_at handles.old.items h
+pub fn draft(slots: &mut Vec<Slot>, h: u32, part: Part) -> Result<(), NoMemory>
+    ensures ok { OnOk result (all_shown slots.new.items ≡ changed_at (all_shown slots.old.items) h
         (λ d. record d { drafted = d.drafted ++ part ∷ [] })) }
-    ensures unchanged { OnErr result (handles.new.items ≡ handles.old.items) }
+    ensures unchanged { OnErr result (all_shown slots.new.items ≡ all_shown slots.old.items) }
 {
     let place = h as usize;
-    if place < handles.len() {
-        if let Some(handle) = &mut handles[place] {
-            let Ok(()) = handle.drafted.push(part) else {
-                return Err(NoMemory);
-            };
-        }
+    if place < slots.len() {
+        return slots[place].draft(part);
     }
     Ok(())
 }
 
-/// Gives an open handle other drafted parts.
-pub fn draft_anew(handles: &mut Vec<Option<Handle>>, h: u32, drafted: Drafts)
-    ensures { handles.new.items ≡ changed_at handles.old.items h
-        (λ d. record d { drafted = drafted }) }
+/// Deletes a spot at an open handle.
+pub fn delete(slots: &mut Vec<Slot>, h: u32, spot: Spot) -> Result<(), NoMemory>
+    ensures ok { OnOk result (all_shown slots.new.items ≡ changed_at (all_shown slots.old.items) h
+        (deleted_in spot)) }
+    ensures unchanged { OnErr result (all_shown slots.new.items ≡ all_shown slots.old.items) }
 {
+    let alloc = *slots.allocator();
     let place = h as usize;
-    if place < handles.len() {
-        if let Some(handle) = &mut handles[place] {
-            handle.drafted = drafted;
-        }
+    if place < slots.len() {
+        return slots[place].delete(alloc, spot);
     }
+    Ok(())
+}
+
+/// Attaches a privilege to the drafted parts of a name and label at an open handle.
+pub fn attach(
+    slots: &mut Vec<Slot>,
+    h: u32,
+    name: &Name,
+    label: &Label,
+    p: &Privilege,
+) -> Result<(), NoMemory>
+    ensures ok { OnOk result (all_shown slots.new.items ≡ changed_at (all_shown slots.old.items) h
+        (attached_in (spot name.now label.now) p.now)) }
+    ensures unchanged { OnErr result (all_shown slots.new.items ≡ all_shown slots.old.items) }
+{
+    let alloc = *slots.allocator();
+    let place = h as usize;
+    if place < slots.len() {
+        return slots[place].attach(alloc, name, label, p);
+    }
+    Ok(())
 }
 
 /// Closes a handle.
-pub fn close(handles: &mut Vec<Option<Handle>>, h: u32)
-    ensures { handles.new.items ≡ closed handles.old.items h }
+pub fn close(slots: &mut Vec<Slot>, h: u32)
+    ensures { all_shown slots.new.items ≡ closed (all_shown slots.old.items) h }
 {
+    let alloc = *slots.allocator();
     let place = h as usize;
-    if place < handles.len() {
-        handles[place] = None;
+    if place < slots.len() {
+        slots[place].close(alloc);
     }
 }

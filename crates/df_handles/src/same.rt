@@ -1,18 +1,20 @@
 //! Whether two units have the same handles.
 
 ghost use Rattle.std.specs.Prelude.{◌≡◌, ◌↔◌, IsTrue};
+ghost use Rattle.df_handles.specs.code.Slot.{all_shown, shown};
 
+use crate::slot::Slot;
 use df_part::{Part, Spot};
 use df_unit::Handle;
 
-pub fn same(a: &[Option<Handle>], b: &[Option<Handle>]) -> bool
-    ensures { IsTrue result ↔ (a.now ≡ b.now) }
+pub fn same(a: &[Slot], b: &[Slot]) -> bool
+    ensures { IsTrue result ↔ (all_shown a.now ≡ all_shown b.now) }
 {
     if a.len() != b.len() {
         return false;
     }
     for i in 0..a.len() {
-        let is_same = same_places(&a[i], &b[i]);
+        let is_same = same_slot(&a[i], &b[i]);
         if !is_same {
             return false;
         }
@@ -20,11 +22,11 @@ pub fn same(a: &[Option<Handle>], b: &[Option<Handle>]) -> bool
     true
 }
 
-/// Whether neither place has a handle, or both have the same.
-fn same_places(a: &Option<Handle>, b: &Option<Handle>) -> bool
-    ensures { IsTrue result ↔ (a.now ≡ b.now) }
+/// Whether neither place has an open handle, or both have the same.
+fn same_slot(a: &Slot, b: &Slot) -> bool
+    ensures { IsTrue result ↔ (shown a.now ≡ shown b.now) }
 {
-    match (a, b) {
+    match (a.get(), b.get()) {
         (Some(a), Some(b)) => same_handle(a, b),
         (None, None) => true,
         _ => false,

@@ -25,7 +25,7 @@ impl Local {
         if !is_accepted(&reply) {
             return Ok(reply);
         }
-        match self.put_draft(Drafts::new(Vec::new(self.alloc))) {
+        match self.put_empty() {
             Ok(()) => Ok(reply),
             Err(refused) => Err(refused),
         }
@@ -41,6 +41,28 @@ impl Local {
             return Reply::Exhausted;
         }
         Reply::Handle(self.handles.least_free())
+    }
+
+    /// Opens an empty draft of the unit's next event.
+    pub(crate) fn put_empty(&mut self) -> Result<(), NoMemory>
+        ensures ok { OnOk result (self.new ≡ with_own self.old
+            (drafting self.old.unit [] self.old.own)) }
+        ensures unchanged { OnErr result (self.new ≡ self.old) }
+    {
+        if self.events >= MOST_NUMBERS {
+            return Err(NoMemory);
+        }
+        let unit = match self.name.copy() {
+            Ok(unit) => unit,
+            Err(refused) => return Err(refused),
+        };
+        let number = self.events;
+        match self.handles.open_draft(EventName { unit, number }) {
+            Ok(()) => {}
+            Err(refused) => return Err(refused),
+        }
+        self.events += 1;
+        Ok(())
     }
 
     /// Opens a draft of the unit's next event, with these parts.

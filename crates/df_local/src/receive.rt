@@ -1,7 +1,6 @@
 //! Taking in what is handed to a unit, and counting its subscriptions.
 
 ghost use Rattle.std.specs.Prelude.{◌≡◌, ◌+◌, IfOk, OnErr, OnOk};
-ghost use Rattle.df_unit.specs.Handles.{view_of};
 ghost use Rattle.df_unit.specs.Rows.{subscribed, taken_in};
 ghost use Rattle.df_unit.specs.declared.entry.Effect.{Effect};
 ghost use Rattle.df_local.specs.Locally.{CountsSub, TakesIn, with_own};
@@ -10,8 +9,8 @@ use crate::Local;
 use crate::limits::MOST_SUBS;
 use crate::take::is_accepted;
 use df_label::NoMemory;
-use df_unit::{Drafts, Given, Handle, Reply, Spots};
-use std::alloc::Global;
+use df_part::Parts;
+use df_unit::{EventName, Given, Reply};
 
 impl Local {
     /// Opens a view of an event that was handed to the unit.
@@ -38,11 +37,11 @@ impl Local {
         if self.given == u64::MAX {
             return Err(NoMemory);
         }
-        let handle = match view_of(self.alloc, given) {
-            Ok(handle) => handle,
+        let (event, seen) = match shared(given) {
+            Ok(both) => both,
             Err(refused) => return Err(refused),
         };
-        match self.handles.open(handle) {
+        match self.handles.open_view(event, seen) {
             Ok(()) => {}
             Err(refused) => return Err(refused),
         }
@@ -74,17 +73,12 @@ impl Local {
     }
 }
 
-/// A view of an event that was handed to the unit.
-fn view_of(alloc: Global, given: &Given) -> Result<Handle, NoMemory>
-    ensures { IfOk result (λ d. d ≡ view_of given.now.event given.now.parts) }
+/// The event that was handed to a unit, and its parts.
+fn shared(given: &Given) -> Result<(EventName, Parts), NoMemory>
+    ensures event { IfOk result (λ both. both.0 ≡ given.now.event) }
+    ensures seen { IfOk result (λ both. both.1 ≡ given.now.parts) }
 {
     let event = given.event.copy()?;
     let seen = given.parts.copy()?;
-    Ok(Handle {
-        is_view: true,
-        event,
-        seen,
-        named: Spots::new(Vec::new(alloc)),
-        drafted: Drafts::new(Vec::new(alloc)),
-    })
+    Ok((event, seen))
 }

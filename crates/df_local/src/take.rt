@@ -6,7 +6,7 @@ ghost use Rattle.df_local.specs.Locally.{IsAnswer, with_own};
 
 use crate::Local;
 use df_label::NoMemory;
-use df_unit::{Call, Drafts, Effect, Reply};
+use df_unit::{Call, Effect, Reply};
 
 impl Local {
     /// Takes a call in, with the reply and the effect that its row gives. A refused call changes
@@ -21,7 +21,7 @@ impl Local {
             return Ok(());
         }
         match call {
-            Call::CreateEvent => self.put_draft(Drafts::new(Vec::new(self.alloc))),
+            Call::CreateEvent => self.put_empty(),
             Call::AddPart {
                 h,
                 label,

@@ -47,6 +47,13 @@ impl Spots {
         self.spots.push(spot)?;
         Ok(())
     }
+
+    /// Takes all out, and keeps the room that they had.
+    pub fn clear(&mut self)
+        ensures { self.new ≡ [] }
+    {
+        self.spots.clear();
+    }
 }
 
 /// Parts that a publish or a release will add, in order.
@@ -90,6 +97,13 @@ impl Drafts {
     {
         self.parts.push(part)?;
         Ok(())
+    }
+
+    /// Takes all out, and keeps the room that they had.
+    pub fn clear(&mut self)
+        ensures { self.new ≡ [] }
+    {
+        self.parts.clear();
     }
 }
 

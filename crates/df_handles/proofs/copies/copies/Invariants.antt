@@ -1,5 +1,6 @@
 use Rattle.std.proofs.Common.{◌≡◌, take}
+use Rattle.df_handles.specs.code.Slot.{all_shown}
 use Rattle.df_handles.proofs.copies.copies.Given as goal
 
-abbrev pub invariant-loop-handle : goal.invariant-loop-handle
-invariant-loop-handle l = l.copies.items ≡ take l.handle-index l.handles
+abbrev pub invariant-loop-slot : goal.invariant-loop-slot
+invariant-loop-slot l = all_shown l.copies.items ≡ all_shown (take l.slot-index l.slots)

@@ -1,21 +1,15 @@
-use Rattle.std.proofs.Common.{◌≡◌, get_or, subst, sym, ap, ◌∙◌, Option, None, arith}
-use Rattle.df_unit.specs.declared.handle.Handle.{Handle}
-use Rattle.df_handles.proofs.OpenHandles.{none_kept, changed_at-open, open_kept}
+use Rattle.std.proofs.Common.{arith}
+use Rattle.std.proofs.lemmas.Result.{on_ok_weaker, on_err_weaker}
+use Rattle.df_handles.specs.code.Slot.{drafted_in}
+use Rattle.df_handles.proofs.Slots.{kept_shown, changed_shown}
 use Rattle.df_handles.proofs.places.draft.Goals as goal
 
-pub returns-in_default-clause-ok : goal.returns-in_default-clause-ok
-returns-in_default-clause-ok c =
-    let hs = c.args.handles.now.items in
-    let v : None ≡ get_or hs c.args.h None = subst (λ (x : Option Handle). x ≡ get_or hs c.args.h x) c.in_default.is c.index_mut.ensures.value in
-    let k = none_kept hs c.args.h (omega arith) v in
-    rw (c.in_default.is, k.1) k.0
+pub returns-then-place-len-clause-ok : goal.returns-then-place-len-clause-ok
+returns-then-place-len-clause-ok c =
+    on_ok_weaker c.draft.result
+    (changed_shown c.args.slots.now.items c.args.h c.index_mut.result.now c.draft.new.self (drafted_in c.args.part) (omega arith) c.index_mut.ensures.value)
+    c.draft.ensures.ok
 
-pub returns-in-Ok-clause-ok : goal.returns-in-Ok-clause-ok
-returns-in-Ok-clause-ok c =
-    let x = c.in-Some.handle in
-    changed_at-open c.args.handles.now.items c.args.h _ x _ _ (omega arith) (sym c.in-Some.is ∙ c.index_mut.ensures.value) (ap (λ p. record x { drafted = p }) c.in-Ok.ensures.ok)
-
-pub returns-in_default-push-clause-unchanged : goal.returns-in_default-push-clause-unchanged
-returns-in_default-push-clause-unchanged c =
-    let x = c.in-Some.handle in
-    open_kept c.args.handles.now.items c.args.h _ x _ (omega arith) (sym c.in-Some.is ∙ c.index_mut.ensures.value) (ap (λ p. record x { drafted = p }) c.in_default-push.ensures.unchanged)
+pub returns-then-place-len-clause-unchanged : goal.returns-then-place-len-clause-unchanged
+returns-then-place-len-clause-unchanged c =
+    on_err_weaker c.draft.result (kept_shown c.args.slots.now.items c.args.h c.index_mut.result.now c.draft.new.self c.index_mut.ensures.value) c.draft.ensures.unchanged

@@ -1,6 +1,7 @@
 use Rattle.std.proofs.Common.{◌≡◌, ◌+◌, drop}
 use Rattle.df_unit.specs.Handles.{least_free}
+use Rattle.df_handles.specs.code.Slot.{all_shown}
 use Rattle.df_handles.proofs.places.least_free.Given as goal
 
 abbrev pub invariant-loop-h : goal.invariant-loop-h
-invariant-loop-h l = l.h + least_free (drop l.h l.handles) ≡ least_free l.fn.handles
+invariant-loop-h l = l.h + least_free (all_shown (drop l.h l.slots)) ≡ least_free (all_shown l.fn.slots)

@@ -1,5 +1,6 @@
 use Rattle.std.proofs.Common.{◌≡◌, take}
+use Rattle.df_handles.specs.code.Slot.{all_shown}
 use Rattle.df_handles.proofs.same.same.Given as goal
 
 abbrev pub invariant-loop-i : goal.invariant-loop-i
-invariant-loop-i l = take l.i l.a ≡ take l.i l.b
+invariant-loop-i l = take l.i (all_shown l.a) ≡ take l.i (all_shown l.b)

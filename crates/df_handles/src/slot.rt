@@ -1,0 +1,141 @@
+//! The place of a handle.
+
+ghost use Rattle.std.specs.Prelude.{◌≡◌, None, OnErr, OnOk, Some, option_copied, option_map};
+ghost use Rattle.df_unit.specs.Drafts.{attached_in, deleted_in, spot};
+ghost use Rattle.df_handles.specs.code.Slot.{begun, drafted_in, shown};
+
+use crate::edits::{attach_in, delete_in};
+use df_frozen::Name;
+use df_label::{Label, NoMemory, Privilege};
+use df_part::{Part, Parts, Spot};
+use df_unit::{Drafts, EventName, Handle, Spots};
+use std::alloc::Global;
+
+/// A place: an open handle, or the room that a closed one has left for the next.
+#[derive(Drop)]
+pub struct Slot {
+    pub is_open: bool,
+    pub kept: Option<Handle>,
+}
+
+impl Slot {
+    /// The place of an open handle.
+    pub fn of(handle: Handle) -> Slot
+        ensures { shown result ≡ Some handle }
+    {
+        Slot {
+            is_open: true,
+            kept: Some(handle),
+        }
+    }
+
+    /// The open handle.
+    pub fn get(&self) -> Option<&Handle>
+        ensures { option_copied result ≡ shown self.now }
+    {
+        if self.is_open {
+            self.kept.as_ref()
+        } else {
+            None
+        }
+    }
+
+    /// Opens a handle.
+    pub fn hold(&mut self, handle: Handle)
+        ensures { shown self.new ≡ Some handle }
+    {
+        self.is_open = true;
+        self.kept = Some(handle);
+    }
+
+    /// Opens a handle in the room of the one before.
+    pub fn begin(&mut self, alloc: Global, is_view: bool, event: EventName, seen: Parts)
+        ensures { shown self.new ≡ Some (begun is_view event seen) }
+    {
+        self.is_open = true;
+        match &mut self.kept {
+            Some(handle) => {
+                handle.is_view = is_view;
+                handle.event = event;
+                handle.seen = seen;
+                handle.named.clear();
+                handle.drafted.clear();
+            }
+            None => self.kept = Some(begun(alloc, is_view, event, seen)),
+        }
+    }
+
+    /// Drafts a part at the open handle.
+    pub fn draft(&mut self, part: Part) -> Result<(), NoMemory>
+        ensures ok { OnOk result (shown self.new ≡ option_map (drafted_in part) (shown self.old)) }
+        ensures unchanged { OnErr result (shown self.new ≡ shown self.old) }
+    {
+        if !self.is_open {
+            return Ok(());
+        }
+        match &mut self.kept {
+            Some(handle) => handle.drafted.push(part),
+            None => Ok(()),
+        }
+    }
+
+    /// Deletes a spot at the open handle.
+    pub fn delete(&mut self, alloc: Global, spot: Spot) -> Result<(), NoMemory>
+        ensures ok { OnOk result (shown self.new ≡ option_map (deleted_in spot) (shown self.old)) }
+        ensures unchanged { OnErr result (shown self.new ≡ shown self.old) }
+    {
+        if !self.is_open {
+            return Ok(());
+        }
+        match &mut self.kept {
+            Some(handle) => delete_in(alloc, handle, spot),
+            None => Ok(()),
+        }
+    }
+
+    /// Attaches a privilege to the drafted parts of a name and label at the open handle.
+    pub fn attach(
+        &mut self,
+        alloc: Global,
+        name: &Name,
+        label: &Label,
+        p: &Privilege,
+    ) -> Result<(), NoMemory>
+        ensures ok { OnOk result (shown self.new ≡ option_map
+            (attached_in (spot name.now label.now) p.now) (shown self.old)) }
+        ensures unchanged { OnErr result (shown self.new ≡ shown self.old) }
+    {
+        if !self.is_open {
+            return Ok(());
+        }
+        match &mut self.kept {
+            Some(handle) => attach_in(alloc, handle, name, label, p),
+            None => Ok(()),
+        }
+    }
+
+    /// Lets go what the handle had, and keeps the room of its lists.
+    pub fn close(&mut self, alloc: Global)
+        ensures { shown self.new ≡ None }
+    {
+        self.is_open = false;
+        if let Some(handle) = &mut self.kept {
+            handle.seen = Parts::new(Vec::new(alloc));
+            handle.named.clear();
+            handle.drafted.clear();
+        }
+    }
+}
+
+/// A handle with nothing named and nothing drafted.
+pub fn begun(alloc: Global, is_view: bool, event: EventName, seen: Parts) -> Handle
+    ensures { result ≡ begun is_view event seen }
+{
+    Handle {
+        is_view,
+        event,
+        seen,
+        named: Spots::new(Vec::new(alloc)),
+        drafted: Drafts::new(Vec::new(alloc)),
+    }
+}
