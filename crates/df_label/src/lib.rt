@@ -3,6 +3,7 @@
 mod label;
 pub mod laws;
 mod no_memory;
+mod numbers;
 mod privilege;
 mod privileges;
 mod tag;
@@ -11,6 +12,7 @@ mod tags;
 
 pub use label::Label;
 pub use no_memory::NoMemory;
+pub use numbers::compare_numbers;
 pub use privilege::{Privilege, Right};
 pub use privileges::Privileges;
 pub use tag::Tag;

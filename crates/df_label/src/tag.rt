@@ -8,7 +8,7 @@ ghost use Rattle.std.proofs.Common.{rules};
 ghost use Rattle.df_label.specs.Tag.{tag_cmp, maker_of, number_of};
 ghost use Rattle.df_label.specs.declared.tag.TheConstants.{INLINE};
 
-use crate::NoMemory;
+use crate::{NoMemory, compare_numbers};
 use std::alloc::Global;
 use std::cmp::Ordering;
 use std::hash::{Hash, Hasher};
@@ -153,7 +153,7 @@ impl Ord for Tag {
     ghost matches_eq = { texts_ties };
 
     fn cmp(&self, other: &Tag) -> Ordering {
-        self.as_slice().cmp(&other.as_slice())
+        compare_numbers(self.as_slice(), other.as_slice())
     }
 }
 
