@@ -7,7 +7,7 @@ ghost use Rattle.std.specs.Hash as fed;
 ghost use Rattle.std.proofs.Common.{rules};
 ghost use Rattle.df_unit.specs.declared.path.TheConstants.{INLINE};
 
-use df_label::NoMemory;
+use df_label::{NoMemory, compare_numbers};
 use std::alloc::Global;
 use std::cmp::Ordering;
 use std::hash::{Hash, Hasher};
@@ -141,7 +141,7 @@ impl Ord for Path {
     ghost matches_eq = { texts_ties };
 
     fn cmp(&self, other: &Path) -> Ordering {
-        self.as_slice().cmp(&other.as_slice())
+        compare_numbers(self.as_slice(), other.as_slice())
     }
 }
 
