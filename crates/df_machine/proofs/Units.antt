@@ -20,7 +20,7 @@ use Rattle.df_unit.specs.UnitOrder.{unit_cmp}
 use Rattle.df_unit.specs.declared.commit.Given.{Given}
 use Rattle.df_unit.specs.declared.entry.Entry.{Entry}
 use Rattle.df_unit.specs.declared.name.UnitName.{UnitName}
-use Rattle.df_machine.specs.Journal.{IsRoll, firsts, has_delivery_in, is_due, left_in, local_of, number_left}
+use Rattle.df_machine.specs.Journal.{IsRoll, contamination_in, firsts, has_delivery_in, is_due, left_in, local_of, number_left}
 
 module _ (start : List RootStart) (past : List Entry) (b : Board) (board : IsBoard b) (tells : TellsOf (map begun start) past b) where
   abbrev us : List Unit
@@ -33,6 +33,13 @@ module _ (start : List RootStart) (past : List Entry) (b : Board) (board : IsBoa
       let row = row_at rows (firsts start) past us b.events b.index (managed_of b) tells.agrees a u (sym e) in
       ap (λ (n : UnitName). let l : LocalState = record { unit = n; own = u.local.own } in Some l) row.0.unit
       ∙ ap (option_map (λ (st : OwnState). let l : LocalState = record { unit = a; own = st } in l)) (sym row.1)
+
+  -- the contamination in what is found is the unit's
+  pub contamination_at : (a : UnitName) (o : Option Unit) → o ≡ find a us → option_map (λ (u : Unit). u.local.own.contamination) o ≡ contamination_in (start, past) a
+  contamination_at a None e = ap (option_map (λ (st : OwnState). st.contamination)) (sym (none_at rows (firsts start) past us b.events b.index (managed_of b) tells.agrees a (sym e)))
+  contamination_at a (Some u) e =
+      let row = row_at rows (firsts start) past us b.events b.index (managed_of b) tells.agrees a u (sym e) in
+      ap (option_map (λ (st : OwnState). st.contamination)) (sym row.1)
 
   -- what is left in a unit's row is left to the unit
   pub due_at : (a : UnitName) (u : Unit) → find a us ≡ Some u → not (is_nil u.line.left) ≡ has_delivery_in (start, past) a

@@ -3,6 +3,7 @@ use Rattle.std.specs.Prelude.{◌≡◌, ℕ, Bool, false, not, List, ◌∷◌,
 use Rattle.std.specs.List.{list_any}
 use Rattle.std.specs.Option.{option_map}
 use Rattle.df_label.specs.Ascending.{IsAscending, contains_by}
+use Rattle.df_label.specs.declared.label.Label.{Label}
 use Rattle.df_local.specs.code.LocalState.{LocalState}
 use Rattle.df_rules.specs.Deliveries.{deliveries}
 use Rattle.df_rules.specs.Legal.{Legal, answer, answered, left}
@@ -47,6 +48,11 @@ appended actor call core = (core.0, answered rows (firsts core.0) core.1 actor c
 abbrev pub local_of : State → UnitName → Option LocalState
 local_of core name =
     option_map (λ st. record { unit = name; own = st }) (own rows (firsts core.0) core.1 name)
+
+-- the contamination of a unit, where it exists
+abbrev pub contamination_in : State → UnitName → Option Label
+contamination_in core name =
+    option_map (λ st. st.contamination) (own rows (firsts core.0) core.1 name)
 
 -- whether some of these deliveries are left to a unit with this own state, if it exists
 abbrev pub is_due : Option OwnState → List Given → Bool

@@ -2,6 +2,8 @@
 #![tactic(auto)]
 
 mod machine;
+mod tables;
 mod taking;
 
 pub use machine::{BookCause, Core, NotBooked, NotEmitted, NotStepped};
+pub use tables::{Stepped, Tables};

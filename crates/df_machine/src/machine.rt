@@ -1,19 +1,17 @@
 ghost use Rattle.std.specs.Prelude.{◌≡◌, ◌^◌, ◌<◌, ◌∷◌, [], length, false, IfErr, IfOk, IfSome, IsSome, List, MatchBool, None, OnErr, OnOk, map, option_copied, reverse, slice_get, vec_len, vec_capacity};
-ghost use Rattle.df_start.specs.Begun.{begun};
-ghost use Rattle.df_tables.specs.Table.{rows_from};
-ghost use Rattle.df_unit.specs.declared.entry.Entry.TheVariants.{Done, Emitted};
+ghost use Rattle.df_unit.specs.declared.entry.Entry.TheVariants.{Emitted};
 ghost use Rattle.df_unit.specs.declared.name.UnitName.{UnitName};
 ghost use Rattle.df_local_run.specs.Runs.{is_local};
 ghost use Rattle.df_machine.specs.Booking.{IsCurrent, IsRefused, booked, reply_booked, with_run};
 ghost use Rattle.df_machine.specs.Journal.{AreReceivers, IsLegal, IsRoll, answer_in, appended, has_delivery_in, left_in, local_of};
 
-use crate::taking::{make_room, take_in};
+use crate::tables::Tables;
+use crate::taking::{make_room, make_room_for, take_in};
 use df_label::NoMemory;
-use df_local::{Answer, Local};
+use df_local::Local;
 use df_local_run::{LocalRun, RunParts};
-use df_start::{RootStart, Start};
-use df_tables::{Board, Unit, first_unit};
-use df_unit::{Call, Commit, Effect, Entry, Reply, UnitName};
+use df_start::Start;
+use df_unit::{Call, Commit, Entry, Reply, UnitName};
 use std::alloc::Global;
 use std::marker::Model;
 
@@ -22,17 +20,16 @@ use std::marker::Model;
 pub struct Core {
     start: Start,
     journal: Vec<Entry>,
-    board: Board,
+    tables: Tables,
 }
 
 impl Model for Core {
-    ghost use Rattle.std.specs.Prelude.{List, map, reverse};
+    ghost use Rattle.std.specs.Prelude.{reverse};
     ghost use Rattle.std.specs.Coded.{coded×, coded_list};
-    ghost use Rattle.df_tables.specs.Board.{IsBoard, TellsOf};
     ghost use Rattle.df_unit.specs.contracts.entry.Entry as entry;
     ghost use Rattle.df_start.specs.contracts.start.Start as started;
-    ghost use Rattle.df_start.specs.Begun.{begun};
     ghost use Rattle.df_machine.specs.Journal.{State};
+    ghost use Rattle.df_machine.specs.Tables.{AgreesWith};
 
     ghost Value = { State };
 
@@ -40,8 +37,7 @@ impl Model for Core {
 
     ghost view = { λ c. (c.start, reverse c.journal.items) };
 
-    ghost invariant = { λ c. IsBoard c.board
-        × TellsOf (map begun c.start) (reverse c.journal.items) c.board };
+    ghost invariant = { λ c. AgreesWith (c.start, reverse c.journal.items) c.tables };
 }
 
 /// A call that was not made, for want of memory. Nothing has changed.
@@ -72,50 +68,16 @@ pub struct NotBooked {
     pub cause: BookCause,
 }
 
-/// The rows of the roots as they begin, root 0 first.
-fn first_units(alloc: Global, roots: &[RootStart]) -> Result<Vec<Unit>, NoMemory>
-    requires { length roots.now < 2 ^ 32 }
-    ensures { IfOk result (λ units. units.items ≡ rows_from 0 (map begun roots.now)) }
-{
-    let mut units = Vec::with_capacity(alloc, roots.len())?;
-    for (number, root) in roots.iter().enumerate() {
-        let label = root.label.copy()?;
-        let privileges = root.privileges.copy()?;
-        units.push(first_unit(alloc, number as u32, label, privileges)?)?;
-    }
-    Ok(units)
-}
-
-/// What an entry needs a second time.
-#[derive(Drop)]
-struct Copies {
-    actor: UnitName,
-    kept: Reply,
-}
-
-/// Makes room in the journal, and ready what an entry needs.
-fn prepare(journal: &mut Vec<Entry>, actor: &UnitName, reply: &Reply) -> Result<Copies, NoMemory>
-    ensures copies { IfOk result (λ c. c ≡ record { actor = actor.now; kept = reply.now }) }
-    ensures room { OnOk result (vec_len journal.new < vec_capacity journal.new) }
-    ensures journal { journal.new.items ≡ journal.old.items }
-{
-    journal.reserve(1)?;
-    let actor = actor.copy()?;
-    let kept = reply.copy()?;
-    Ok(Copies { actor, kept })
-}
-
 impl Core {
     /// A machine whose journal is empty.
     pub fn start(alloc: Global, start: Start) -> Result<Core, NoMemory>
         ensures { IfOk result (λ c. c ≡ (start, [])) }
     {
-        let units = first_units(alloc, start.as_slice())?;
-        let board = Board::new(alloc, units)?;
+        let tables = Tables::begin(alloc, &start)?;
         Ok(Core {
             start,
             journal: Vec::new(alloc),
-            board,
+            tables,
         })
     }
 
@@ -146,7 +108,7 @@ impl Core {
     pub fn local(&self, name: &UnitName) -> Option<&Local>
         ensures { option_copied result ≡ local_of self.now name.now }
     {
-        match self.board.unit(name) {
+        match self.tables.board.unit(name) {
             Some(unit) => Some(&unit.local),
             None => None,
         }
@@ -156,7 +118,7 @@ impl Core {
     pub fn has_delivery(&self, name: &UnitName) -> bool
         ensures { result ≡ has_delivery_in self.now name.now }
     {
-        match self.board.unit(name) {
+        match self.tables.board.unit(name) {
             Some(unit) => !unit.line.is_empty(),
             None => false,
         }
@@ -166,7 +128,7 @@ impl Core {
     pub fn left(&self, name: &UnitName) -> usize
         ensures { result ≡ left_in self.now name.now }
     {
-        match self.board.unit(name) {
+        match self.tables.board.unit(name) {
             Some(unit) => unit.line.len(),
             None => 0,
         }
@@ -178,7 +140,7 @@ impl Core {
         ensures exact { IfOk result (λ names. AreReceivers commit.now names.items self.old) }
         ensures same { self.new ≡ self.old }
     {
-        self.board.receivers(commit)
+        self.tables.board.receivers(commit)
     }
 
     /// The unit at a place, from 0, among those that exist, in the order of units.
@@ -187,46 +149,7 @@ impl Core {
             option_copied result ≡ slice_get names k }
         ensures roll { (names : List UnitName) × IsRoll self.now names }
     {
-        self.board.name_at(k)
-    }
-
-    /// What the rules answer to a call.
-    fn answer(&self, actor: &UnitName, call: &Call) -> Result<Answer, NoMemory>
-        ensures { IfOk result (λ a. (a.reply, a.effect) ≡ answer_in self.now actor.now call.now) }
-    {
-        self.board.answer(actor, call)
-    }
-
-    /// Appends the entry of a call.
-    fn append(
-        &mut self,
-        actor: &UnitName,
-        call: Call,
-        reply: Reply,
-        effect: Effect,
-    ) -> Result<Reply, NotStepped>
-        requires { answer_in self.old actor.now call ≡ (reply, effect) }
-        ensures ok { OnOk result (self.new ≡ (
-          self.old.0,
-          Done actor.now call reply effect ∷ self.old.1,
-        )) }
-        ensures reply { IfOk result (λ r. r ≡ reply) }
-        ensures unchanged { OnErr result (self.new ≡ self.old) }
-        ensures back { IfErr result (λ e. e.call ≡ call) }
-    {
-        let Ok(copies) = prepare(&mut self.journal, actor, &reply) else {
-            return Err(NotStepped { call });
-        };
-        let Ok(()) = self.board.book(actor, &call, &reply, &effect) else {
-            return Err(NotStepped { call });
-        };
-        self.journal.push_reserved(Entry::Done {
-            actor: copies.actor,
-            call,
-            reply,
-            effect,
-        });
-        Ok(copies.kept)
+        self.tables.board.name_at(k)
     }
 
     /// Makes a call for a unit: appends one entry, with the answer that the rules give, and answers
@@ -237,11 +160,19 @@ impl Core {
         ensures unchanged { OnErr result (self.new ≡ self.old) }
         ensures back { IfErr result (λ e. e.call ≡ call) }
     {
-        let Ok(answer) = self.answer(actor, &call) else {
+        let Ok(name) = make_room_for(&mut self.journal, actor) else {
             return Err(NotStepped { call });
         };
-        let Answer { reply, effect } = answer;
-        self.append(actor, call, reply, effect)
+        let Ok(taken) = take_in(&mut self.tables.board, actor, &call) else {
+            return Err(NotStepped { call });
+        };
+        self.journal.push_reserved(Entry::Done {
+            actor: name,
+            call,
+            reply: taken.reply,
+            effect: taken.effect,
+        });
+        Ok(taken.kept)
     }
 
     /// Appends the entries of a run, and then that of the unit's shared call, if there is one, at
@@ -292,7 +223,7 @@ impl Core {
             mut entries,
         } = run.into_parts();
         drop(base);
-        drop(self.board.swap(present));
+        drop(self.tables.board.swap(present));
         let _done = self.journal.append(&mut entries);
         Ok(None)
     }
@@ -322,9 +253,9 @@ impl Core {
             present,
             mut entries,
         } = run.into_parts();
-        let before = self.board.swap(present);
-        let Ok(taken) = take_in(&mut self.board, &actor, &call) else {
-            let present = self.board.swap(before);
+        let before = self.tables.board.swap(present);
+        let Ok(taken) = take_in(&mut self.tables.board, &actor, &call) else {
+            let present = self.tables.board.swap(before);
             let run = LocalRun::of_parts(RunParts {
                 base,
                 present,
@@ -367,7 +298,7 @@ impl Core {
         let Ok(()) = self.journal.reserve(1) else {
             return Err(NotEmitted { commit });
         };
-        let Ok(()) = self.board.emit(&commit) else {
+        let Ok(()) = self.tables.board.emit(&commit) else {
             return Err(NotEmitted { commit });
         };
         self.journal.push_reserved(Entry::Emitted(commit));

@@ -9,6 +9,19 @@ use df_local_run::LocalRun;
 use df_tables::Board;
 use df_unit::{Call, Effect, Entry, Reply, UnitName};
 
+/// Makes room in the journal for one more entry, and ready the name of its actor.
+pub(crate) fn make_room_for(
+    journal: &mut Vec<Entry>,
+    actor: &UnitName,
+) -> Result<UnitName, NoMemory>
+    ensures name { IfOk result (λ name. name ≡ actor.now) }
+    ensures room { OnOk result (vec_len journal.new < vec_capacity journal.new) }
+    ensures journal { journal.new.items ≡ journal.old.items }
+{
+    journal.reserve(1)?;
+    actor.copy()
+}
+
 /// Makes room in the journal for the entries of a run and one more, and ready the name of its
 /// unit.
 pub(crate) fn make_room(journal: &mut Vec<Entry>, run: &LocalRun) -> Result<UnitName, NoMemory>
@@ -42,10 +55,10 @@ pub(crate) fn take_in(board: &mut Board, actor: &UnitName, call: &Call) -> Resul
         IsBooked actor.now call.now t.reply t.effect board.old board.new) }
     ensures told { OnErr result (IsKept board.old board.new) }
 {
-    let answer = board.answer(actor, call)?;
-    let kept = answer.reply.copy()?;
-    board.book(actor, call, &answer.reply, &answer.effect)?;
-    let Answer { reply, effect } = answer;
+    let place = board.place(actor);
+    let Answer { reply, effect } = board.answer(place, call)?;
+    let kept = reply.copy()?;
+    board.book(place, call, &reply, &effect)?;
     Ok(Taken {
         reply,
         effect,

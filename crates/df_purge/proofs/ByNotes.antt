@@ -4,7 +4,7 @@ use Rattle.std.specs.List.{flat_map}
 use Rattle.std.specs.Option.{option_map}
 use Rattle.std.proofs.lemmas.Grind.{flat_map-append}
 use Rattle.df_label.specs.declared.label.Label.{Label}
-use Rattle.df_machine.specs.Journal.{firsts}
+use Rattle.df_machine.specs.Journal.{contamination_in, firsts}
 use Rattle.df_rules.proofs.PurgeKeeps.{purge_keeps}
 use Rattle.df_rules.proofs.RowLaws.{row_laws}
 use Rattle.df_rules.specs.Commits.{commit_of}
@@ -19,7 +19,7 @@ use Rattle.df_unit.specs.declared.entry.Entry.{Entry}
 use Rattle.df_unit.specs.declared.entry.Entry.TheVariants.{Done, Emitted}
 use Rattle.df_unit.specs.declared.entry.Noted.{Noted}
 use Rattle.df_unit.specs.declared.name.UnitName.{UnitName}
-use Rattle.df_replay.specs.Noted.{AreRight, contamination_in, noted, noted_in, past_of}
+use Rattle.df_replay.specs.Noted.{AreRight, noted, noted_in, past_of}
 use Rattle.df_purge.specs.code.Left.{emitted_noted, is_noted_within, left_noted}
 
 module _ (begin : List RootStart) (label : Label) where

@@ -1,21 +1,14 @@
 -- The contaminations that a journal's actors have before its entries.
 use Rattle.std.specs.Prelude.{◌≡◌, List, [], ◌∷◌, ◌++◌, Option, None, map, reverse}
-use Rattle.std.specs.Option.{option_map}
 use Rattle.df_label.specs.declared.label.Label.{Label}
-use Rattle.df_machine.specs.Journal.{State, firsts}
+use Rattle.df_machine.specs.Journal.{State, contamination_in, firsts}
 use Rattle.df_rules.specs.Legal.{Legal}
-use Rattle.df_rules.specs.Own.{own}
 use Rattle.df_rules.specs.Start.{rows}
 use Rattle.df_start.specs.declared.start.RootStart.{RootStart}
 use Rattle.df_unit.specs.declared.entry.Entry.{Entry}
 use Rattle.df_unit.specs.declared.entry.Entry.TheVariants.{Done, Emitted}
 use Rattle.df_unit.specs.declared.entry.Noted.{Noted}
 use Rattle.df_unit.specs.declared.name.UnitName.{UnitName}
-
--- the contamination of a unit, where it exists
-abbrev pub contamination_in : State → UnitName → Option Label
-contamination_in core name =
-    option_map (λ st. st.contamination) (own rows (firsts core.0) core.1 name)
 
 -- the contamination that an entry's actor has before it
 abbrev pub contamination_of : State → Entry → Option Label

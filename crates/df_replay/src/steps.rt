@@ -1,7 +1,7 @@
 ghost use Rattle.std.specs.Prelude.{◌≡◌, ◌∷◌, [], IfOk, OnOk};
 ghost use Rattle.df_unit.specs.declared.entry.Entry.TheVariants.{Emitted};
-ghost use Rattle.df_machine.specs.Journal.{appended};
-ghost use Rattle.df_replay.specs.Noted.{contamination_in, contamination_of};
+ghost use Rattle.df_machine.specs.Journal.{appended, contamination_in};
+ghost use Rattle.df_replay.specs.Noted.{contamination_of};
 ghost use Rattle.df_replay.specs.Replay.{replayed};
 
 use crate::{copy_call, copy_commit};

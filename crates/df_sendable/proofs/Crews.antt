@@ -8,6 +8,7 @@ use Rattle.df_crew.specs.contracts.crew.Crew.TheInside as crew-inside
 use Rattle.df_kept.specs.contracts.kept.Kept as Kept
 use Rattle.df_kept.specs.contracts.kept.Kept.TheInside as kept-inside
 use Rattle.df_machine.specs.contracts.machine.Core as Core
+use Rattle.df_machine.specs.contracts.tables.Tables as MachineTables
 use Rattle.df_rules.specs.declared.StepFunction.{Ghosts}
 use Rattle.df_start.specs.contracts.start.RootStart as RootStart
 use Rattle.df_start.specs.contracts.start.Start as Start
@@ -29,8 +30,11 @@ root_start_send = search (root_start_field_send, sendable) depth 40
 pub start_send : IsSend Start.the_row
 start_send = search (root_start_send, sendable, crosses) depth 40 fits 20000
 
+machine_tables_field_send : IsSend (MachineTables.the_field).row
+machine_tables_field_send = search (board_field_send, sendable, crosses) depth 40 fits 20000
+
 pub core_send : IsSend Core.the_row
-core_send = search (start_send, board_field_send, units, sendable, crosses) depth 40 fits 20000
+core_send = search (start_send, machine_tables_field_send, units, sendable, crosses) depth 40 fits 20000
 
 last_field_send : IsSend (Last.the_field).row
 last_field_send = search (units, sendable, crosses) depth 40 fits 20000

@@ -2,6 +2,7 @@
 use Rattle.std.proofs.Common.{◌≡◌, ℕ, zero, suc, ◌≤◌, ◌<◌, Bool, false, All, List, [], ◌∷◌, ◌++◌, get_or, length, Option, Some, None, refl, ap, sym, subst, ◌∙◌, arith}
 use Rattle.std.specs.Option.{option_or}
 use Rattle.std.proofs.lemmas.List.{append-nil}
+use Rattle.std.proofs.lemmas.Option.{slice_get-get_or}
 use Rattle.df_filter.specs.declared.clause.Clause.{Clause}
 use Rattle.df_index.specs.Due.{Pair}
 use Rattle.df_index.specs.declared.subscription.Subscription.{Subscription}
@@ -34,7 +35,7 @@ use Rattle.df_unit.specs.declared.reply.Reply.{Reply}
 use Rattle.df_unit.specs.declared.reply.Reply.TheVariants.{Sub, Unit as Made}
 use Rattle.df_unit.proofs.SameFacts.{same_name-exact}
 use Rattle.df_tables.specs.Agree.{Agrees, AreWithin, FilterIndex, IsSeat, IsWhole, ManagedState, enrols, is_marked, subscribed_at}
-use Rattle.df_tables.specs.Board.{IsBooked, IsKept, IsMovedBoard, IsOpenedBoard, IsRenewed, TellsOf, answer_from, answer_on, managed_by, managed_of}
+use Rattle.df_tables.specs.Board.{IsBooked, IsKept, IsMovedBoard, IsOpenedBoard, IsRenewed, TellsOf, answer_from, answer_on, managed_by, managed_of, place_on, row_by, row_on}
 use Rattle.df_tables.specs.Events.{event_place}
 use Rattle.df_tables.specs.Hand.{IsAnsweredAt, IsNews, modify, news_at}
 use Rattle.df_tables.specs.Moves.{IsAnswered, child_by, is_in_out, made_by, managed_sub_by}
@@ -63,6 +64,14 @@ place_in a us k h = within (λ (v : Unit). same v.local.unit a) us k h
 pub found : (a : UnitName) (us : List Unit) (k : ℕ) → place_of a us ≡ Some k → (u : Unit) × (find a us ≡ Some u) × ((c : Call) (r : Reply) (f : Effect) → IsAnsweredAt k c r f us → IsAnswered c r f u)
 found a [] k h = absurd (cc)
 found a (u ∷ us) k h = (get_or (u ∷ us) k u, (at_some a (u ∷ us) k u h).0, λ c r f answered. answered u (place_in a (u ∷ us) k h))
+
+-- the row at a unit's place is the unit's
+pub row_is : (b : Board) (n : UnitName) (k : Option ℕ) → place_on b n ≡ k → row_by b k ≡ row_on b n
+row_is b n None none = sym (at_none n b.rows.items none).0
+row_is b n (Some k) here =
+    let us = b.rows.items in
+    let u = (found n us k here).0 in
+    slice_get-get_or us k u (place_in n us k here) ∙ sym (at_some n us k u here).0
 
 -- what the row at a place is handed, by its unit
 pub brought : (g : UnitName → List Given) (event : EventName) (after : List Part) (ps : List Pair) (us : List Unit) → IsNews (λ u. g u.local.unit) event after ps us → (n : UnitName) (q : ℕ) → place_of n us ≡ Some q → (at : Label) × (g n ≡ news_at event after at ps q)

@@ -1,5 +1,5 @@
 -- When a board agrees with a journal.
-use Rattle.std.specs.Prelude.{◌≡◌, ◌↔◌, ℕ, ◌+◌, ◌≤◌, ◌==◌, ◌&&◌, ◌||◌, if◌then◌else◌, Bool, List, ◌∷◌, ◌++◌, Option, Some, None, length, map, nat_lt, slice_index_or, vec_capacity, vec_len}
+use Rattle.std.specs.Prelude.{◌≡◌, ◌↔◌, ℕ, ◌+◌, ◌≤◌, ◌==◌, ◌&&◌, ◌||◌, if◌then◌else◌, Bool, List, ◌∷◌, ◌++◌, Option, Some, None, length, map, nat_lt, slice_get, slice_index_or, vec_capacity, vec_len}
 use Rattle.std.specs.List.{Contains, list_any}
 use Rattle.std.specs.List.Sorted.{IsStrictlySortedBy}
 use Rattle.df_filter.specs.declared.clause.Clause.{Clause}
@@ -27,7 +27,7 @@ use Rattle.df_unit.specs.declared.name.EventName.{EventName}
 use Rattle.df_part.specs.Contents.{apply}
 use Rattle.df_unit.specs.declared.name.UnitName.{UnitName}
 use Rattle.df_unit.specs.declared.reply.Reply.{Reply}
-use Rattle.df_roll.specs.Roll.{seat_of}
+use Rattle.df_roll.specs.Roll.{names_in, seat_of}
 use Rattle.df_roll.specs.declared.seat.Seat.{Seat}
 use Rattle.df_tables.specs.Agree.{Agrees, AreWithin, IsWhole, ManagedState, enrols}
 use Rattle.df_tables.specs.Labels.{AreLabels, inputs}
@@ -75,6 +75,23 @@ pub record TellsOf (starts : List (Label × List Privilege)) (past : List Entry)
   pub numbered : AreNumbered b.managed
   pub within : AreWithin b.rows.items b.events (managed_of b).told
 
+-- the units that have a row, as the roll names them
+abbrev pub units_in : Board → List UnitName
+units_in b = names_in b.roll.seats
+
+-- the place of a unit's row, where it has one
+abbrev pub place_on : Board → UnitName → Option ℕ
+place_on b n = place_of n b.rows.items
+
+-- the row of a unit, where it has one
+abbrev pub row_on : Board → UnitName → Option Unit
+row_on b n = find n b.rows.items
+
+-- the row at a place, if there is one
+abbrev pub row_by : Board → Option ℕ → Option Unit
+row_by b None = None
+row_by b (Some k) = slice_get b.rows.items k
+
 -- the answer of a row, if there is one
 abbrev pub answer_from : Option Unit → Call → Reply × Effect
 answer_from None c = (Reply.NoSuchUnit, Effect.Nothing)
@@ -82,7 +99,7 @@ answer_from (Some u) c = row_answer u.local u.line.left c
 
 -- the answer of a unit's row to a call
 abbrev pub answer_on : Board → UnitName → Call → Reply × Effect
-answer_on b a c = answer_from (find a b.rows.items) c
+answer_on b a c = answer_from (row_on b a) c
 
 -- what the tables told they tell with one more entry
 abbrev pub IsBooked : UnitName → Call → Reply → Effect → Board → Board → Type 0

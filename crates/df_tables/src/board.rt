@@ -1,6 +1,6 @@
 //! The tables of the machine in one: the units, the events, and the index of subscriptions.
 
-ghost use Rattle.std.specs.Prelude.{◌≡◌, ℕ, ◌+◌, ◌<◌, [], false, List, None, IfOk, OnErr, OnOk, length, option_copied, slice_get, vec_len};
+ghost use Rattle.std.specs.Prelude.{◌≡◌, ℕ, ◌+◌, ◌<◌, [], false, List, None, Some, IfOk, OnErr, OnOk, length, option_copied, slice_get, vec_len};
 ghost use Rattle.std.specs.List.{All};
 ghost use Rattle.std.specs.Option.{option_map};
 ghost use Rattle.df_label.specs.declared.label.Label.{Label};
@@ -8,17 +8,17 @@ ghost use Rattle.df_label.specs.declared.privilege.Privilege.{Privilege};
 ghost use Rattle.df_rules.specs.Commits.{commit_in};
 ghost use Rattle.df_unit.specs.declared.call.Call.TheVariants.{Instantiate, Subscribe, SubscribeManaged};
 ghost use Rattle.df_unit.specs.declared.entry.Effect.{Effect};
+ghost use Rattle.df_unit.specs.declared.name.UnitName.{UnitName};
 ghost use Rattle.df_unit.specs.declared.reply.Reply.{Reply};
 ghost use Rattle.df_unit.specs.declared.reply.Reply.TheVariants.{Sub};
 ghost use Rattle.df_unit.specs.UnitOrder.{unit_cmp};
 ghost use Rattle.df_label.specs.Ascending.{IsAscending};
-ghost use Rattle.df_roll.specs.Roll.{names_in};
 ghost use Rattle.df_tables.specs.Births.{IsEnrolled, IsNewborn, beside_of, rows_in};
-ghost use Rattle.df_tables.specs.Board.{AreBorn, HasRoom, IsBoard, IsBooked, IsBornBoard, IsChildBoard, IsKept, IsMovedBoard, IsRenewed, TellsOf, answer_on};
+ghost use Rattle.df_tables.specs.Board.{AreBorn, HasRoom, IsBoard, IsBooked, IsBornBoard, IsChildBoard, IsKept, IsMovedBoard, IsRenewed, TellsOf, answer_from, place_on, row_by, row_on, units_in};
 ghost use Rattle.df_tables.specs.Hand.{IsAnsweredAt, IsCalm};
 ghost use Rattle.df_tables.specs.Labels.{AreLabels, inputs};
 ghost use Rattle.df_tables.specs.Moves.{child_by, is_in_out, made_by, managed_sub_by};
-ghost use Rattle.df_tables.specs.Table.{IsInOrder, find, rows_from};
+ghost use Rattle.df_tables.specs.Table.{IsInOrder, rows_from};
 
 use crate::births::{Beside, Newborn, beside_of, child_of, count_child, make_room};
 use crate::events::Events;
@@ -114,31 +114,46 @@ impl Board {
         })
     }
 
-    /// The row of a unit.
-    pub fn unit(&self, name: &UnitName) -> Option<&Unit>
+    /// The place of a unit's row, where it has one.
+    pub fn place(&self, name: &UnitName) -> Option<usize>
         requires { IsBoard self.now }
-        ensures { option_copied result ≡ find name.now self.now.rows.items }
+        ensures { result ≡ place_on self.now name.now }
     {
-        match self.roll.place(name) {
-            Some(place) => Some(&self.rows[place]),
+        self.roll.place(name)
+    }
+
+    /// The row at a place, if there is one.
+    pub fn row(&self, place: Option<usize>) -> Option<&Unit>
+        ensures { option_copied result ≡ row_by self.now place }
+    {
+        match place {
+            Some(place) => self.rows.get(place),
             None => None,
         }
     }
 
+    /// The row of a unit.
+    pub fn unit(&self, name: &UnitName) -> Option<&Unit>
+        requires { IsBoard self.now }
+        ensures { option_copied result ≡ row_on self.now name.now }
+    {
+        self.row(self.place(name))
+    }
+
     /// The unit at a place in the order of units.
     pub fn name_at(&self, place: usize) -> Option<&UnitName>
-        ensures name { option_copied result ≡ slice_get (names_in self.now.roll.seats) place }
-        ensures ascending { IsAscending unit_cmp (names_in self.now.roll.seats) }
+        ensures name { option_copied result ≡ slice_get (units_in self.now) place }
+        ensures ascending { IsAscending unit_cmp (units_in self.now) }
     {
         self.roll.unit_at(place)
     }
 
-    /// What a unit's row answers to a call.
-    pub fn answer(&self, actor: &UnitName, call: &Call) -> Result<Answer, NoMemory>
-        requires board { IsBoard self.now }
-        ensures { IfOk result (λ a. (a.reply, a.effect) ≡ answer_on self.now actor.now call.now) }
+    /// What the row at a place answers to a call. Where there is none, there is no unit.
+    pub fn answer(&self, place: Option<usize>, call: &Call) -> Result<Answer, NoMemory>
+        ensures { IfOk result (λ a.
+            (a.reply, a.effect) ≡ answer_from (row_by self.now place) call.now) }
     {
-        match self.unit(actor) {
+        match self.row(place) {
             Some(unit) => unit.local.answer(unit.line.first(), call),
             None => Ok(Answer {
                 reply: Reply::NoSuchUnit,
@@ -354,25 +369,22 @@ impl Board {
         Ok(())
     }
 
-    /// Takes in an entry: a call, with the answer that the unit's row gives. Without memory the
-    /// tables agree with the journal as before.
-    pub fn book(
+    /// Takes in an entry of the unit at a place.
+    fn book_at(
         &mut self,
-        actor: &UnitName,
+        place: usize,
         call: &Call,
         reply: &Reply,
         effect: &Effect,
     ) -> Result<(), NoMemory>
         requires board { IsBoard self.old }
-        requires right { answer_on self.old actor.now call.now ≡ (reply.now, effect.now) }
+        requires within { place < length self.old.rows.items }
+        requires right { IsAnsweredAt place call.now reply.now effect.now self.old.rows.items }
         ensures board { IsBoard self.new }
-        ensures ok { OnOk result (IsBooked actor.now call.now reply.now effect.now
-            self.old self.new) }
+        ensures ok { OnOk result ((actor : UnitName) → place_on self.old actor ≡ Some place →
+            IsBooked actor call.now reply.now effect.now self.old self.new) }
         ensures kept { OnErr result (IsKept self.old self.new) }
     {
-        let Some(place) = self.roll.place(actor) else {
-            return Ok(());
-        };
         if let Some((number, s, privileges)) = child_by(call, reply) {
             return self.make_child(place, number, s, privileges);
         }
@@ -382,6 +394,30 @@ impl Board {
         match effect {
             Effect::Commit(commit) => self.book_commit(place, call, reply, effect, commit),
             _ => self.book_plain(place, call, reply, effect),
+        }
+    }
+
+    /// Takes in an entry: a call of the unit whose place this is, with the answer of the row there.
+    /// Without memory the tables agree with the journal as before.
+    pub fn book(
+        &mut self,
+        place: Option<usize>,
+        call: &Call,
+        reply: &Reply,
+        effect: &Effect,
+    ) -> Result<(), NoMemory>
+        requires board { IsBoard self.old }
+        requires seated { (actor : UnitName) × (place_on self.old actor ≡ place) }
+        requires right { answer_from (row_by self.old place) call.now
+            ≡ (reply.now, effect.now) }
+        ensures board { IsBoard self.new }
+        ensures ok { OnOk result ((actor : UnitName) → place_on self.old actor ≡ place →
+            IsBooked actor call.now reply.now effect.now self.old self.new) }
+        ensures kept { OnErr result (IsKept self.old self.new) }
+    {
+        match place {
+            Some(place) => self.book_at(place, call, reply, effect),
+            None => Ok(()),
         }
     }
 }

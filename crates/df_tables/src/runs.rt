@@ -2,9 +2,8 @@
 
 ghost use Rattle.std.specs.Prelude.{◌≡◌, Some};
 ghost use Rattle.std.specs.Option.{option_map};
-ghost use Rattle.df_tables.specs.Board.{IsBoard};
+ghost use Rattle.df_tables.specs.Board.{IsBoard, row_on};
 ghost use Rattle.df_tables.specs.Runs.{IsSwapped, ReadsAs};
-ghost use Rattle.df_tables.specs.Table.{find};
 
 use crate::board::Board;
 use df_local::Local;
@@ -15,10 +14,10 @@ impl Board {
     /// no memory.
     pub fn swap(&mut self, local: Local) -> Local
         requires board { IsBoard self.old }
-        requires reads { ReadsAs local (find local.unit self.old.rows.items) }
+        requires reads { ReadsAs local (row_on self.old local.unit) }
         ensures board { IsBoard self.new }
         ensures swapped { IsSwapped local self.old self.new }
-        ensures before { option_map (λ u. u.local) (find local.unit self.old.rows.items)
+        ensures before { option_map (λ u. u.local) (row_on self.old local.unit)
             ≡ Some result }
     {
         let Some(place) = self.roll.place(local.name()) else {

@@ -17,12 +17,12 @@ pub swap-before-requires-clause-reads : goal.swap-before-requires-clause-reads
 swap-before-requires-clause-reads c =
     let start = c.self.inside.start in
     let past = reverse c.self.inside.journal.items in
-    let b = c.self.inside.board in
+    let b = c.self.inside.tables.board in
     let p = c.into_parts-base.result in
     let current : local_of (start, past) c.args.run.base.unit ≡ Some c.args.run.base = rw (← c.self.view_is) at c.requires in
     let begins : IsBegun start past b p.base p.present p.entries.items = record {
-      board = c.self.invariant.0;
-      tells = c.self.invariant.1;
+      board = c.self.invariant.board;
+      tells = c.self.invariant.tells;
       current = subst (λ (l : LocalState). local_of (start, past) l.unit ≡ Some l) (sym c.into_parts-base.ensures.base) current;
       run = c.into_parts-base.ensures.in_turn;
     } in
@@ -32,12 +32,12 @@ pub swap-present-requires-clause-reads : goal.swap-present-requires-clause-reads
 swap-present-requires-clause-reads c =
     let start = c.self.inside.start in
     let past = reverse c.self.inside.journal.items in
-    let b = c.self.inside.board in
+    let b = c.self.inside.tables.board in
     let p = c.into_parts-base.result in
     let current : local_of (start, past) c.args.run.base.unit ≡ Some c.args.run.base = rw (← c.self.view_is) at c.requires in
     let begins : IsBegun start past b p.base p.present p.entries.items = record {
-      board = c.self.invariant.0;
-      tells = c.self.invariant.1;
+      board = c.self.invariant.board;
+      tells = c.self.invariant.tells;
       current = subst (λ (l : LocalState). local_of (start, past) l.unit ≡ Some l) (sym c.into_parts-base.ensures.base) current;
       run = c.into_parts-base.ensures.in_turn;
     } in
@@ -47,12 +47,12 @@ pub of_parts-run-requires : goal.of_parts-run-requires
 of_parts-run-requires c =
     let start = c.self.inside.start in
     let past = reverse c.self.inside.journal.items in
-    let b = c.self.inside.board in
+    let b = c.self.inside.tables.board in
     let p = c.into_parts-base.result in
     let current : local_of (start, past) c.args.run.base.unit ≡ Some c.args.run.base = rw (← c.self.view_is) at c.requires in
     let begins : IsBegun start past b p.base p.present p.entries.items = record {
-      board = c.self.invariant.0;
-      tells = c.self.invariant.1;
+      board = c.self.invariant.board;
+      tells = c.self.invariant.tells;
       current = subst (λ (l : LocalState). local_of (start, past) l.unit ≡ Some l) (sym c.into_parts-base.ensures.base) current;
       run = c.into_parts-base.ensures.in_turn;
     } in
@@ -63,31 +63,32 @@ pub invariant_of-self-in_default-take_in : goal.invariant_of-self-in_default-tak
 invariant_of-self-in_default-take_in c =
     let start = c.self.inside.start in
     let past = reverse c.self.inside.journal.items in
-    let b = c.self.inside.board in
+    let b = c.self.inside.tables.board in
     let p = c.into_parts-base.result in
     let current : local_of (start, past) c.args.run.base.unit ≡ Some c.args.run.base = rw (← c.self.view_is) at c.requires in
     let begins : IsBegun start past b p.base p.present p.entries.items = record {
-      board = c.self.invariant.0;
-      tells = c.self.invariant.1;
+      board = c.self.invariant.board;
+      tells = c.self.invariant.tells;
       current = subst (λ (l : LocalState). local_of (start, past) l.unit ≡ Some l) (sym c.into_parts-base.ensures.base) current;
       run = c.into_parts-base.ensures.in_turn;
-    } in (
-      c.swap-present.ensures.board,
-      subst (λ (j : List Entry). TellsOf (map begun start) (reverse j) c.swap-present.new.self) (sym c.make_room.ensures.journal)
+    } in record {
+      board = c.swap-present.ensures.board;
+      tells =
+          subst (λ (j : List Entry). TellsOf (map begun start) (reverse j) c.swap-present.new.self) (sym c.make_room.ensures.journal)
           (tells_before start past b p.base p.present p.entries.items begins c.swap-before.new.self c.swap-before.result c.swap-before.ensures.swapped c.swap-before.ensures.before c.take_in.new.board c.take_in.ensures.board c.in_default-take_in.ensures.told
-          c.swap-present.new.self c.swap-present.result c.swap-present.ensures.swapped c.swap-present.ensures.before),
-    )
+          c.swap-present.new.self c.swap-present.result c.swap-present.ensures.swapped c.swap-present.ensures.before);
+    }
 
 pub returns-in_default-take_in-clause-back : goal.returns-in_default-take_in-clause-back
 returns-in_default-take_in-clause-back c =
     let start = c.self.inside.start in
     let past = reverse c.self.inside.journal.items in
-    let b = c.self.inside.board in
+    let b = c.self.inside.tables.board in
     let p = c.into_parts-base.result in
     let current : local_of (start, past) c.args.run.base.unit ≡ Some c.args.run.base = rw (← c.self.view_is) at c.requires in
     let begins : IsBegun start past b p.base p.present p.entries.items = record {
-      board = c.self.invariant.0;
-      tells = c.self.invariant.1;
+      board = c.self.invariant.board;
+      tells = c.self.invariant.tells;
       current = subst (λ (l : LocalState). local_of (start, past) l.unit ≡ Some l) (sym c.into_parts-base.ensures.base) current;
       run = c.into_parts-base.ensures.in_turn;
     } in
@@ -116,31 +117,31 @@ pub invariant_of-self-2 : goal.invariant_of-self-2
 invariant_of-self-2 c =
     let start = c.self.inside.start in
     let past = reverse c.self.inside.journal.items in
-    let b = c.self.inside.board in
+    let b = c.self.inside.tables.board in
     let p = c.into_parts-base.result in
     let current : local_of (start, past) c.args.run.base.unit ≡ Some c.args.run.base = rw (← c.self.view_is) at c.requires in
     let begins : IsBegun start past b p.base p.present p.entries.items = record {
-      board = c.self.invariant.0;
-      tells = c.self.invariant.1;
+      board = c.self.invariant.board;
+      tells = c.self.invariant.tells;
       current = subst (λ (l : LocalState). local_of (start, past) l.unit ≡ Some l) (sym c.into_parts-base.ensures.base) current;
       run = c.into_parts-base.ensures.in_turn;
-    } in (
-      c.take_in.ensures.board,
-      subst (λ (j : List Entry). TellsOf (map begun start) j c.take_in.new.board) (sym (ended c))
+    } in record {
+      board = c.take_in.ensures.board;
+      tells = subst (λ (j : List Entry). TellsOf (map begun start) j c.take_in.new.board) (sym (ended c))
           (c.in-Ok-take_in.ensures.booked (map begun start) (reverse p.entries.items ++ past)
-          (tells_run start past b p.base p.present p.entries.items begins c.swap-before.new.self c.swap-before.result c.swap-before.ensures.swapped c.swap-before.ensures.before)),
-    )
+          (tells_run start past b p.base p.present p.entries.items begins c.swap-before.new.self c.swap-before.result c.swap-before.ensures.swapped c.swap-before.ensures.before));
+    }
 
 pub returns-clause-entries : goal.returns-clause-entries
 returns-clause-entries c =
     let start = c.self.inside.start in
     let past = reverse c.self.inside.journal.items in
-    let b = c.self.inside.board in
+    let b = c.self.inside.tables.board in
     let p = c.into_parts-base.result in
     let current : local_of (start, past) c.args.run.base.unit ≡ Some c.args.run.base = rw (← c.self.view_is) at c.requires in
     let begins : IsBegun start past b p.base p.present p.entries.items = record {
-      board = c.self.invariant.0;
-      tells = c.self.invariant.1;
+      board = c.self.invariant.board;
+      tells = c.self.invariant.tells;
       current = subst (λ (l : LocalState). local_of (start, past) l.unit ≡ Some l) (sym c.into_parts-base.ensures.base) current;
       run = c.into_parts-base.ensures.in_turn;
     } in
@@ -157,12 +158,12 @@ pub returns-clause-reply : goal.returns-clause-reply
 returns-clause-reply c =
     let start = c.self.inside.start in
     let past = reverse c.self.inside.journal.items in
-    let b = c.self.inside.board in
+    let b = c.self.inside.tables.board in
     let p = c.into_parts-base.result in
     let current : local_of (start, past) c.args.run.base.unit ≡ Some c.args.run.base = rw (← c.self.view_is) at c.requires in
     let begins : IsBegun start past b p.base p.present p.entries.items = record {
-      board = c.self.invariant.0;
-      tells = c.self.invariant.1;
+      board = c.self.invariant.board;
+      tells = c.self.invariant.tells;
       current = subst (λ (l : LocalState). local_of (start, past) l.unit ≡ Some l) (sym c.into_parts-base.ensures.base) current;
       run = c.into_parts-base.ensures.in_turn;
     } in

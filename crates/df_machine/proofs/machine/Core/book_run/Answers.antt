@@ -19,9 +19,9 @@ swap-requires-clause-reads c =
     let run = c.args.run in
     let current = rw (← c.self.view_is) at c.requires in
     let on : GoesOn (map begun start) run.base run.present past (reverse run.entries ++ past) =
-    run_on (map begun start) run.entries run.base run.present past c.entries.ensures.in_turn c.self.invariant.1.agrees.legal (owned_as start past run.base current) in
-    subst (λ (l : LocalState). ReadsAs l (find l.unit c.self.inside.board.rows.items)) (sym c.into_parts-base.ensures.present)
-    (reads_on start past run.base run.present (reverse run.entries ++ past) on c.self.inside.board c.self.invariant.1)
+    run_on (map begun start) run.entries run.base run.present past c.entries.ensures.in_turn c.self.invariant.tells.agrees.legal (owned_as start past run.base current) in
+    subst (λ (l : LocalState). ReadsAs l (find l.unit c.self.inside.tables.board.rows.items)) (sym c.into_parts-base.ensures.present)
+    (reads_on start past run.base run.present (reverse run.entries ++ past) on c.self.inside.tables.board c.self.invariant.tells)
 
 -- the journal with the entries at its end
 ended : (c : goal.After-drop-entries) → reverse c.append-done.new.self.items ≡ reverse c.args.run.entries ++ reverse c.self.inside.journal.items
@@ -42,13 +42,14 @@ invariant_of-self-2 c =
     let run = c.args.run in
     let current = rw (← c.self.view_is) at c.requires in
     let on : GoesOn (map begun start) run.base run.present past (reverse run.entries ++ past) =
-    run_on (map begun start) run.entries run.base run.present past c.entries.ensures.in_turn c.self.invariant.1.agrees.legal (owned_as start past run.base current) in
-    let board = c.self.inside.board in
-    let swapped : IsSwapped run.present board c.swap.new.self = subst (λ (l : LocalState). IsSwapped l board c.swap.new.self) c.into_parts-base.ensures.present c.swap.ensures.swapped in (
-      c.swap.ensures.board,
-      subst (λ (j : List Entry). TellsOf (map begun start) j c.swap.new.self) (sym (ended c))
-          (told_on start past run.base run.present (reverse run.entries ++ past) on board c.swap.new.self swapped c.self.invariant.1),
-    )
+    run_on (map begun start) run.entries run.base run.present past c.entries.ensures.in_turn c.self.invariant.tells.agrees.legal (owned_as start past run.base current) in
+    let board = c.self.inside.tables.board in
+    let swapped : IsSwapped run.present board c.swap.new.self = subst (λ (l : LocalState). IsSwapped l board c.swap.new.self) c.into_parts-base.ensures.present c.swap.ensures.swapped in record {
+      board = c.swap.ensures.board;
+      tells =
+          subst (λ (j : List Entry). TellsOf (map begun start) j c.swap.new.self) (sym (ended c))
+          (told_on start past run.base run.present (reverse run.entries ++ past) on board c.swap.new.self swapped c.self.invariant.tells);
+    }
 
 pub returns-clause-entries : goal.returns-clause-entries
 returns-clause-entries c = ap (λ (j : List Entry). let v : State = (c.self.inside.start, j) in v) (ended c) ∙ ap (with_run c.args.run) c.self.view_is

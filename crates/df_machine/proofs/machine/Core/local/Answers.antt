@@ -8,9 +8,9 @@ use Rattle.df_machine.proofs.machine.Core.local.Goals as goal
 pub returns-in-Some : goal.returns-in-Some
 returns-in-Some c =
     subst (λ (v : State). Some c.in-Some.unit.now.local ≡ local_of v c.args.name.now) c.self.view_is
-    (local_at c.self.inside.start (reverse c.self.inside.journal.items) c.self.inside.board c.self.invariant.0 c.self.invariant.1 c.args.name.now (Some c.in-Some.unit.now) c.in-Some.ensures)
+    (local_at c.self.inside.start (reverse c.self.inside.journal.items) c.self.inside.tables.board c.self.invariant.board c.self.invariant.tells c.args.name.now (Some c.in-Some.unit.now) c.in-Some.ensures)
 
 pub returns-in-None : goal.returns-in-None
 returns-in-None c =
     subst (λ (v : State). let none : Option LocalState = None in none ≡ local_of v c.args.name.now) c.self.view_is
-    (local_at c.self.inside.start (reverse c.self.inside.journal.items) c.self.inside.board c.self.invariant.0 c.self.invariant.1 c.args.name.now None c.in-None.ensures)
+    (local_at c.self.inside.start (reverse c.self.inside.journal.items) c.self.inside.tables.board c.self.invariant.board c.self.invariant.tells c.args.name.now None c.in-None.ensures)

@@ -10,9 +10,9 @@ pub returns-clause-place : goal.returns-clause-place
 returns-clause-place c names roll =
     let within = rw (← c.self.view_is) at roll in
     c.name_at.ensures.name
-    ∙ ap (λ (ns : List UnitName). slice_get ns c.args.k) (roll_is c.self.inside.start (reverse c.self.inside.journal.items) c.self.inside.board c.self.invariant.0 c.self.invariant.1 c.name_at.ensures.ascending names within)
+    ∙ ap (λ (ns : List UnitName). slice_get ns c.args.k) (roll_is c.self.inside.start (reverse c.self.inside.journal.items) c.self.inside.tables.board c.self.invariant.board c.self.invariant.tells c.name_at.ensures.ascending names within)
 
 pub returns-clause-roll : goal.returns-clause-roll
 returns-clause-roll c =
     subst (λ (v : State). (names : List UnitName) × IsRoll v names) c.self.view_is
-    (names_in c.self.inside.board.roll.seats, roll_of c.self.inside.start (reverse c.self.inside.journal.items) c.self.inside.board c.self.invariant.0 c.self.invariant.1 c.name_at.ensures.ascending)
+    (names_in c.self.inside.tables.board.roll.seats, roll_of c.self.inside.start (reverse c.self.inside.journal.items) c.self.inside.tables.board c.self.invariant.board c.self.invariant.tells c.name_at.ensures.ascending)
