@@ -15,6 +15,7 @@ ghost use Rattle.df_unit.specs.Rows.{is_instance};
 ghost use Rattle.df_unit.specs.declared.name.UnitName.{UnitName};
 ghost use Rattle.df_rules.specs.Start.{rows};
 
+use crate::base::Base;
 use crate::roster::units;
 use crate::since::has_entry;
 use df_booking::{book_kept, seed_name};
@@ -88,7 +89,7 @@ fn root_state<'a, B: Brain>(brains: &'a [B], path: &Path) -> Option<&'a B>
 }
 
 impl<B: Brain> Crew<B> {
-    ghost use Rattle.df_crew.specs.Locally.{IsBegun};
+    ghost use Rattle.df_crew.specs.Locally.{IsBase, IsBegun};
     ghost use Rattle.df_booking.specs.Manned.{IsFollowed};
 
     /// A crew whose journal is empty, with a brain for each root.
@@ -168,23 +169,37 @@ impl<B: Brain> Crew<B> {
             self.now.core unit.now t) }
         ensures absent { (result ≡ Err NoSuchUnit) ↔ (local_of self.now.core unit.now ≡ None) }
     {
-        let Some(local) = self.core.local(unit) else {
-            return Err(BeginRefused::NoSuchUnit);
-        };
-        match self.turn_of(local, unit) {
+        match self.base(unit)?.begin(self.alloc) {
             Ok(turn) => Ok(turn),
             Err(NoMemory) => Err(BeginRefused::NoMemory),
         }
     }
 
-    /// A turn of a unit that exists.
-    fn turn_of(&self, local: &Local, unit: &UnitName) -> Result<Turn<B>, NoMemory>
+    /// What a turn of a unit begins from. It costs a copy of the unit; its brain is shared, but for
+    /// a copy before its first turn.
+    pub fn base(&self, unit: &UnitName) -> Result<Base<B>, BeginRefused>
+        ensures base { IfOk result (λ b. IsBase (brain_of B.next B.instance) self.now.brains
+            self.now.core unit.now b) }
+        ensures absent { (result ≡ Err NoSuchUnit) ↔ (local_of self.now.core unit.now ≡ None) }
+    {
+        let Some(local) = self.core.local(unit) else {
+            return Err(BeginRefused::NoSuchUnit);
+        };
+        match self.base_of(local, unit) {
+            Ok(base) => Ok(base),
+            Err(NoMemory) => Err(BeginRefused::NoMemory),
+        }
+    }
+
+    /// What a turn of a unit that exists begins from.
+    fn base_of(&self, local: &Local, unit: &UnitName) -> Result<Base<B>, NoMemory>
         requires { local_of self.now.core unit.now ≡ Some local.now }
-        ensures { IfOk result (λ t. IsBegun (brain_of B.next B.instance) self.now.brains
-            self.now.core unit.now t) }
+        ensures { IfOk result (λ b. IsBase (brain_of B.next B.instance) self.now.brains
+            self.now.core unit.now b) }
     {
         let mind = self.mind(unit)?;
-        Turn::begin(self.alloc, local, mind)
+        let unit = local.copy()?;
+        Ok(Base { unit, mind })
     }
 
     /// Whether the unit and its brain are as the turn began.

@@ -1,23 +1,23 @@
 //! A crew on a desk.
 
-ghost use Rattle.std.specs.Prelude.{◌≡◌, ◌↔◌, ◌+◌, Err, IfErr, IfOk, IfSome, IsOk, None, OnErr, OnOk, length};
+ghost use Rattle.std.specs.Prelude.{◌≡◌, ◌↔◌, ◌+◌, Err, IfErr, IfOk, IfSome, IsOk, List, None, OnErr, OnOk, length};
 ghost use mathlib.Core.List.{IsPrefix};
 ghost use Rattle.df_booking.specs.Booked.{IsCurrent, booked};
 ghost use Rattle.df_booking.specs.Manned.{IsFollowed};
 ghost use Rattle.df_crew.specs.Booking.{IsRefused};
 ghost use Rattle.df_crew.specs.Growing.{IsMore};
-ghost use Rattle.df_crew.specs.Locally.{IsBegun};
+ghost use Rattle.df_crew.specs.Locally.{IsBase, IsBegun};
 ghost use Rattle.df_crew.specs.Seen.{core_at, crew_at, origin_of, seen_of};
 ghost use Rattle.df_crew.specs.Since.{WasCurrent};
 ghost use Rattle.df_crew.specs.declared.crew.BeginRefused.TheVariants.{NoSuchUnit};
 ghost use Rattle.df_desk.specs.Pass.{Holds, IsFree, IsNew, longer_list, one_more};
 ghost use Rattle.df_hub.specs.Steps.{BeganThere, IsBooked, IsCounted, IsJournal, Looks, TakesOnce};
-ghost use Rattle.df_machine.specs.Journal.{IsRoll, local_of};
+ghost use Rattle.df_machine.specs.Journal.{IsRoll, State, local_of};
 ghost use Rattle.df_rules.specs.Follows.{brain_of};
 ghost use Rattle.df_unit.specs.declared.name.UnitName.{UnitName};
 
 use df_brain::Brain;
-use df_crew::{BeginRefused, Crew, NotTurned, units};
+use df_crew::{Base, BeginRefused, Crew, NotTurned, units};
 use df_desk::{Desk, Journaled, NotMade, Pass};
 use df_label::NoMemory;
 use df_turn::Turn;
@@ -64,31 +64,84 @@ fn follow<B: Brain>(crew: &Crew<B>)
     let _machine = crew.core();
 }
 
-/// The next turn of a unit, whose name there may have been no memory for.
-fn next_turn<B: Brain>(
+/// What the next turn of a unit begins from. There may have been no memory for its name.
+fn next_base<B: Brain>(
     crew: &Crew<B>,
     unit: Result<UnitName, NoMemory>,
-) -> Result<Turn<B>, NoMemory>
-    ensures { (name : UnitName) → IfOk unit (λ known. known ≡ name) → IfOk result (λ t.
-        IsBegun (brain_of B.next B.instance) crew.now.brains crew.now.core name t) }
+) -> Result<Base<B>, NoMemory>
+    ensures { (name : UnitName) → IfOk unit (λ known. known ≡ name) → IfOk result (λ b.
+        IsBase (brain_of B.next B.instance) crew.now.brains crew.now.core name b) }
 {
-    match crew.begin(&unit?) {
-        Ok(turn) => Ok(turn),
+    match crew.base(&unit?) {
+        Ok(base) => Ok(base),
         Err(_) => Err(NoMemory),
     }
 }
 
-/// What is answered of a turn of a unit that was booked in this crew.
-fn answer<B: Brain>(crew: &Crew<B>, unit: Result<UnitName, NoMemory>, appended: u64) -> Stepped<B>
-    ensures turn { (name : UnitName) → IfOk unit (λ known. known ≡ name) → IfOk result.turn (λ t.
-        IsBegun (brain_of B.next B.instance) crew.now.brains crew.now.core name t) }
+/// What a turn that was booked leaves, before its unit's next one is begun.
+#[derive(Drop)]
+struct Booked<B: Brain> {
+    base: Result<Base<B>, NoMemory>,
+    appended: u64,
+    entries: u64,
+}
+
+/// What a turn of a unit leaves that was booked in this crew.
+fn left<B: Brain>(crew: &Crew<B>, unit: Result<UnitName, NoMemory>, appended: u64) -> Booked<B>
+    ensures base { (name : UnitName) → IfOk unit (λ known. known ≡ name) → IfOk result.base (λ b.
+        IsBase (brain_of B.next B.instance) crew.now.brains crew.now.core name b) }
     ensures appended { result.appended ≡ appended }
     ensures entries { result.entries ≡ length (seen_of crew.now) }
 {
-    Stepped {
-        turn: next_turn(crew, unit),
+    Booked {
+        base: next_base(crew, unit),
         appended,
         entries: crew.count(),
+    }
+}
+
+/// The turn of a base, unless there is none or no memory for it.
+fn turn_of<B: Brain>(alloc: Global, base: Result<Base<B>, NoMemory>) -> Result<Turn<B>, NoMemory>
+    ensures { (bs : List B) (core : State) (u : UnitName) →
+        IfOk base (λ b. IsBase (brain_of B.next B.instance) bs core u b) →
+        IfOk result (λ t. IsBegun (brain_of B.next B.instance) bs core u t) }
+{
+    base?.begin(alloc)
+}
+
+/// The first turn of a base, unless its unit doesn't exist or there is no memory for it.
+fn first_turn<B: Brain>(
+    alloc: Global,
+    base: Result<Base<B>, BeginRefused>,
+) -> Result<Turn<B>, BeginRefused>
+    ensures turn { (bs : List B) (core : State) (u : UnitName) →
+        IfOk base (λ b. IsBase (brain_of B.next B.instance) bs core u b) →
+        IfOk result (λ t. IsBegun (brain_of B.next B.instance) bs core u t) }
+    ensures absent { (result ≡ Err NoSuchUnit) ↔ (base ≡ Err NoSuchUnit) }
+{
+    match base?.begin(alloc) {
+        Ok(turn) => Ok(turn),
+        Err(NoMemory) => Err(BeginRefused::NoMemory),
+    }
+}
+
+/// What is answered of a turn that was booked.
+fn answer<B: Brain>(alloc: Global, booked: Booked<B>) -> Stepped<B>
+    ensures turn { (bs : List B) (core : State) (u : UnitName) →
+        IfOk booked.base (λ b. IsBase (brain_of B.next B.instance) bs core u b) →
+        IfOk result.turn (λ t. IsBegun (brain_of B.next B.instance) bs core u t) }
+    ensures appended { result.appended ≡ booked.appended }
+    ensures entries { result.entries ≡ booked.entries }
+{
+    let Booked {
+        base,
+        appended,
+        entries,
+    } = booked;
+    Stepped {
+        turn: turn_of(alloc, base),
+        appended,
+        entries,
     }
 }
 
@@ -116,13 +169,13 @@ fn book_turn<B: Brain>(
 }
 
 /// Books a turn of a unit, which began when the journal had so many entries, where that is known,
-/// and begins its next one.
+/// and takes what its next one begins from.
 fn book<B: Brain>(
     crew: &mut Crew<B>,
     unit: Result<UnitName, NoMemory>,
     turn: Turn<B>,
     since: Option<u64>,
-) -> Result<Stepped<B>, NotTurned<B>>
+) -> Result<Booked<B>, NotTurned<B>>
     requires unit { IfOk unit (λ name. name ≡ turn.unit.unit) }
     requires since { IfSome since (λ count.
         WasCurrent (brain_of B.next B.instance) turn count crew.old) }
@@ -131,15 +184,15 @@ fn book<B: Brain>(
     ensures booked { OnOk result (crew.new ≡ booked (brain_of B.next B.instance) turn crew.old) }
     ensures counted { IfOk result (λ s.
         IsCounted (seen_of crew.old) (seen_of crew.new) s.appended s.entries) }
-    ensures anew { IfOk result (λ s. IfOk s.turn (λ t. IsBegun (brain_of B.next B.instance)
-        crew.new.brains crew.new.core turn.unit.unit t)) }
+    ensures anew { IfOk result (λ s. IfOk s.base (λ b. IsBase (brain_of B.next B.instance)
+        crew.new.brains crew.new.core turn.unit.unit b)) }
     ensures refused { IfErr result (λ e.
         IsRefused e.cause (brain_of B.next B.instance) turn crew.old) }
     ensures unchanged { OnErr result (crew.new ≡ crew.old) }
     ensures back { IfErr result (λ e. e.turn ≡ turn) }
 {
     match book_turn(crew, turn, since) {
-        Ok(appended) => Ok(answer(crew, unit, appended)),
+        Ok(appended) => Ok(left(crew, unit, appended)),
         Err(refused) => Err(refused),
     }
 }
@@ -208,9 +261,9 @@ impl<B: Brain> Hub<B> {
             ↔ (local_of (core_at self.now.origin pass.new.seen) unit.now ≡ None) }
     {
         let crew = self.take(rt, pass);
-        let turn = crew.begin(unit);
+        let base = crew.base(unit);
         self.give(pass, crew);
-        turn
+        first_turn(self.alloc, base)
     }
 
     /// Books a turn at the end of the journal that it finds, and begins the unit's next one. Both
@@ -293,10 +346,13 @@ impl<B: Brain> Hub<B> {
     {
         let unit = turn.unit().name().copy();
         let mut crew = self.take(rt, pass);
-        let stepped = book(&mut crew, unit, turn, since);
+        let booked = book(&mut crew, unit, turn, since);
         follow(&crew);
         self.give(pass, crew);
-        stepped
+        match booked {
+            Ok(booked) => Ok(answer(self.alloc, booked)),
+            Err(refused) => Err(refused),
+        }
     }
 
     /// The units that exist in the journal that the pass has then seen, in their order. It waits

@@ -49,15 +49,13 @@ pub struct NotCalled {
 impl LocalRun {
     ghost use Rattle.df_local_run.specs.Runs.{LeadTo, called, is_local};
 
-    /// A run without calls.
-    pub fn begin(alloc: Global, base: &Local) -> Result<LocalRun, NoMemory>
-        ensures { IfOk result (λ run. run
-            ≡ record { base = base.now; present = base.now; entries = [] }) }
+    /// A run without calls of a unit as it is. It costs a copy of it.
+    pub fn begin(alloc: Global, base: Local) -> Result<LocalRun, NoMemory>
+        ensures { IfOk result (λ run. run ≡ record { base = base; present = base; entries = [] }) }
     {
-        let first = base.copy()?;
         let present = base.copy()?;
         Ok(LocalRun {
-            base: first,
+            base,
             present,
             entries: Vec::new(alloc),
         })

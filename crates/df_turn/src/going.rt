@@ -81,8 +81,8 @@ fn let_go_run(run: LocalRun) {
 
 impl<B: Brain> Going<B> {
     /// A turn without calls. The brain's state is shared.
-    pub(crate) fn begin(alloc: Global, unit: &Local, mind: &Mind<B>) -> Result<Going<B>, NoMemory>
-        ensures unit { IfOk result (λ g. g.run.base ≡ unit.now) }
+    pub(crate) fn begin(alloc: Global, unit: Local, mind: &Mind<B>) -> Result<Going<B>, NoMemory>
+        ensures unit { IfOk result (λ g. g.run.base ≡ unit) }
         ensures going { IfOk result (λ g. IsGoing (brain_of B.next B.instance) mind.now g) }
     {
         let state = mind.state.share()?;

@@ -1,7 +1,8 @@
 use Rattle.std.proofs.Common.{◌≡◌, sym, ◌∙◌}
 use Rattle.std.specs.Prelude.{◌↔◌, Err, IfOk, None}
 use Rattle.df_booking.specs.CrewState.{CrewState}
-use Rattle.df_crew.specs.Locally.{IsBegun}
+use Rattle.df_crew.specs.Locally.{IsBase}
+use Rattle.df_crew.specs.Seen.{core_at}
 use Rattle.df_crew.specs.declared.crew.BeginRefused.TheVariants.{NoSuchUnit}
 use Rattle.df_machine.specs.Journal.{local_of}
 use Rattle.df_rules.specs.Follows.{brain_of}
@@ -17,10 +18,12 @@ returns-clause-journal g c =
 
 pub returns-clause-begun : goal.returns-clause-begun
 returns-clause-begun g c =
-    there (brain_of g.B.StepFunction.next g.B.StepFunction.instance) c.args.self.now.origin c.give.new.pass.seen c.take-crew.result c.take-crew.ensures.origin (sym c.give.ensures.seen)
-    (λ (k : CrewState _). IfOk c.begin-turn.result (λ t. IsBegun (brain_of g.B.StepFunction.next g.B.StepFunction.instance) k.brains k.core c.args.unit.now t)) c.begin-turn.ensures.begun
+    c.first_turn.ensures.turn c.args.self.now.origin.brains (core_at c.args.self.now.origin c.give.new.pass.seen) c.args.unit.now
+    (there (brain_of g.B.StepFunction.next g.B.StepFunction.instance) c.args.self.now.origin c.give.new.pass.seen c.take-crew.result c.take-crew.ensures.origin (sym c.give.ensures.seen)
+    (λ (k : CrewState _). IfOk c.base-base.result (λ b. IsBase (brain_of g.B.StepFunction.next g.B.StepFunction.instance) k.brains k.core c.args.unit.now b)) c.base-base.ensures.base)
 
 pub returns-clause-absent : goal.returns-clause-absent
 returns-clause-absent g c =
-    there (brain_of g.B.StepFunction.next g.B.StepFunction.instance) c.args.self.now.origin c.give.new.pass.seen c.take-crew.result c.take-crew.ensures.origin (sym c.give.ensures.seen)
-    (λ (k : CrewState _). (c.begin-turn.result ≡ Err NoSuchUnit) ↔ (local_of k.core c.args.unit.now ≡ None)) c.begin-turn.ensures.absent
+    let none = there (brain_of g.B.StepFunction.next g.B.StepFunction.instance) c.args.self.now.origin c.give.new.pass.seen c.take-crew.result c.take-crew.ensures.origin
+    (sym c.give.ensures.seen) (λ (k : CrewState _). (c.base-base.result ≡ Err NoSuchUnit) ↔ (local_of k.core c.args.unit.now ≡ None)) c.base-base.ensures.absent in
+    (λ r. none.0 (c.first_turn.ensures.absent.0 r), λ n. c.first_turn.ensures.absent.1 (none.1 n))

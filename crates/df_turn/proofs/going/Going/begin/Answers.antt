@@ -5,5 +5,5 @@ use Rattle.df_turn.proofs.going.Going.begin.Goals as goal
 
 pub returns-clause-going : goal.returns-clause-going
 returns-clause-going g c =
-    begins (brain_of g.B.StepFunction.next g.B.StepFunction.instance) c.args.mind.now c.args.unit.now _ c.in_ok-run.ensures _ _
+    begins (brain_of g.B.StepFunction.next g.B.StepFunction.instance) c.args.mind.now c.args.unit _ c.in_ok-run.ensures _ _
     (sym c.mind.view_is ∙ told_pair _ _ _ _ c.in_ok-state.ensures c.in_ok-last.ensures)

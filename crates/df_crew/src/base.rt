@@ -1,0 +1,31 @@
+//! What a turn begins from.
+
+ghost use Rattle.std.specs.Prelude.{◌≡◌, IfOk, false};
+
+use df_brain::Brain;
+use df_label::NoMemory;
+use df_local::Local;
+use df_turn::{Mind, Turn};
+use std::alloc::Global;
+
+/// What a turn begins from: a copy of its unit, and the unit's brain, which is shared.
+#[derive(Drop)]
+pub struct Base<B: Brain> {
+    pub unit: Local,
+    pub mind: Mind<B>,
+}
+
+impl<B: Brain> Base<B> {
+    /// The turn. It costs a copy more of the unit.
+    pub fn begin(self, alloc: Global) -> Result<Turn<B>, NoMemory>
+        ensures { IfOk result (λ t. t ≡ record {
+          unit = self.unit;
+          state = self.mind.0;
+          last = self.mind.1;
+          is_ready = false;
+        }) }
+    {
+        let Base { unit, mind } = self;
+        Turn::begin(alloc, unit, mind)
+    }
+}
