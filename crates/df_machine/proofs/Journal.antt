@@ -1,5 +1,5 @@
 -- The journal, seen newest first.
-use Rattle.std.specs.Prelude.{Result, Ok, Err, IsOk, is_ok}
+use Rattle.std.specs.Prelude.{Result, Ok, Err, IsOk, OnErr, is_ok}
 use Rattle.std.proofs.Common.{◌≡◌, if◌then◌else◌, suc, ◌-◌, List, [], ◌∷◌, ◌++◌, length, reverse, slice_get, refl, ap, sym, ◌∙◌, arith, length-append}
 use Rattle.std.proofs.lemmas.List.{reverse-append, reverse-reverse}
 use Rattle.df_unit.specs.declared.call.Call.{Call}
@@ -25,6 +25,11 @@ journal_on j k l es e g = ap reverse (g ∙ ap (λ (x : List Entry). x ++ es) e)
 pub appended_ok : {A E : Type 0} (r : Result A E) (xs ys : List Entry) → IsOk r → (if is_ok r then xs else ys) ≡ xs
 appended_ok (Ok a) xs ys h = refl
 appended_ok (Err e) xs ys h = absurd (let z : ⊥ = cc in z)
+
+-- what holds holds where nothing was done
+pub on_err : {A E : Type 0} {P : Type 0} (r : Result A E) → P → OnErr r P
+on_err (Ok a) p = tt
+on_err (Err e) p = p
 
 -- the last of a list is the first of it reversed
 pub last_reverse : (es : List Entry) → slice_get es (length es - 1) ≡ slice_get (reverse es) 0

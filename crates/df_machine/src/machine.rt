@@ -298,7 +298,7 @@ impl Core {
         let Ok(()) = self.journal.reserve(1) else {
             return Err(NotEmitted { commit });
         };
-        let Ok(()) = self.tables.board.emit(&commit) else {
+        let Ok(()) = self.tables.emitted(&commit) else {
             return Err(NotEmitted { commit });
         };
         self.journal.push_reserved(Entry::Emitted(commit));

@@ -1,18 +1,19 @@
 //! The tables of a machine, which keep no journal.
 
-ghost use Rattle.std.specs.Prelude.{◌≡◌, ◌^◌, ◌<◌, [], length, IfOk, OnErr, OnOk, map};
+ghost use Rattle.std.specs.Prelude.{◌≡◌, ◌^◌, ◌<◌, ◌∷◌, [], length, IfOk, OnErr, OnOk, map};
 ghost use Rattle.std.specs.Option.{option_map};
 ghost use Rattle.df_start.specs.Begun.{begun};
 ghost use Rattle.df_tables.specs.Board.{row_by};
 ghost use Rattle.df_tables.specs.Table.{rows_from};
+ghost use Rattle.df_unit.specs.declared.entry.Entry.TheVariants.{Emitted};
 ghost use Rattle.df_machine.specs.Journal.{State, appended};
-ghost use Rattle.df_machine.specs.Tables.{AgreesWith, IsStep};
+ghost use Rattle.df_machine.specs.Tables.{AgreesWith, IsStep, place_in};
 
 use df_label::{Label, NoMemory};
 use df_local::Answer;
 use df_start::{RootStart, Start};
 use df_tables::{Board, Unit, first_unit};
-use df_unit::{Call, Effect, Reply, UnitName};
+use df_unit::{Call, Commit, Effect, Reply, UnitName};
 use std::alloc::Global;
 
 /// The tables of a machine. The journal of which they tell is kept by the caller, or by nobody.
@@ -21,9 +22,11 @@ pub struct Tables {
     pub(crate) board: Board,
 }
 
-/// A call that was made: its answer, and its actor's contamination before it.
+/// A call that was made: its answer, and its actor's contamination before it. The place is that of
+/// the actor's row, where it has one.
 #[derive(Drop)]
 pub struct Stepped {
+    pub place: Option<usize>,
     pub reply: Reply,
     pub effect: Effect,
     pub contamination: Option<Label>,
@@ -70,6 +73,7 @@ impl Tables {
         requires { (core : State) × AgreesWith core self.old }
         ensures step { IfOk result (λ step. (core : State) → AgreesWith core self.old →
             IsStep core actor.now call.now step) }
+        ensures place { IfOk result (λ step. step.place ≡ place_in self.old actor.now) }
         ensures entry { OnOk result ((core : State) → AgreesWith core self.old →
             AgreesWith (appended actor.now call.now core) self.new) }
         ensures kept { OnErr result ((core : State) → AgreesWith core self.old →
@@ -80,9 +84,23 @@ impl Tables {
         let Answer { reply, effect } = self.board.answer(place, call)?;
         self.board.book(place, call, &reply, &effect)?;
         Ok(Stepped {
+            place,
             reply,
             effect,
             contamination,
         })
+    }
+
+    /// Takes in an emitted commit. Whatever journal the tables agreed with, they agree with it and
+    /// the emitted entry. Without memory they agree with what they agreed with.
+    pub fn emitted(&mut self, commit: &Commit) -> Result<(), NoMemory>
+        requires { (core : State) × AgreesWith core self.old }
+        ensures entry { OnOk result ((core : State) → AgreesWith core self.old →
+            AgreesWith (core.0, Emitted commit.now ∷ core.1) self.new) }
+        ensures kept { OnErr result ((core : State) → AgreesWith core self.old →
+            AgreesWith core self.new) }
+    {
+        self.board.emit(commit)?;
+        Ok(())
     }
 }

@@ -1,5 +1,4 @@
 use Rattle.std.proofs.Common.{◌≡◌, List, ◌∷◌, Option, map, option_map, refl, sym, subst, ap, ◌∙◌}
-use Rattle.std.specs.Prelude.{Result, Ok, Err, OnErr}
 use Rattle.df_start.specs.Begun.{begun}
 use Rattle.df_tables.specs.Board.{TellsOf, answer_from}
 use Rattle.df_tables.specs.declared.units.Unit.{Unit}
@@ -8,6 +7,7 @@ use Rattle.df_unit.specs.declared.entry.Effect.{Effect}
 use Rattle.df_unit.specs.declared.entry.Entry.{Entry}
 use Rattle.df_unit.specs.declared.entry.Entry.TheVariants.{Done}
 use Rattle.df_unit.specs.declared.reply.Reply.{Reply}
+use Rattle.df_machine.proofs.Journal.{on_err}
 use Rattle.df_machine.proofs.Units.{contamination_at}
 use Rattle.df_machine.proofs.tables.Tables.step.Goals as goal
 
@@ -45,11 +45,6 @@ returns-clause-entry c core agrees =
           subst (λ (told : Reply × Effect). TellsOf (map begun core.0) (Done actor c.args.call.now told.0 told.1 ∷ core.1) c.book.new.self) answer
           (c.in_ok-book.ensures.ok actor (sym c.place-place.ensures) (map begun core.0) core.1 agrees.tells);
     }
-
--- what holds holds where a call isn't done
-on_err : {T E : Type 0} {P : Type 0} (r : Result T E) → P → OnErr r P
-on_err (Ok x) p = tt
-on_err (Err e) p = p
 
 pub returns-in_err-book-clause-kept : goal.returns-in_err-book-clause-kept
 returns-in_err-book-clause-kept c =
