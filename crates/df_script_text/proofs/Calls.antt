@@ -135,6 +135,13 @@ Tells-call_text text ws is (Err unread.NoMemory) t = tt
 Tells-call_text text ws is (Err unread.TooLarge) t =
     (Reads-call_text text ws is None t.0, (ws, t.1, sym (join-call_pieces text) ∙ ap (join_with_byte 32) (sym is)))
 
+-- what is read of a text as the one word of a call tells of the text
+pub Tells-alone : (text : List ℕ) (call : Call) → Reads call_words IsCall (text ∷ []) (Some call) → Tells call_text IsCall IsTooLargeText text (Ok (Some call))
+Tells-alone text call reads =
+    let is : text ≡ call_text call = ap (join_with_byte 32) reads.1 in
+    let alone : AddsTooLarge (text ∷ []) → ⊥ = λ l. let n = ap length l.is in omega (arith, n) in
+    Tells-call_text text (text ∷ []) (reads.1 ∙ sym (call_pieces-text call reads.0) ∙ ap call_pieces (sym is)) (Ok (Some call)) (reads, alone)
+
 -- a call's words stand behind a space
 spaced-call : (call : Call) → spaced (call_words call) ≡ 32 ∷ call_text call
 spaced-call call = spaced-join (call_words call) (some_words call)

@@ -28,7 +28,7 @@ first = codes "defcon-script 1"
 -- ---- a script is its lines
 
 -- the lines of roots
-roots_text-numbered : (n : ℕ) (roots : List RootStart) → roots_text n roots ≡ lines_text (numbered root_text n roots)
+pub roots_text-numbered : (n : ℕ) (roots : List RootStart) → roots_text n roots ≡ lines_text (numbered root_text n roots)
 roots_text-numbered n [] = refl
 roots_text-numbered n (root ∷ roots) = ap (λ (l : List ℕ). ended (root_text n root) ++ l) (roots_text-numbered (n + 1) roots)
 

@@ -8,7 +8,7 @@ ghost use Rattle.df_script_text.specs.code.Lines.{call_text};
 ghost use Rattle.df_script_text.specs.code.Reads.{Reads, Tells};
 ghost use Rattle.df_script_text.specs.code.Stops.{IsTooLargeText};
 
-use crate::pieces::call_pieces;
+use crate::pieces::{Pieces, cut_call};
 use crate::root::read_privileges;
 use crate::word::{
     Unread, read_act, read_braced, read_filter, read_half, read_label, read_name, read_number,
@@ -22,7 +22,11 @@ use std::alloc::Global;
 pub fn read_call(alloc: Global, text: &[u8]) -> Result<Option<Call>, Unread>
     ensures { Tells call_text IsCall IsTooLargeText text.now result }
 {
-    let words = call_pieces(alloc, text)?;
+    if let Some(call) = read_bare(text) {
+        return Ok(Some(call));
+    }
+    let mut words = Pieces::new(alloc);
+    cut_call(text, &mut words)?;
     read_words(alloc, words.as_slice())
 }
 

@@ -1,6 +1,6 @@
 //! The lines of calls.
 
-ghost use Rattle.std.specs.Prelude.{◌≡◌, ◌≤◌, ◌<◌, drop, length, option_map, IfErr, IfOk};
+ghost use Rattle.std.specs.Prelude.{◌≡◌, ◌≤◌, ◌<◌, Err, drop, length, option_map, IfErr, IfOk};
 ghost use Rattle.df_lines.specs.Lines.{IsLine};
 ghost use Rattle.df_script_text.specs.Script.{IsScriptLine};
 ghost use Rattle.df_script_text.specs.TooLarge.{IsTooLargeLine};
@@ -47,13 +47,22 @@ pub fn read_line(alloc: Global, line: &[u8]) -> Result<Option<ScriptLine>, Unrea
 }
 
 /// Why no call is read at the place, where this came of its line.
-pub fn fault_of(at: usize, read: Result<Option<ScriptLine>, Unread>) -> FileFault
+fn fault_of(at: usize, read: Result<Option<ScriptLine>, Unread>) -> FileFault
     ensures { result ≡ fault_of at read }
 {
     match read {
         Ok(_) => FileFault::Bad(at),
-        Err(Unread::NoMemory) => FileFault::NoMemory,
-        Err(Unread::TooLarge) => FileFault::TooLarge(at),
+        Err(unread) => fault_of_unread(at, unread),
+    }
+}
+
+/// Why no call is read at the place, where this came of a value in its line.
+pub fn fault_of_unread(at: usize, unread: Unread) -> FileFault
+    ensures { result ≡ fault_of at (Err unread) }
+{
+    match unread {
+        Unread::NoMemory => FileFault::NoMemory,
+        Unread::TooLarge => FileFault::TooLarge(at),
     }
 }
 
@@ -66,6 +75,7 @@ fn rest_at(bytes: &[u8], at: usize) -> &[u8]
 }
 
 /// Why no call is read at the place, from which on there is no line feed.
+#[inline(never)]
 fn open_fault(alloc: Global, bytes: &[u8], at: usize) -> FileFault
     requires some { at < length bytes.now }
     requires open { IsLine (drop at bytes.now) }

@@ -1,5 +1,5 @@
 //! Texts in pieces.
-ghost use Rattle.std.specs.Prelude.{◌≡◌, ◌==◌, map, IfOk, option_map};
+ghost use Rattle.std.specs.Prelude.{◌≡◌, ◌==◌, ◌++◌, map, IfOk, OnOk, option_map};
 ghost use Rattle.std.specs.List.{slice_split};
 ghost use Rattle.df_script_text.specs.code.Cut.{IsCutAtSpace, IsNextPiece, call_pieces, cut_pieces, most_spaces};
 
@@ -35,12 +35,12 @@ fn next_piece(text: &[u8], spaces: usize) -> Option<(&[u8], &[u8])>
     cut_at_space(text)
 }
 
-/// The pieces between the first spaces, of which there are at most `spaces`, and the rest in one
-/// piece.
-fn cut_pieces(alloc: Global, text: &[u8], spaces: usize) -> Result<Pieces<'_>, NoMemory>
-    ensures { IfOk result (λ v. map (λ p. p.now) v.items ≡ cut_pieces spaces text.now) }
+/// Puts behind these the pieces between the first spaces, of which there are at most `spaces`, and
+/// the rest in one piece.
+fn cut_pieces<'a>(text: &'a [u8], spaces: usize, pieces: &mut Pieces<'a>) -> Result<(), NoMemory>
+    ensures { OnOk result (map (λ p. p.now) pieces.new.items
+        ≡ map (λ p. p.now) pieces.old.items ++ cut_pieces spaces text.now) }
 {
-    let mut pieces = SmallVec::new(alloc);
     let mut rest = text;
     let mut left = spaces;
     'cuts: while let Some((piece, behind)) = next_piece(rest, left) {
@@ -49,7 +49,7 @@ fn cut_pieces(alloc: Global, text: &[u8], spaces: usize) -> Result<Pieces<'_>, N
         left -= 1;
     }
     pieces.push(rest)?;
-    Ok(pieces)
+    Ok(())
 }
 
 /// The most spaces at which a call is cut. Only a filter and a value may have further ones.
@@ -65,9 +65,10 @@ fn most_spaces(text: &[u8]) -> usize
     }
 }
 
-/// The pieces of a call.
-pub fn call_pieces(alloc: Global, text: &[u8]) -> Result<Pieces<'_>, NoMemory>
-    ensures { IfOk result (λ v. map (λ p. p.now) v.items ≡ call_pieces text.now) }
+/// Puts the pieces of a call behind these.
+pub fn cut_call<'a>(text: &'a [u8], pieces: &mut Pieces<'a>) -> Result<(), NoMemory>
+    ensures { OnOk result (map (λ p. p.now) pieces.new.items
+        ≡ map (λ p. p.now) pieces.old.items ++ call_pieces text.now) }
 {
-    cut_pieces(alloc, text, most_spaces(text))
+    cut_pieces(text, most_spaces(text), pieces)
 }

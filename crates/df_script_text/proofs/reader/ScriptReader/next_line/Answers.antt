@@ -44,7 +44,7 @@ returns-in-Err-read_line-clause-refused c = λ roots lines h.
     let found = rw c.in-Ok-Some.field-0-is at c.in-Ok-Some.ensures.read in
     let told = rw c.in-Err-read_line.is at c.read_line.ensures in
     let line = line_call bytes place c.in-Ok-Some.line.0.now c.in-Ok-Some.line.1 found c.in-Err-read_line.unread told in
-    let stops = subst (λ (f : FileFault). StopsCall bytes place f) (sym c.fault_of.ensures) line in
+    let stops = subst (λ (f : FileFault). StopsCall bytes place f) (sym c.fault_of_unread.ensures) line in
     let read = subst (HasRead roots lines) (sym c.self.view_is) h in
     subst (λ (v : ReaderState). NamesBadLine IsScriptText IsTooLargeIn v.bytes refused) c.self.view_is
-    (calls_refused bytes roots lines place c.fault_of.result refused c.file_refused-in-Err-read_line.ensures read stops)
+    (calls_refused bytes roots lines place c.fault_of_unread.result refused c.file_refused-in-Err-read_line.ensures read stops)
