@@ -1,6 +1,9 @@
 ghost use Rattle.std.specs.Prelude.{◌≡◌, ◌++◌, ◌∷◌, [], OnOk, codes};
-ghost use Rattle.df_journal_text.specs.Entry.{edit_text, entry_text, note_text, reads_text};
-ghost use Rattle.df_journal_text.specs.Front.{IsFrontOf};
+ghost use Rattle.df_unit.specs.declared.call.Call.{Call};
+ghost use Rattle.df_unit.specs.declared.entry.Entry.TheVariants.{Done};
+ghost use Rattle.df_unit.specs.declared.name.UnitName.{UnitName};
+ghost use Rattle.df_journal_text.specs.Entry.{edit_text, effect_text, entry_text, note_text, reads_text};
+ghost use Rattle.df_journal_text.specs.Front.{call_front};
 ghost use Rattle.df_journal_text.specs.Line.{line};
 ghost use Rattle.df_journal_text.specs.Name.{event_text};
 ghost use Rattle.df_journal_text.specs.code.Outcome.{answer_text, outcome_text};
@@ -9,6 +12,7 @@ use crate::call::append_call;
 use crate::effect::{append_edit, append_effect, append_event_line, append_reads};
 use crate::line::{append_label_word, append_word};
 use crate::name::append_unit;
+use crate::note::Note;
 use crate::reply::append_reply;
 use df_label::{Label, NoMemory};
 use df_unit::{Commit, Effect, Entry, Reply};
@@ -24,7 +28,7 @@ fn append_answer(reply: &Reply, to: &mut Vec<u8>) -> Result<(), NoMemory>
 }
 
 /// Appends the line of a contamination, where one is noted.
-fn append_note(note: &Option<Label>, to: &mut Vec<u8>) -> Result<(), NoMemory>
+pub(crate) fn append_note(note: &Option<Label>, to: &mut Vec<u8>) -> Result<(), NoMemory>
     ensures { OnOk result (to.new.items ≡ to.old.items ++ note_text note.now) }
 {
     if let Some(label) = note {
@@ -55,6 +59,16 @@ fn append_emitted(commit: &Commit, to: &mut Vec<u8>) -> Result<(), NoMemory>
     Ok(())
 }
 
+/// Appends the lines of what a call showed and did.
+fn append_shown(reply: &Reply, effect: &Effect, to: &mut Vec<u8>) -> Result<(), NoMemory>
+    ensures { OnOk result (to.new.items ≡ to.old.items
+        ++ (reads_text reply.now ++ effect_text effect.now)) }
+{
+    append_reply_reads(reply, to)?;
+    append_effect(effect, to)?;
+    Ok(())
+}
+
 /// Appends what stands behind the words of a call.
 fn append_outcome(
     reply: &Reply,
@@ -67,8 +81,7 @@ fn append_outcome(
 {
     append_answer(reply, to)?;
     append_note(contamination, to)?;
-    append_reply_reads(reply, to)?;
-    append_effect(effect, to)?;
+    append_shown(reply, effect, to)?;
     Ok(())
 }
 
@@ -96,23 +109,22 @@ pub fn append_entry(
     }
 }
 
-/// Appends the lines of an entry whose call is spelled already: its unit and words are these bytes,
-/// and aren't spelled again. Without memory a part of the lines may have been appended.
+/// Appends the lines of the entry of a call that is spelled already, with its actor's contamination
+/// where that is noted: its unit and words are these bytes, and aren't spelled again, and neither is
+/// the note. Without memory a part of the lines may have been appended.
 pub fn append_spelled(
     front: &[u8],
-    entry: &Entry,
-    contamination: &Option<Label>,
+    reply: &Reply,
+    effect: &Effect,
+    note: &Note,
     to: &mut Vec<u8>,
 ) -> Result<(), NoMemory>
-    requires { IsFrontOf front.now entry.now }
-    ensures { OnOk result (to.new.items ≡ to.old.items ++ entry_text contamination.now entry.now) }
+    ensures { (actor : UnitName) (call : Call) → front.now ≡ call_front actor call →
+        OnOk result (to.new.items ≡ to.old.items
+        ++ entry_text note.now (Done actor call reply.now effect.now)) }
 {
-    match entry {
-        Entry::Done { reply, effect, .. } => {
-            to.extend_from_slice(front)?;
-            append_outcome(reply, effect, contamination, to)?;
-            Ok(())
-        }
-        Entry::Emitted(commit) => append_emitted(commit, to),
-    }
+    to.extend_from_slice(front)?;
+    append_answer(reply, to)?;
+    to.extend_from_slice(note.as_bytes())?;
+    append_shown(reply, effect, to)
 }

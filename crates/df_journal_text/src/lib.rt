@@ -11,6 +11,7 @@ mod line_fault;
 mod line_reader;
 mod name;
 mod name_reader;
+mod note;
 mod reply;
 mod reply_reader;
 mod start;
@@ -24,6 +25,7 @@ pub use laws::{a_journal_is_read_back, a_text_is_one_journal};
 pub use line_fault::LineFault;
 pub use line_reader::{read_call_line, read_part_line, read_shown_line};
 pub use name_reader::{braced_at, event_at, unit_at};
+pub use note::Note;
 pub use reply_reader::reply_at;
 pub use word_reader::are_ascending;
 pub use writers::{

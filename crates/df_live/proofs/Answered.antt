@@ -1,8 +1,7 @@
 -- What was taken and written at each moment of a run.
-use Rattle.std.proofs.Common.{◌≡◌, ℕ, ◌+◌, ◌≤◌, List, [], ◌∷◌, ◌++◌, length, take, map, reverse, codes, Option, Some, None, option_map, refl, sym, ap, subst, ◌∙◌, append_assoc, append-nil, inl, inr, suc, eqb, false}
+use Rattle.std.proofs.Common.{◌≡◌, ℕ, ◌+◌, ◌^◌, ◌≤◌, List, [], ◌∷◌, ◌++◌, length, take, codes, Option, Some, None, option_map, refl, sym, ap, subst, ◌∙◌, append_assoc, append-nil, inl, inr, eqb, false}
 use Rattle.std.specs.List.{flat_map}
 use Rattle.std.specs.Io.KnownBytes.{Consumes}
-use Rattle.std.proofs.lemmas.List.{length-map, length-reverse}
 use Rattle.std.proofs.lemmas.List.Concat.{flat_map-append}
 use Rattle.std.proofs.lemmas.List.Elements.{All-from_recursion, All-nil, All-push}
 use Rattle.df_io.specs.Faults.{Rose}
@@ -10,21 +9,17 @@ use Rattle.df_io.specs.Pieces.{HasAll, HasFront}
 use Rattle.df_journal_text.specs.Line.{line}
 use Rattle.df_journal_text.specs.Start.{head_text, start_text}
 use Rattle.df_lines.specs.Lines.{IsLine, ended, lines_text}
-use Rattle.df_machine.specs.Journal.{State, firsts}
-use Rattle.df_rules.specs.Legal.{run as run_calls}
-use Rattle.df_rules.specs.Start.{rows}
+use Rattle.df_machine.specs.Tables.{AgreesWith}
+use Rattle.df_machine.specs.declared.tables.Tables.{Tables}
 use Rattle.df_script_text.specs.Script.{IsScript, IsScriptLine, script_line, script_text}
 use Rattle.df_script_text.specs.code.Lines.{call_line, head_lines}
 use Rattle.df_script_text.specs.declared.line.ScriptLine.{ScriptLine}
 use Rattle.df_start.specs.declared.start.RootStart.{RootStart}
 use Rattle.df_steps.proofs.Journals.{IsWritten, written_more}
 use Rattle.df_steps.proofs.Sound.{journal_is_sound, journal_is_unaided}
-use Rattle.df_steps.specs.Steps.{AppendsStep, Records, RecordsScript, called, journal_of}
-use Rattle.df_unit.specs.OwnState.{OwnState}
-use Rattle.df_unit.specs.declared.call.Call.{Call}
-use Rattle.df_unit.specs.declared.name.UnitName.{UnitName}
-use Rattle.df_live.proofs.Parts.{consumes-consumes}
-use Rattle.df_live.proofs.Starts.{due_call, head_is, rose_before, start_lines}
+use Rattle.df_steps.specs.Steps.{AppendsStep, Records, RecordsScript, journal_of}
+use Rattle.df_live.proofs.Parts.{consumes-consumes, consumes-none}
+use Rattle.df_live.proofs.Starts.{due_call, due_last, head_is, rose_before, start_lines}
 use Rattle.df_live.proofs.Taking.{ended_part}
 use Rattle.df_live.specs.Live.{AnswersAll, AnswersScript, IsDue, IsPartOfLine, Leaves}
 use Rattle.df_live.specs.code.Stops.{AnswersCall, HasAnswered, IsBadCall, IsLineDue, IsReading, Stops, StopsAnswer, StopsHead, StopsLine, TakesCall, TakesStart}
@@ -44,13 +39,6 @@ has_more None b c front more e f = f ∙ ap (option_map (λ w. w ++ more)) e
 has_more (Some x) b c front more e f = f ∙ ap (option_map (λ w. w ++ more)) e ∙ ap Some (append_assoc x front more)
 
 -- ---- journals
-
-length-run : (s : List OwnState) (calls : List (UnitName × Call)) → length (run_calls rows s calls) ≡ length calls
-length-run s [] = refl
-length-run s (c ∷ cs) = ap suc (length-run s cs)
-
-length-journal : (roots : List RootStart) (lines : List ScriptLine) → length (journal_of roots lines) ≡ length lines
-length-journal roots lines = length-run (firsts roots) (reverse (map called lines)) ∙ length-reverse (map called lines) ∙ length-map lines called
 
 -- the journal of a script is what `steps` writes
 records : (roots : List RootStart) (lines : List ScriptLine) (text : List ℕ) → IsScript roots lines → Records roots lines text
@@ -135,20 +123,19 @@ start_broken left after old new f f' w w' roots text is t front rose = (
 )
 
 -- the answer to a start was written
-pub start_answered : (left after old new : Option (List ℕ)) (roots : List RootStart) (core : State) (text : List ℕ) → text ≡ head_text roots
-    → core ≡ (roots, []) → TakesStart left after roots → HasAll old text new → HasAnswered core.0 [] left after old new core
-start_answered left after old new roots core text is made t all =
-    subst (λ (c : State). HasAnswered c.0 [] left after old new c) (sym made)
-    (record { text = text; script = (t.0, All-nil IsScriptLine); taken = t.1; made = refl; records = is ∙ head_records roots; written = all })
+pub start_answered : (left after old new : Option (List ℕ)) (roots : List RootStart) (tables : Tables) (text : List ℕ) → text ≡ head_text roots
+    → AgreesWith (roots, []) tables → TakesStart left after roots → HasAll old text new → HasAnswered roots [] left after old new tables
+start_answered left after old new roots tables text is made t all =
+    record { text = text; script = (t.0, All-nil IsScriptLine); taken = t.1; made = made; records = is ∙ head_records roots; written = all }
 
 -- ---- calls
 
--- the machine and its text after one more call
-more_written : (roots : List RootStart) (lines : List ScriptLine) (l : ScriptLine) (core core' : State) (text more : List ℕ)
-    → core ≡ (roots, journal_of roots lines) → Records roots lines text → AppendsStep l core core' [] more
-    → IsWritten roots (lines ++ l ∷ []) core' (text ++ more)
-more_written roots lines l core core' text more made is step =
-    written_more roots lines l core core' text (text ++ more) (record { core = made; text = is })
+-- the tables and their text after one more call
+more_written : (roots : List RootStart) (lines : List ScriptLine) (l : ScriptLine) (old new : Tables) (text more : List ℕ)
+    → AgreesWith (roots, journal_of roots lines) old → Records roots lines text → AppendsStep l (roots, journal_of roots lines) new [] more
+    → IsWritten roots (lines ++ l ∷ []) new (text ++ more)
+more_written roots lines l old new text more made is step =
+    written_more roots lines l old new text (text ++ more) (record { made = made; text = is })
     (record { made = step.made; text = ap (λ (u : List ℕ). text ++ u) step.text })
 
 -- a call was taken behind those that are answered
@@ -159,24 +146,24 @@ more_taken left mid after roots lines l words k is taken = consumes-consumes lef
     (subst (λ (u : List ℕ). Consumes mid after (ended u)) is taken)
 
 -- one more call is answered
-pub call_answered : (roots : List RootStart) (lines : List ScriptLine) (left mid after old part new : Option (List ℕ)) (core core' : State) (l : ScriptLine) (words : List ℕ)
-    → HasAnswered roots lines left mid old part core
-    → TakesCall mid after words (Some l) → AnswersCall l core core' part new → HasAnswered roots (lines ++ l ∷ []) left after old new core'
-call_answered roots lines left mid after old part new core core' l words h t a =
-    let made = more_written roots lines l core core' h.text a.0 h.made h.records a.1 in
+pub call_answered : (roots : List RootStart) (lines : List ScriptLine) (left mid after old part new : Option (List ℕ)) (tables tables' : Tables) (l : ScriptLine) (words : List ℕ)
+    → HasAnswered roots lines left mid old part tables → TakesCall mid after words (Some l)
+    → AnswersCall l (roots, journal_of roots lines) tables' part new → HasAnswered roots (lines ++ l ∷ []) left after old new tables'
+call_answered roots lines left mid after old part new tables tables' l words h t a =
+    let made = more_written roots lines l tables tables' h.text a.0 h.made h.records a.1 in
     record {
       text = h.text ++ a.0;
       script = (h.script.0, All-push IsScriptLine lines l h.script.1 t.0);
       taken = subst (λ (u : List ℕ). Consumes left after u) (sym (more_text roots lines l)) (more_taken left mid after roots lines l words h.taken t.1 t.2);
-      made = made.core;
+      made = made.made;
       records = made.text;
       written = has_more old part new h.text a.0 h.written a.2;
     }
 
 -- all that was taken is answered, but for a part of a line
-all_but : (roots : List RootStart) (lines : List ScriptLine) (left mid after old new : Option (List ℕ)) (core : State) (part : List ℕ)
-    → HasAnswered roots lines left mid old new core → IsPartOfLine part → Consumes mid after part → AnswersAll left after old new
-all_but roots lines left mid after old new core part h of_one k = record {
+all_but : (roots : List RootStart) (lines : List ScriptLine) (left mid after old new : Option (List ℕ)) (tables : Tables) (part : List ℕ)
+    → HasAnswered roots lines left mid old new tables → IsPartOfLine part → Consumes mid after part → AnswersAll left after old new
+all_but roots lines left mid after old new tables part h of_one k = record {
   lines = script_text roots lines;
   part = part;
   text = h.text;
@@ -186,21 +173,15 @@ all_but roots lines left mid after old new core part h of_one k = record {
   written = h.written;
 }
 
--- the number of the next line
-pub next_line : (roots : List RootStart) (lines : List ScriptLine) (core : State) (n : ℕ) → core ≡ (roots, journal_of roots lines)
-    → n ≡ length core.0 + length core.1 + 3 → n ≡ length roots + length lines + 3
-next_line roots lines core n made is = is ∙ ap (λ (c : State). length c.0 + length c.1 + 3) made
-    ∙ ap (λ (k : ℕ). length roots + k + 3) (length-journal roots lines)
-
 -- a run that stops where it takes a call
-pub stops_line_stops : (roots : List RootStart) (lines : List ScriptLine) (left mid after old new : Option (List ℕ)) (core : State) (f0 f f' w w' n : ℕ) (s : LiveStatus)
-    → HasAnswered roots lines left mid old new core
-    → n ≡ length core.0 + length core.1 + 3 → f0 ≤ f → StopsLine IsBadCall n mid after f f' s → Stops left after old new f0 f' w w' s
-stops_line_stops roots lines left mid after old new core f0 f f' w w' n s h count up stop =
-    by s stop.due (due_call left mid roots lines n f0 f f' w w' s h.script h.taken (next_line roots lines core n h.made count) up stop.due)
+pub stops_line_stops : (roots : List RootStart) (lines : List ScriptLine) (left mid after old new : Option (List ℕ)) (tables : Tables) (f0 f f' w w' n : ℕ) (s : LiveStatus)
+    → HasAnswered roots lines left mid old new tables → n ≡ length roots + length lines + 3 → f0 ≤ f → StopsLine IsBadCall n mid after f f' s
+    → Stops left after old new f0 f' w w' s
+stops_line_stops roots lines left mid after old new tables f0 f f' w w' n s h count up stop =
+    by s stop.due (due_call left mid roots lines n f0 f f' w w' s h.script h.taken count up stop.due)
   where
     all : AnswersAll left after old new
-    all = all_but roots lines left mid after old new core stop.part h stop.of_one stop.taken
+    all = all_but roots lines left mid after old new tables stop.part h stop.of_one stop.taken
 
     by : (s : LiveStatus) → IsLineDue IsBadCall n mid f f' s → IsDue left f0 f' w w' s → Stops left after old new f0 f' w w' s
     by (status.BadInput m kind) d due = (tt, all, due)
@@ -212,17 +193,17 @@ stops_line_stops roots lines left mid after old new core f0 f f' w w' n s h coun
     by status.WriteFault d due = absurd d
 
 -- a run that stops where it answers a call
-pub stops_answer_stops : (roots : List RootStart) (lines : List ScriptLine) (left mid after old part new : Option (List ℕ)) (core core' : State) (l : ScriptLine) (words : List ℕ) (f f' w0 w w' : ℕ) (s : LiveStatus)
-    → HasAnswered roots lines left mid old part core
-    → IsLine words → TakesCall mid after words (Some l) → w0 ≤ w → StopsAnswer l core core' part new w w' s → Stops left after old new f f' w0 w' s
-stops_answer_stops roots lines left mid after old part new core core' l words f f' w0 w w' status.NoMemory h line t up stop = (
+pub stops_answer_stops : (roots : List RootStart) (lines : List ScriptLine) (left mid after old part new : Option (List ℕ)) (tables tables' : Tables) (l : ScriptLine) (words : List ℕ) (f f' w0 w w' : ℕ) (s : LiveStatus)
+    → HasAnswered roots lines left mid old part tables
+    → IsLine words → TakesCall mid after words (Some l) → w0 ≤ w → StopsAnswer l (roots, journal_of roots lines) tables' part new w w' s → Stops left after old new f f' w0 w' s
+stops_answer_stops roots lines left mid after old part new tables tables' l words f f' w0 w w' status.NoMemory h line t up stop = (
   tt,
   subst (λ (o : Option (List ℕ)). AnswersAll left after old o) (sym stop)
-      (all_but roots lines left mid after old part core (ended words) h (ended_part words line) t.2),
+      (all_but roots lines left mid after old part tables (ended words) h (ended_part words line) t.2),
   tt,
 )
-stops_answer_stops roots lines left mid after old part new core core' l words f f' w0 w w' status.WriteFault h line t up stop =
-    let made = more_written roots lines l core core' h.text stop.1.0 h.made h.records stop.1.1 in
+stops_answer_stops roots lines left mid after old part new tables tables' l words f f' w0 w w' status.WriteFault h line t up stop =
+    let made = more_written roots lines l tables tables' h.text stop.1.0 h.made h.records stop.1.1 in
     let front = stop.1.2 in (
       record {
         lines = script_text roots lines;
@@ -240,16 +221,26 @@ stops_answer_stops roots lines left mid after old part new core core' l words f 
       },
       rose_before w0 w w' up stop.0,
     )
-stops_answer_stops roots lines left mid after old part new core core' l words f f' w0 w w' (status.BadInput m kind) h line t up stop = absurd stop
-stops_answer_stops roots lines left mid after old part new core core' l words f f' w0 w w' status.ReadFault h line t up stop = absurd stop
-stops_answer_stops roots lines left mid after old part new core core' l words f f' w0 w w' status.TooLong h line t up stop = absurd stop
-stops_answer_stops roots lines left mid after old part new core core' l words f f' w0 w w' status.Done h line t up stop = absurd stop
-stops_answer_stops roots lines left mid after old part new core core' l words f f' w0 w w' status.Usage h line t up stop = absurd stop
+stops_answer_stops roots lines left mid after old part new tables tables' l words f f' w0 w w' (status.BadInput m kind) h line t up stop = absurd stop
+stops_answer_stops roots lines left mid after old part new tables tables' l words f f' w0 w w' status.ReadFault h line t up stop = absurd stop
+stops_answer_stops roots lines left mid after old part new tables tables' l words f f' w0 w w' status.TooLong h line t up stop = absurd stop
+stops_answer_stops roots lines left mid after old part new tables tables' l words f f' w0 w w' status.Done h line t up stop = absurd stop
+stops_answer_stops roots lines left mid after old part new tables tables' l words f f' w0 w w' status.Usage h line t up stop = absurd stop
+
+-- a script whose last line has the last number that a line can have
+pub stops_last : (roots : List RootStart) (lines : List ScriptLine) (left after old new : Option (List ℕ)) (tables : Tables) (f f' w w' n : ℕ)
+    → HasAnswered roots lines left after old new tables → n ≡ length roots + length lines + 2 → n + 1 ≡ 2 ^ 64 → Stops left after old new f f' w w' status.TooLong
+stops_last roots lines left after old new tables f f' w w' n h count last = (
+  tt,
+  all_but roots lines left after after old new tables [] h (record { line = []; rest = 10 ∷ []; is_line = All-nil (λ b. eqb b 10 ≡ false); parts = refl })
+      (consumes-none after),
+  due_last left after roots lines n h.taken count last,
+)
 
 -- all was taken and answered
-pub all_answered : (roots : List RootStart) (lines : List ScriptLine) (left mid after old new : Option (List ℕ)) (core : State) (words : List ℕ)
-    → HasAnswered roots lines left mid old new core → TakesCall mid after words None → AnswersScript left after old new
-all_answered roots lines left mid after old new core words h t = record {
+pub all_answered : (roots : List RootStart) (lines : List ScriptLine) (left mid after old new : Option (List ℕ)) (tables : Tables) (words : List ℕ)
+    → HasAnswered roots lines left mid old new tables → TakesCall mid after words None → AnswersScript left after old new
+all_answered roots lines left mid after old new tables words h t = record {
   script = script_text roots lines;
   text = h.text;
   taken = subst (λ (u : List ℕ). Consumes left after u) (append-nil (script_text roots lines))

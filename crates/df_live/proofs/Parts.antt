@@ -13,6 +13,11 @@ consumes-consumes (Some x) None c front more e f = absurd e
 consumes-consumes (Some x) (Some y) None front more e f = absurd f
 consumes-consumes (Some x) (Some y) (Some z) front more e f = e ∙ ap (λ (u : List ℕ). front ++ u) f ∙ sym (append_assoc front more z)
 
+-- nothing was lost
+pub consumes-none : (left : Option (List ℕ)) → Consumes left left []
+consumes-none None = tt
+consumes-none (Some x) = refl
+
 -- what stands in front of a piece's rest is lost
 consumes-front : (left moved rest : List ℕ) (more : Option (List ℕ)) → left ≡ moved ++ rest
     → Consumes (option_map (λ m. left ++ m) more) (option_map (λ m. rest ++ m) more) moved

@@ -1,5 +1,5 @@
 -- The first bad line of what was left is that of the whole.
-use Rattle.std.proofs.Common.{◌≡◌, ℕ, ◌+◌, ◌<◌, ◌≤◌, List, [], ◌∷◌, ◌++◌, length, take, drop, map, codes, eqb, false, Option, Some, None, IfSome, refl, sym, ap, subst, ◌∙◌, arith, append_assoc, append-nil, length-append}
+use Rattle.std.proofs.Common.{◌≡◌, ℕ, ◌+◌, ◌<◌, ◌≤◌, List, [], ◌∷◌, ◌++◌, length, take, drop, map, codes, eqb, false, Option, Some, None, IfSome, inl, inr, ◌^◌, refl, sym, ap, subst, ◌∙◌, arith, append_assoc, append-nil, length-append}
 use Rattle.std.specs.List.{All}
 use Rattle.std.specs.Io.KnownBytes.{Consumes}
 use Rattle.std.proofs.Math.Seq.{take-append_seam}
@@ -9,7 +9,7 @@ use Rattle.std.proofs.lemmas.List.Elements.{All-nil}
 use Rattle.df_io.specs.Faults.{Rose}
 use Rattle.df_journal_text.specs.Fits.{AreRoots}
 use Rattle.df_journal_text.specs.Line.{line}
-use Rattle.df_journal_text.specs.Start.{root_text, roots_text, start_text}
+use Rattle.df_journal_text.specs.Start.{root_text, start_text}
 use Rattle.df_lines.proofs.FirstBad.{names_line}
 use Rattle.df_lines.proofs.Splits.{number-line}
 use Rattle.df_lines.specs.Lines.{IsLine, ended, lines_text}
@@ -17,7 +17,7 @@ use Rattle.df_lines.specs.Refused.{NamesBadLine}
 use Rattle.df_lines.specs.code.Faults.{NamesBadPlace}
 use Rattle.df_lines.specs.declared.fault.FileFault.TheVariants as fault
 use Rattle.df_lines.specs.declared.refused.FileRefused.TheVariants as refused
-use Rattle.df_script_text.proofs.Files.{AreLines-head, AreLines-script, script_text-lines}
+use Rattle.df_script_text.proofs.Files.{AreLines-head, AreLines-script, roots_text-numbered, script_text-lines}
 use Rattle.df_script_text.proofs.Numbered.{length-numbered}
 use Rattle.df_script_text.proofs.Stops.{calls_stop, first_stop, roots_stop}
 use Rattle.df_script_text.specs.Reader.{HasReadUpTo}
@@ -27,7 +27,8 @@ use Rattle.df_script_text.specs.code.Lines.{call_line, head_lines, numbered, scr
 use Rattle.df_script_text.specs.code.Stops.{ArePassed, IsCallLine, IsFirstAt, IsHeadLine, StopsAt}
 use Rattle.df_script_text.specs.declared.line.ScriptLine.{ScriptLine}
 use Rattle.df_start.specs.declared.start.RootStart.{RootStart}
-use Rattle.df_live.specs.Live.{HasLongLine, IsDue, refusal_of}
+use Rattle.df_live.specs.Live.{HasLongLine, IsDue, IsTooLong, refusal_of}
+use Rattle.df_live.proofs.Parts.{consumes-none}
 use Rattle.df_live.specs.code.Stops.{IsBadCall, IsBadHead, IsKind, IsLineDue}
 use Rattle.df_live.specs.declared.status.BadKind.{BadKind}
 use Rattle.df_live.specs.declared.status.BadKind.TheVariants.{Syntax, TooLarge}
@@ -45,14 +46,9 @@ first = codes "defcon-script 1"
 pub rose_before : (before mid now : ℕ) → before ≤ mid → Rose mid now → Rose before now
 rose_before before mid now up rose = omega (arith, up, rose)
 
--- the lines of roots
-roots_lines : (n : ℕ) (roots : List RootStart) → roots_text n roots ≡ lines_text (numbered root_text n roots)
-roots_lines n [] = refl
-roots_lines n (root ∷ roots) = ap (λ (u : List ℕ). ended (root_text n root) ++ u) (roots_lines (n + 1) roots)
-
 -- the lines of a start
 pub head_is : (roots : List RootStart) → lines_text (head_lines roots) ≡ line (codes "defcon-script") (codes "1" ∷ []) ++ start_text roots
-head_is roots = ap (λ (u : List ℕ). ended first ++ u) (sym (roots_lines 0 roots))
+head_is roots = ap (λ (u : List ℕ). ended first ++ u) (sym (roots_text-numbered 0 roots))
 
 -- the lines of a start and the line `run` are a script without calls
 pub start_lines : (roots : List RootStart) → script_text roots [] ≡ lines_text (head_lines roots) ++ ended run
@@ -95,33 +91,32 @@ first_names : (bytes : List ℕ) (n : ℕ) (bad : List ℕ) → n ≡ 1 → Stop
     → NamesBadLine IsScriptText IsTooLargeIn bytes (refused.Syntax n)
 first_names bytes n bad is stop = named bytes 0 n [] refl (All-nil IsLine) is (first_stop bytes (fault.Bad 0) (refl, (bad, stop)))
 
-pub due_first : (left : Option (List ℕ)) (f f' w w' : ℕ) (s : LiveStatus) → IsLineDue (IsBadHead (λ l. l ≡ codes "defcon-script 1")) 1 left f f' s
-    → IsDue left f f' w w' s
-due_first None f f' w w' (status.BadInput n kind) d = tt
-due_first (Some bytes) f f' w w' (status.BadInput n Syntax) d = first_names bytes n d.1.1.0 d.0 d.1.1.1
-due_first (Some bytes) f f' w w' (status.BadInput n TooLarge) d = absurd (let e : TooLarge ≡ Syntax = d.1.0 in cc)
-due_first left f f' w w' status.ReadFault d = d
-due_first left f f' w w' status.TooLong d = d
-due_first left f f' w w' status.NoMemory d = tt
-due_first left f f' w w' status.Done d = absurd d
-due_first left f f' w w' status.Usage d = absurd d
-due_first left f f' w w' status.WriteFault d = absurd d
-
--- ---- what was taken before
-
 -- a long line of what is left is one of the whole
-due_long : (left now : Option (List ℕ)) (front : List ℕ) → Consumes left now front → IfSome now HasLongLine → IfSome left HasLongLine
+due_long : (left now : Option (List ℕ)) (front : List ℕ) → Consumes left now front → IfSome now HasLongLine → IfSome left IsTooLong
 due_long None now front k long = tt
 due_long (Some bytes) None front k long = absurd k
 due_long (Some bytes) (Some rest) front k long =
-    record {
+    inl
+    (record {
       before = front ++ long.before;
       line = long.line;
       behind = long.behind;
       parts = k ∙ ap (λ (u : List ℕ). front ++ u) long.parts ∙ sym (append_assoc front long.before (long.line ++ long.behind));
       is_line = long.is_line;
       long = long.long;
-    }
+    })
+
+pub due_first : (left : Option (List ℕ)) (f f' w w' : ℕ) (s : LiveStatus) → IsLineDue (IsBadHead (λ l. l ≡ codes "defcon-script 1")) 1 left f f' s
+    → IsDue left f f' w w' s
+due_first None f f' w w' (status.BadInput n kind) d = tt
+due_first (Some bytes) f f' w w' (status.BadInput n Syntax) d = first_names bytes n d.1.1.0 d.0 d.1.1.1
+due_first (Some bytes) f f' w w' (status.BadInput n TooLarge) d = absurd (let e : TooLarge ≡ Syntax = d.1.0 in cc)
+due_first left f f' w w' status.ReadFault d = d
+due_first left f f' w w' status.TooLong d = due_long left left [] (consumes-none left) d
+due_first left f f' w w' status.NoMemory d = tt
+due_first left f f' w w' status.Done d = absurd d
+due_first left f f' w w' status.Usage d = absurd d
+due_first left f f' w w' status.WriteFault d = absurd d
 
 -- ---- roots
 
@@ -213,3 +208,18 @@ due_call left now roots lines n f0 f f' w w' status.NoMemory script k count up d
 due_call left now roots lines n f0 f f' w w' status.Done script k count up d = absurd d
 due_call left now roots lines n f0 f f' w w' status.Usage script k count up d = absurd d
 due_call left now roots lines n f0 f f' w w' status.WriteFault script k count up d = absurd d
+
+-- each line has a byte at least
+few_lines : (lines : List (List ℕ)) → length lines ≤ length (lines_text lines)
+few_lines [] = omega arith
+few_lines (l ∷ ls) = omega (arith, few_lines ls, length-append (ended l) (lines_text ls), length-append l (10 ∷ []))
+
+-- a script whose last line has the last number that a line can have
+pub due_last : (left after : Option (List ℕ)) (roots : List RootStart) (lines : List ScriptLine) (n : ℕ) → Consumes left after (script_text roots lines)
+    → n ≡ length roots + length lines + 2 → n + 1 ≡ 2 ^ 64 → IfSome left IsTooLong
+due_last None after roots lines n k count last = tt
+due_last (Some bytes) None roots lines n k count last = absurd k
+due_last (Some bytes) (Some rest) roots lines n k count last =
+    let all : length (script_text roots lines) ≡ length (lines_text (script_lines (roots, lines))) = ap length (script_text-lines roots lines) in
+    let many = few_lines (script_lines (roots, lines)) in
+    inr (omega (arith, last, count, length-script_lines roots lines, many, all, ap length k, length-append (script_text roots lines) rest))

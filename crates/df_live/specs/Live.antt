@@ -1,5 +1,5 @@
 -- What a run has written of the lines that it took.
-use Rattle.std.specs.Prelude.{◌≡◌, ◌⊎◌, ⊤, ℕ, ◌<◌, ◌≤◌, List, [], ◌∷◌, ◌++◌, codes, length, take, Option, IfSome}
+use Rattle.std.specs.Prelude.{◌≡◌, ◌⊎◌, ⊤, ℕ, ◌+◌, ◌^◌, ◌<◌, ◌≤◌, List, [], ◌∷◌, ◌++◌, codes, length, take, Option, IfSome}
 use Rattle.std.specs.Io.KnownBytes.{Consumes, IsAtEnd}
 use Rattle.df_io.specs.Faults.{Rose}
 use Rattle.df_io.specs.Limits.{longest_file}
@@ -98,12 +98,16 @@ pub record HasLongLine (bytes : List ℕ) : Type 0 where
   pub is_line : IsLine line
   pub long : longest_file < length line
 
+-- a line of these bytes is too long, or they may have more lines than there are numbers for
+abbrev pub IsTooLong : List ℕ → Type 0
+IsTooLong bytes = HasLongLine bytes ⊎ (2 ^ 64 ≤ length bytes + 1)
+
 -- each status comes only where it is due: the source's bytes are the text of no script, and this is
--- their first bad line; a line is too long; or a count of faults rose
+-- their first bad line; they are too long; or a count of faults rose
 abbrev pub IsDue : Option (List ℕ) → ℕ → ℕ → ℕ → ℕ → LiveStatus → Type 0
 IsDue bytes read read' written written' (status.BadInput line kind) = IfSome bytes (λ bs.
     NamesBadLine IsScriptText IsTooLargeIn bs (refusal_of line kind))
-IsDue bytes read read' written written' status.TooLong = IfSome bytes HasLongLine
+IsDue bytes read read' written written' status.TooLong = IfSome bytes IsTooLong
 IsDue bytes read read' written written' status.ReadFault = Rose read read'
 IsDue bytes read read' written written' status.WriteFault = Rose written written'
 IsDue bytes read read' written written' status.Usage = ⊥

@@ -1,7 +1,11 @@
-ghost use Rattle.std.specs.Prelude.{◌≡◌, ◌≤◌, ◌<◌, ◌+◌, ◌^◌, [], IfErr, IfOk, OnOk, length};
+//! A run: its start, and then its calls, one after another.
+
+ghost use Rattle.std.specs.Prelude.{◌≡◌, ◌≤◌, ◌+◌, ◌^◌, [], IfErr, IfOk, OnOk};
 ghost use Rattle.df_journal_text.specs.Start.{head_text};
+ghost use Rattle.df_machine.specs.Tables.{AgreesWith};
 ghost use Rattle.df_live.specs.Live.{AnswersScript, IsDue, Leaves};
-ghost use Rattle.df_live.specs.code.Stops.{HasAnswered, Stops};
+ghost use Rattle.df_live.specs.code.Stops.{Begins, Stops};
+ghost use Rattle.df_live.specs.declared.status.LiveStatus.TheVariants as status;
 
 use crate::answer::answer;
 use crate::calls::take_call;
@@ -11,18 +15,25 @@ use crate::status::LiveStatus;
 use df_io::{Sink, write_all};
 use df_journal_text::write_head;
 use df_label::NoMemory;
-use df_machine::Core;
+use df_machine::Tables;
 use df_start::Start;
+use df_steps::Notes;
 use std::alloc::Global;
 
-/// A machine with this start, and what is written before its calls.
-fn opening(alloc: Global, start: Start, text: &mut Vec<u8>) -> Result<Core, NoMemory>
-    ensures core { IfOk result (λ core. core ≡ (start, [])) }
-    ensures text { OnOk result (text.new.items ≡ head_text start) }
+/// The tables behind the lines that were taken, and the number of the next line.
+pub struct Progress {
+    pub tables: Tables,
+    pub next: u64,
+}
+
+/// The tables of a machine with this start, and what is written before its calls.
+fn opening(alloc: Global, start: &Start, text: &mut Vec<u8>) -> Result<Tables, NoMemory>
+    ensures tables { IfOk result (AgreesWith (start.now, [])) }
+    ensures text { OnOk result (text.new.items ≡ head_text start.now) }
 {
     text.clear();
-    write_head(&start, text)?;
-    Core::start(alloc, start)
+    write_head(start, text)?;
+    Tables::begin(alloc, start)
 }
 
 /// Takes a start, and writes what stands before the entries.
@@ -32,9 +43,9 @@ fn begin<I: Lines, W: Sink>(
     out: &mut W,
     line: &mut Vec<u8>,
     text: &mut Vec<u8>,
-) -> Result<Core, LiveStatus>
-    ensures begins { IfOk result (λ core. HasAnswered core.0 [] (I.to_come input.old)
-        (I.to_come input.new) (W.written out.old) (W.written out.new) core) }
+) -> Result<Progress, LiveStatus>
+    ensures begins { IfOk result (Begins (I.to_come input.old) (I.to_come input.new)
+        (W.written out.old) (W.written out.new)) }
     ensures stops { IfErr result (Stops (I.to_come input.old) (I.to_come input.new)
         (W.written out.old) (W.written out.new) (I.faults input.old) (I.faults input.new)
         (W.faults out.old) (W.faults out.new)) }
@@ -42,23 +53,26 @@ fn begin<I: Lines, W: Sink>(
     ensures writes_more { W.faults out.old ≤ W.faults out.new }
 {
     let start = take_start(alloc, input, line)?;
-    let Ok(core) = opening(alloc, start, text) else {
+    let Ok(tables) = opening(alloc, &start, text) else {
         return Err(LiveStatus::NoMemory);
     };
     if write_all(out, text).is_err() {
         return Err(LiveStatus::WriteFault);
     }
-    Ok(core)
+    let next = start.as_slice().len() as u64 + 3;
+    Ok(Progress { tables, next })
 }
 
-/// The number of the line behind those of the calls that were made.
-fn next_number(core: &Core) -> u64
-    ensures number { result ≡ length core.now.0 + length core.now.1 + 3 }
-    ensures few { length core.now.1 < 2 ^ 63 }
+/// The number of the line behind this one. The last number that a line can have is behind the end
+/// of every script that isn't too long.
+fn behind(line: u64) -> Result<u64, LiveStatus>
+    ensures next { IfOk result (λ next. next ≡ line + 1) }
+    ensures last { IfErr result (λ why. (why ≡ status.TooLong) × (line + 1 ≡ 2 ^ 64)) }
 {
-    let roots = core.start_of().as_slice().len();
-    let calls = core.journal().len();
-    roots as u64 + calls as u64 + 3
+    match line.checked_add(1) {
+        Some(next) => Ok(next),
+        None => Err(LiveStatus::TooLong),
+    }
 }
 
 /// Takes line after line, and answers each before the next is asked for.
@@ -71,9 +85,14 @@ fn live<I: Lines, W: Sink>(alloc: Global, input: &mut I, out: &mut W) -> Result<
 {
     let mut line = Vec::new(alloc);
     let mut text = Vec::new(alloc);
-    let mut core = begin(alloc, input, out, &mut line, &mut text)?;
-    'calls: while let Some(call) = take_call(alloc, input, &mut line, next_number(&core))? {
-        answer(&mut core, call, &line, &mut text, out)?;
+    let Progress {
+        mut tables,
+        mut next,
+    } = begin(alloc, input, out, &mut line, &mut text)?;
+    let mut notes = Notes::new(alloc);
+    'calls: while let Some(call) = take_call(alloc, input, &mut line, next)? {
+        answer(&mut tables, &mut notes, call, &line, &mut text, out)?;
+        next = behind(next)?;
     }
     Ok(())
 }

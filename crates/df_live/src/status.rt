@@ -21,7 +21,7 @@ pub enum LiveStatus {
     ReadFault,
     WriteFault,
     NoMemory,
-    /// A line is longer than a file may be.
+    /// A line is longer than a file may be, or the last number that a line can have is taken.
     TooLong,
 }
 

@@ -1,16 +1,20 @@
-ghost use Rattle.std.specs.Prelude.{[], IfOk, IfErr};
+ghost use Rattle.std.specs.Prelude.{◌≡◌, [], IfOk, IfErr, OnOk};
+ghost use Rattle.df_journal_text.specs.Front.{call_front};
 ghost use Rattle.df_lines.specs.Refused.{NamesBadLine};
+ghost use Rattle.df_machine.specs.Journal.{State};
+ghost use Rattle.df_machine.specs.Tables.{AgreesWith};
 ghost use Rattle.df_script_text.specs.Reader.{HasRead};
 ghost use Rattle.df_script_text.specs.Script.{IsScriptText};
 ghost use Rattle.df_script_text.specs.TooLarge.{IsTooLargeIn};
-ghost use Rattle.df_steps.specs.Steps.{RecordsScript};
+ghost use Rattle.df_steps.specs.Steps.{AppendsStep, RecordsScript};
 
 use df_journal_text::write_head;
+use df_label::NoMemory;
 use df_lines::FileRefused;
-use df_machine::Core;
-use df_script_text::ScriptReader;
+use df_machine::Tables;
+use df_script_text::{ReadLine, ScriptReader};
 use df_start::Start;
-use df_steps::append_step;
+use df_steps::{Notes, append_step};
 use std::alloc::Global;
 
 /// The text of the journal of a script's calls.
@@ -26,7 +30,7 @@ pub fn steps(alloc: Global, bytes: &[u8]) -> Result<Vec<u8>, FileRefused>
 }
 
 /// Makes the calls that are left to a reader, each as it is read, and gives the text of their
-/// journal.
+/// journal, which nothing keeps.
 fn journal_of(
     alloc: Global,
     start: Start,
@@ -38,9 +42,27 @@ fn journal_of(
 {
     let mut text = Vec::new(alloc);
     write_head(&start, &mut text)?;
-    let mut core = Core::start(alloc, start)?;
+    let mut tables = Tables::begin(alloc, &start)?;
+    let mut notes = Notes::new(alloc);
     'lines: while let Some(read) = reader.next_line()? {
-        append_step(&mut core, read, &mut text)?;
+        append(&mut tables, &mut notes, read, &mut text)?;
     }
     Ok(text)
+}
+
+/// Makes a call that was read, and appends its entry.
+fn append(
+    tables: &mut Tables,
+    notes: &mut Notes,
+    read: ReadLine<'_>,
+    text: &mut Vec<u8>,
+) -> Result<(), NoMemory>
+    requires words { read.words.now ≡ call_front read.line.actor read.line.call }
+    requires state { (core : State) × AgreesWith core tables.old }
+    ensures { OnOk result ((core : State) → AgreesWith core tables.old →
+        AppendsStep read.entry.line core tables.new text.old.items text.new.items) }
+{
+    let appended = append_step(tables, notes, &read, text);
+    drop(read);
+    appended
 }

@@ -1,10 +1,11 @@
 -- A journal of one more line.
-use Rattle.std.proofs.Common.{◌≡◌, List, ℕ, [], ◌∷◌, ◌++◌, ap, sym, ◌∙◌, append_assoc, Result, Ok, Err, OnOk, is_ok, true, map, reverse}
-use Rattle.std.proofs.lemmas.Bool.{true≢false}
+use Rattle.std.proofs.Common.{◌≡◌, List, ℕ, [], ◌∷◌, ◌++◌, ap, sym, ◌∙◌, subst, append_assoc, map, reverse}
 use Rattle.std.specs.List.{flat_map}
 use Rattle.std.proofs.lemmas.Grind.{flat_map-append}
 use Rattle.std.proofs.lemmas.List.{append-nil, map-append, reverse-append}
-use Rattle.df_machine.specs.Journal.{State, appended, firsts}
+use Rattle.df_machine.specs.Journal.{firsts}
+use Rattle.df_machine.specs.Tables.{AgreesWith}
+use Rattle.df_machine.specs.declared.tables.Tables.{Tables}
 use Rattle.df_replay.specs.Noted.{noted, noted_in}
 use Rattle.df_rules.specs.Legal.{answered, run}
 use Rattle.df_rules.specs.Start.{rows}
@@ -17,42 +18,32 @@ use Rattle.df_journal_text.specs.Start.{head_text}
 use Rattle.df_script_text.specs.declared.line.ScriptLine.{ScriptLine}
 use Rattle.df_steps.specs.Steps.{AppendsStep, called, journal_of}
 
--- what follows from what holds where a call is done
-pub on_ok-map : {A E : Type 0} {P Q : Type 0} (r : Result A E) → OnOk r P → (P → Q) → OnOk r Q
-on_ok-map (Ok u) p f = f p
-on_ok-map (Err e) p f = tt
-
--- what holds where a call is done holds where it is found done
-pub if_ok-is : {A E : Type 0} {P : Type 0} (r : Result A E) → true ≡ is_ok r → OnOk r P → P
-if_ok-is (Ok x) t p = p
-if_ok-is (Err e) t p = absurd (true≢false t)
-
 -- the journal of one more line
 pub journal_more : (roots : List RootStart) (ls : List ScriptLine) (l : ScriptLine)
     → journal_of roots (ls ++ l ∷ []) ≡ answered rows (firsts roots) (journal_of roots ls) l.actor l.call ∷ journal_of roots ls
 journal_more roots ls l = ap (λ (cs : List (UnitName × Call)). run rows (firsts roots) (reverse cs)) (map-append called ls (l ∷ []))
     ∙ ap (run rows (firsts roots)) (reverse-append (map called ls) (called l ∷ []))
 
--- what was made and written so far: the journal of these lines, and its text
-pub record IsWritten (roots : List RootStart) (ls : List ScriptLine) (machine : State) (written : List ℕ) : Type 0 where
-  pub core : machine ≡ (roots, journal_of roots ls)
+-- what was made and written so far: the tables of these lines' journal, and its text
+pub record IsWritten (roots : List RootStart) (ls : List ScriptLine) (tables : Tables) (written : List ℕ) : Type 0 where
+  pub made : AgreesWith (roots, journal_of roots ls) tables
   pub text : written ≡ head_text roots ++ flat_map noted_text (noted roots (journal_of roots ls))
 
 -- the text of a journal of no line
-pub written_none : (roots : List RootStart) (core : State) (text : List ℕ) → core ≡ (roots, []) → text ≡ [] ++ head_text roots → IsWritten roots [] core text
-written_none roots core text c e = record { core = c; text = e ∙ sym (append-nil (head_text roots)) }
+pub written_none : (roots : List RootStart) (tables : Tables) (text : List ℕ) → AgreesWith (roots, []) tables → text ≡ [] ++ head_text roots
+    → IsWritten roots [] tables text
+written_none roots tables text made e = record { made = made; text = e ∙ sym (append-nil (head_text roots)) }
 
 -- the text of a journal of one more line
-pub written_more : (roots : List RootStart) (ls : List ScriptLine) (l : ScriptLine) (old new : State) (before now : List ℕ) → IsWritten roots ls old before
-    → AppendsStep l old new before now → IsWritten roots (ls ++ l ∷ []) new now
+pub written_more : (roots : List RootStart) (ls : List ScriptLine) (l : ScriptLine) (old new : Tables) (before now : List ℕ) → IsWritten roots ls old before
+    → AppendsStep l (roots, journal_of roots ls) new before now → IsWritten roots (ls ++ l ∷ []) new now
 written_more roots ls l old new before now w a =
     let past = journal_of roots ls in
     let e = answered rows (firsts roots) past l.actor l.call in
     record {
-      core = a.made ∙ ap (appended l.actor l.call) w.core ∙ ap (λ (j : List Entry). let x : State = (roots, j) in x) (sym (journal_more roots ls l));
+      made = subst (λ (j : List Entry). AgreesWith (roots, j) new) (sym (journal_more roots ls l)) a.made;
       text =
           a.text
-          ∙ ap (λ (s : State). before ++ noted_text (noted_in s (answered rows (firsts s.0) s.1 l.actor l.call))) w.core
           ∙ ap (λ (t : List ℕ). t ++ noted_text (noted_in (roots, past) e)) w.text
           ∙ append_assoc (head_text roots) (flat_map noted_text (noted roots past)) (noted_text (noted_in (roots, past) e))
           ∙ ap (λ (t : List ℕ). head_text roots ++ t)

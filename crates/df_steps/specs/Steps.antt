@@ -4,6 +4,8 @@ use Rattle.df_audit.specs.Audit.{noted_journal}
 use Rattle.df_audit.specs.Sound.{IsSound}
 use Rattle.df_journal_text.specs.Entry.{noted_text}
 use Rattle.df_machine.specs.Journal.{State, appended, firsts}
+use Rattle.df_machine.specs.Tables.{AgreesWith}
+use Rattle.df_machine.specs.declared.tables.Tables.{Tables}
 use Rattle.df_replay.specs.Noted.{noted_in}
 use Rattle.df_rules.specs.Legal.{IsUnaided, answered, run}
 use Rattle.df_rules.specs.Start.{rows}
@@ -34,9 +36,11 @@ RecordsScript bytes text =
     × (bytes ≡ script_text roots lines) × Records roots lines text
     × IsUnaided (journal_of roots lines) × IsSound (firsts roots) (journal_of roots lines)
 
--- the machine made the line's call, and the lines of its entry were appended
-pub record AppendsStep (line : ScriptLine) (old new : State) (before now : List ℕ) : Type 0 where
-  pub made : new ≡ appended line.actor line.call old
+-- the tables, which agreed with this state, made the line's call, and the lines of its entry were
+-- appended
+pub record AppendsStep (line : ScriptLine) (core : State) (tables : Tables) (before now : List ℕ)
+    : Type 0 where
+  pub made : AgreesWith (appended line.actor line.call core) tables
   pub text : now
-      ≡ before ++ noted_text (noted_in old (answered rows (firsts old.0) old.1 line.actor
+      ≡ before ++ noted_text (noted_in core (answered rows (firsts core.0) core.1 line.actor
       line.call))

@@ -8,6 +8,8 @@ use Rattle.df_journal_text.specs.Fits.{AreRoots, IsRoot}
 use Rattle.df_journal_text.specs.Start.{root_text}
 use Rattle.df_lines.specs.Lines.{IsLine, ended}
 use Rattle.df_machine.specs.Journal.{State}
+use Rattle.df_machine.specs.Tables.{AgreesWith}
+use Rattle.df_machine.specs.declared.tables.Tables.{Tables}
 use Rattle.df_script_text.specs.Script.{IsScript, IsScriptLine, script_text}
 use Rattle.df_script_text.specs.TooLarge.{IsTooLargeLine}
 use Rattle.df_script_text.specs.code.Lines.{call_line}
@@ -22,6 +24,7 @@ use Rattle.df_live.specs.declared.lines.NotTaken.{NotTaken}
 use Rattle.df_live.specs.declared.lines.NotTaken.TheVariants as why
 use Rattle.df_live.specs.declared.lines.Taken.{Taken}
 use Rattle.df_live.specs.declared.lines.Taken.TheVariants as taken
+use Rattle.df_live.specs.declared.run.Progress.{Progress}
 use Rattle.df_live.specs.declared.status.BadKind.{BadKind}
 use Rattle.df_live.specs.declared.status.BadKind.TheVariants.{Syntax, TooLarge}
 use Rattle.df_live.specs.declared.status.LiveStatus.{LiveStatus}
@@ -153,29 +156,36 @@ TakesCall left after line (Some call) = IsScriptLine call × (line ≡ call_line
     × Consumes left after (ended line)
 
 -- a call was made, and its entry was written
-abbrev pub AnswersCall : ScriptLine → State → State → Option (List ℕ) → Option (List ℕ) → Type 0
-AnswersCall call core core' old new = (more : List ℕ) × AppendsStep call core core' [] more
+abbrev pub AnswersCall : ScriptLine → State → Tables → Option (List ℕ) → Option (List ℕ) → Type 0
+AnswersCall call core tables old new = (more : List ℕ) × AppendsStep call core tables [] more
     × HasAll old more new
 
 -- why a call isn't answered
-abbrev pub StopsAnswer : ScriptLine → State → State → Option (List ℕ) → Option (List ℕ) → ℕ → ℕ →
+abbrev pub StopsAnswer : ScriptLine → State → Tables → Option (List ℕ) → Option (List ℕ) → ℕ → ℕ →
     LiveStatus → Type 0
-StopsAnswer call core core' old new before now status.NoMemory = new ≡ old
-StopsAnswer call core core' old new before now status.WriteFault = Rose before now
-    × ((more : List ℕ) × AppendsStep call core core' [] more × HasFront old more new)
-StopsAnswer call core core' old new before now _ = ⊥
+StopsAnswer call core tables old new before now status.NoMemory = new ≡ old
+StopsAnswer call core tables old new before now status.WriteFault = Rose before now
+    × ((more : List ℕ) × AppendsStep call core tables [] more × HasFront old more new)
+StopsAnswer call core tables old new before now _ = ⊥
 
 -- ---- the whole
 
--- the script of these roots and calls was taken, and its journal was written
+-- the script of these roots and calls was taken, and its journal was written; these are its tables
 pub record HasAnswered (roots : List RootStart) (lines : List ScriptLine)
-    (before after old new : Option (List ℕ)) (core : State) : Type 0 where
+    (before after old new : Option (List ℕ)) (tables : Tables) : Type 0 where
   pub text : List ℕ
   pub script : IsScript roots lines
   pub taken : Consumes before after (script_text roots lines)
-  pub made : core ≡ (roots, journal_of roots lines)
+  pub made : AgreesWith (roots, journal_of roots lines) tables
   pub records : Records roots lines text
   pub written : HasAll old text new
+
+-- a start was taken, and what stands before its calls was written
+abbrev pub Begins : Option (List ℕ) → Option (List ℕ) → Option (List ℕ) → Option (List ℕ) →
+    Progress → Type 0
+Begins before after old new progress = (roots : List RootStart)
+    × HasAnswered roots [] before after old new progress.tables
+    × (progress.next ≡ length roots + 3)
 
 -- a run ends before all is answered
 abbrev pub Stops : Option (List ℕ) → Option (List ℕ) → Option (List ℕ) → Option (List ℕ) → ℕ → ℕ →

@@ -1,7 +1,6 @@
 use Rattle.std.proofs.Common.{◌≡◌, IfErr, List, OnOk, ℕ, codes, subst}
-use Rattle.std.proofs.lemmas.Result.{IfErr-weaker, err_from_is_err_and}
+use Rattle.std.proofs.lemmas.Result.{IfErr-weaker, err_from_is_err_and, on_ok_weaker}
 use Rattle.df_live.specs.code.Stops.{IsBadHead, IsTakenAs, RefusesHead}
-use Rattle.df_steps.proofs.Journals.{on_ok-map}
 use Rattle.df_live.proofs.Taking.{stops_head, stops_untaken, taken_as}
 use Rattle.df_live.proofs.head.take_first.Goals as goal
 
@@ -13,9 +12,8 @@ returns-in_err-taken-clause-stops g c =
 
 pub returns-clause-first : goal.returns-clause-first
 returns-clause-first g c =
-    on_ok-map c.first_in.result
+    on_ok_weaker c.first_in.result (λ is. taken_as _ _ c.in_ok-taken.taken _ _ c.in_ok-taken.ensures.takes is)
     (subst (λ (l : List ℕ). OnOk c.first_in.result (IsTakenAs c.in_ok-taken.taken l (codes "defcon-script 1"))) c.deref.ensures.value c.first_in.ensures.first)
-    (λ is. taken_as _ _ c.in_ok-taken.taken _ _ c.in_ok-taken.ensures.takes is)
 
 pub returns-clause-stops : goal.returns-clause-stops
 returns-clause-stops g c =

@@ -1,4 +1,4 @@
-use Rattle.std.proofs.Common.{sym, ◌∙◌}
+use Rattle.std.proofs.Common.{ap, arith, length, sym, ◌∙◌}
 use Rattle.std.proofs.lemmas.Result.{err_from_is_err_and}
 use Rattle.df_live.proofs.Answered.{start_answered, start_broken, start_unanswered, stops_head_stops}
 use Rattle.df_live.proofs.Taking.{if_done, if_failed}
@@ -21,7 +21,10 @@ returns-then-is_err-clause-stops g c =
     (if_failed c.write_all.result failed c.write_all.ensures.front) (if_failed c.write_all.result failed c.write_all.ensures.cause.rose)
 
 pub returns-clause-begins : goal.returns-clause-begins
-returns-clause-begins g c =
-    start_answered _ _ _ _ c.in_ok-start.start c.in-Ok.core c.deref.result.now (c.deref.ensures.value ∙ c.in-Ok.ensures.text) c.in-Ok.ensures.core
-    c.in_ok-start.ensures.read
-    (if_done c.write_all.result (sym c.is_err.ensures.value ∙ c.if-is_err.false) c.write_all.ensures.all)
+returns-clause-begins g c = (
+  c.in_ok-start.start,
+  start_answered _ _ _ _ c.in_ok-start.start c.in-Ok.tables c.deref.result.now (c.deref.ensures.value ∙ c.in-Ok.ensures.text) c.in-Ok.ensures.tables
+      c.in_ok-start.ensures.read
+      (if_done c.write_all.result (sym c.is_err.ensures.value ∙ c.if-is_err.false) c.write_all.ensures.all),
+  omega (arith, ap length c.as_slice.ensures.roots),
+)

@@ -6,16 +6,20 @@ use Rattle.df_script_text.specs.Script.{IsScriptText}
 use Rattle.df_script_text.specs.TooLarge.{IsTooLargeIn}
 use Rattle.df_steps.proofs.Journals.{written_more, written_none}
 use Rattle.df_steps.proofs.Sound.{journal_is_sound, journal_is_unaided}
+use Rattle.df_steps.specs.Steps.{journal_of}
 use Rattle.df_run.proofs.steps.journal_of.Goals as goal
 
 pub lines-init : goal.lines-init
 lines-init c = (
   [],
   c.requires,
-  written_none c.args.start c.in_ok-core.core c.write_head.new.to.items c.in_ok-core.ensures
+  written_none c.args.start c.in_ok-tables.tables c.write_head.new.to.items c.in_ok-tables.ensures
       (c.in_ok-write_head.ensures.ok ∙ ap (λ (t : List ℕ). t ++ head_text c.args.start) c.new-text.ensures.items),
   refl,
 )
+
+pub append-requires-clause-state : goal.append-requires-clause-state
+append-requires-clause-state c = ((c.args.start, journal_of c.args.start c.lines.invariant.0), c.lines.invariant.2.made)
 
 pub lines-preserved : goal.lines-preserved
 lines-preserved c =
@@ -23,8 +27,8 @@ lines-preserved c =
     let line = c.in-Some.read.line in (
       past ++ line ∷ [],
       (rw c.in-Some.is at (c.in_ok-read.ensures.next c.args.start past c.lines.invariant.1)),
-      written_more c.args.start past line c.lines.core c.append_step.new.core c.lines.text.items c.append_step.new.text.items c.lines.invariant.2
-          c.in_ok-append_step.ensures,
+      written_more c.args.start past line c.lines.tables c.append.new.tables c.lines.text.items c.append.new.text.items c.lines.invariant.2
+          (c.in_ok-append.ensures (c.args.start, journal_of c.args.start past) c.lines.invariant.2.made),
       c.in_ok-read.ensures.bytes ∙ c.lines.invariant.3,
     )
 

@@ -1,21 +1,26 @@
-use Rattle.std.proofs.Common.{◌++◌, Option, ap, slice_get, ◌∙◌}
+use Rattle.std.proofs.Common.{Option, ◌++◌, ap, sym, ◌∙◌}
+use Rattle.std.proofs.lemmas.Result.{on_ok_weaker}
 use Rattle.df_label.specs.declared.label.Label.{Label}
-use Rattle.df_machine.specs.Journal.{State, firsts}
-use Rattle.df_rules.specs.Legal.{answered}
-use Rattle.df_rules.specs.Start.{rows}
 use Rattle.df_journal_text.specs.Entry.{entry_text}
-use Rattle.df_steps.proofs.Journals.{on_ok-map}
+use Rattle.df_machine.specs.Journal.{contamination_in}
+use Rattle.df_unit.specs.declared.entry.Effect.{Effect}
+use Rattle.df_unit.specs.declared.entry.Entry.TheVariants.{Done}
+use Rattle.df_unit.specs.declared.reply.Reply.{Reply}
 use Rattle.df_steps.proofs.step.append_step.Goals as goal
-
-pub append_newest-requires : goal.append_newest-requires
-append_newest-requires c =
-    let old = c.args.core.now in
-    (answered rows (firsts old.0) old.1 c.args.read.line.actor c.args.read.line.call, ap (λ (s : State). slice_get s.1 0) c.in_ok-make_call.ensures, c.requires)
 
 pub returns : goal.returns
 returns c =
-    let old = c.args.core.now in
-    let entry = answered rows (firsts old.0) old.1 c.args.read.line.actor c.args.read.line.call in
-    let made = c.in_ok-make_call.ensures in
-    on_ok-map c.append_newest.result (c.append_newest.ensures entry (ap (λ (s : State). slice_get s.1 0) made))
-    (λ e. record { made = made; text = e ∙ ap (λ (noted : Option Label). c.args.text.now.items ++ entry_text noted entry) c.in_ok-contamination.ensures })
+    let line = c.args.read.now.line in
+    let step = c.in_ok-step.step in
+    let before = c.args.text.now.items in
+    on_ok_weaker c.append_spelled.result
+    (λ spelled core agrees.
+    let is = c.in_ok-step.ensures.step core agrees in
+    record {
+      made = c.in_ok-step.ensures.entry core agrees;
+      text =
+          spelled
+          ∙ ap (λ (note : Option Label). before ++ entry_text note (Done line.actor line.call step.reply step.effect)) (c.in_ok-note.ensures ∙ is.contamination)
+          ∙ ap (λ (told : Reply × Effect). before ++ entry_text (contamination_in core line.actor) (Done line.actor line.call told.0 told.1)) (sym is.answer);
+    })
+    (c.append_spelled.ensures line.actor line.call c.requires.words)
