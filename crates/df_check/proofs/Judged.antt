@@ -1,22 +1,24 @@
 -- A check of a journal, as far as it has come.
 use Rattle.std.proofs.Common.{◌≡◌, ◌↔◌, ℕ, List, ◌∷◌, ◌++◌, ◌+◌, ◌<◌, ◌≤◌, Some, length, take, drop, get_or, reverse, refl, ap, sym, subst, ◌∙◌, arith}
 use Rattle.std.proofs.lemmas.List.{drop_more, length-take-le, take-append-drop, take_all}
-use Rattle.df_machine.specs.Journal.{State, firsts}
+use Rattle.df_machine.specs.Journal.{firsts}
+use Rattle.df_machine.specs.Tables.{AgreesWith}
+use Rattle.df_machine.specs.declared.tables.Tables.{Tables}
 use Rattle.df_rules.specs.Legal.{Legal}
 use Rattle.df_rules.specs.Start.{rows}
 use Rattle.df_rules.proofs.Places.{legal_at}
 use Rattle.df_start.specs.declared.start.RootStart.{RootStart}
 use Rattle.df_unit.specs.declared.entry.Entry.{Entry}
 use Rattle.df_replay.specs.Replay.{entry_for, replayed}
-use Rattle.df_replay.proofs.Replayed.{core_more, reversed_more}
+use Rattle.df_replay.proofs.Replayed.{reversed_more}
 use Rattle.df_replay.proofs.Right.{is_right, right_is}
 use Rattle.df_check.specs.Check.{IsFirstWrong, Judges, TellsOther}
 use Rattle.df_check.specs.declared.plain.Verdict.{Verdict}
 use Rattle.df_check.specs.declared.plain.Verdict.TheVariants.{Valid, Wrong}
 
--- the machine's journal is what was kept so far
-pub record IsSoFar (roots : List RootStart) (journal : List Entry) (i : ℕ) (core : State) : Type 0 where
-  pub made : core ≡ (roots, reverse (take i journal))
+-- the tables are those of what was kept so far
+pub record IsSoFar (roots : List RootStart) (journal : List Entry) (i : ℕ) (tables : Tables) : Type 0 where
+  pub made : AgreesWith (roots, reverse (take i journal)) tables
   pub legal : Legal rows (firsts roots) (reverse (take i journal))
 
 -- a list around one of its places
@@ -24,35 +26,34 @@ pub split_at : {A : Type 0} (xs : List A) (i : ℕ) (d : A) → i < length xs �
 split_at {A} xs i d inside = sym (take-append-drop i xs) ∙ ap (λ (l : List A). take i xs ++ l) (drop_more xs i d inside)
 
 module _ (roots : List RootStart) (journal : List Entry) where
-  pub so_far_more : (i : ℕ) (d : Entry) (old new : State) → i < length journal → IsSoFar roots journal i old → new ≡ replayed old (get_or journal i d) → entry_for old (get_or journal i d) ≡ get_or journal i d → IsSoFar roots journal (i + 1) new
-  so_far_more i d old new inside so made same =
+  pub so_far_more : (i : ℕ) (d : Entry) (old new : Tables) → i < length journal → IsSoFar roots journal i old
+      → AgreesWith (replayed (roots, reverse (take i journal)) (get_or journal i d)) new
+      → entry_for (roots, reverse (take i journal)) (get_or journal i d) ≡ get_or journal i d → IsSoFar roots journal (i + 1) new
+  so_far_more i d old new inside so made right =
       let past = reverse (take i journal) in
-      let kept = get_or journal i d in
-      let right : entry_for (roots, past) kept ≡ kept = ap (λ (s : State). entry_for s kept) (sym so.made) ∙ same in
       let more = sym (reversed_more journal i d inside) in
       record {
-        made = core_more roots past kept old new so.made made right ∙ ap (λ (p : List Entry). let s : State = (roots, p) in s) more;
-        legal = subst (Legal rows (firsts roots)) more (so.legal, is_right roots past kept right);
+        made = subst (λ (p : List Entry). AgreesWith (roots, p) new) (ap (λ (e : Entry). e ∷ past) right ∙ more) made;
+        legal = subst (Legal rows (firsts roots)) more (so.legal, is_right roots past (get_or journal i d) right);
       }
 
-  pub first_wrong : (i : ℕ) (d : Entry) (old : State) (other : Entry) → i < length journal → IsSoFar roots journal i old → TellsOther (entry_for old (get_or journal i d)) (get_or journal i d) (Some other) → IsFirstWrong roots journal i other
+  pub first_wrong : (i : ℕ) (d : Entry) (old : Tables) (other : Entry) → i < length journal → IsSoFar roots journal i old
+      → TellsOther (entry_for (roots, reverse (take i journal)) (get_or journal i d)) (get_or journal i d) (Some other) → IsFirstWrong roots journal i other
   first_wrong i d old other inside so tells =
       let past = reverse (take i journal) in
-      let kept = get_or journal i d in
-      let given : entry_for old kept ≡ entry_for (roots, past) kept = ap (λ (s : State). entry_for s kept) so.made in
       record {
         older = take i journal;
-        kept = kept;
+        kept = get_or journal i d;
         newer = drop (i + 1) journal;
         whole = split_at journal i d inside;
         at = sym (length-take-le i journal (omega (arith, inside)));
         legal = so.legal;
-        wrong = λ right. tells.1 (given ∙ right_is roots past kept right);
-        answer = tells.0 ∙ given;
+        wrong = λ right. tells.1 (right_is roots past (get_or journal i d) right);
+        answer = tells.0;
       }
 
-  pub so_far_all : (i : ℕ) (core : State) → length journal ≤ i → IsSoFar roots journal i core → Legal rows (firsts roots) (reverse journal)
-  so_far_all i core done so = subst (λ (j : List Entry). Legal rows (firsts roots) (reverse j)) (take_all i journal done) so.legal
+  pub so_far_all : (i : ℕ) (tables : Tables) → length journal ≤ i → IsSoFar roots journal i tables → Legal rows (firsts roots) (reverse journal)
+  so_far_all i tables done so = subst (λ (j : List Entry). Legal rows (firsts roots) (reverse j)) (take_all i journal done) so.legal
 
   -- a legal journal has no wrong place
   pub legal_not_wrong : (place : ℕ) (expected : Entry) → Legal rows (firsts roots) (reverse journal) → IsFirstWrong roots journal place expected → ⊥

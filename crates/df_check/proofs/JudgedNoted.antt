@@ -1,7 +1,10 @@
 -- A check of a noted journal, as far as it has come.
-use Rattle.std.proofs.Common.{◌≡◌, ◌↔◌, ℕ, List, [], ◌∷◌, ◌++◌, ◌+◌, ◌<◌, ◌≤◌, Some, length, take, drop, get_or, map, reverse, refl, ap, sym, subst, ◌∙◌, arith, append_assoc, length-append}
+use Rattle.std.proofs.Common.{◌≡◌, ◌↔◌, ℕ, List, [], ◌∷◌, ◌++◌, ◌+◌, ◌<◌, ◌≤◌, Option, Some, length, take, drop, get_or, map, reverse, refl, ap, sym, subst, ◌∙◌, arith, append_assoc, length-append}
 use Rattle.std.proofs.lemmas.List.{length-map, length-reverse, length-take-le, map-append, reverse-append, take_all, take_more}
+use Rattle.df_label.specs.declared.label.Label.{Label}
 use Rattle.df_machine.specs.Journal.{State, firsts}
+use Rattle.df_machine.specs.Tables.{AgreesWith}
+use Rattle.df_machine.specs.declared.tables.Tables.{Tables}
 use Rattle.df_rules.specs.Legal.{Legal}
 use Rattle.df_rules.specs.Start.{rows}
 use Rattle.df_rules.proofs.Places.{legal_at}
@@ -9,17 +12,17 @@ use Rattle.df_start.specs.declared.start.RootStart.{RootStart}
 use Rattle.df_unit.specs.declared.entry.Entry.{Entry}
 use Rattle.df_unit.specs.declared.entry.Noted.{Noted}
 use Rattle.df_replay.specs.Noted.{AreRight, noted, noted_in, past_of}
-use Rattle.df_replay.specs.Replay.{entry_for, replayed}
-use Rattle.df_replay.proofs.Replayed.{core_more}
-use Rattle.df_replay.proofs.Right.{is_right, right_is}
+use Rattle.df_replay.specs.Replay.{Compares, entry_for, replayed}
+use Rattle.df_replay.specs.declared.repeats.Compared.TheVariants.{Other, Same}
+use Rattle.df_replay.proofs.Right.{is_right, right_is, same_contamination}
 use Rattle.df_check.proofs.Judged.{split_at}
 use Rattle.df_check.specs.CheckNoted.{IsFirstWrong, JudgesNoted, TellsOtherNoted, noted_for}
 use Rattle.df_check.specs.declared.noted.NotedVerdict.{NotedVerdict}
 use Rattle.df_check.specs.declared.noted.NotedVerdict.TheVariants.{Valid, Wrong}
 
--- the machine's journal is what was kept so far
-pub record IsSoFar (roots : List RootStart) (journal : List Noted) (i : ℕ) (core : State) : Type 0 where
-  pub made : core ≡ (roots, past_of (take i journal))
+-- the tables are those of what was kept so far
+pub record IsSoFar (roots : List RootStart) (journal : List Noted) (i : ℕ) (tables : Tables) : Type 0 where
+  pub made : AgreesWith (roots, past_of (take i journal)) tables
   pub right : AreRight roots (take i journal)
 
 abbrev bare : Noted → Entry
@@ -34,6 +37,25 @@ in_the_middle [] [] ms ns x y l e = cc
 in_the_middle [] (b ∷ ys) ms ns x y l e = absurd (omega arith)
 in_the_middle (a ∷ xs) [] ms ns x y l e = absurd (omega arith)
 in_the_middle (a ∷ xs) (b ∷ ys) ms ns x y l e = in_the_middle xs ys ms ns x y (omega arith) (let t : xs ++ x ∷ ms ≡ ys ++ y ∷ ns = cc in t)
+
+-- where the rules give another entry, they give another one with its note
+pub tells_other : (core : State) (kept expected : Noted) → Compares core kept.entry (Other expected)
+    → TellsOtherNoted (noted_for core kept) kept (Some expected)
+tells_other core kept expected compares = (
+  compares.0 ∙ ap (λ (l : Option Label). let n : Noted = record { entry = entry_for core kept.entry; contamination = l } in n)
+      (sym (same_contamination core.0 core.1 kept.entry)),
+  λ same. compares.1 (ap bare same),
+)
+
+-- where they give the kept one, it has this contamination
+pub tells_note : (core : State) (kept : Noted) (contamination : Option Label) (other : Option Noted) → Compares core kept.entry (Same contamination)
+    → TellsOtherNoted (record { entry = kept.entry; contamination = contamination }) kept other → TellsOtherNoted (noted_for core kept) kept other
+tells_note core kept contamination other compares told =
+    subst (λ (n : Noted). TellsOtherNoted n kept other)
+    (ap (λ (e : Entry). let n : Noted = record { entry = e; contamination = contamination } in n) (sym compares.0)
+    ∙ ap (λ (l : Option Label). let n : Noted = record { entry = entry_for core kept.entry; contamination = l } in n)
+    (compares.1 ∙ sym (same_contamination core.0 core.1 kept.entry)))
+    told
 
 module _ (roots : List RootStart) where
   pub noted_length : (past : List Entry) → length (noted roots past) ≡ length past
@@ -89,33 +111,34 @@ module _ (roots : List RootStart) where
       right_note past kept entry (sym (in_the_middle older (noted roots past) newer split.0 kept (noted_in (roots, past) kept.entry) long whole_noted))
 
   module _ (journal : List Noted) where
-    pub so_far_more : (i : ℕ) (d : Noted) (old new : State) → i < length journal → IsSoFar roots journal i old → new ≡ replayed old (get_or journal i d).entry → noted_for old (get_or journal i d) ≡ get_or journal i d → IsSoFar roots journal (i + 1) new
-    so_far_more i d old new inside so made same =
+    pub so_far_more : (i : ℕ) (d : Noted) (old new : Tables) → i < length journal → IsSoFar roots journal i old
+        → AgreesWith (replayed (roots, past_of (take i journal)) (get_or journal i d).entry) new
+        → noted_for (roots, past_of (take i journal)) (get_or journal i d) ≡ get_or journal i d → IsSoFar roots journal (i + 1) new
+    so_far_more i d old new inside so made here =
         let older = take i journal in
         let kept = get_or journal i d in
-        let here : noted_for (roots, past_of older) kept ≡ kept = ap (λ (s : State). noted_for s kept) (sym so.made) ∙ same in
         let more = sym (take_more journal i d inside) in
         record {
-          made = core_more roots (past_of older) kept.entry old new so.made made (ap bare here) ∙ ap (λ (p : List Entry). let s : State = (roots, p) in s) (sym (past_push older kept) ∙ ap past_of more);
+          made = subst (λ (p : List Entry). AgreesWith (roots, p) new) (ap (λ (e : Entry). e ∷ past_of older) (ap bare here) ∙ sym (past_push older kept) ∙ ap past_of more) made;
           right = subst (AreRight roots) more (right_push older kept so.right here);
         }
 
-    pub first_wrong : (i : ℕ) (d : Noted) (old : State) (other : Noted) → i < length journal → IsSoFar roots journal i old → TellsOtherNoted (noted_for old (get_or journal i d)) (get_or journal i d) (Some other) → IsFirstWrong roots journal i other
+    pub first_wrong : (i : ℕ) (d : Noted) (old : Tables) (other : Noted) → i < length journal → IsSoFar roots journal i old
+        → TellsOtherNoted (noted_for (roots, past_of (take i journal)) (get_or journal i d)) (get_or journal i d) (Some other) → IsFirstWrong roots journal i other
     first_wrong i d old other inside so tells =
-        let kept = get_or journal i d in
         record {
           older = take i journal;
-          kept = kept;
+          kept = get_or journal i d;
           newer = drop (i + 1) journal;
           whole = split_at journal i d inside;
           at = sym (length-take-le i journal (omega (arith, inside)));
           right = so.right;
-          answer = tells.0 ∙ ap (λ (s : State). noted_for s kept) so.made;
+          answer = tells.0;
           wrong = λ same. tells.1 (sym tells.0 ∙ same);
         }
 
-    pub so_far_all : (i : ℕ) (core : State) → length journal ≤ i → IsSoFar roots journal i core → AreRight roots journal
-    so_far_all i core done so = subst (AreRight roots) (take_all i journal done) so.right
+    pub so_far_all : (i : ℕ) (tables : Tables) → length journal ≤ i → IsSoFar roots journal i tables → AreRight roots journal
+    so_far_all i tables done so = subst (AreRight roots) (take_all i journal done) so.right
 
     pub valid_is : (verdict : NotedVerdict) → JudgesNoted roots journal verdict → (verdict ≡ Valid) ↔ AreRight roots journal
     valid_is Valid right = (λ _. right, λ _. refl)

@@ -1,15 +1,16 @@
-ghost use Rattle.std.specs.Prelude.{◌≡◌, ◌↔◌, IfOk, IsTrue, OnOk, Some, slice_get};
-ghost use Rattle.df_unit.specs.declared.entry.Entry.{Entry};
-ghost use Rattle.df_replay.specs.Noted.{AreRight, noted_in};
-ghost use Rattle.df_replay.specs.Replay.{entry_for, replayed};
-ghost use Rattle.df_check.specs.CheckNoted.{JudgesNoted, TellsOtherNoted};
+ghost use Rattle.std.specs.Prelude.{◌≡◌, ◌↔◌, IfOk, IsTrue, OnOk};
+ghost use Rattle.df_machine.specs.Journal.{State};
+ghost use Rattle.df_machine.specs.Tables.{AgreesWith};
+ghost use Rattle.df_replay.specs.Noted.{AreRight};
+ghost use Rattle.df_replay.specs.Replay.{replayed};
+ghost use Rattle.df_check.specs.CheckNoted.{JudgesNoted, TellsOtherNoted, noted_for};
 ghost use Rattle.df_check.specs.declared.noted.NotedVerdict.TheVariants.{Valid};
 
 use df_label::{Label, NoMemory};
-use df_machine::Core;
-use df_replay::{begin, contamination_before, copy_entry, replay};
+use df_machine::Tables;
+use df_replay::{Compared, compare, copy_entry};
 use df_start::Start;
-use df_unit::{Entry, Noted};
+use df_unit::Noted;
 use std::alloc::Global;
 
 /// What a check says of a journal whose entries are noted with contaminations. A place counts the
@@ -31,9 +32,9 @@ pub fn check_noted(
     ensures judges { IfOk result (JudgesNoted start.now journal.now) }
     ensures valid { IfOk result (λ verdict. (verdict ≡ Valid) ↔ AreRight start.now journal.now) }
 {
-    let mut core = begin(alloc, start)?;
+    let mut tables = Tables::begin(alloc, start)?;
     for (place, kept) in journal.iter().enumerate() {
-        if let Some(expected) = other_than(&mut core, kept)? {
+        if let Some(expected) = other_than(&mut tables, kept)? {
             let place = place as u64;
             return Ok(NotedVerdict::Wrong { place, expected });
         }
@@ -41,51 +42,43 @@ pub fn check_noted(
     Ok(NotedVerdict::Valid)
 }
 
-/// Appends the entry that the rules give where a kept one stands, and gives it where it, or the
-/// contamination before it, is another.
-fn other_than(core: &mut Core, kept: &Noted) -> Result<Option<Noted>, NoMemory>
-    ensures made { OnOk result (core.new ≡ replayed core.old kept.now.entry) }
-    ensures other { IfOk result (TellsOtherNoted
-        (noted_in core.old (entry_for core.old kept.now.entry)) kept.now) }
+/// The tables take in what the rules give where a kept entry stands. It is given where the kept
+/// one, or the contamination before it, is another.
+fn other_than(tables: &mut Tables, kept: &Noted) -> Result<Option<Noted>, NoMemory>
+    requires { (core : State) × AgreesWith core tables.old }
+    ensures made { OnOk result ((core : State) → AgreesWith core tables.old →
+        AgreesWith (replayed core kept.now.entry) tables.new) }
+    ensures other { IfOk result (λ other. (core : State) → AgreesWith core tables.old →
+        TellsOtherNoted (noted_for core kept.now) kept.now other) }
 {
-    let contamination = contamination_before(core, &kept.entry)?;
-    replay(core, &kept.entry)?;
-    newest_if_other(core, contamination, kept)
+    match compare(tables, &kept.entry)? {
+        Compared::Same { contamination } => other_note(contamination, kept),
+        Compared::Other { expected } => Ok(Some(expected)),
+    }
 }
 
-/// The newest entry with this contamination, where the kept one is another.
-fn newest_if_other(
-    core: &Core,
-    contamination: Option<Label>,
-    kept: &Noted,
-) -> Result<Option<Noted>, NoMemory>
-    requires { (entry : Entry) × (slice_get core.now.1 0 ≡ Some entry) }
-    ensures { (entry : Entry) → slice_get core.now.1 0 ≡ Some entry →
-        IfOk result (TellsOtherNoted
-        (record { entry = entry; contamination = contamination }) kept.now) }
+/// The entry with this contamination, where another one is noted.
+fn other_note(contamination: Option<Label>, kept: &Noted) -> Result<Option<Noted>, NoMemory>
+    ensures { IfOk result (TellsOtherNoted
+        (record { entry = kept.now.entry; contamination = contamination }) kept.now) }
 {
-    let Some(newest) = core.newest() else {
-        unreachable!()
-    };
-    if is_noted(newest, &contamination, kept) {
+    if is_noted(&contamination, &kept.contamination) {
         return Ok(None);
     }
-    let entry = copy_entry(newest)?;
+    let entry = copy_entry(&kept.entry)?;
     Ok(Some(Noted {
         entry,
         contamination,
     }))
 }
 
-/// Whether this entry with this contamination is the kept one.
-fn is_noted(entry: &Entry, contamination: &Option<Label>, kept: &Noted) -> bool
-    ensures { IsTrue result ↔
-        (record { entry = entry.now; contamination = contamination.now } ≡ kept.now) }
+/// Whether this contamination is the one that is noted.
+fn is_noted(contamination: &Option<Label>, noted: &Option<Label>) -> bool
+    ensures { IsTrue result ↔ (contamination.now ≡ noted.now) }
 {
-    let is_same_label = match (contamination, &kept.contamination) {
+    match (contamination, noted) {
         (Some(a), Some(b)) => a.same(b),
         (None, None) => true,
         _ => false,
-    };
-    is_same_label && entry.same(&kept.entry)
+    }
 }

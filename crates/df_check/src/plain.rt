@@ -1,5 +1,6 @@
 ghost use Rattle.std.specs.Prelude.{◌≡◌, ◌↔◌, IfOk, OnOk, Some, reverse, slice_get};
-ghost use Rattle.df_machine.specs.Journal.{firsts};
+ghost use Rattle.df_machine.specs.Journal.{State, firsts};
+ghost use Rattle.df_machine.specs.Tables.{AgreesWith};
 ghost use Rattle.df_rules.specs.Legal.{Legal};
 ghost use Rattle.df_rules.specs.Start.{rows};
 ghost use Rattle.df_unit.specs.declared.entry.Entry.{Entry};
@@ -8,8 +9,8 @@ ghost use Rattle.df_check.specs.Check.{Judges, TellsOther};
 ghost use Rattle.df_check.specs.declared.plain.Verdict.TheVariants.{Valid};
 
 use df_label::NoMemory;
-use df_machine::Core;
-use df_replay::{begin, copy_entry, replay};
+use df_machine::{Core, Tables};
+use df_replay::{Compared, compare, copy_entry, replay};
 use df_start::Start;
 use df_unit::Entry;
 use std::alloc::Global;
@@ -28,14 +29,29 @@ pub fn check(alloc: Global, start: &Start, journal: &[Entry]) -> Result<Verdict,
     ensures valid { IfOk result (λ verdict.
         (verdict ≡ Valid) ↔ Legal rows (firsts start.now) (reverse journal.now)) }
 {
-    let mut core = begin(alloc, start)?;
+    let mut tables = Tables::begin(alloc, start)?;
     for (place, kept) in journal.iter().enumerate() {
-        if let Some(expected) = other_than(&mut core, kept)? {
+        if let Some(expected) = other_entry(&mut tables, kept)? {
             let place = place as u64;
             return Ok(Verdict::Wrong { place, expected });
         }
     }
     Ok(Verdict::Valid)
+}
+
+/// The tables take in what the rules give where a kept entry stands. It is given where the kept
+/// one is another.
+fn other_entry(tables: &mut Tables, kept: &Entry) -> Result<Option<Entry>, NoMemory>
+    requires { (core : State) × AgreesWith core tables.old }
+    ensures made { OnOk result ((core : State) → AgreesWith core tables.old →
+        AgreesWith (replayed core kept.now) tables.new) }
+    ensures other { IfOk result (λ other. (core : State) → AgreesWith core tables.old →
+        TellsOther (entry_for core kept.now) kept.now other) }
+{
+    match compare(tables, kept)? {
+        Compared::Same { .. } => Ok(None),
+        Compared::Other { expected } => Ok(Some(expected.entry)),
+    }
 }
 
 /// Appends the entry that the rules give where a kept one stands, and gives it where it is another.

@@ -1,16 +1,18 @@
 -- The lines of one more entry of a legal journal.
-use Rattle.std.proofs.Common.{◌≡◌, ℕ, List, [], ◌∷◌, ◌++◌, ◌+◌, ◌<◌, length, take, drop, get_or, reverse, refl, ap, sym, ◌∙◌}
+use Rattle.std.proofs.Common.{◌≡◌, ℕ, List, [], ◌∷◌, ◌++◌, ◌+◌, ◌<◌, length, take, drop, get_or, reverse, refl, ap, sym, subst, ◌∙◌}
 use Rattle.std.specs.List.{flat_map}
 use Rattle.std.proofs.lemmas.Grind.{flat_map-append}
 use Rattle.std.proofs.lemmas.List.{drop_more, take-append-drop}
 use Rattle.df_journal_text.specs.Entry.{noted_text}
-use Rattle.df_machine.specs.Journal.{State, firsts}
+use Rattle.df_machine.specs.Journal.{firsts}
+use Rattle.df_machine.specs.Tables.{AgreesWith}
+use Rattle.df_machine.specs.declared.tables.Tables.{Tables}
 use Rattle.df_rules.proofs.Places.{legal_at}
 use Rattle.df_rules.specs.Legal.{Legal}
 use Rattle.df_rules.specs.Start.{rows}
 use Rattle.df_start.specs.declared.start.RootStart.{RootStart}
 use Rattle.df_unit.specs.declared.entry.Entry.{Entry}
-use Rattle.df_replay.proofs.Replayed.{core_more, reversed_more}
+use Rattle.df_replay.proofs.Replayed.{reversed_more}
 use Rattle.df_replay.proofs.Right.{right_is}
 use Rattle.df_replay.specs.Noted.{noted, noted_in}
 use Rattle.df_replay.specs.Replay.{entry_for, replayed}
@@ -19,9 +21,9 @@ use Rattle.df_replay.specs.Replay.{entry_for, replayed}
 abbrev pub lines_of : List RootStart → List Entry → List ℕ
 lines_of roots past = flat_map noted_text (noted roots past)
 
--- the machine's journal is what was kept so far, whose lines were appended
-pub record IsToldSoFar (roots : List RootStart) (journal : List Entry) (before : List ℕ) (i : ℕ) (core : State) (text : List ℕ) : Type 0 where
-  pub made : core ≡ (roots, reverse (take i journal))
+-- the tables are those of what was kept so far, whose lines were appended
+pub record IsToldSoFar (roots : List RootStart) (journal : List Entry) (before : List ℕ) (i : ℕ) (tables : Tables) (text : List ℕ) : Type 0 where
+  pub made : AgreesWith (roots, reverse (take i journal)) tables
   pub told : text ≡ before ++ lines_of roots (reverse (take i journal))
 
 append_again : {A : Type 0} (xs ys zs : List A) → (xs ++ ys) ++ zs ≡ xs ++ (ys ++ zs)
@@ -44,17 +46,17 @@ module _ (roots : List RootStart) (journal : List Entry) (before : List ℕ) (le
       ap (λ (l : List ℕ). lines_of roots past ++ l) (sym (append_none (noted_text (noted_in (roots, past) e))))
       ∙ sym (flat_map-append noted_text (noted roots past) (noted_in (roots, past) e ∷ []))
 
-  pub told_more : (i : ℕ) (d : Entry) (old new : State) (text now : List ℕ) → i < length journal → IsToldSoFar roots journal before i old text →
-      now ≡ text ++ noted_text (noted_in old (get_or journal i d)) → new ≡ replayed old (get_or journal i d) → IsToldSoFar roots journal before (i + 1) new now
+  pub told_more : (i : ℕ) (d : Entry) (old new : Tables) (text now : List ℕ) → i < length journal → IsToldSoFar roots journal before i old text
+      → now ≡ text ++ noted_text (noted_in (roots, reverse (take i journal)) (get_or journal i d))
+      → AgreesWith (replayed (roots, reverse (take i journal)) (get_or journal i d)) new → IsToldSoFar roots journal before (i + 1) new now
   told_more i d old new text now inside so pushed made =
       let past = reverse (take i journal) in
       let kept = get_or journal i d in
       let more = sym (reversed_more journal i d inside) in
       record {
-        made = core_more roots past kept old new so.made made (right_here i d inside) ∙ ap (λ (p : List Entry). let s : State = (roots, p) in s) more;
+        made = subst (λ (p : List Entry). AgreesWith (roots, p) new) (ap (λ (e : Entry). e ∷ past) (right_here i d inside) ∙ more) made;
         told =
             pushed
-            ∙ ap (λ (s : State). text ++ noted_text (noted_in s kept)) so.made
             ∙ ap (λ (ls : List ℕ). ls ++ noted_text (noted_in (roots, past) kept)) so.told
             ∙ append_again before (lines_of roots past) (noted_text (noted_in (roots, past) kept))
             ∙ ap (λ (ls : List ℕ). before ++ ls) (lines_more past kept ∙ ap (lines_of roots) more);

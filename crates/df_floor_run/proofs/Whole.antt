@@ -82,7 +82,8 @@ settled : (key n : ℕ) → n ≤ 4_000 → length (generated key n) ≡ n → (
     EndsWith load_config.max_steps after end → IsQuiet floor_brain after
 settled key n h count after runs Quiet quiet = quiet
 settled key n h count after runs (Unsettled steps) stops =
-    let most : length after.core.1 ≤ most_entries 3 4 (length (generated key n)) = settles load_config (generated key n) after.core.1 load_form runs.crew.journal in
+    let most : length after.core.1 ≤ most_entries 3 4 (length (generated key n)) =
+    settles load_config (generated key n) after.core.1 load_form runs.crew.journal in
     let least = few (length (generated key n)) (omega (arith, h, count)) in
     absurd (let full : 1_000_000 ≤ steps = stops.full in let counted = stops.counted in let z : ⊥ = omega (arith, most, least, full, counted) in z)
 

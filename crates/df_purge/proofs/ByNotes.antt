@@ -38,7 +38,7 @@ module _ (begin : List RootStart) (label : Label) where
       ap (option_map (λ (s : OwnState). s.contamination)) ((purge_keeps rows (firsts begin) (row_laws (map begun begin)) label past).same_own u st exists within ∙ sym exists)
 
   -- a note tells whether the unit is within the label
-  same_within : (o : Option OwnState) → is_noted_within label (option_map (λ (s : OwnState). s.contamination) o) ≡ is_within label o
+  pub same_within : (o : Option OwnState) → is_noted_within label (option_map (λ (s : OwnState). s.contamination) o) ≡ is_within label o
   same_within None = refl
   same_within (Some st) = refl
 

@@ -2,7 +2,9 @@
 use Rattle.std.proofs.Common.{◌≡◌, Bool, true, false, ℕ, List, ◌∷◌, ◌++◌, ◌+◌, ◌<◌, ◌≤◌, Option, Some, None, length, take, drop, get_or, reverse, refl, ap, sym, subst, ◌∙◌}
 use Rattle.std.proofs.lemmas.List.{drop_more, reverse-append, take_all, take-append-drop}
 use Rattle.df_label.specs.declared.label.Label.{Label}
-use Rattle.df_machine.specs.Journal.{State, firsts}
+use Rattle.df_machine.specs.Journal.{firsts}
+use Rattle.df_machine.specs.Tables.{AgreesWith}
+use Rattle.df_machine.specs.declared.tables.Tables.{Tables}
 use Rattle.df_rules.proofs.Exercised.{exercised}
 use Rattle.df_rules.proofs.Places.{legal_at, legal_before}
 use Rattle.df_rules.proofs.PurgeKeeps.{purge_keeps, purge_legal}
@@ -10,22 +12,26 @@ use Rattle.df_rules.proofs.ReleaseLaws.{row_release_laws}
 use Rattle.df_rules.proofs.RowLaws.{row_laws}
 use Rattle.df_rules.specs.Commits.{commit_of}
 use Rattle.df_rules.specs.Legal.{Legal}
+use Rattle.df_rules.specs.Own.{own}
 use Rattle.df_rules.specs.Purge.{Keeps, echo, emitted, left_of, purge, stays}
 use Rattle.df_rules.specs.Start.{rows}
 use Rattle.df_start.specs.Begun.{begun}
 use Rattle.df_start.specs.declared.start.RootStart.{RootStart}
 use Rattle.df_unit.specs.declared.commit.Commit.{Commit}
 use Rattle.df_unit.specs.declared.entry.Entry.{Entry}
-use Rattle.df_unit.specs.declared.entry.Entry.TheVariants.{Done}
+use Rattle.df_unit.specs.declared.entry.Entry.TheVariants.{Done, Emitted}
 use Rattle.std.specs.Prelude.{map}
-use Rattle.df_replay.proofs.Replayed.{core_more, reversed_more}
+use Rattle.df_replay.proofs.Replayed.{reversed_more}
 use Rattle.df_replay.proofs.Right.{right_is}
+use Rattle.df_replay.specs.Noted.{contamination_of}
 use Rattle.df_replay.specs.Replay.{entry_for, replayed}
+use Rattle.df_purge.proofs.ByNotes.{same_within}
+use Rattle.df_purge.specs.code.Left.{is_noted_within}
 use Rattle.df_purge.specs.Purged.{EmitsByPrivileges}
 
--- the machine's journal is what was kept so far, and what stays of it stands there
-pub record IsSoFar (begin : List RootStart) (label : Label) (journal : List Entry) (i : ℕ) (core : State) (left : List Entry) : Type 0 where
-  pub made : core ≡ (begin, reverse (take i journal))
+-- the tables are those of what was kept so far, and what stays of it stands there
+pub record IsSoFar (begin : List RootStart) (label : Label) (journal : List Entry) (i : ℕ) (tables : Tables) (left : List Entry) : Type 0 where
+  pub made : AgreesWith (begin, reverse (take i journal)) tables
   pub purged : reverse left ≡ purge rows (firsts begin) label (reverse (take i journal))
 
 -- of an entry at most one stays
@@ -45,24 +51,33 @@ module _ (begin : List RootStart) (label : Label) (journal : List Entry) where
       (legal_at rows (firsts begin) journal legal (take i journal) (drop (i + 1) journal) (get_or journal i d)
       (sym (take-append-drop i journal) ∙ ap (λ (l : List Entry). take i journal ++ l) (drop_more journal i d inside)))
 
-  pub so_far_more : Legal rows (firsts begin) (reverse journal) → (i : ℕ) (d : Entry) (old new : State) (before now : List Entry) → i < length journal → IsSoFar begin label journal i old before → now ≡ before ++ left_of label (stays rows (firsts old.0) label old.1 (get_or journal i d)) (get_or journal i d) → new ≡ replayed old (get_or journal i d) → IsSoFar begin label journal (i + 1) new now
-  so_far_more legal i d old new before now inside so pushed made =
+  -- a unit is within a label where the contamination before its entry is
+  noted_stays : (past : List Entry) (e : Entry) → is_noted_within label (contamination_of (begin, past) e) ≡ stays rows (firsts begin) label past e
+  noted_stays past (Done u c r f) = same_within begin label (own rows (firsts begin) past u)
+  noted_stays past (Emitted k) = refl
+
+  pub so_far_more : Legal rows (firsts begin) (reverse journal) → (i : ℕ) (d : Entry) (old new : Tables) (note : Option Label) (before now : List Entry)
+      → i < length journal → IsSoFar begin label journal i old before → note ≡ contamination_of (begin, reverse (take i journal)) (get_or journal i d)
+      → now ≡ before ++ left_of label (is_noted_within label note) (get_or journal i d)
+      → AgreesWith (replayed (begin, reverse (take i journal)) (get_or journal i d)) new → IsSoFar begin label journal (i + 1) new now
+  so_far_more legal i d old new note before now inside so is pushed made =
       let past = reverse (take i journal) in
       let kept = get_or journal i d in
       let more = sym (reversed_more journal i d inside) in
       let stay = stays rows (firsts begin) label past kept in
       record {
-        made = core_more begin past kept old new so.made made (right_here legal i d inside) ∙ ap (λ (p : List Entry). let s : State = (begin, p) in s) more;
+        made = subst (λ (p : List Entry). AgreesWith (begin, p) new) (ap (λ (e : Entry). e ∷ past) (right_here legal i d inside) ∙ more) made;
         purged =
-            ap (reverse {A = Entry}) (pushed ∙ ap (λ (s : State). before ++ left_of label (stays rows (firsts s.0) label s.1 kept) kept) so.made)
+            ap (reverse {A = Entry})
+            (pushed ∙ ap (λ (b : Bool). before ++ left_of label b kept) (ap (is_noted_within label) is ∙ noted_stays past kept))
             ∙ reverse-append before (left_of label stay kept)
             ∙ ap (λ (l : List Entry). l ++ reverse before) (left_reversed label stay kept)
             ∙ ap (λ (l : List Entry). left_of label stay kept ++ l) so.purged
             ∙ ap (purge rows (firsts begin) label) more;
       }
 
-  pub so_far_all : (i : ℕ) (core : State) (left : List Entry) → length journal ≤ i → IsSoFar begin label journal i core left → reverse left ≡ purge rows (firsts begin) label (reverse journal)
-  so_far_all i core left done so = so.purged ∙ ap (λ (j : List Entry). purge rows (firsts begin) label (reverse j)) (take_all i journal done)
+  pub so_far_all : (i : ℕ) (tables : Tables) (left : List Entry) → length journal ≤ i → IsSoFar begin label journal i tables left → reverse left ≡ purge rows (firsts begin) label (reverse journal)
+  so_far_all i tables left done so = so.purged ∙ ap (λ (j : List Entry). purge rows (firsts begin) label (reverse j)) (take_all i journal done)
 
   module _ (left : List Entry) (same : reverse left ≡ purge rows (firsts begin) label (reverse journal)) where
     pub left_legal : Legal rows (firsts begin) (reverse journal) → Legal rows (firsts begin) (reverse left)

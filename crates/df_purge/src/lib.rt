@@ -5,5 +5,5 @@ mod echo;
 mod noted;
 mod purged;
 
-pub use noted::purge_noted;
+pub use noted::{purge_noted, push_left};
 pub use purged::purge;

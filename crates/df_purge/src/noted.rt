@@ -25,8 +25,9 @@ pub fn purge_noted(alloc: Global, label: &Label, journal: &[Noted]) -> Result<Ve
     Ok(left)
 }
 
-/// Appends what stays of an entry.
-fn push_left(label: &Label, kept: &Noted, to: &mut Vec<Noted>) -> Result<(), NoMemory>
+/// Appends what stays at a label of an entry with its right note: the entry, where the note flows to
+/// the label, else what the label shows of its commit, as an emitted entry.
+pub fn push_left(label: &Label, kept: &Noted, to: &mut Vec<Noted>) -> Result<(), NoMemory>
     ensures { OnOk result (to.new.items ≡ to.old.items ++ left_noted label.now kept.now) }
 {
     if is_noted_within(label, &kept.contamination) {
@@ -43,7 +44,7 @@ fn push_left(label: &Label, kept: &Noted, to: &mut Vec<Noted>) -> Result<(), NoM
 }
 
 /// Whether a contamination is noted that flows to the label.
-fn is_noted_within(label: &Label, contamination: &Option<Label>) -> bool
+pub(crate) fn is_noted_within(label: &Label, contamination: &Option<Label>) -> bool
     ensures { result ≡ is_noted_within label.now contamination.now }
 {
     match contamination {

@@ -1,17 +1,18 @@
 ghost use Rattle.std.specs.Prelude.{◌≡◌, ◌++◌, IfOk, OnOk, reverse};
 ghost use Rattle.df_machine.specs.Journal.{firsts};
 ghost use Rattle.df_rules.specs.Legal.{Legal};
-ghost use Rattle.df_rules.specs.Own.{own};
-ghost use Rattle.df_rules.specs.Purge.{Keeps, is_within, left_of, purge, stays};
+ghost use Rattle.df_rules.specs.Purge.{Keeps, left_of, purge};
 ghost use Rattle.df_rules.specs.Start.{rows};
 ghost use Rattle.df_purge.specs.Purged.{EmitsByPrivileges};
+ghost use Rattle.df_purge.specs.code.Left.{is_noted_within};
 
 use crate::echo::echo_of;
+use crate::noted::is_noted_within;
 use df_label::{Label, NoMemory};
-use df_machine::Core;
-use df_replay::{begin, copy_entry, replay};
+use df_machine::Tables;
+use df_replay::{copy_entry, repeat};
 use df_start::Start;
-use df_unit::{Entry, UnitName};
+use df_unit::Entry;
 use std::alloc::Global;
 
 /// What stays of a legal journal, the oldest entry first, at a label: the entries of units that are
@@ -31,21 +32,26 @@ pub fn purge(
     ensures exercised { OnOk result
         (EmitsByPrivileges (firsts start.now) label.now (reverse journal.now)) }
 {
-    let mut core = begin(alloc, start)?;
+    let mut tables = Tables::begin(alloc, start)?;
     let mut left = Vec::new(alloc);
     for kept in journal {
-        push_left(&core, label, kept, &mut left)?;
-        replay(&mut core, kept)?;
+        let contamination = repeat(&mut tables, kept)?;
+        push_left(label, kept, &contamination, &mut left)?;
     }
     Ok(left)
 }
 
-/// Appends what stays of an entry.
-fn push_left(core: &Core, label: &Label, kept: &Entry, to: &mut Vec<Entry>) -> Result<(), NoMemory>
+/// Appends what stays of an entry before which its actor has this contamination.
+fn push_left(
+    label: &Label,
+    kept: &Entry,
+    contamination: &Option<Label>,
+    to: &mut Vec<Entry>,
+) -> Result<(), NoMemory>
     ensures { OnOk result (to.new.items ≡ to.old.items ++ left_of label.now
-        (stays rows (firsts core.now.0) label.now core.now.1 kept.now) kept.now) }
+        (is_noted_within label.now contamination.now) kept.now) }
 {
-    if stays(core, label, kept) {
+    if is_noted_within(label, contamination) {
         to.push(copy_entry(kept)?)?;
         return Ok(());
     }
@@ -53,23 +59,4 @@ fn push_left(core: &Core, label: &Label, kept: &Entry, to: &mut Vec<Entry>) -> R
         to.push(Entry::Emitted(commit))?;
     }
     Ok(())
-}
-
-/// Whether the entry is one of a unit that is within the label before it.
-fn stays(core: &Core, label: &Label, kept: &Entry) -> bool
-    ensures { result ≡ stays rows (firsts core.now.0) label.now core.now.1 kept.now }
-{
-    match kept {
-        Entry::Done { actor, .. } => is_within(core, label, actor),
-        Entry::Emitted(_) => false,
-    }
-}
-
-fn is_within(core: &Core, label: &Label, name: &UnitName) -> bool
-    ensures { result ≡ is_within label.now (own rows (firsts core.now.0) core.now.1 name.now) }
-{
-    match core.local(name) {
-        Some(local) => local.contamination().flows_to(label),
-        None => false,
-    }
 }

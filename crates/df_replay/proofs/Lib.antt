@@ -1,3 +1,4 @@
+pub mod Comparing
 pub mod Replayed
 pub mod Right
 pub mod Notes

@@ -8,7 +8,6 @@ use Rattle.df_start.specs.declared.start.RootStart.{RootStart}
 use Rattle.df_unit.specs.declared.entry.Entry.{Entry}
 use Rattle.df_unit.specs.declared.entry.Entry.TheVariants.{Done, Emitted}
 use Rattle.df_unit.specs.declared.entry.Noted.{Noted}
-use Rattle.df_unit.specs.declared.name.UnitName.{UnitName}
 
 -- the contamination that an entry's actor has before it
 abbrev pub contamination_of : State → Entry → Option Label

@@ -1,11 +1,10 @@
 ghost use Rattle.std.specs.Prelude.{◌≡◌, ◌∷◌, [], IfOk, OnOk};
 ghost use Rattle.df_unit.specs.declared.entry.Entry.TheVariants.{Emitted};
-ghost use Rattle.df_machine.specs.Journal.{appended, contamination_in};
-ghost use Rattle.df_replay.specs.Noted.{contamination_of};
+ghost use Rattle.df_machine.specs.Journal.{appended};
 ghost use Rattle.df_replay.specs.Replay.{replayed};
 
 use crate::{copy_call, copy_commit};
-use df_label::{Label, NoMemory};
+use df_label::NoMemory;
 use df_machine::Core;
 use df_start::{RootStart, Start};
 use df_unit::{Call, Commit, Entry, UnitName};
@@ -72,25 +71,5 @@ fn repeat_commit(core: &mut Core, commit: &Commit) -> Result<(), NoMemory>
     match core.emitted(commit) {
         Ok(_) => Ok(()),
         Err(_) => Err(NoMemory),
-    }
-}
-
-/// The contamination that the actor of an entry has before it, where it exists.
-pub fn contamination_before(core: &Core, kept: &Entry) -> Result<Option<Label>, NoMemory>
-    ensures { IfOk result (λ c. c ≡ contamination_of core.now kept.now) }
-{
-    match kept {
-        Entry::Done { actor, .. } => contamination(core, actor),
-        Entry::Emitted(_) => Ok(None),
-    }
-}
-
-/// The contamination of a unit, where it exists.
-pub fn contamination(core: &Core, name: &UnitName) -> Result<Option<Label>, NoMemory>
-    ensures { IfOk result (λ c. c ≡ contamination_in core.now name.now) }
-{
-    match core.local(name) {
-        Some(local) => Ok(Some(local.contamination().copy()?)),
-        None => Ok(None),
     }
 }

@@ -1,17 +1,14 @@
 -- What is noted with a journal whose oldest entry stands first.
 use Rattle.std.specs.Prelude.{◌≡◌, List, [], ◌∷◌, ◌++◌, Option, reverse}
 use Rattle.df_label.specs.declared.label.Label.{Label}
-use Rattle.df_machine.specs.Journal.{State, firsts}
+use Rattle.df_machine.specs.Journal.{firsts}
 use Rattle.df_rules.specs.Legal.{Legal}
 use Rattle.df_rules.specs.Start.{rows}
 use Rattle.df_start.specs.declared.start.RootStart.{RootStart}
 use Rattle.df_unit.specs.declared.entry.Entry.{Entry}
 use Rattle.df_unit.specs.declared.entry.Noted.{Noted}
-use Rattle.df_replay.specs.Noted.{contamination_of, noted}
-use Rattle.df_replay.specs.Replay.{entry_for}
+use Rattle.df_replay.specs.Noted.{noted}
 use Rattle.df_check.specs.Check.{IsFirstWrong}
-use Rattle.df_upgrade.specs.declared.notes.Compared.{Compared}
-use Rattle.df_upgrade.specs.declared.notes.Compared.TheVariants.{Other, Same}
 use Rattle.df_upgrade.specs.declared.notes.Judged.{Judged}
 use Rattle.df_upgrade.specs.declared.notes.Judged.TheVariants.{Right, Wrong}
 
@@ -21,13 +18,6 @@ abbrev pub JudgesAndNotes : List RootStart → List Entry → Judged → Type 0
 JudgesAndNotes roots journal (Right notes) = Legal rows (firsts roots) (reverse journal)
     × (notes.items ≡ noted roots (reverse journal))
 JudgesAndNotes roots journal (Wrong place expected) = IsFirstWrong roots journal place expected
-
--- the rules give the kept entry, and this is the contamination before it; or they give this other
-abbrev pub Compares : State → Entry → Compared → Type 0
-Compares core kept (Same contamination) = (entry_for core kept ≡ kept)
-    × (contamination ≡ contamination_of core kept)
-Compares core kept (Other expected) = (expected ≡ entry_for core kept)
-    × ¬ (entry_for core kept ≡ kept)
 
 -- the first of the entries is taken, and noted behind the others with this contamination
 abbrev pub MovesFirst : List Entry → List Entry → Option Label → List Noted → List Noted → Type 0

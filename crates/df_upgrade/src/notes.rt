@@ -4,13 +4,11 @@ ghost use Rattle.df_machine.specs.Journal.{firsts};
 ghost use Rattle.df_rules.specs.Legal.{Legal};
 ghost use Rattle.df_rules.specs.Start.{rows};
 ghost use Rattle.df_replay.specs.Noted.{noted};
-ghost use Rattle.df_replay.specs.Replay.{replayed};
-ghost use Rattle.df_upgrade.specs.Notes.{Compares, JudgesAndNotes, MovesFirst};
+ghost use Rattle.df_upgrade.specs.Notes.{JudgesAndNotes, MovesFirst};
 
-use df_check::other_than;
 use df_label::{Label, NoMemory};
-use df_machine::Core;
-use df_replay::{begin, contamination_before, copy_entry};
+use df_machine::Tables;
+use df_replay::{Compared, compare, copy_entry};
 use df_start::Start;
 use df_unit::{Entry, Noted};
 use std::alloc::Global;
@@ -26,27 +24,19 @@ pub enum Judged {
 
 /// Each entry of a journal, the oldest first, with the contamination that its actor has before it,
 /// where the journal is legal from the start; else the first place with another entry than the
-/// rules give, and the entry that they give. One machine goes over the journal once, and the
-/// entries are moved.
+/// rules give, and the entry that they give. The entries are moved.
 pub fn judge_and_note(alloc: Global, start: &Start, journal: Vec<Entry>) -> Result<Judged, NoMemory>
     ensures { IfOk result (JudgesAndNotes start.now journal.items) }
 {
-    let mut core = begin(alloc, start)?;
-    judge_from(alloc, &mut core, journal)
-}
-
-/// Judges and notes a journal by a machine whose own is empty.
-fn judge_from(alloc: Global, core: &mut Core, journal: Vec<Entry>) -> Result<Judged, NoMemory>
-    requires { core.old.1 ≡ [] }
-    ensures { IfOk result (JudgesAndNotes core.old.0 journal.items) }
-{
+    let mut tables = Tables::begin(alloc, start)?;
     let mut notes = Vec::with_capacity(alloc, journal.len())?;
     let mut left = VecDeque::from(journal);
     'entries: while let Some(kept) = left.front() {
-        match compare(core, kept)? {
+        match compare(&mut tables, kept)? {
             Compared::Same { contamination } => note_first(&mut left, contamination, &mut notes)?,
             Compared::Other { expected } => {
                 let place = notes.len() as u64;
+                let expected = expected.entry;
                 return Ok(Judged::Wrong { place, expected });
             }
         }
@@ -68,26 +58,6 @@ fn note_first(
         unreachable!()
     };
     add_note(to, entry, contamination)
-}
-
-/// What a kept entry is, beside the one that the rules give there.
-#[derive(Drop)]
-enum Compared {
-    Same { contamination: Option<Label> },
-    Other { expected: Entry },
-}
-
-/// Appends the entry that the rules give where a kept one stands, and compares them. Where they are
-/// the same, it gives the contamination that the actor has before it.
-fn compare(core: &mut Core, kept: &Entry) -> Result<Compared, NoMemory>
-    ensures made { OnOk result (core.new ≡ replayed core.old kept.now) }
-    ensures compares { IfOk result (Compares core.old kept.now) }
-{
-    let contamination = contamination_before(core, kept)?;
-    match other_than(core, kept)? {
-        Some(expected) => Ok(Compared::Other { expected }),
-        None => Ok(Compared::Same { contamination }),
-    }
 }
 
 /// Appends a note of an entry.

@@ -1,21 +1,17 @@
-use Rattle.std.proofs.Common.{◌≡◌, Option, IfOk, ap, sym, subst, slice_get, ◌∙◌}
-use Rattle.df_label.specs.declared.label.Label.{Label}
-use Rattle.df_machine.specs.Journal.{State}
-use Rattle.df_unit.specs.declared.entry.Noted.{Noted}
-use Rattle.df_replay.specs.Noted.{contamination_of}
-use Rattle.df_replay.specs.Replay.{entry_for}
-use Rattle.df_replay.proofs.Right.{same_contamination}
-use Rattle.df_check.specs.CheckNoted.{TellsOtherNoted}
+use Rattle.std.proofs.lemmas.Result.{IfOk-weaker}
+use Rattle.df_replay.proofs.Comparing.{on_ok_always}
+use Rattle.df_check.proofs.JudgedNoted.{tells_note, tells_other}
 use Rattle.df_check.proofs.noted.other_than.Goals as goal
 
-pub newest_if_other-requires : goal.newest_if_other-requires
-newest_if_other-requires c = (entry_for c.args.core.now c.args.kept.now.entry, ap (λ (s : State). slice_get s.1 0) c.in_ok-replay.ensures)
+pub returns-in-Same-clause-made : goal.returns-in-Same-clause-made
+returns-in-Same-clause-made c = on_ok_always c.other_note.result (λ core agrees. c.in_ok-contamination.ensures.made core agrees)
 
-pub returns-clause-other : goal.returns-clause-other
-returns-clause-other c =
-    let core = c.args.core.now in
-    let kept = c.args.kept.now in
-    let given = entry_for core kept.entry in
-    let same : c.in_ok-contamination.contamination ≡ contamination_of core given = c.in_ok-contamination.ensures ∙ sym (same_contamination core.0 core.1 kept.entry) in
-    subst (λ (l : Option Label). let n : Noted = record { entry = given; contamination = l } in IfOk c.newest_if_other.result (TellsOtherNoted n kept)) same
-    (c.newest_if_other.ensures given (ap (λ (s : State). slice_get s.1 0) c.in_ok-replay.ensures))
+pub returns-in-Same-clause-other : goal.returns-in-Same-clause-other
+returns-in-Same-clause-other c =
+    IfOk-weaker c.other_note.result _ _
+    (λ other told core agrees. tells_note core c.args.kept.now c.in-Same.contamination other (rw c.in-Same.is at (c.in_ok-contamination.ensures.compares core agrees)) told)
+    c.other_note.ensures
+
+pub returns-in-Other-clause-other : goal.returns-in-Other-clause-other
+returns-in-Other-clause-other c core agrees =
+    tells_other core c.args.kept.now c.in-Other.expected (rw c.in-Other.is at (c.in_ok-contamination.ensures.compares core agrees))

@@ -1,22 +1,32 @@
-use Rattle.std.proofs.Common.{Some, subst}
+use Rattle.std.proofs.Common.{Some, ◌≡◌, reverse, subst, take}
+use Rattle.df_machine.specs.Journal.{State}
+use Rattle.df_machine.specs.Tables.{AgreesWith}
 use Rattle.df_unit.specs.declared.entry.Entry.{Entry}
-use Rattle.df_replay.specs.Replay.{entry_for}
+use Rattle.df_replay.specs.Replay.{entry_for, replayed}
 use Rattle.df_check.specs.Check.{TellsOther}
 use Rattle.df_check.specs.declared.plain.Verdict.TheVariants.{Wrong}
-use Rattle.df_check.proofs.Judged.{first_wrong, valid_is}
+use Rattle.df_check.proofs.Judged.{first_wrong, so_far_more, valid_is}
 use Rattle.df_check.proofs.plain.check.Goals as goal
+
+pub other_entry-requires : goal.other_entry-requires
+other_entry-requires c = ((c.args.start.now, reverse (take c.loop-place.place c.args.journal.now)), c.loop-place.invariant.made)
+
+pub loop-place-preserved : goal.loop-place-preserved
+loop-place-preserved c =
+    let core : State = (c.args.start.now, reverse (take c.loop-place.place c.args.journal.now)) in
+    let so = c.loop-place.invariant in
+    so_far_more c.args.start.now c.args.journal.now c.loop-place.place c.index-journal-place.result c.loop-place.tables c.other_entry.new.tables
+    c.loop-place-test.true so
+    (subst (λ (kept : Entry). AgreesWith (replayed core kept) c.other_entry.new.tables) c.index-journal-place.is (c.in_ok-expected.ensures.made core so.made))
+    (subst (λ (kept : Entry). entry_for core kept ≡ kept) c.index-journal-place.is (rw c.in_default.is at (c.in_ok-expected.ensures.other core so.made)))
 
 pub returns-in-Some-clause-judges : goal.returns-in-Some-clause-judges
 returns-in-Some-clause-judges c =
-    let core = c.loop-place.core in
+    let core : State = (c.args.start.now, reverse (take c.loop-place.place c.args.journal.now)) in
     let other = c.in-Some.expected in
-    let tells = rw c.in-Some.is at c.in_ok-expected.ensures.other in
-    first_wrong c.args.start.now c.args.journal.now c.loop-place.place c.index-journal-place.result core other c.loop-place-test.true c.loop-place.invariant (subst (λ (kept : Entry). TellsOther (entry_for core kept) kept (Some other)) c.index-journal-place.is tells)
+    let tells = rw c.in-Some.is at (c.in_ok-expected.ensures.other core c.loop-place.invariant.made) in
+    first_wrong c.args.start.now c.args.journal.now c.loop-place.place c.index-journal-place.result c.loop-place.tables other c.loop-place-test.true
+    c.loop-place.invariant (subst (λ (kept : Entry). TellsOther (entry_for core kept) kept (Some other)) c.index-journal-place.is tells)
 
 pub returns-in-Some-clause-valid : goal.returns-in-Some-clause-valid
-returns-in-Some-clause-valid c =
-    let core = c.loop-place.core in
-    let other = c.in-Some.expected in
-    let tells = rw c.in-Some.is at c.in_ok-expected.ensures.other in
-    valid_is c.args.start.now c.args.journal.now (Wrong c.loop-place.place other)
-    (first_wrong c.args.start.now c.args.journal.now c.loop-place.place c.index-journal-place.result core other c.loop-place-test.true c.loop-place.invariant (subst (λ (kept : Entry). TellsOther (entry_for core kept) kept (Some other)) c.index-journal-place.is tells))
+returns-in-Some-clause-valid c = valid_is c.args.start.now c.args.journal.now (Wrong c.loop-place.place c.in-Some.expected) (returns-in-Some-clause-judges c)

@@ -1,29 +1,39 @@
-use Rattle.std.proofs.Common.{subst}
-use Rattle.df_rules.specs.Start.{rows}
-use Rattle.df_machine.specs.Journal.{firsts}
-use Rattle.df_rules.specs.Purge.{left_of, stays}
+use Rattle.std.proofs.Common.{◌≡◌, ◌++◌, reverse, subst, take}
+use Rattle.df_machine.specs.Journal.{State}
+use Rattle.df_machine.specs.Tables.{AgreesWith}
+use Rattle.df_rules.specs.Purge.{left_of}
+use Rattle.df_replay.specs.Noted.{contamination_of}
 use Rattle.df_replay.specs.Replay.{replayed}
 use Rattle.df_unit.specs.declared.entry.Entry.{Entry}
-use Rattle.std.proofs.Common.{◌≡◌, ◌++◌}
 use Rattle.df_purge.proofs.SoFar.{by_privileges, left_keeps, left_legal, so_far_all, so_far_more}
+use Rattle.df_purge.specs.code.Left.{is_noted_within}
 use Rattle.df_purge.proofs.purged.purge.Goals as goal
+
+pub repeat-requires : goal.repeat-requires
+repeat-requires c = ((c.args.start.now, reverse (take c.loop-kept.kept-index c.args.journal.now)), c.loop-kept.invariant.made)
 
 pub loop-kept-preserved : goal.loop-kept-preserved
 loop-kept-preserved c =
-    let core = c.loop-kept.core in
+    let so = c.loop-kept.invariant in
+    let core : State = (c.args.start.now, reverse (take c.loop-kept.kept-index c.args.journal.now)) in
     let label = c.args.label.now in
-    let pushed = subst (λ (kept : Entry). c.push_left.new.to.items ≡ c.loop-kept.left.items ++ left_of label (stays rows (firsts core.0) label core.1 kept) kept) c.kept-item.is c.in_ok-push_left.ensures in
-    let made = subst (λ (kept : Entry). c.replay.new.core ≡ replayed core kept) c.kept-item.is c.in_ok-replay.ensures in
-    so_far_more c.args.start.now label c.args.journal.now c.requires c.loop-kept.kept-index c.kept-item.result core c.replay.new.core c.loop-kept.left.items c.push_left.new.to.items c.loop-kept-test.true c.loop-kept.invariant pushed made
+    let note = c.in_ok-contamination.contamination in
+    let is = subst (λ (kept : Entry). note ≡ contamination_of core kept) c.kept-item.is (c.in_ok-contamination.ensures.contamination core so.made) in
+    let pushed = subst (λ (kept : Entry). c.push_left.new.to.items ≡ c.loop-kept.left.items ++ left_of label (is_noted_within label note) kept) c.kept-item.is
+    c.in_ok-push_left.ensures in
+    let made = subst (λ (kept : Entry). AgreesWith (replayed core kept) c.repeat.new.tables) c.kept-item.is
+    (c.in_ok-contamination.ensures.made core so.made) in
+    so_far_more c.args.start.now label c.args.journal.now c.requires c.loop-kept.kept-index c.kept-item.result c.loop-kept.tables c.repeat.new.tables note
+    c.loop-kept.left.items c.push_left.new.to.items c.loop-kept-test.true so is pushed made
 
 pub returns-clause-legal : goal.returns-clause-legal
 returns-clause-legal c =
-    let same = so_far_all c.args.start.now c.args.label.now c.args.journal.now c.loop-kept.kept-index c.loop-kept.core c.loop-kept.left.items c.loop-kept-test.false c.loop-kept.invariant in
+    let same = so_far_all c.args.start.now c.args.label.now c.args.journal.now c.loop-kept.kept-index c.loop-kept.tables c.loop-kept.left.items c.loop-kept-test.false c.loop-kept.invariant in
     left_legal c.args.start.now c.args.label.now c.args.journal.now c.loop-kept.left.items same c.requires
 
 pub returns-clause-keeps : goal.returns-clause-keeps
 returns-clause-keeps c =
-    let same = so_far_all c.args.start.now c.args.label.now c.args.journal.now c.loop-kept.kept-index c.loop-kept.core c.loop-kept.left.items c.loop-kept-test.false c.loop-kept.invariant in
+    let same = so_far_all c.args.start.now c.args.label.now c.args.journal.now c.loop-kept.kept-index c.loop-kept.tables c.loop-kept.left.items c.loop-kept-test.false c.loop-kept.invariant in
     left_keeps c.args.start.now c.args.label.now c.args.journal.now c.loop-kept.left.items same
 
 pub returns-clause-exercised : goal.returns-clause-exercised

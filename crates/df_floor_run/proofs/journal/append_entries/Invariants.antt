@@ -1,5 +1,0 @@
-use Rattle.df_floor_run.proofs.Told.{IsToldSoFar}
-use Rattle.df_floor_run.proofs.journal.append_entries.Given as goal
-
-abbrev pub invariant-loop-kept : goal.invariant-loop-kept
-invariant-loop-kept l = IsToldSoFar l.initial.core.0 l.entries l.initial.text.items l.kept-index l.core l.text.items
