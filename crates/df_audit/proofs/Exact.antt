@@ -14,9 +14,7 @@ use Rattle.df_check.proofs.JudgedNoted.{right_at}
 use Rattle.df_check.specs.Check as plain
 use Rattle.df_check.specs.CheckNoted as with_notes
 use Rattle.df_journal_file.proofs.Texts.{not_both, one_noted, one_plain}
-use Rattle.df_journal_file.specs.Either.{IsJournalOf}
-use Rattle.df_journal_file.specs.declared.file.Journal.{Journal}
-use Rattle.df_journal_file.specs.declared.file.Journal.TheVariants.{First, Second}
+use Rattle.df_journal_file.specs.Either.{First, IsJournalOf, Journal, Second}
 use Rattle.df_audit.specs.Audit.{IsRightJournal, IsWrongAt, entries_in}
 
 -- ---- of two places in a list one comes first, or they are one
@@ -72,35 +70,35 @@ module _ (roots : List RootStart) where
 
 pub right_is_not_wrong : (bytes : List ℕ) (p : ℕ) (i j : Journal) → IsJournalOf i bytes → IsJournalOf j bytes → IsRightJournal i → IsWrongAt j p → ⊥
 right_is_not_wrong bytes p (First r es) (First s ds) a b right wrong =
-    let same = one_plain bytes r s es.items ds.items a b in
+    let same = one_plain bytes r s es ds a b in
     let legal = subst (λ (x : List RootStart × List Entry). Legal rows (firsts x.0) (reverse x.1))
-    (ap (λ (x : List RootStart). (x, es.items)) same.0 ∙ ap (λ (x : List Entry). (s, x)) same.1) right in
-    legal_not_wrong s ds.items p wrong.0 legal wrong.1
-right_is_not_wrong bytes p (First r es) (Second s ns) a b right wrong = not_both bytes r s es.items ns.items a b
-right_is_not_wrong bytes p (Second r ns) (First s es) a b right wrong = not_both bytes s r es.items ns.items b a
+    (ap (λ (x : List RootStart). (x, es)) same.0 ∙ ap (λ (x : List Entry). (s, x)) same.1) right in
+    legal_not_wrong s ds p wrong.0 legal wrong.1
+right_is_not_wrong bytes p (First r es) (Second s ns) a b right wrong = not_both bytes r s es ns a b
+right_is_not_wrong bytes p (Second r ns) (First s es) a b right wrong = not_both bytes s r es ns b a
 right_is_not_wrong bytes p (Second r ns) (Second s ms) a b right wrong =
-    let same = one_noted bytes r s ns.items ms.items a b in
+    let same = one_noted bytes r s ns ms a b in
     let are = subst (λ (x : List RootStart × List Noted). AreRight x.0 x.1)
-    (ap (λ (x : List RootStart). (x, ns.items)) same.0 ∙ ap (λ (x : List Noted). (s, x)) same.1) right in
-    noted_not_wrong s ms.items p wrong.0 are wrong.1
+    (ap (λ (x : List RootStart). (x, ns)) same.0 ∙ ap (λ (x : List Noted). (s, x)) same.1) right in
+    noted_not_wrong s ms p wrong.0 are wrong.1
 
 -- bytes are a journal of so many entries
 pub one_count : (bytes : List ℕ) (i j : Journal) → IsJournalOf i bytes → IsJournalOf j bytes → length (entries_in i) ≡ length (entries_in j)
-one_count bytes (First r es) (First s ds) a b = ap (λ (x : List Entry). length x) (one_plain bytes r s es.items ds.items a b).1
-one_count bytes (First r es) (Second s ns) a b = absurd (not_both bytes r s es.items ns.items a b)
-one_count bytes (Second r ns) (First s es) a b = absurd (not_both bytes s r es.items ns.items b a)
-one_count bytes (Second r ns) (Second s ms) a b = ap (λ (x : List Noted). length (map (λ n. n.entry) x)) (one_noted bytes r s ns.items ms.items a b).1
+one_count bytes (First r es) (First s ds) a b = ap (λ (x : List Entry). length x) (one_plain bytes r s es ds a b).1
+one_count bytes (First r es) (Second s ns) a b = absurd (not_both bytes r s es ns a b)
+one_count bytes (Second r ns) (First s es) a b = absurd (not_both bytes s r es ns b a)
+one_count bytes (Second r ns) (Second s ms) a b = ap (λ (x : List Noted). length (map (λ n. n.entry) x)) (one_noted bytes r s ns ms a b).1
 
 pub one_place : (bytes : List ℕ) (p q : ℕ) (i j : Journal) → IsJournalOf i bytes → IsJournalOf j bytes → IsWrongAt i p → IsWrongAt j q → p ≡ q
 one_place bytes p q (First r es) (First s ds) a b v w =
-    let same = one_plain bytes r s es.items ds.items a b in
+    let same = one_plain bytes r s es ds a b in
     let moved = subst (λ (x : List RootStart × List Entry). plain.IsFirstWrong x.0 x.1 p v.0)
-    (ap (λ (x : List RootStart). (x, es.items)) same.0 ∙ ap (λ (x : List Entry). (s, x)) same.1) v.1 in
-    one_plain_place s ds.items p q v.0 w.0 moved w.1
-one_place bytes p q (First r es) (Second s ns) a b v w = absurd (not_both bytes r s es.items ns.items a b)
-one_place bytes p q (Second r ns) (First s es) a b v w = absurd (not_both bytes s r es.items ns.items b a)
+    (ap (λ (x : List RootStart). (x, es)) same.0 ∙ ap (λ (x : List Entry). (s, x)) same.1) v.1 in
+    one_plain_place s ds p q v.0 w.0 moved w.1
+one_place bytes p q (First r es) (Second s ns) a b v w = absurd (not_both bytes r s es ns a b)
+one_place bytes p q (Second r ns) (First s es) a b v w = absurd (not_both bytes s r es ns b a)
 one_place bytes p q (Second r ns) (Second s ms) a b v w =
-    let same = one_noted bytes r s ns.items ms.items a b in
+    let same = one_noted bytes r s ns ms a b in
     let moved = subst (λ (x : List RootStart × List Noted). with_notes.IsFirstWrong x.0 x.1 p v.0)
-    (ap (λ (x : List RootStart). (x, ns.items)) same.0 ∙ ap (λ (x : List Noted). (s, x)) same.1) v.1 in
-    one_noted_place s ms.items p q v.0 w.0 moved w.1
+    (ap (λ (x : List RootStart). (x, ns)) same.0 ∙ ap (λ (x : List Noted). (s, x)) same.1) v.1 in
+    one_noted_place s ms p q v.0 w.0 moved w.1

@@ -15,7 +15,7 @@ use Rattle.df_replay.specs.Noted.{noted}
 use Rattle.df_why.specs.Grounds.{IsClosed, IsGrounds, at_places, set_of}
 use Rattle.df_journal_text.specs.Entry.{noted_text}
 use Rattle.df_journal_text.specs.Start.{head_text, journal_text}
-use Rattle.df_journal_file.specs.declared.file.Journal.{Journal}
+use Rattle.df_journal_file.specs.Either.{Journal}
 use Rattle.df_audit.specs.Audit.{Explains, IsWhyOf, entries_at, entries_in, past_in, roots_in}
 use Rattle.df_audit.specs.code.Picking.{AreGrounds, ExplainsNoted}
 use Rattle.df_audit.specs.declared.audit.Audit.{Audit}

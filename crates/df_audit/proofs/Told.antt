@@ -11,8 +11,7 @@ use Rattle.df_unit.specs.declared.entry.Noted.{Noted}
 use Rattle.df_replay.specs.Noted.{AreRight, noted, past_of}
 use Rattle.df_replay.proofs.Notes.{noted_past, right_notes}
 use Rattle.df_journal_text.specs.Start.{journal_text}
-use Rattle.df_journal_file.specs.declared.file.Journal.{Journal}
-use Rattle.df_journal_file.specs.declared.file.Journal.TheVariants.{First, Second}
+use Rattle.df_journal_file.specs.Either.{First, Journal, Second}
 use Rattle.df_audit.specs.Audit.{IsPurgeOf, IsRightJournal, IsUpgradeOf, IsWrongAt, Purges, Upgrades, past_in, roots_in}
 use Rattle.df_audit.specs.code.Noting.{IsNotedOf}
 use Rattle.df_audit.specs.declared.audit.Audit.{Audit}
@@ -43,7 +42,7 @@ made_known roots start past notes same legal is = (
 
 pub knows : (journal : Journal) (n : Noting) → IsNotedOf journal n → Knows journal n
 knows (First roots entries) (noting.Noted start notes) h =
-    let made = made_known roots start (reverse entries.items) notes.items h.0 h.1 h.2 in
+    let made = made_known roots start (reverse entries) notes.items h.0 h.1 h.2 in
     record { same = h.0; right = h.1; are = made.0; past = made.1 }
 knows (First roots entries) (noting.Wrong place) h = h
 knows (Second roots kept) (noting.Noted start notes) h =
@@ -57,7 +56,7 @@ knows (Second roots kept) (noting.Noted start notes) h =
 knows (Second roots kept) (noting.Wrong place) h = h
 
 -- a right journal is legal
-legal_in : (journal : Journal) → IsRightJournal journal → Legal rows (firsts (roots_in journal)) (past_in journal)
+pub legal_in : (journal : Journal) → IsRightJournal journal → Legal rows (firsts (roots_in journal)) (past_in journal)
 legal_in (First roots entries) right = right
 legal_in (Second roots notes) right = right.legal
 

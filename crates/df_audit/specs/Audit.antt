@@ -16,9 +16,7 @@ use Rattle.df_check.specs.CheckNoted as with_notes
 use Rattle.df_journal_text.specs.Entry.{entry_text, noted_text}
 use Rattle.df_journal_text.specs.Line.{line}
 use Rattle.df_journal_text.specs.Start.{journal_text}
-use Rattle.df_journal_file.specs.Either.{IsJournalOf}
-use Rattle.df_journal_file.specs.declared.file.Journal.{Journal}
-use Rattle.df_journal_file.specs.declared.file.Journal.TheVariants.{First, Second}
+use Rattle.df_journal_file.specs.Either.{First, IsJournalOf, Journal, Second}
 use Rattle.df_audit.specs.Sound.{IsSound}
 use Rattle.df_audit.specs.declared.audit.Finding.{Finding}
 use Rattle.df_audit.specs.declared.audit.Finding.TheVariants.{Right, Wrong, NoPlace}
@@ -31,8 +29,8 @@ roots_in (Second start notes) = start
 
 -- its entries, the oldest first
 abbrev pub entries_in : Journal → List Entry
-entries_in (First start entries) = entries.items
-entries_in (Second start notes) = map (λ n. n.entry) notes.items
+entries_in (First start entries) = entries
+entries_in (Second start notes) = map (λ n. n.entry) notes
 
 -- the same, the newest first
 abbrev pub past_in : Journal → List Entry
@@ -40,15 +38,15 @@ past_in journal = reverse (entries_in journal)
 
 -- each entry is what the rules give, and so is each contamination that is noted
 abbrev pub IsRightJournal : Journal → Type 0
-IsRightJournal (First start entries) = Legal rows (firsts start) (reverse entries.items)
-IsRightJournal (Second start notes) = AreRight start notes.items
+IsRightJournal (First start entries) = Legal rows (firsts start) (reverse entries)
+IsRightJournal (Second start notes) = AreRight start notes
 
 -- the first place where they aren't, counted from 0
 abbrev pub IsWrongAt : Journal → ℕ → Type 0
 IsWrongAt (First start entries) place =
-    (expected : Entry) × plain.IsFirstWrong start entries.items place expected
+    (expected : Entry) × plain.IsFirstWrong start entries place expected
 IsWrongAt (Second start notes) place =
-    (expected : Noted) × with_notes.IsFirstWrong start notes.items place expected
+    (expected : Noted) × with_notes.IsFirstWrong start notes place expected
 
 -- the journal is right, and has a place
 abbrev pub HasPlace : ℕ → Journal → Type 0
@@ -96,8 +94,8 @@ IsCheckOfSecond roots notes (NoPlace count) text = ⊥
 
 -- a check says whether the journal is right
 abbrev pub IsCheckOf : Journal → Finding → List ℕ → Type 0
-IsCheckOf (First start entries) finding text = IsCheckOfFirst start entries.items finding text
-IsCheckOf (Second start notes) finding text = IsCheckOfSecond start notes.items finding text
+IsCheckOf (First start entries) finding text = IsCheckOfFirst start entries finding text
+IsCheckOf (Second start notes) finding text = IsCheckOfSecond start notes finding text
 
 -- what a purge leaves of the entries
 abbrev pub purged_in : Label → Journal → List Entry

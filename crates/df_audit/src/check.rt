@@ -3,7 +3,7 @@ ghost use Rattle.std.specs.Prelude.{◌≡◌, IfErr, IfOk};
 ghost use Rattle.df_lines.specs.Refused.{NamesBadLine};
 ghost use Rattle.df_audit.specs.declared.audit.Finding.TheVariants.{Right, Wrong};
 ghost use Rattle.df_journal_text.specs.Entry.{entry_text};
-ghost use Rattle.df_journal_file.specs.Either.{IsEitherText};
+ghost use Rattle.df_journal_file.specs.Either.{IsEitherText, journal_in};
 ghost use Rattle.df_journal_file.specs.TooLarge.{IsLargeIn};
 ghost use Rattle.df_audit.specs.Audit.{IsCheckOf, IsCheckOfFirst, IsCheckOfSecond, OfJournal, valid_text, wrong_text};
 
@@ -34,7 +34,7 @@ pub fn check_text(alloc: Global, bytes: &[u8]) -> Result<Audit, FileRefused>
 }
 
 fn checked(alloc: Global, journal: &Journal) -> Result<Audit, NoMemory>
-    ensures { IfOk result (λ audit. IsCheckOf journal.now audit.finding audit.text.items) }
+    ensures { IfOk result (λ audit. IsCheckOf (journal_in journal.now) audit.finding audit.text.items) }
 {
     match journal {
         Journal::First { start, entries } => checked_first(alloc, start, entries.as_slice()),

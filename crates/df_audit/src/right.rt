@@ -2,7 +2,7 @@
 ghost use Rattle.std.specs.Prelude.{◌≡◌, [], IfErr, IfOk};
 ghost use Rattle.df_lines.specs.Refused.{NamesBadLine};
 ghost use Rattle.df_journal_text.specs.Start.{journal_text};
-ghost use Rattle.df_journal_file.specs.Either.{IsEitherText};
+ghost use Rattle.df_journal_file.specs.Either.{IsEitherText, journal_in};
 ghost use Rattle.df_journal_file.specs.TooLarge.{IsLargeIn};
 ghost use Rattle.df_audit.specs.Audit.{OfJournal, Purges, Upgrades};
 ghost use Rattle.df_audit.specs.code.Noting.{IsNotedOf, IsNotedOfFirst, IsNotedOfSecond};
@@ -61,7 +61,7 @@ pub fn upgrade_text(alloc: Global, bytes: &[u8]) -> Result<Audit, FileRefused>
 
 fn purged(alloc: Global, label: &Label, journal: Journal) -> Result<Audit, NoMemory>
     ensures { IfOk result (λ audit.
-        Purges label.now journal audit.finding audit.text.items) }
+        Purges label.now (journal_in journal) audit.finding audit.text.items) }
 {
     let (start, notes) = match right_notes(alloc, journal)? {
         Noting::Noted { start, notes } => (start, notes),
@@ -72,7 +72,8 @@ fn purged(alloc: Global, label: &Label, journal: Journal) -> Result<Audit, NoMem
 }
 
 fn upgraded(alloc: Global, journal: Journal) -> Result<Audit, NoMemory>
-    ensures { IfOk result (λ audit. Upgrades journal audit.finding audit.text.items) }
+    ensures { IfOk result (λ audit.
+        Upgrades (journal_in journal) audit.finding audit.text.items) }
 {
     match right_notes(alloc, journal)? {
         Noting::Noted { start, notes } => told(alloc, &start, notes.as_slice()),
@@ -82,7 +83,7 @@ fn upgraded(alloc: Global, journal: Journal) -> Result<Audit, NoMemory>
 
 /// The journal with its notes, where it is right.
 pub fn right_notes(alloc: Global, journal: Journal) -> Result<Noting, NoMemory>
-    ensures { IfOk result (IsNotedOf journal) }
+    ensures { IfOk result (IsNotedOf (journal_in journal)) }
 {
     match journal {
         Journal::First { start, entries } => first_notes(alloc, start, entries),

@@ -4,7 +4,7 @@ ghost use Rattle.df_lines.specs.Refused.{NamesBadLine};
 ghost use Rattle.df_replay.specs.Noted.{AreRight};
 ghost use Rattle.df_why.specs.Grounds.{at_places};
 ghost use Rattle.df_journal_text.specs.Start.{journal_text};
-ghost use Rattle.df_journal_file.specs.Either.{IsEitherText};
+ghost use Rattle.df_journal_file.specs.Either.{IsEitherText, journal_in};
 ghost use Rattle.df_journal_file.specs.TooLarge.{IsLargeIn};
 ghost use Rattle.df_audit.specs.Audit.{Explains, OfJournal};
 ghost use Rattle.df_audit.specs.code.Picking.{AreGrounds, ExplainsNoted};
@@ -40,7 +40,8 @@ pub fn why_text(alloc: Global, place: u64, bytes: &[u8]) -> Result<Audit, FileRe
 }
 
 fn explained(alloc: Global, place: u64, journal: Journal) -> Result<Audit, NoMemory>
-    ensures { IfOk result (λ audit. Explains place journal audit.finding audit.text.items) }
+    ensures { IfOk result (λ audit.
+        Explains place (journal_in journal) audit.finding audit.text.items) }
 {
     match right_notes(alloc, journal)? {
         Noting::Noted { start, notes } => explain_noted(alloc, place, &start, notes.as_slice()),

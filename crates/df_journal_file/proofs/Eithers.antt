@@ -3,19 +3,17 @@ use Rattle.std.proofs.Common.{ℕ, List, inl, inr}
 use Rattle.df_start.specs.declared.start.RootStart.{RootStart}
 use Rattle.df_unit.specs.declared.entry.Entry.{Entry}
 use Rattle.df_unit.specs.declared.entry.Noted.{Noted}
-use Rattle.df_journal_file.specs.Either.{IsEitherText, IsFirstOf, IsJournalOf, IsSecondOf}
-use Rattle.df_journal_file.specs.declared.file.Journal.{Journal}
-use Rattle.df_journal_file.specs.declared.file.Journal.TheVariants.{First, Second}
+use Rattle.df_journal_file.specs.Either.{First, IsEitherText, IsFirstOf, IsJournalOf, IsSecondOf, Journal, Second}
 use Rattle.df_journal_file.proofs.Texts.{NotedRead, PlainRead, not_both, one_noted, one_plain}
 
 pub either_text : (bytes : List ℕ) (journal : Journal) → IsJournalOf journal bytes → IsEitherText bytes
-either_text bytes (First start entries) r = inl (start, entries.items, r.1.0, r.0, r.1.1, r.1.2)
-either_text bytes (Second start noted) r = inr (start, noted.items, r.1.0, r.0, r.1.1, r.1.2)
+either_text bytes (First start entries) r = inl (start, entries, r.1.0, r.0, r.1.1, r.1.2)
+either_text bytes (Second start noted) r = inr (start, noted, r.1.0, r.0, r.1.1, r.1.2)
 
 pub either_first : (bytes : List ℕ) (journal : Journal) (roots : List RootStart) (entries : List Entry) → IsJournalOf journal bytes → PlainRead bytes roots entries → IsFirstOf roots entries journal
-either_first bytes (First start read) roots entries r s = one_plain bytes start roots read.items entries r s
-either_first bytes (Second start read) roots entries r s = not_both bytes roots start entries read.items s r
+either_first bytes (First start read) roots entries r s = one_plain bytes start roots read entries r s
+either_first bytes (Second start read) roots entries r s = not_both bytes roots start entries read s r
 
 pub either_second : (bytes : List ℕ) (journal : Journal) (roots : List RootStart) (noted : List Noted) → IsJournalOf journal bytes → NotedRead bytes roots noted → IsSecondOf roots noted journal
-either_second bytes (First start read) roots noted r s = not_both bytes start roots read.items noted r s
-either_second bytes (Second start read) roots noted r s = one_noted bytes start roots read.items noted r s
+either_second bytes (First start read) roots noted r s = not_both bytes start roots read noted r s
+either_second bytes (Second start read) roots noted r s = one_noted bytes start roots read noted r s

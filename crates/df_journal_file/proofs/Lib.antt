@@ -15,3 +15,4 @@ pub mod Roots
 pub mod Texts
 pub mod Loops
 pub mod Eithers
+pub mod Cursors

@@ -49,24 +49,24 @@ plain_whole : (es : List Entry) → AllByRecursion IsWholeEntry es → AllByRecu
 plain_whole [] f = tt
 plain_whole (e ∷ es) f = ((f.0, refl), plain_whole es f.1)
 
-abbrev entry_of : Noted → Entry
+abbrev pub entry_of : Noted → Entry
 entry_of n = n.entry
 
-noted_flat : (ns : List Noted) → AllByRecursion (IsWholeBy false) ns → flat_map plain_entry (map entry_of ns) ≡ flat_map noted_text ns
+pub noted_flat : (ns : List Noted) → AllByRecursion (IsWholeBy false) ns → flat_map plain_entry (map entry_of ns) ≡ flat_map noted_text ns
 noted_flat [] f = refl
 noted_flat (n ∷ ns) f =
     ap (λ (note : Option Label). entry_text note n.entry ++ flat_map plain_entry (map entry_of ns)) (sym f.0.1) ∙ ap (λ (u : List ℕ). noted_text n ++ u) (noted_flat ns f.1)
 
-noted_whole : (ns : List Noted) → AllByRecursion (IsWholeBy false) ns → AllByRecursion IsWholeEntry (map entry_of ns)
+pub noted_whole : (ns : List Noted) → AllByRecursion (IsWholeBy false) ns → AllByRecursion IsWholeEntry (map entry_of ns)
 noted_whole [] f = tt
 noted_whole (n ∷ ns) f = (f.0.0, noted_whole ns f.1)
 
 -- ---- a journal behind its first line
 
-regroup : (f s r e end : List ℕ) → (((f ++ s) ++ r) ++ e) ++ end ≡ f ++ (s ++ (r ++ (e ++ end)))
+pub regroup : (f s r e end : List ℕ) → (((f ++ s) ++ r) ++ e) ++ end ≡ f ++ (s ++ (r ++ (e ++ end)))
 regroup f s r e end = simp append_assoc
 
-abbrev run_line : List ℕ
+abbrev pub run_line : List ℕ
 run_line = line (codes "run") []
 
 -- the bytes are a journal in this version

@@ -1,4 +1,5 @@
 pub mod Below
+pub mod Cursor
 pub mod Either
 pub mod Journal
 pub mod TooLarge

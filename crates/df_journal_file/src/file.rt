@@ -8,7 +8,7 @@ ghost use Rattle.df_unit.specs.declared.entry.Entry.{Entry};
 ghost use Rattle.df_unit.specs.declared.entry.Noted.{Noted};
 ghost use Rattle.df_journal_text.specs.Entry.{noted_text};
 ghost use Rattle.df_journal_text.specs.Start.{journal_text};
-ghost use Rattle.df_journal_file.specs.Either.{IsEitherText, IsFirstOf, IsJournalOf, IsSecondOf};
+ghost use Rattle.df_journal_file.specs.Either.{IsEitherText, IsFirstOf, IsJournalOf, IsSecondOf, journal_in};
 ghost use Rattle.df_journal_file.specs.Journal.{EndsFile, IsNotedJournal, IsNotedText, IsPlainJournal, IsPlainText, IsRead, IsWholeEntry, IsWholeNoted, plain_text};
 ghost use Rattle.df_journal_file.specs.TooLarge.{IsLargeIn};
 ghost use Rattle.df_journal_file.specs.code.Files.{AreBehindRoots, AreUpToEnd, IsEitherFirst, IsFirstAt, StopsFirst, first_of, plain_entry};
@@ -51,7 +51,7 @@ fn first_at(bytes: &[u8], first: &[u8]) -> Result<usize, FileFault>
 }
 
 /// Whether the first line is that of the second version, and the place behind it.
-fn version_at(bytes: &[u8]) -> Result<(bool, usize), FileFault>
+pub fn version_at(bytes: &[u8]) -> Result<(bool, usize), FileFault>
     ensures read { IfOk result (λ r. IsFirstAt (first_of r.0) bytes.now r.1) }
     ensures stops { IfErr result (StopsFirst IsEitherFirst bytes.now) }
 {
@@ -68,7 +68,7 @@ fn version_at(bytes: &[u8]) -> Result<(bool, usize), FileFault>
 }
 
 /// Whether no further entry is to be read: no byte is left, or the line `---` stands there.
-fn is_end(bytes: &[u8], place: usize) -> bool
+pub fn is_end(bytes: &[u8], place: usize) -> bool
     requires { place ≤ length bytes.now }
     ensures { IsTrue result ↔ EndsFile (drop place bytes.now) }
 {
@@ -160,7 +160,7 @@ fn second_whole(alloc: Global, bytes: &[u8]) -> Result<(Start, Vec<Noted>), File
 
 /// The journal in one of its versions that these bytes are.
 fn either_whole(alloc: Global, bytes: &[u8]) -> Result<Journal, FileFault>
-    ensures read { IfOk result (λ j. IsJournalOf j bytes.now) }
+    ensures read { IfOk result (λ j. IsJournalOf (journal_in j) bytes.now) }
     ensures stops { IfErr result (StopsIn IsEitherText bytes.now 0) }
 {
     let (has_notes, at) = version_at(bytes)?;
@@ -218,15 +218,15 @@ pub fn read_noted(alloc: Global, bytes: &[u8]) -> Result<(Start, Vec<Noted>), Fi
 
 /// Reads a journal in the version that its first line names.
 pub fn read_either(alloc: Global, bytes: &[u8]) -> Result<Journal, FileRefused>
-    ensures read { IfOk result (λ j. IsJournalOf j bytes.now) }
+    ensures read { IfOk result (λ j. IsJournalOf (journal_in j) bytes.now) }
     ensures first { (roots : List RootStart) (entries : List Entry) (end : List ℕ)
         → IsPlainJournal roots entries → EndsFile end
         → bytes.now ≡ plain_text roots entries ++ end
-        → IsRead (IsFirstOf roots entries) result }
+        → IsRead (λ j. IsFirstOf roots entries (journal_in j)) result }
     ensures second { (roots : List RootStart) (noted : List Noted) (end : List ℕ)
         → IsNotedJournal roots noted → EndsFile end
         → bytes.now ≡ journal_text roots noted ++ end
-        → IsRead (IsSecondOf roots noted) result }
+        → IsRead (λ j. IsSecondOf roots noted (journal_in j)) result }
     ensures refused { IfErr result (NamesBadLine IsEitherText (IsLargeIn IsEitherText) bytes.now) }
     ensures syntax { (before : List (List ℕ)) (bad : List ℕ)
         → IsFirstBad IsEitherText bytes.now before bad → ¬ IsLargeIn IsEitherText before bad

@@ -8,9 +8,7 @@ use Rattle.df_auction.specs.AuctionText.{IsTextOfFile}
 use Rattle.df_config.specs.declared.config.Config.{Config}
 use Rattle.df_floor_run.specs.declared.run.FloorEnd.TheVariants as floor
 use Rattle.df_journal_file.proofs.Eithers.{either_text}
-use Rattle.df_journal_file.specs.Either.{IsEitherText, IsJournalOf}
-use Rattle.df_journal_file.specs.declared.file.Journal.{Journal}
-use Rattle.df_journal_file.specs.declared.file.Journal.TheVariants.{First, Second}
+use Rattle.df_journal_file.specs.Either.{First, IsEitherText, IsJournalOf, Journal, Second}
 use Rattle.df_script_text.specs.Script.{IsScriptText}
 use Rattle.df_settling.specs.Settling.{settling_bound}
 use Rattle.df_ticks.specs.declared.tick.Tick.{Tick}

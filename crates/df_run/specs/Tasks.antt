@@ -11,9 +11,8 @@ use Rattle.df_floor_run.specs.Load.{IsLoadText}
 use Rattle.df_floor_run.specs.declared.run.FloorEnd.{FloorEnd}
 use Rattle.df_floor_run.specs.declared.run.FloorEnd.TheVariants as floor
 use Rattle.df_gen.specs.Generated.{generated}
-use Rattle.df_journal_file.specs.Either.{IsEitherText}
+use Rattle.df_journal_file.specs.Either.{IsEitherText, Journal}
 use Rattle.df_journal_file.specs.TooLarge.{IsLargeIn}
-use Rattle.df_journal_file.specs.declared.file.Journal.{Journal}
 use Rattle.df_lines.specs.Refused.{NamesBadLine}
 use Rattle.df_lines.specs.declared.refused.FileRefused.{FileRefused}
 use Rattle.df_lines.specs.declared.refused.FileRefused.TheVariants as file

@@ -9,8 +9,7 @@ use Rattle.df_unit.specs.declared.entry.Noted.{Noted}
 use Rattle.df_replay.specs.Noted.{AreRight, noted}
 use Rattle.df_check.specs.Check as plain
 use Rattle.df_check.specs.CheckNoted as with_notes
-use Rattle.df_journal_file.specs.declared.file.Journal.{Journal}
-use Rattle.df_journal_file.specs.declared.file.Journal.TheVariants.{First, Second}
+use Rattle.df_journal_file.specs.Either.{First, Journal, Second}
 use Rattle.df_audit.specs.declared.right.Noting.{Noting}
 use Rattle.df_audit.specs.declared.right.Noting.TheVariants as noting
 
@@ -29,5 +28,5 @@ IsNotedOfSecond roots kept (noting.Wrong place) =
     (expected : Noted) × with_notes.IsFirstWrong roots kept place expected
 
 abbrev pub IsNotedOf : Journal → Noting → Type 0
-IsNotedOf (First start entries) noting = IsNotedOfFirst start entries.items noting
-IsNotedOf (Second start notes) noting = IsNotedOfSecond start notes.items noting
+IsNotedOf (First start entries) noting = IsNotedOfFirst start entries noting
+IsNotedOf (Second start notes) noting = IsNotedOfSecond start notes noting

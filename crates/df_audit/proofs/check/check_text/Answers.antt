@@ -1,4 +1,5 @@
+use Rattle.df_journal_file.specs.Either.{journal_in}
 use Rattle.df_audit.proofs.check.check_text.Goals as goal
 
 pub returns-in-Ok-checked-clause-tells : goal.returns-in-Ok-checked-clause-tells
-returns-in-Ok-checked-clause-tells c = (c.in-Ok.journal, c.in-Ok.ensures.read, c.in-Ok-checked.ensures)
+returns-in-Ok-checked-clause-tells c = (journal_in c.in-Ok.journal, c.in-Ok.ensures.read, c.in-Ok-checked.ensures)

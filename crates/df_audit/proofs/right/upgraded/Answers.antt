@@ -1,6 +1,7 @@
 use Rattle.std.proofs.Common.{◌≡◌, List, IfOk, subst}
 use Rattle.df_unit.specs.declared.entry.Noted.{Noted}
 use Rattle.df_journal_text.specs.Start.{journal_text}
+use Rattle.df_journal_file.specs.Either.{journal_in}
 use Rattle.df_audit.specs.declared.right.Noting.TheVariants as noting
 use Rattle.df_audit.proofs.Told.{knows, upgrade_ok}
 use Rattle.df_audit.proofs.right.upgraded.Goals as goal
@@ -9,6 +10,6 @@ pub returns-in-Noted : goal.returns-in-Noted
 returns-in-Noted c =
     let start = c.in-Noted.start in
     let given = rw c.in-Noted.is at c.in_ok-start.ensures in
-    let k = knows c.args.journal (noting.Noted start c.in-Noted.notes) given in
+    let k = knows (journal_in c.args.journal) (noting.Noted start c.in-Noted.notes) given in
     let text = subst (λ (ns : List Noted). IfOk c.told.result (λ a. a.text.items ≡ journal_text start ns)) c.as_slice.ensures.value c.told.ensures.text in
-    upgrade_ok c.args.journal start c.in-Noted.notes.items k c.told.result c.told.ensures.finding text
+    upgrade_ok (journal_in c.args.journal) start c.in-Noted.notes.items k c.told.result c.told.ensures.finding text

@@ -2,23 +2,23 @@ use Rattle.std.proofs.Common.{Err, inl, inr, subst, sym, ◌∙◌}
 use Rattle.df_lines.specs.Refused.{NamesBadLine}
 use Rattle.df_lines.specs.declared.refused.FileRefused.{FileRefused}
 use Rattle.df_lines.proofs.FirstBad.{names_line, refused_syntax, refused_too_large}
-use Rattle.df_journal_file.specs.Either.{IsEitherText}
+use Rattle.df_journal_file.specs.Either.{IsEitherText, journal_in}
 use Rattle.df_journal_file.specs.TooLarge.{IsLargeIn}
 use Rattle.df_journal_file.proofs.Eithers.{either_first, either_second, either_text}
 use Rattle.df_journal_file.proofs.Texts.{inside, names, only_fault}
 use Rattle.df_journal_file.proofs.file.read_either.Goals as goal
 
 pub returns-in-Ok-clause-first : goal.returns-in-Ok-clause-first
-returns-in-Ok-clause-first c = λ roots entries end f ends e. either_first c.args.bytes.now c.in-Ok.journal roots entries c.in-Ok.ensures.read (f, (end, ends, e))
+returns-in-Ok-clause-first c = λ roots entries end f ends e. either_first c.args.bytes.now (journal_in c.in-Ok.journal) roots entries c.in-Ok.ensures.read (f, (end, ends, e))
 
 pub returns-in-Ok-clause-second : goal.returns-in-Ok-clause-second
-returns-in-Ok-clause-second c = λ roots noted end f ends e. either_second c.args.bytes.now c.in-Ok.journal roots noted c.in-Ok.ensures.read (f, (end, ends, e))
+returns-in-Ok-clause-second c = λ roots noted end f ends e. either_second c.args.bytes.now (journal_in c.in-Ok.journal) roots noted c.in-Ok.ensures.read (f, (end, ends, e))
 
 pub returns-in-Ok-clause-syntax : goal.returns-in-Ok-clause-syntax
-returns-in-Ok-clause-syntax c = λ before bad f small. f.none (either_text c.args.bytes.now c.in-Ok.journal c.in-Ok.ensures.read)
+returns-in-Ok-clause-syntax c = λ before bad f small. f.none (either_text c.args.bytes.now (journal_in c.in-Ok.journal) c.in-Ok.ensures.read)
 
 pub returns-in-Ok-clause-too_large : goal.returns-in-Ok-clause-too_large
-returns-in-Ok-clause-too_large c = λ before bad f large. f.none (either_text c.args.bytes.now c.in-Ok.journal c.in-Ok.ensures.read)
+returns-in-Ok-clause-too_large c = λ before bad f large. f.none (either_text c.args.bytes.now (journal_in c.in-Ok.journal) c.in-Ok.ensures.read)
 
 pub file_refused-requires : goal.file_refused-requires
 file_refused-requires c = inside IsEitherText c.args.bytes.now c.in-Err.fault c.in-Err.ensures.stops

@@ -1,0 +1,87 @@
+//! Journals that are gone over entry by entry.
+ghost use Rattle.std.specs.Prelude.{◌≡◌, ◌≤◌, ◌<◌, List, [], length, IfErr, IfOk, IfSome};
+ghost use Rattle.df_start.specs.declared.start.RootStart.{RootStart};
+ghost use Rattle.df_unit.specs.declared.entry.Noted.{Noted};
+ghost use Rattle.df_journal_file.specs.Cursor.{GoesOn, HasPassed};
+ghost use Rattle.df_journal_file.specs.Either.{IsEitherText};
+ghost use Rattle.df_journal_file.specs.code.Languages.{EntriesFrom};
+ghost use Rattle.df_journal_file.specs.code.Stops.{StopsIn};
+
+use crate::entry::entry_at;
+use crate::file::{is_end, version_at};
+use df_lines::FileFault;
+use df_script_text::roots_at;
+use df_start::Start;
+use df_unit::Noted;
+use std::alloc::Global;
+use std::marker::Model;
+
+/// A journal that is gone over: its bytes, whether its entries have notes, and the place behind
+/// those that were read.
+#[derive(Drop)]
+pub struct JournalCursor<'a> {
+    alloc: Global,
+    bytes: &'a [u8],
+    has_notes: bool,
+    place: usize,
+}
+
+impl<'a> Model for JournalCursor<'a> {
+    ghost use Rattle.std.specs.Prelude.{◌≤◌, length};
+    ghost use Rattle.df_journal_file.specs.Cursor.{CursorState, cursor_code};
+
+    ghost Value = { CursorState };
+
+    ghost coded = { cursor_code };
+
+    ghost view = { λ c. record { bytes = c.bytes.now; has_notes = c.has_notes; place = c.place } };
+
+    ghost invariant = { λ c. c.place ≤ length c.bytes.now };
+}
+
+impl<'a> JournalCursor<'a> {
+    /// Reads what stands before a journal's entries, in the version that its first line names.
+    pub fn begin(alloc: Global, bytes: &'a [u8]) -> Result<(Start, JournalCursor<'a>), FileFault>
+        ensures read { IfOk result (λ s. HasPassed s.0 [] s.1) }
+        ensures bytes { IfOk result (λ s. s.1.bytes ≡ bytes.now) }
+        ensures stops { IfErr result (StopsIn IsEitherText bytes.now 0) }
+    {
+        let (has_notes, at) = version_at(bytes)?;
+        let (start, place) = roots_at(alloc, bytes, at)?;
+        Ok((
+            start,
+            JournalCursor {
+                alloc,
+                bytes,
+                has_notes,
+                place,
+            },
+        ))
+    }
+
+    /// Whether the journal is in its second version, which notes contaminations.
+    pub fn has_notes(&self) -> bool
+        ensures { result ≡ self.now.has_notes }
+    {
+        self.has_notes
+    }
+
+    /// The next entry, which is no longer kept here; none behind the last.
+    pub fn next_entry(&mut self) -> Result<Option<Noted>, FileFault>
+        ensures next { IfOk result (λ read. (roots : List RootStart) (notes : List Noted)
+            → HasPassed roots notes self.old → GoesOn roots notes read self.new) }
+        ensures further { IfOk result (λ read. IfSome read (λ _. self.old.place < self.new.place)) }
+        ensures within { self.new.place ≤ length self.new.bytes }
+        ensures bytes { self.new.bytes ≡ self.old.bytes }
+        ensures version { self.new.has_notes ≡ self.old.has_notes }
+        ensures stops { IfErr result
+            (StopsIn (EntriesFrom self.old.has_notes) self.old.bytes self.old.place) }
+    {
+        if is_end(self.bytes, self.place) {
+            return Ok(None);
+        }
+        let (noted, next) = entry_at(self.alloc, self.bytes, self.place, self.has_notes)?;
+        self.place = next;
+        Ok(Some(noted))
+    }
+}
