@@ -1,11 +1,15 @@
 -- What a call of a hub does to its pass, and what a step books.
-use Rattle.std.specs.Prelude.{◌≡◌, ◌+◌, ℕ, List, length}
+use Rattle.std.specs.Prelude.{◌≡◌, ◌+◌, ℕ, IfErr, IfOk, List, OnErr, OnOk, Result, length}
 use mathlib.Core.List.{IsPrefix}
 use Rattle.df_booking.specs.Booked.{IsCurrent, booked}
 use Rattle.df_booking.specs.Manned.{IsFollowed}
+use Rattle.df_crew.specs.Booking.{IsRefused}
+use Rattle.df_crew.specs.Locally.{IsBegun}
 use Rattle.df_crew.specs.Seen.{core_at, crew_at, seen_of}
+use Rattle.df_crew.specs.declared.crew.NotTurned.{NotTurned}
 use Rattle.df_crew.specs.declared.origin.Origin.{Origin}
 use Rattle.df_desk.specs.Pass.{DeskId, IsFree, PassState, one_more}
+use Rattle.df_hub.specs.declared.hub.Stepped.{Stepped}
 use Rattle.df_rules.specs.Follows.{Brain}
 use Rattle.df_turn.specs.Locally.{TurnState}
 use Rattle.df_unit.specs.declared.entry.Entry.{Entry}
@@ -45,3 +49,20 @@ module _ {B : Type 0} (brain : Brain B) (origin : Origin B) where
 pub record IsCounted (found seen : List Entry) (appended entries : ℕ) : Type 0 where
   pub grown : length seen ≡ appended + length found
   pub all : entries ≡ length seen
+
+-- a step with this turn: the pass has made one take, and the journal that it has then seen is legal
+-- and follows its brains; either the turn was booked at the end of what was found, and the unit's
+-- next turn begins there, or nothing was appended, and the turn comes back with why
+pub record IsStepped {B : Type 0} (brain : Brain B) (desk : DeskId (Origin B)) (t : TurnState B)
+    (old new : PassState (Origin B) Entry) (r : Result (Stepped B) (NotTurned B)) : Type 0 where
+  pub takes : TakesOnce desk old new
+  pub journal : IsJournal brain desk.origin new.seen
+  -- where it was booked: what is then seen, and the unit's next turn, if there was memory for that
+  pub booked : OnOk r (IsBooked brain desk.origin t new.found new.seen)
+  pub counted : IfOk r (λ s. IsCounted new.found new.seen s.appended s.entries)
+  pub anew : IfOk r (λ s. IfOk s.turn (λ next.
+      IsBegun brain desk.origin.brains (core_at desk.origin new.seen) t.unit.unit next))
+  -- where it was refused: why, in the journal that was found
+  pub refused : IfErr r (λ e. IsRefused e.cause brain t (crew_at desk.origin new.found))
+  pub unchanged : OnErr r (new.seen ≡ new.found)
+  pub back : IfErr r (λ e. e.turn ≡ t)

@@ -11,7 +11,7 @@ ghost use Rattle.df_crew.specs.Seen.{core_at, crew_at, origin_of, seen_of};
 ghost use Rattle.df_crew.specs.Since.{WasCurrent};
 ghost use Rattle.df_crew.specs.declared.crew.BeginRefused.TheVariants.{NoSuchUnit};
 ghost use Rattle.df_desk.specs.Pass.{Holds, IsFree, IsNew, longer_list, one_more};
-ghost use Rattle.df_hub.specs.Steps.{BeganThere, IsBooked, IsCounted, IsJournal, Looks, TakesOnce};
+ghost use Rattle.df_hub.specs.Steps.{BeganThere, IsCounted, IsJournal, IsStepped, Looks};
 ghost use Rattle.df_machine.specs.Journal.{IsRoll, State, local_of};
 ghost use Rattle.df_rules.specs.Follows.{brain_of};
 ghost use Rattle.df_unit.specs.declared.name.UnitName.{UnitName};
@@ -275,18 +275,7 @@ impl<B: Brain> Hub<B> {
         turn: Turn<B>,
     ) -> Result<Stepped<B>, NotTurned<B>>
         requires { IsFree self.now pass.old }
-        ensures takes { TakesOnce self.now pass.old pass.new }
-        ensures journal { IsJournal (brain_of B.next B.instance) self.now.origin pass.new.seen }
-        ensures booked { OnOk result (IsBooked (brain_of B.next B.instance) self.now.origin turn
-            pass.new.found pass.new.seen) }
-        ensures counted { IfOk result (λ s.
-            IsCounted pass.new.found pass.new.seen s.appended s.entries) }
-        ensures anew { IfOk result (λ s. IfOk s.turn (λ t. IsBegun (brain_of B.next B.instance)
-            self.now.origin.brains (core_at self.now.origin pass.new.seen) turn.unit.unit t)) }
-        ensures refused { IfErr result (λ e. IsRefused e.cause (brain_of B.next B.instance) turn
-            (crew_at self.now.origin pass.new.found)) }
-        ensures unchanged { OnErr result (pass.new.seen ≡ pass.new.found) }
-        ensures back { IfErr result (λ e. e.turn ≡ turn) }
+        ensures { IsStepped (brain_of B.next B.instance) self.now turn pass.old pass.new result }
     {
         self.step_since(rt, pass, turn, None)
     }
@@ -302,18 +291,7 @@ impl<B: Brain> Hub<B> {
         requires pass { IsFree self.now pass.old }
         requires turn { IsCurrent (brain_of B.next B.instance) turn
             (crew_at self.now.origin pass.old.seen) }
-        ensures takes { TakesOnce self.now pass.old pass.new }
-        ensures journal { IsJournal (brain_of B.next B.instance) self.now.origin pass.new.seen }
-        ensures booked { OnOk result (IsBooked (brain_of B.next B.instance) self.now.origin turn
-            pass.new.found pass.new.seen) }
-        ensures counted { IfOk result (λ s.
-            IsCounted pass.new.found pass.new.seen s.appended s.entries) }
-        ensures anew { IfOk result (λ s. IfOk s.turn (λ t. IsBegun (brain_of B.next B.instance)
-            self.now.origin.brains (core_at self.now.origin pass.new.seen) turn.unit.unit t)) }
-        ensures refused { IfErr result (λ e. IsRefused e.cause (brain_of B.next B.instance) turn
-            (crew_at self.now.origin pass.new.found)) }
-        ensures unchanged { OnErr result (pass.new.seen ≡ pass.new.found) }
-        ensures back { IfErr result (λ e. e.turn ≡ turn) }
+        ensures { IsStepped (brain_of B.next B.instance) self.now turn pass.old pass.new result }
     {
         let count = pass.count();
         self.step_since(rt, pass, turn, Some(count))
@@ -331,18 +309,7 @@ impl<B: Brain> Hub<B> {
         requires pass { IsFree self.now pass.old }
         requires since { IfSome since (λ count. BeganThere (brain_of B.next B.instance)
             self.now.origin turn count pass.old.seen) }
-        ensures takes { TakesOnce self.now pass.old pass.new }
-        ensures journal { IsJournal (brain_of B.next B.instance) self.now.origin pass.new.seen }
-        ensures booked { OnOk result (IsBooked (brain_of B.next B.instance) self.now.origin turn
-            pass.new.found pass.new.seen) }
-        ensures counted { IfOk result (λ s.
-            IsCounted pass.new.found pass.new.seen s.appended s.entries) }
-        ensures anew { IfOk result (λ s. IfOk s.turn (λ t. IsBegun (brain_of B.next B.instance)
-            self.now.origin.brains (core_at self.now.origin pass.new.seen) turn.unit.unit t)) }
-        ensures refused { IfErr result (λ e. IsRefused e.cause (brain_of B.next B.instance) turn
-            (crew_at self.now.origin pass.new.found)) }
-        ensures unchanged { OnErr result (pass.new.seen ≡ pass.new.found) }
-        ensures back { IfErr result (λ e. e.turn ≡ turn) }
+        ensures { IsStepped (brain_of B.next B.instance) self.now turn pass.old pass.new result }
     {
         let unit = turn.unit().name().copy();
         let mut crew = self.take(rt, pass);

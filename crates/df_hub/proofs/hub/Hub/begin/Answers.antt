@@ -14,16 +14,19 @@ give-requires-clause-begins g c = prefix_same _ _ (c.take-crew.ensures.seen ∙ 
 
 pub returns-clause-journal : goal.returns-clause-journal
 returns-clause-journal g c =
-    journal_at (brain_of g.B.StepFunction.next g.B.StepFunction.instance) c.args.self.now.origin c.give.new.pass.seen c.take-crew.result c.take-crew.ensures.origin (sym c.give.ensures.seen) c.take-crew.ensures.followed
+    journal_at (brain_of g.B.StepFunction.next g.B.StepFunction.instance) c.args.self.now.origin c.give.new.pass.seen c.take-crew.result
+    c.take-crew.ensures.origin (sym c.give.ensures.seen) c.take-crew.ensures.followed
 
 pub returns-clause-begun : goal.returns-clause-begun
 returns-clause-begun g c =
+    let brain = brain_of g.B.StepFunction.next g.B.StepFunction.instance in
     c.first_turn.ensures.turn c.args.self.now.origin.brains (core_at c.args.self.now.origin c.give.new.pass.seen) c.args.unit.now
-    (there (brain_of g.B.StepFunction.next g.B.StepFunction.instance) c.args.self.now.origin c.give.new.pass.seen c.take-crew.result c.take-crew.ensures.origin (sym c.give.ensures.seen)
-    (λ (k : CrewState _). IfOk c.base-base.result (λ b. IsBase (brain_of g.B.StepFunction.next g.B.StepFunction.instance) k.brains k.core c.args.unit.now b)) c.base-base.ensures.base)
+    (there brain c.args.self.now.origin c.give.new.pass.seen c.take-crew.result c.take-crew.ensures.origin (sym c.give.ensures.seen)
+    (λ (k : CrewState _). IfOk c.base-base.result (λ b. IsBase brain k.brains k.core c.args.unit.now b)) c.base-base.ensures.base)
 
 pub returns-clause-absent : goal.returns-clause-absent
 returns-clause-absent g c =
-    let none = there (brain_of g.B.StepFunction.next g.B.StepFunction.instance) c.args.self.now.origin c.give.new.pass.seen c.take-crew.result c.take-crew.ensures.origin
-    (sym c.give.ensures.seen) (λ (k : CrewState _). (c.base-base.result ≡ Err NoSuchUnit) ↔ (local_of k.core c.args.unit.now ≡ None)) c.base-base.ensures.absent in
+    let none = there (brain_of g.B.StepFunction.next g.B.StepFunction.instance) c.args.self.now.origin c.give.new.pass.seen c.take-crew.result
+    c.take-crew.ensures.origin (sym c.give.ensures.seen)
+    (λ (k : CrewState _). (c.base-base.result ≡ Err NoSuchUnit) ↔ (local_of k.core c.args.unit.now ≡ None)) c.base-base.ensures.absent in
     (λ r. none.0 (c.first_turn.ensures.absent.0 r), λ n. c.first_turn.ensures.absent.1 (none.1 n))

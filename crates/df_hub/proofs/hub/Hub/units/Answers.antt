@@ -11,9 +11,11 @@ give-requires-clause-begins g c = prefix_same _ _ (c.take-crew.ensures.seen ∙ 
 
 pub returns-clause-journal : goal.returns-clause-journal
 returns-clause-journal g c =
-    journal_at (brain_of g.B.StepFunction.next g.B.StepFunction.instance) c.args.self.now.origin c.give.new.pass.seen c.take-crew.result c.take-crew.ensures.origin (sym c.give.ensures.seen) c.take-crew.ensures.followed
+    journal_at (brain_of g.B.StepFunction.next g.B.StepFunction.instance) c.args.self.now.origin c.give.new.pass.seen c.take-crew.result
+    c.take-crew.ensures.origin (sym c.give.ensures.seen) c.take-crew.ensures.followed
 
 pub returns-clause-units : goal.returns-clause-units
 returns-clause-units g c =
-    there (brain_of g.B.StepFunction.next g.B.StepFunction.instance) c.args.self.now.origin c.give.new.pass.seen c.take-crew.result c.take-crew.ensures.origin (sym c.give.ensures.seen)
+    there (brain_of g.B.StepFunction.next g.B.StepFunction.instance) c.args.self.now.origin c.give.new.pass.seen c.take-crew.result
+    c.take-crew.ensures.origin (sym c.give.ensures.seen)
     (λ (k : CrewState _). IfOk c.units-units.result (λ (units : _). IsRoll k.core units.items)) (rw (← c.core.ensures.core) c.units-units.ensures)
