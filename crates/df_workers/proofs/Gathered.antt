@@ -19,7 +19,7 @@ use Rattle.df_unit.specs.declared.entry.Entry.{Entry}
 use Rattle.df_unit.specs.declared.name.UnitName.{UnitName}
 use Rattle.df_workers.specs.Serving.{AreServed, HaveRun, IsServed}
 use Rattle.df_workers.specs.code.Came.{AreServedOf, Grew, HasWorked, UnlessOver, came_then, is_over}
-use Rattle.df_workers.specs.code.Gathered.{CameOf, Each, HasCame, HaveWorked, IsHired}
+use Rattle.df_workers.specs.code.Gathered.{CameOf, Each, HasCame, HaveWorked, IsHired, IsRound}
 use Rattle.df_workers.specs.declared.came.Came.{Came}
 use Rattle.df_workers.specs.declared.came.Came.TheVariants.{Still, Moved, Full, NoMemory}
 use Rattle.df_workers.specs.declared.worker.Worker.{Worker}
@@ -176,57 +176,20 @@ module _ {B : Type 0} (brain : Brain B) (desk : DeskId (Origin B)) (max workers 
         (subst (λ (w : Worker B). HasWorked brain desk max workers units k at.0 w) to at.4);
   }
 
--- a round: the workers that were hired, and what they came to
-pub record IsRound {B : Type 0} (brain : Brain B) (desk : DeskId (Origin B)) (max workers : ℕ) (units : List UnitName) (seen : List Entry)
-    (olds news : List (Worker B)) : Type 0 where
-  pub some : 0 < workers
-  pub length_is : length news ≡ workers
-  pub worked : (k : ℕ) (w : Worker B) → slice_get news k ≡ Some w → (old : Worker B) × (old.pass.seen ≡ seen) × HasWorked brain desk max workers units k old w
-
 -- the workers that were hired have worked
-pub round_made : {B : Type 0} (brain : Brain B) (desk : DeskId (Origin B)) (max workers : ℕ) (units : List UnitName) (seen : List Entry) (olds news : List (Worker B)) →
-    HaveWorked brain desk max workers units olds news → 0 < workers → length olds ≡ workers → All (IsHired desk seen) olds → IsRound brain desk max workers
-    units seen olds news
-round_made brain desk max workers units seen olds news have some count hired = record {
+round_made : {B : Type 0} (brain : Brain B) (desk : DeskId (Origin B)) (max workers : ℕ) (units : List UnitName) (seen : List Entry)
+    (olds news : List (Worker B)) → IsRoll (core_at desk.origin seen) units → HaveWorked brain desk max workers units olds news → 0 < workers
+    → length olds ≡ workers → All (IsHired desk seen) olds → IsRound brain desk max workers seen news
+round_made brain desk max workers units seen olds news roll have some count hired = record {
+  units = units;
+  roll = roll;
   some = some;
-  length_is = have.count ∙ count;
-  worked = λ k w at.
+  count = have.count ∙ count;
+  each = λ k w at.
       let below = get_below news k w at in
       let few : k < length olds = (let n = have.count in omega (arith, n, below)) in
       let old = slice_index_or olds k w in (old, (hired k w few).seen_is, have.each k old w (slice_get-get_or olds k w few) at);
 }
-
-module _ {B : Type 0} (brain : Brain B) (desk : DeskId (Origin B)) (max workers : ℕ) (units : List UnitName) (seen : List Entry) (olds news : List (Worker B))
-    (r : IsRound brain desk max workers units seen olds news) (roll : IsRoll (core_at desk.origin seen) units) (after : List Entry)
-    (each : (k : ℕ) (w : Worker B) → slice_get news k ≡ Some w → IsPrefix w.pass.seen after) where
-  one_grew : (k : ℕ) (w : Worker B) (c : Came) → slice_get news k ≡ Some w → w.came ≡ c → Grew max c seen after
-  one_grew k w c at is =
-      let own = r.worked k w at in
-      let grew = subst (λ (x : Came). Grew max x own.0.pass.seen w.pass.seen) is own.2.grew in
-      grew_behind max c seen w.pass.seen after (each k w at) (subst (λ (es : List Entry). Grew max c es w.pass.seen) own.1 grew)
-
-  all_served : ((k : ℕ) (w : Worker B) → slice_get news k ≡ Some w → is_over w.came ≡ false) → AreServed brain desk.origin seen after
-  all_served going = λ u there.
-      let spot = placed units u (roll.units u ∙ there) in
-      let number = spot.0 % workers in
-      let w = some_at news number (let n = r.length_is in let s = r.some in let z : number < length news = omega (arith, n, s) in z) in
-      let own = r.worked number w.0 w.1 in
-      let served = unless_is {P = AreServedOf brain desk.origin workers number units own.0.pass.seen w.0.pass.seen} w.0.came (going number w.0 w.1)
-      own.2.served spot.0 u spot.1 refl in
-      served_behind brain desk.origin u seen w.0.pass.seen after
-      (subst (λ (es : List Entry). IsServed brain desk.origin u es w.0.pass.seen) own.1 served) (each number w.0 w.1)
-
-  pub round_grew : (came : Came) → CameOf news came → Grew max came seen after
-  round_grew Still h = tt
-  round_grew Moved h = let own = h.1 in one_grew own.place own.worker Moved own.at own.is
-  round_grew Full h = one_grew h.place h.worker Full h.at h.is
-  round_grew NoMemory h = tt
-
-  pub round_served : (came : Came) → CameOf news came → UnlessOver came (AreServed brain desk.origin seen after)
-  round_served Still h = all_served (still_goes news h)
-  round_served Moved h = all_served h.0
-  round_served Full h = tt
-  round_served NoMemory h = tt
 
 -- a list that was written whole through a slice
 written_whole : {X : Type 0} (xs ys : List X) (n : ℕ) → length xs ≡ length ys → length ys ≡ n → take n (xs ++ drop (length xs) ys) ≡ xs
@@ -237,45 +200,57 @@ written_whole (x ∷ xs) [] n e h = absurd (let z : ⊥ = omega (arith, e) in z)
 written_whole (x ∷ xs) (y ∷ ys) zero e h = absurd (let z : ⊥ = omega (arith, h) in z)
 written_whole (x ∷ xs) (y ∷ ys) (suc n) e h = ap (λ (zs : List _). x ∷ zs) (written_whole xs ys n (omega (arith, e)) (omega (arith, h)))
 
--- a round whose workers have come back: as they were hired, as they worked, and as they lie there
-pub record IsHeld {B : Type 0} (brain : Brain B) (desk : DeskId (Origin B)) (max workers : ℕ) (units : List UnitName) (seen : List Entry)
-    (olds news all : List (Worker B)) : Type 0 where
-  pub round : IsRound brain desk max workers units seen olds news
-  pub roll : IsRoll (core_at desk.origin seen) units
-  pub all_is : all ≡ news
+-- they worked where they lie, for the units as they lie
+pub round_there : {B : Type 0} (brain : Brain B) (desk : DeskId (Origin B)) (max workers : ℕ) (seen : List Entry) (units names : List UnitName)
+    (olds news kept : List (Worker B)) (len : ℕ) → IsRoll (core_at desk.origin seen) names → units ≡ names
+    → HaveWorked brain desk max workers units olds news → 0 < workers → olds ≡ kept → length kept ≡ len → len ≡ workers → All (IsHired desk seen) kept
+    → IsRound brain desk max workers seen (take len (news ++ drop (length news) kept))
+round_there brain desk max workers seen units names olds news kept len roll read have some same whole count hired =
+    subst (IsRound brain desk max workers seen) (sym (written_whole news kept len (have.count ∙ ap (λ (ws : List (Worker _)). length ws) same) whole))
+    (round_made brain desk max workers units seen olds news (subst (IsRoll (core_at desk.origin seen)) (sym read) roll) have some
+    (ap (λ (ws : List (Worker _)). length ws) same ∙ whole ∙ count) (subst (All (IsHired desk seen)) (sym same) hired))
 
-module _ {B : Type 0} (brain : Brain B) (desk : DeskId (Origin B)) (max workers : ℕ) (units : List UnitName) (seen : List Entry) (olds news : List (Worker B))
-  where
-    pub held : (names : List UnitName) (kept : List (Worker B)) (len : ℕ) → HaveWorked brain desk max workers units olds news → 0 < workers → olds ≡ kept
-        → length kept ≡ len → len ≡ workers →
-        All (IsHired desk seen) kept → units ≡ names → IsRoll (core_at desk.origin seen) names →
-        IsHeld brain desk max workers units seen olds news (take len (news ++ drop (length news) kept))
-    held names kept len have some same whole count hired read roll = record {
-      round = round_made brain desk max workers units seen olds news have some (ap (λ (ws : List (Worker B)). length ws) same ∙ whole ∙ count)
-          (subst (All (IsHired desk seen)) (sym same) hired);
-      roll = subst (IsRoll (core_at desk.origin seen)) (sym read) roll;
-      all_is = written_whole news kept len (have.count ∙ ap (λ (ws : List (Worker B)). length ws) same) whole;
-    }
+module _ {B : Type 0} (brain : Brain B) (desk : DeskId (Origin B)) (max workers : ℕ) (seen : List Entry) (all : List (Worker B))
+    (r : IsRound brain desk max workers seen all) where
+  pub round_free : Each (λ w. IsFree desk w.pass) all
+  round_free = λ k w at. (r.each k w at).2.free
 
-    module _ (all : List (Worker B)) (h : IsHeld brain desk max workers units seen olds news all) where
-      pub held_free : Each (λ w. IsFree desk w.pass) all
-      held_free = subst (Each (λ w. IsFree desk w.pass)) (sym h.all_is) (λ k w at. (h.round.worked k w at).2.free)
+  module _ (after : List Entry) (each : Each (λ w. IsPrefix w.pass.seen after) all) where
+    one_grew : (k : ℕ) (w : Worker B) (c : Came) → slice_get all k ≡ Some w → w.came ≡ c → Grew max c seen after
+    one_grew k w c at is =
+        let own = r.each k w at in
+        let grew = subst (λ (x : Came). Grew max x own.0.pass.seen w.pass.seen) is own.2.grew in
+        grew_behind max c seen w.pass.seen after (each k w at) (subst (λ (es : List Entry). Grew max c es w.pass.seen) own.1 grew)
 
-      module _ (before after : List Entry) (p : IsPrefix before seen) (each : Each (λ w. IsPrefix w.pass.seen after) all) (came : Came) (of : CameOf all came)
-        where
-          here_each : Each (λ w. IsPrefix w.pass.seen after) news
-          here_each = subst (Each (λ w. IsPrefix w.pass.seen after)) h.all_is each
+    all_served : ((k : ℕ) (w : Worker B) → slice_get all k ≡ Some w → is_over w.came ≡ false) → AreServed brain desk.origin seen after
+    all_served going = λ u there.
+        let spot = placed r.units u (r.roll.units u ∙ there) in
+        let number = spot.0 % workers in
+        let w = some_at all number (let n = r.count in let s = r.some in let z : number < length all = omega (arith, n, s) in z) in
+        let own = r.each number w.0 w.1 in
+        let served = unless_is {P = AreServedOf brain desk.origin workers number r.units own.0.pass.seen w.0.pass.seen} w.0.came (going number w.0 w.1)
+        own.2.served spot.0 u spot.1 refl in
+        served_behind brain desk.origin u seen w.0.pass.seen after
+        (subst (λ (es : List Entry). IsServed brain desk.origin u es w.0.pass.seen) own.1 served) (each number w.0 w.1)
 
-          here_came : CameOf news came
-          here_came = subst (λ (ws : List (Worker B)). CameOf ws came) h.all_is of
+    all_grew : (came : Came) → CameOf all came → Grew max came seen after
+    all_grew Still h = tt
+    all_grew Moved h = let own = h.1 in one_grew own.place own.worker Moved own.at own.is
+    all_grew Full h = one_grew h.place h.worker Full h.at h.is
+    all_grew NoMemory h = tt
 
-          pub held_grew : Grew max came before after
-          held_grew = grew_before max came before seen after p
-              (round_grew brain desk max workers units seen olds news h.round h.roll after here_each came here_came)
+    unless_served : (came : Came) → CameOf all came → UnlessOver came (AreServed brain desk.origin seen after)
+    unless_served Still h = all_served (still_goes all h)
+    unless_served Moved h = all_served h.0
+    unless_served Full h = tt
+    unless_served NoMemory h = tt
 
-          pub held_served : UnlessOver came (AreServed brain desk.origin before after)
-          held_served = unless_then Still came refl (all_before brain desk.origin before seen after p)
-              (round_served brain desk max workers units seen olds news h.round h.roll after here_each came here_came)
+    module _ (before : List Entry) (p : IsPrefix before seen) (came : Came) (of : CameOf all came) where
+      pub round_grew : Grew max came before after
+      round_grew = grew_before max came before seen after p (all_grew came of)
+
+      pub round_served : UnlessOver came (AreServed brain desk.origin before after)
+      round_served = unless_then Still came refl (all_before brain desk.origin before seen after p) (unless_served came of)
 
 -- behind the last round
 pub run_done : {B : Type 0} (brain : Brain B) (o : Origin B) (max : ℕ) (before seen after : List Entry) (came : Came) → IsPrefix before seen

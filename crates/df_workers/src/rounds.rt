@@ -6,7 +6,7 @@ ghost use Rattle.df_desk.specs.Pass.{IsFree};
 ghost use Rattle.df_rules.specs.Follows.{brain_of};
 ghost use Rattle.df_workers.specs.Serving.{AreServed, HaveRun};
 ghost use Rattle.df_workers.specs.code.Came.{Grew, HasWorked, UnlessOver};
-ghost use Rattle.df_workers.specs.code.Gathered.{CameOf, Each, HaveWorked, IsHired};
+ghost use Rattle.df_workers.specs.code.Gathered.{CameOf, Each, HaveWorked, IsHired, IsRound};
 ghost use Rattle.df_workers.specs.declared.came.Came.TheVariants.{Full, Moved, Still};
 
 use crate::came::Came;
@@ -89,7 +89,34 @@ fn work_all<B: Brain + Send + Sync, R: Threads + Wait + Sync, G: Gate + Sync>(
     );
 }
 
-/// One round of workers, each in a thread of its own.
+/// The workers of a round, which have done its work, each in a thread of its own.
+fn worked<B: Brain + Send + Sync, R: Threads + Wait + Sync, G: Gate + Sync>(
+    rt: &R,
+    alloc: Global,
+    hub: &Hub<B>,
+    pass: &mut Pass<Crew<B>>,
+    workers: usize,
+    max: u64,
+    gate: &G,
+) -> Result<Vec<Worker<B>>, NoMemory>
+    requires workers { 0 < workers }
+    requires free { IsFree hub.now pass.old }
+    ensures free { IsFree hub.now pass.new }
+    ensures begins { IsPrefix pass.old.seen pass.new.seen }
+    ensures round { IfOk result (λ all. IsRound (brain_of B.next B.instance) hub.now max workers
+        pass.new.seen all.items) }
+{
+    let units = hub.units(rt, pass)?;
+    let mut all = hire(alloc, hub, pass, workers)?;
+    let share = Share {
+        units: units.as_slice(),
+        workers,
+    };
+    work_all(rt, hub, all.as_mut_slice(), &share, max, gate);
+    Ok(all)
+}
+
+/// One round of workers.
 fn round<B: Brain + Send + Sync, R: Threads + Wait + Sync, G: Gate + Sync>(
     rt: &R,
     alloc: Global,
@@ -107,13 +134,7 @@ fn round<B: Brain + Send + Sync, R: Threads + Wait + Sync, G: Gate + Sync>(
     ensures served { IfOk result (λ came. UnlessOver came (AreServed (brain_of B.next B.instance)
         hub.now.origin pass.old.seen pass.new.seen)) }
 {
-    let units = hub.units(rt, pass)?;
-    let mut all = hire(alloc, hub, pass, workers)?;
-    let share = Share {
-        units: units.as_slice(),
-        workers,
-    };
-    work_all(rt, hub, all.as_mut_slice(), &share, max, gate);
+    let all = worked(rt, alloc, hub, pass, workers, max, gate)?;
     Ok(gather(hub, pass, all))
 }
 

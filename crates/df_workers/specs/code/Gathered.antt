@@ -1,7 +1,9 @@
 -- Workers before and after their round.
-use Rattle.std.specs.Prelude.{◌≡◌, ⊤, ℕ, false, List, Some, length, slice_get}
+use Rattle.std.specs.Prelude.{◌≡◌, ◌<◌, ⊤, ℕ, false, List, Some, length, slice_get}
+use Rattle.df_crew.specs.Seen.{core_at}
 use Rattle.df_crew.specs.declared.origin.Origin.{Origin}
 use Rattle.df_desk.specs.Pass.{DeskId, IsFree}
+use Rattle.df_machine.specs.Journal.{IsRoll}
 use Rattle.df_rules.specs.Follows.{Brain}
 use Rattle.df_unit.specs.declared.entry.Entry.{Entry}
 use Rattle.df_unit.specs.declared.name.UnitName.{UnitName}
@@ -16,6 +18,17 @@ pub record HaveWorked {B : Type 0} (brain : Brain B) (desk : DeskId (Origin B)) 
   pub count : length news ≡ length olds
   pub each : (k : ℕ) (old new : Worker B) → slice_get olds k ≡ Some old →
       slice_get news k ≡ Some new → HasWorked brain desk max workers units k old new
+
+-- a round's workers: each had a pass that had seen this, and has done the work of its number for
+-- the units that existed there
+pub record IsRound {B : Type 0} (brain : Brain B) (desk : DeskId (Origin B)) (max workers : ℕ)
+    (seen : List Entry) (all : List (Worker B)) : Type 0 where
+  pub units : List UnitName
+  pub roll : IsRoll (core_at desk.origin seen) units
+  pub some : 0 < workers
+  pub count : length all ≡ workers
+  pub each : (k : ℕ) (new : Worker B) → slice_get all k ≡ Some new → (old : Worker B)
+      × (old.pass.seen ≡ seen) × HasWorked brain desk max workers units k old new
 
 module _ {B : Type 0} where
   -- the worker has a pass of the desk that has seen this and has nothing
