@@ -1,17 +1,24 @@
 -- Where a command was read, the words ask for it, and name its files.
-use Rattle.std.proofs.Common.{◌≡◌, ◌<◌, List, ℕ, length, Ok, refl, sym, subst, arith}
-use Rattle.df_words.specs.Words.{Ask, IsCommandOf, files_of}
-use Rattle.df_run.specs.Making.{IsPlainCommandOf}
-use Rattle.df_run.specs.Outcome.{AskPlainly}
+use Rattle.std.proofs.Common.{◌≡◌, ◌<◌, List, ℕ, length, refl, sym, subst, arith}
+use Rattle.std.specs.Prelude.{◌↔◌}
+use Rattle.df_words.specs.Words.{Ask, files_of}
+use Rattle.df_run.specs.Outcome.{AsksNothing, IfAsked, IsOfACommand, UsageIsExact}
+use Rattle.df_run.specs.declared.status.Status.{Status}
 use Rattle.df_words.specs.declared.command.Command.{Command}
 use Rattle.df_words.specs.declared.command.Command.TheVariants.{Steps, Check, Purge, Upgrade, Why, Auction, Lint, Gen, Floor, FloorWorkers, Load}
 use Rattle.df_words.specs.declared.command.Files.TheVariants as files
 
-pub asks : (words : List (List ℕ)) (command : Command) → IsPlainCommandOf words (Ok command) → AskPlainly words command
-asks words command read = (read command).0 refl
+-- words that ask for this command, and for no other
+module _ (ask : List (List ℕ) → Command → Type 0) (words : List (List ℕ)) (command : Command) (one : (c : Command) → (command ≡ c) ↔ ask words c) where
+  pub some_asked : {P : Type 0} → AsksNothing ask words → P
+  some_asked nothing = absurd (nothing command ((one command).0 refl))
 
-pub asks_any : (words : List (List ℕ)) (command : Command) → IsCommandOf words (Ok command) → Ask words command
-asks_any words command read = (read command).0 refl
+  pub usage_exact : (s : Status) → IsOfACommand s → UsageIsExact ask words s
+  usage_exact s of = (λ usage. absurd (of usage), λ nothing. some_asked nothing)
+
+  -- what holds of the command holds of whichever they ask for
+  pub if_asked : (P : Command → Type 0) → P command → IfAsked ask words P
+  if_asked P p = λ c asked. subst P ((one c).1 asked) p
 
 one_is : (a b : ℕ) → files.One a ≡ files.One b → a ≡ b
 one_is a b e = cc
