@@ -1,6 +1,5 @@
 //! Calls, replies, effects and entries have a spelling, as their types give it.
 ghost use Rattle.std.specs.Prelude.{◌≡◌, ◌<◌, ◌^◌, true};
-ghost use Rattle.std.specs.List.{All};
 ghost use Rattle.df_frozen.specs.Name.{is_name};
 ghost use Rattle.df_journal_file.specs.Journal.{IsWholeEntry};
 ghost use Rattle.df_journal_text.specs.Fits.{AreRoots, IsCall, IsCommit, IsPart, IsPartRead, IsReply, IsRoot, IsSpot};
@@ -9,9 +8,10 @@ ghost use Rattle.df_value_text.specs.Fits.{IsLabel};
 
 use crate::laws::worded_and_joined_is_whole;
 use crate::names::{
-    event_is_spelled, label_is_spelled, name_is_spelled, number_is_short, privilege_is_spelled,
-    privileges_are_spelled, tag_is_spelled, tag_set_is_spelled, unit_is_spelled,
+    event_is_spelled, label_is_spelled, name_is_spelled, number_is_short, privileges_are_spelled,
+    tag_set_is_spelled, unit_is_spelled,
 };
+use crate::spelled::{Spelled, each_is_spelled};
 use crate::values::{filter_is_spelled, frozen_is_spelled};
 use df_frozen::Name;
 use df_label::Label;
@@ -63,9 +63,9 @@ fn call_is_spelled(call: &Call)
         }
         Call::AttachPrivilege { h, label, name, p } => {
             place_is_spelled(*h, label, name);
-            privilege_is_spelled(p);
+            p.is_spelled();
         }
-        Call::ChangeOutLabel { tag, .. } | Call::ChangeInOut { tag, .. } => tag_is_spelled(tag),
+        Call::ChangeOutLabel { tag, .. } | Call::ChangeInOut { tag, .. } => tag.is_spelled(),
         Call::DropEvent { h } | Call::Publish { h } | Call::Release { h } => number_is_short(*h),
         Call::Subscribe { filter } | Call::SubscribeManaged { filter } => filter_is_spelled(filter),
         Call::Instantiate { s, privileges } => {
@@ -76,20 +76,13 @@ fn call_is_spelled(call: &Call)
 }
 
 /// What a read shows of a part has a spelling.
-fn part_read_is_spelled(part: &PartRead)
-    ensures { IsPartRead part.now }
-{
-    label_is_spelled(&part.label);
-    frozen_is_spelled(&part.value);
-    privileges_are_spelled(&part.privileges);
-}
+impl Spelled for PartRead {
+    ghost fits = { λ part. IsPartRead part };
 
-/// What a read shows has a spelling.
-fn part_reads_are_spelled(parts: &[PartRead])
-    ensures { All IsPartRead parts.now }
-{
-    for part in parts {
-        part_read_is_spelled(part);
+    fn is_spelled(&self) {
+        label_is_spelled(&self.label);
+        frozen_is_spelled(&self.value);
+        privileges_are_spelled(&self.privileges);
     }
 }
 
@@ -99,16 +92,16 @@ fn reply_is_spelled(reply: &Reply)
 {
     match reply {
         Reply::Handle(h) => number_is_short(*h),
-        Reply::Tag(tag) => tag_is_spelled(tag),
+        Reply::Tag(tag) => tag.is_spelled(),
         Reply::Sub(n) => number_is_short(*n),
         Reply::Unit(n) => number_is_short(*n),
         Reply::Event { h, sub } => {
             number_is_short(*h);
             number_is_short(*sub);
         }
-        Reply::Parts(parts) => part_reads_are_spelled(parts.as_slice()),
+        Reply::Parts(parts) => each_is_spelled(parts.as_slice()),
         Reply::TooManyParts { wanted } => count_is_short(*wanted),
-        Reply::Lacks(p) => privilege_is_spelled(p),
+        Reply::Lacks(p) => p.is_spelled(),
         Reply::CannotWrite { out, part } => {
             label_is_spelled(out);
             label_is_spelled(part);
@@ -127,29 +120,21 @@ fn part_is_spelled(part: &Part)
     privileges_are_spelled(&part.privileges);
 }
 
-/// Each of these parts has a spelling.
-fn parts_are_spelled(parts: &[PartRef])
-    ensures { All IsPart parts.now }
-{
-    for part in parts {
-        part_is_spelled(part.part());
+impl Spelled for PartRef {
+    ghost fits = { λ part. IsPart part };
+
+    fn is_spelled(&self) {
+        part_is_spelled(self.part());
     }
 }
 
 /// A spot has a spelling.
-fn spot_is_spelled(spot: &Spot)
-    ensures { IsSpot spot.now }
-{
-    name_is_spelled(&spot.name);
-    label_is_spelled(&spot.label);
-}
+impl Spelled for Spot {
+    ghost fits = { λ spot. IsSpot spot };
 
-/// Each of these spots has a spelling.
-fn spots_are_spelled(spots: &[Spot])
-    ensures { All IsSpot spots.now }
-{
-    for spot in spots {
-        spot_is_spelled(spot);
+    fn is_spelled(&self) {
+        name_is_spelled(&self.name);
+        label_is_spelled(&self.label);
     }
 }
 
@@ -158,8 +143,8 @@ fn commit_is_spelled(commit: &Commit)
     ensures { IsCommit commit.now }
 {
     event_is_spelled(&commit.event);
-    spots_are_spelled(commit.edit.deleted());
-    parts_are_spelled(commit.edit.added());
+    each_is_spelled(commit.edit.deleted());
+    each_is_spelled(commit.edit.added());
 }
 
 /// An effect has a spelling.
@@ -171,7 +156,7 @@ fn effect_is_spelled(effect: &Effect)
         Effect::Commit(commit) => commit_is_spelled(commit),
         Effect::Given(given) => {
             event_is_spelled(&given.event);
-            parts_are_spelled(given.parts.as_slice());
+            each_is_spelled(given.parts.as_slice());
         }
     }
 }
@@ -206,19 +191,12 @@ pub fn entry_is_spelled(entry: &Entry)
 }
 
 /// A root has a spelling.
-fn root_is_spelled(root: &RootStart)
-    ensures { IsRoot root.now }
-{
-    label_is_spelled(&root.label);
-    privileges_are_spelled(&root.privileges);
-}
+impl Spelled for RootStart {
+    ghost fits = { λ root. IsRoot root };
 
-/// Each of these roots has a spelling.
-fn roots_are_spelled(roots: &[RootStart])
-    ensures { All IsRoot roots.now }
-{
-    for root in roots {
-        root_is_spelled(root);
+    fn is_spelled(&self) {
+        label_is_spelled(&self.label);
+        privileges_are_spelled(&self.privileges);
     }
 }
 
@@ -226,5 +204,5 @@ fn roots_are_spelled(roots: &[RootStart])
 pub fn start_is_spelled(start: &Start)
     ensures { AreRoots start.now }
 {
-    roots_are_spelled(start.as_slice());
+    each_is_spelled(start.as_slice());
 }

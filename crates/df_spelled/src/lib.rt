@@ -4,6 +4,7 @@
 mod entries;
 mod laws;
 mod names;
+mod spelled;
 mod values;
 
 pub use entries::{entry_is_spelled, start_is_spelled};

@@ -1,10 +1,10 @@
 //! Tags, labels, privileges, units and events have a spelling, as their types give it.
 ghost use Rattle.std.specs.Prelude.{◌≡◌, ◌<◌, ◌^◌, length, true};
-ghost use Rattle.std.specs.List.{All};
 ghost use Rattle.df_frozen.specs.Name.{is_name};
 ghost use Rattle.df_journal_text.specs.Fits.{ArePrivileges, IsEvent, IsUnit};
 ghost use Rattle.df_value_text.specs.Fits.{AreNumbers, AreTags, IsLabel, IsPrivilege, IsTag, IsTagSet};
 
+use crate::spelled::{Spelled, each_is_spelled};
 use df_frozen::Name;
 use df_label::{Label, Privilege, Privileges, Tag, TagSet};
 use df_unit::{EventName, UnitName};
@@ -16,12 +16,11 @@ pub(crate) fn number_is_short(number: u32)
     let _ = number;
 }
 
-/// Each of these numbers has 32 bits.
-fn numbers_are_short(numbers: &[u32])
-    ensures { All (λ n. n < 2 ^ 32) numbers.now }
-{
-    for number in numbers {
-        number_is_short(*number);
+impl Spelled for u32 {
+    ghost fits = { λ number. number < 2 ^ 32 };
+
+    fn is_spelled(&self) {
+        number_is_short(*self);
     }
 }
 
@@ -31,22 +30,15 @@ fn numbers_are_tag(numbers: &[u32])
     requires { 0 < length numbers.now }
     ensures { IsTag numbers.now }
 {
-    numbers_are_short(numbers);
+    each_is_spelled(numbers);
 }
 
 /// A tag has a spelling.
-pub(crate) fn tag_is_spelled(tag: &Tag)
-    ensures { IsTag tag.now }
-{
-    numbers_are_tag(tag.as_slice());
-}
+impl Spelled for Tag {
+    ghost fits = { λ tag. IsTag tag };
 
-/// Each of these tags has a spelling.
-fn tags_are_spelled(tags: &[Tag])
-    ensures { All IsTag tags.now }
-{
-    for tag in tags {
-        tag_is_spelled(tag);
+    fn is_spelled(&self) {
+        numbers_are_tag(self.as_slice());
     }
 }
 
@@ -55,7 +47,7 @@ fn tags_are_spelled(tags: &[Tag])
 pub(crate) fn tag_set_is_spelled(tags: &TagSet)
     ensures { IsTagSet tags.now }
 {
-    tags_are_spelled(tags.as_slice());
+    each_is_spelled(tags.as_slice());
 }
 
 /// A label has a spelling.
@@ -67,18 +59,11 @@ pub(crate) fn label_is_spelled(label: &Label)
 }
 
 /// A privilege has a spelling.
-pub(crate) fn privilege_is_spelled(privilege: &Privilege)
-    ensures { IsPrivilege privilege.now }
-{
-    tag_is_spelled(&privilege.tag);
-}
+impl Spelled for Privilege {
+    ghost fits = { λ privilege. IsPrivilege privilege };
 
-/// Each of these privileges has a spelling.
-fn each_is_spelled(privileges: &[Privilege])
-    ensures { All IsPrivilege privileges.now }
-{
-    for privilege in privileges {
-        privilege_is_spelled(privilege);
+    fn is_spelled(&self) {
+        self.tag.is_spelled();
     }
 }
 

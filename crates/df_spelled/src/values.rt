@@ -9,6 +9,7 @@ ghost use Rattle.df_value_text.specs.ReadBytes.{AreBytes};
 ghost use Rattle.df_value_text.specs.ReadWhole.{IsWhole};
 
 use crate::names::name_is_spelled;
+use crate::spelled::{Spelled, each_is_spelled};
 use df_filter::{Clause, FieldTest, Filter, Test};
 use df_frozen::{Frozen, Name, Value, Words};
 
@@ -27,18 +28,11 @@ fn words_are_text(words: &Words)
 }
 
 /// A byte has 8 bits.
-fn byte_is_short(byte: u8)
-    ensures { byte < 256 }
-{
-    let _ = byte;
-}
+impl Spelled for u8 {
+    ghost fits = { λ byte. byte < 256 };
 
-/// Each of these bytes has 8 bits.
-fn bytes_are_short(bytes: &[u8])
-    ensures { All (λ b. b < 256) bytes.now }
-{
-    for byte in bytes {
-        byte_is_short(*byte);
+    fn is_spelled(&self) {
+        let _byte = *self;
     }
 }
 
@@ -47,7 +41,7 @@ fn bytes_are_short(bytes: &[u8])
 fn bytes_are_spelled(bytes: &[u8])
     ensures { AreBytes bytes.now }
 {
-    bytes_are_short(bytes);
+    each_is_spelled(bytes);
 }
 
 /// The content of a value has a spelling.
@@ -59,14 +53,14 @@ fn value_is_spelled(value: &Value)
         Value::Int(number) => number_is_whole(*number),
         Value::Words(words) => words_are_text(words),
         Value::Bytes(bytes) => bytes_are_spelled(bytes.as_slice()),
-        Value::Items(items) => each_is_spelled(items.as_slice()),
-        Value::Map(entries) => each_is_named(entries.as_slice()),
+        Value::Items(items) => items_are_spelled(items.as_slice()),
+        Value::Map(entries) => entries_are_named(entries.as_slice()),
     }
 }
 
 /// The content of each of these values has a spelling.
 #[cycle(spell)]
-fn each_is_spelled(values: &[Value])
+fn items_are_spelled(values: &[Value])
     ensures { All (λ v. IsSpelled (plain v)) values.now }
 {
     for value in values {
@@ -76,7 +70,7 @@ fn each_is_spelled(values: &[Value])
 
 /// The name of each of these entries is one, and its value has a spelling.
 #[cycle(spell)]
-fn each_is_named(entries: &[(Name, Value)])
+fn entries_are_named(entries: &[(Name, Value)])
     ensures { All IsNamed entries.now }
 {
     for entry in entries {
@@ -132,19 +126,12 @@ fn test_is_spelled(test: &Test)
 }
 
 /// A clause has a spelling.
-fn clause_is_spelled(clause: &Clause)
-    ensures { IsClause clause.now }
-{
-    name_is_spelled(&clause.name);
-    test_is_spelled(&clause.test);
-}
+impl Spelled for Clause {
+    ghost fits = { λ clause. IsClause clause };
 
-/// Each of these clauses has a spelling.
-fn clauses_are_spelled(clauses: &[Clause])
-    ensures { All IsClause clauses.now }
-{
-    for clause in clauses {
-        clause_is_spelled(clause);
+    fn is_spelled(&self) {
+        name_is_spelled(&self.name);
+        test_is_spelled(&self.test);
     }
 }
 
@@ -153,5 +140,5 @@ fn clauses_are_spelled(clauses: &[Clause])
 pub(crate) fn filter_is_spelled(filter: &Filter)
     ensures { IsFilter filter.now }
 {
-    clauses_are_spelled(filter.clauses());
+    each_is_spelled(filter.clauses());
 }
