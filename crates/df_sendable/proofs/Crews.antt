@@ -1,6 +1,6 @@
 -- A crew may cross threads where its brains may, and threads may share them.
 use denote.RattleType.{RattleType}
-use denote.Param.Send.{IsSend, IsSync, sendable, view_send}
+use denote.Param.Send.{IsSend, IsSync, sendable}
 use Rattle.std.proofs.Crossing.{crosses}
 use Rattle.df_brain.specs.contracts.last.Last as Last
 use Rattle.df_crew.specs.contracts.crew.Crew as Crew
@@ -17,7 +17,7 @@ use Rattle.df_turn.specs.contracts.mind.Mind.TheInside as mind-inside
 use Rattle.df_turn.specs.contracts.shared.Shared as Shared
 use Rattle.df_turn.specs.contracts.shared.Shared.TheInside as shared-inside
 use Rattle.df_sendable.proofs.Labels.{labels}
-use Rattle.df_sendable.proofs.Records.{record_send}
+use Rattle.df_sendable.proofs.Records.{model_send}
 use Rattle.df_sendable.proofs.Tables.{board_field_send, roll_send}
 use Rattle.df_sendable.proofs.Units.{units}
 
@@ -40,17 +40,20 @@ last_field_send : IsSend (Last.the_field).row
 last_field_send = search (units, sendable, crosses) depth 40 fits 20000
 
 kept_send : (V : RattleType) → IsSend V → IsSend (Kept.the_row V)
-kept_send V value = view_send _ _ _ _ _ (record_send (kept-inside.the_type V) (search (value, roll_send, sendable, crosses) depth 40 fits 20000))
+kept_send V value = model_send (kept-inside.the_type V) (search (value, roll_send, sendable, crosses) depth 40 fits 20000)
 
 module _ (B : RattleType) (g : Ghosts B.Denot) (sent : IsSend B) (seen : IsSync B) where
   shared_send : IsSend (Shared.the_row B g)
-  shared_send = view_send _ _ _ _ _ (record_send (shared-inside.the_type B g) (search (sent, seen, sendable, crosses) depth 40 fits 20000))
+  shared_send = model_send (shared-inside.the_type B g) (search (sent, seen, sendable, crosses) depth 40 fits 20000)
 
   mind_send : IsSend (Mind.the_row B g)
-  mind_send = view_send _ _ _ _ _ (record_send (mind-inside.the_type B g) (search (shared_send, last_field_send, sendable, crosses) depth 40 fits 20000))
+  mind_send = model_send (mind-inside.the_type B g) (search (shared_send, last_field_send, sendable, crosses) depth 40 fits 20000)
 
   pub crew_send : IsSend (Crew.the_row B g)
-  crew_send = view_send _ _ _ _ _ (record_send (crew-inside.the_type B g) (
+  crew_send = model_send (crew-inside.the_type B g) (
     core_send,
-    (search (sent, sendable, crosses) depth 40 fits 20000, (kept_send (Mind.the_row B g) mind_send, (kept_send B sent, (search (sendable, crosses) depth 40, tt)))),
-  ))
+    (
+      search (sent, sendable, crosses) depth 40 fits 20000,
+      (kept_send (Mind.the_row B g) mind_send, (kept_send B sent, (search (sendable, crosses) depth 40, tt))),
+    ),
+  )

@@ -1,7 +1,7 @@
 -- A desk may be shared, and a pass may go to another thread, where what the desk has may.
 -- So a hub may be shared where its brains may cross threads.
 use denote.RattleType.{RattleType}
-use denote.Param.Send.{IsSend, IsSync, sendable, view_send, view_sync}
+use denote.Param.Send.{IsSend, IsSync, sendable}
 use denote.Param.SendFields.{variants_send}
 use Rattle.std.proofs.Crossing.{crosses, frees, send}
 use Rattle.std.specs.contracts.option.Option as Option
@@ -30,7 +30,7 @@ use Rattle.df_hub.specs.contracts.hub.Hub.TheInside as hub-inside
 use Rattle.df_rules.specs.declared.StepFunction as StepFunction
 use Rattle.df_unit.specs.contracts.entry.Entry as Entry
 use Rattle.df_sendable.proofs.Crews.{crew_send}
-use Rattle.df_sendable.proofs.Records.{record_send, record_sync}
+use Rattle.df_sendable.proofs.Records.{model_send, model_sync}
 
 module _ (V : RattleType) (sent : IsSend V) where
   option_send : IsSend (Option.the_row V)
@@ -42,14 +42,15 @@ module _ (V : RattleType) (sent : IsSend V) where
 
   module _ (O E : RattleType) (g : Journaled.Ghosts V.Denot O.Denot E.Denot) where
     pub pass_send : IsSend (Pass.the_row V O E g)
-    pass_send = view_send _ _ _ _ _ (record_send (pass-inside.the_type V O E g) (search (seat.the_send, option_send, sendable) depth 40 fits 20000))
+    pass_send = model_send (pass-inside.the_type V O E g) (search (seat.the_send, option_send, sendable) depth 40 fits 20000)
 
     pub desk_sync : IsSync (Desk.the_row V O E g)
-    desk_sync = view_sync _ _ _ _ _ (record_sync (desk-inside.the_type V O E g) (table_sync (rule.ghosts V O E g rule.no_dict), tt))
+    desk_sync = model_sync (desk-inside.the_type V O E g) (table_sync (rule.ghosts V O E g rule.no_dict), tt)
 
 module _ (B : RattleType) (brain : Brain.Ghosts B.Denot) (steps : StepFunction.Ghosts B.Denot) (sent : IsSend B) (seen : IsSync B) where
   pub hub_sync : IsSync (Hub.the_row B brain steps)
-  hub_sync = view_sync _ _ _ _ _ (record_sync (hub-inside.the_type B brain steps) (
-    desk_sync (Crew.the_row B steps) (crew_send B steps sent seen) (Origin.the_row B) Entry.the_row (crew.ghosts B brain crew.no_dict steps crew.no_dict crew.no_dict),
+  hub_sync = model_sync (hub-inside.the_type B brain steps) (
+    desk_sync (Crew.the_row B steps) (crew_send B steps sent seen) (Origin.the_row B) Entry.the_row
+        (crew.ghosts B brain crew.no_dict steps crew.no_dict crew.no_dict),
     (search (sendable, crosses) depth 40, tt),
-  ))
+  )
