@@ -11,7 +11,7 @@ use Rattle.df_book.specs.declared.plan.Plan.{Plan}
 use Rattle.df_book.specs.Submitting.{Submitted, is_better, best, meets, crosses, lesser, trade_of, if_left, trade_first, rested, met, matched, submitted}
 use Rattle.df_book.specs.code.Places.{MayRest, IsInOrder, IsPlan, rank_in, queue, resting_of, left_at, filled, Planned, behind_all, fill_of, plan_of, AreFills}
 use Rattle.df_book.proofs.Arrivals.{Arrived, left_in_order}
-use Rattle.df_book.proofs.Queued.{Head, Heads, heads, left_between, left_length, left_more, queue_more}
+use Rattle.df_book.proofs.Queued.{Head, Heads, heads, left_between, left_length, left_more}
 
 -- what a plan makes of the orders in order of arrival
 abbrev pub done : Order → List Arrived → Planned → Submitted
@@ -195,13 +195,6 @@ not_itself o left = and_right (bytes_eq o.symbol o.symbol) (crosses o (record o 
     go : (b c : Bool) → cond b (not b && c) (b && c) ≡ false
     go true c = refl
     go false c = refl
-
-pub queue_resting : (o : Order) (arrival : ℕ) (left : ℤ) (xs : List Arrived) → queue o (xs ++ resting_of arrival left o) ≡ queue o xs
-queue_resting o arrival left xs = go (int_lt (pos 0) left)
-  where
-    go : (b : Bool) → queue o (xs ++ cond b ((arrival, record o { qty = left }) ∷ []) []) ≡ queue o xs
-    go true = queue_more o (arrival, record o { qty = left }) xs (not_itself o left)
-    go false = ap (queue o) (append-nil xs)
 
 values_of-resting : (o : Order) (arrival : ℕ) (left : ℤ) → values_of (resting_of arrival left o) ≡ if_left left o []
 values_of-resting o arrival left = go (int_lt (pos 0) left)

@@ -117,11 +117,6 @@ left_between left h (x ∷ xs) f = go (x.0 == h.0) f (left_between left h xs)
     go true e again = there (int_lt (pos 0) left) e
     go false g again = ap (λ (ys : List Order). x.1 ∷ ys) (again g)
 
--- one more order at the end, which o doesn't meet
-pub queue_more : (o : Order) (x : Arrived) (xs : List Arrived) → meets o x.1 ≡ false → queue o (xs ++ x ∷ []) ≡ queue o xs
-queue_more o x [] e = ap (λ b. cond b (x ∷ []) []) e
-queue_more o x (y ∷ ys) e = ap (λ zs. cond (meets o y.1) (rank_in o y zs) zs) (queue_more o x ys e)
-
 pub left_more : (left : ℤ) (h : Arrived) (xs ys : List Arrived) → Found h xs → left_at h.0 left (xs ++ ys) ≡ left_at h.0 left xs ++ ys
 left_more left h [] ys f = absurd f
 left_more left h (x ∷ xs) ys f = go (x.0 == h.0) f (left_more left h xs ys)

@@ -294,9 +294,6 @@ module _ (roots : List RootStart) where
   settled_at_end rows j k (inr (inl m)) = let lt : m.0 < 0 = m.1 in absurd (let z : ⊥ = omega arith in z)
   settled_at_end rows j k (inr (inr s)) = s
 
-pub places_all : (xs : List ℕ) (n : ℕ) → ((k : ℕ) → k < n → Contains xs k) → (k : ℕ) → k < n + 1 → Contains (xs ++ n ∷ []) k
-places_all xs n f = below_more (Contains (xs ++ n ∷ [])) n (λ k lt. Contains-append_left xs (n ∷ []) k (f k lt)) (Contains-push xs n)
-
 pub places_only : (xs : List ℕ) (n : ℕ) → ((k : ℕ) → Contains xs k → k < n) → (k : ℕ) → Contains (xs ++ n ∷ []) k → k < n + 1
 places_only xs n f k m = elim (Contains-push_cases xs n k m) [
   | inl old ↦ (let lt : k < n = f k old in let z : k < n + 1 = omega arith in z)
