@@ -9,6 +9,7 @@ use Rattle.df_io.specs.Pieces.{HasAll, HasFront}
 use Rattle.df_journal_text.specs.Line.{line}
 use Rattle.df_journal_text.specs.Start.{head_text, start_text}
 use Rattle.df_lines.specs.Lines.{IsLine, ended, lines_text}
+use Rattle.df_machine.specs.Journal.{State}
 use Rattle.df_machine.specs.Tables.{AgreesWith}
 use Rattle.df_machine.specs.declared.tables.Tables.{Tables}
 use Rattle.df_script_text.specs.Script.{IsScript, IsScriptLine, script_line, script_text}
@@ -137,6 +138,12 @@ more_written : (roots : List RootStart) (lines : List ScriptLine) (l : ScriptLin
 more_written roots lines l old new text more made is step =
     written_more roots lines l old new text (text ++ more) (record { made = made; text = is })
     (record { made = step.made; text = ap (λ (u : List ℕ). text ++ u) step.text })
+
+-- what a step appended to no text is what is written
+pub step_written : (l : ScriptLine) (core : State) (tables : Tables) (before now bytes : List ℕ) → before ≡ [] → bytes ≡ now
+    → AppendsStep l core tables before now → AppendsStep l core tables [] bytes
+step_written l core tables before now bytes none same step =
+    subst (λ (more : List ℕ). AppendsStep l core tables [] more) (sym same) (subst (λ (front : List ℕ). AppendsStep l core tables front now) none step)
 
 -- a call was taken behind those that are answered
 more_taken : (left mid after : Option (List ℕ)) (roots : List RootStart) (lines : List ScriptLine) (l : ScriptLine) (words : List ℕ)

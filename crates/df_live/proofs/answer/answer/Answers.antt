@@ -1,5 +1,5 @@
-use Rattle.std.proofs.Common.{List, ℕ, [], subst, sym, ◌∙◌}
-use Rattle.df_steps.specs.Steps.{AppendsStep}
+use Rattle.std.proofs.Common.{sym, ◌∙◌}
+use Rattle.df_live.proofs.Answered.{step_written}
 use Rattle.df_live.proofs.Taking.{if_done, if_failed}
 use Rattle.df_live.proofs.answer.answer.Goals as goal
 
@@ -10,8 +10,7 @@ returns-then-is_err-2-clause-stops g c core agrees =
       if_failed c.write_all.result failed c.write_all.ensures.cause.rose,
       (
         c.deref.result.now,
-        subst (λ (more : List ℕ). AppendsStep c.args.line core c.append_step.new.tables [] more) (sym c.deref.ensures.value)
-            (subst (λ (before : List ℕ). AppendsStep c.args.line core c.append_step.new.tables before c.append_step.new.text.items) c.clear.ensures.items step),
+        step_written c.args.line core _ _ _ _ c.clear.ensures.items c.deref.ensures.value step,
         if_failed c.write_all.result failed c.write_all.ensures.front,
       ),
     )
@@ -20,7 +19,6 @@ pub returns-clause-answers : goal.returns-clause-answers
 returns-clause-answers g c core agrees =
     let step = if_done c.append_step.result (sym c.is_err.ensures.value ∙ c.if-is_err.false) c.append_step.ensures core agrees in (
       c.deref.result.now,
-      subst (λ (more : List ℕ). AppendsStep c.args.line core c.append_step.new.tables [] more) (sym c.deref.ensures.value)
-          (subst (λ (before : List ℕ). AppendsStep c.args.line core c.append_step.new.tables before c.append_step.new.text.items) c.clear.ensures.items step),
+      step_written c.args.line core _ _ _ _ c.clear.ensures.items c.deref.ensures.value step,
       if_done c.write_all.result (sym c.is_err-2.ensures.value ∙ c.if-is_err-2.false) c.write_all.ensures.all,
     )
