@@ -1,7 +1,8 @@
-ghost use Rattle.std.specs.Prelude.{◌≡◌, ◌++◌, ◌∷◌, [], OnOk, codes};
+ghost use Rattle.std.specs.Prelude.{◌≡◌, ◌++◌, ◌∷◌, [], OnOk, Some, codes};
 ghost use Rattle.df_unit.specs.declared.call.Call.{Call};
 ghost use Rattle.df_unit.specs.declared.entry.Entry.TheVariants.{Done};
 ghost use Rattle.df_unit.specs.declared.name.UnitName.{UnitName};
+ghost use Rattle.df_unit.specs.declared.reply.Reply.TheVariants.{Handle};
 ghost use Rattle.df_journal_text.specs.Entry.{edit_text, effect_text, entry_text, note_text, reads_text};
 ghost use Rattle.df_journal_text.specs.Front.{call_front};
 ghost use Rattle.df_journal_text.specs.Line.{line};
@@ -16,9 +17,20 @@ use crate::note::Note;
 use crate::reply::append_reply;
 use df_label::{Label, NoMemory};
 use df_unit::{Commit, Effect, Entry, Reply};
+use df_value_text::append_number;
 
-/// Appends the reply of a call behind its words, and ends the line.
-fn append_answer(reply: &Reply, to: &mut Vec<u8>) -> Result<(), NoMemory>
+/// Appends a handle behind the words of its call, and ends the line.
+fn append_handle(h: u32, to: &mut Vec<u8>) -> Result<(), NoMemory>
+    ensures { OnOk result (to.new.items ≡ to.old.items ++ answer_text (Handle h)) }
+{
+    to.extend_from_slice(b" -> handle ")?;
+    append_number(u64::from(h), to)?;
+    to.push(b'\n')?;
+    Ok(())
+}
+
+/// Appends a reply behind the words of its call, and ends the line.
+fn append_told(reply: &Reply, to: &mut Vec<u8>) -> Result<(), NoMemory>
     ensures { OnOk result (to.new.items ≡ to.old.items ++ answer_text reply.now) }
 {
     append_word(b"->", to)?;
@@ -27,16 +39,39 @@ fn append_answer(reply: &Reply, to: &mut Vec<u8>) -> Result<(), NoMemory>
     Ok(())
 }
 
+/// Appends the reply of a call behind its words, and ends the line. The two commonest are written
+/// at once.
+fn append_answer(reply: &Reply, to: &mut Vec<u8>) -> Result<(), NoMemory>
+    ensures { OnOk result (to.new.items ≡ to.old.items ++ answer_text reply.now) }
+{
+    match reply {
+        Reply::Ok => {
+            to.extend_from_slice(b" -> ok\n")?;
+            Ok(())
+        }
+        Reply::Handle(h) => append_handle(*h, to),
+        _ => append_told(reply, to),
+    }
+}
+
+/// Appends the line of a contamination.
+pub(crate) fn append_contamination(label: &Label, to: &mut Vec<u8>) -> Result<(), NoMemory>
+    ensures { OnOk result (to.new.items ≡ to.old.items ++ note_text (Some label.now)) }
+{
+    to.push(b'@')?;
+    append_label_word(label, to)?;
+    to.push(b'\n')?;
+    Ok(())
+}
+
 /// Appends the line of a contamination, where one is noted.
-pub(crate) fn append_note(note: &Option<Label>, to: &mut Vec<u8>) -> Result<(), NoMemory>
+fn append_note(note: &Option<Label>, to: &mut Vec<u8>) -> Result<(), NoMemory>
     ensures { OnOk result (to.new.items ≡ to.old.items ++ note_text note.now) }
 {
-    if let Some(label) = note {
-        to.push(b'@')?;
-        append_label_word(label, to)?;
-        to.push(b'\n')?;
+    match note {
+        Some(label) => append_contamination(label, to),
+        None => Ok(()),
     }
-    Ok(())
 }
 
 /// Appends the lines of what a read shows.

@@ -1,9 +1,9 @@
 //! A contamination that is noted of entries, with its line.
 
-ghost use Rattle.std.specs.Prelude.{◌≡◌, ◌↔◌, IsTrue, None, IfOk, OnErr, OnOk};
+ghost use Rattle.std.specs.Prelude.{◌≡◌, ◌↔◌, [], IsTrue, None, IfOk, OnErr, OnOk, option_copied};
 ghost use Rattle.df_journal_text.specs.Entry.{note_text};
 
-use crate::entry::append_note;
+use crate::entry::append_contamination;
 use df_label::{Label, NoMemory};
 use std::alloc::Global;
 use std::marker::Model;
@@ -32,25 +32,46 @@ impl Model for Note {
     ghost invariant = { λ n. n.line.items ≡ note_text n.contamination };
 }
 
-/// Whether the same is noted.
-fn same(noted: &Option<Label>, other: &Option<Label>) -> bool
-    ensures { IsTrue result ↔ noted.now ≡ other.now }
+/// Whether the label has no tag, as most have none.
+fn is_empty(label: &Label) -> bool
+    ensures { IsTrue result ↔ (label.now.s ≡ []) × (label.now.i ≡ []) }
 {
-    match (noted, other) {
-        (Some(label), Some(other)) => label.same(other),
+    label.s.is_empty() && label.i.is_empty()
+}
+
+/// Whether the two labels are equal.
+fn same(label: &Label, other: &Label) -> bool
+    ensures { IsTrue result ↔ label.now ≡ other.now }
+{
+    is_empty(label) && is_empty(other) || label.same(other)
+}
+
+/// Whether this contamination is noted, or none where there is none.
+fn is_noted(noted: &Option<Label>, contamination: Option<&Label>) -> bool
+    ensures { IsTrue result ↔ noted.now ≡ option_copied contamination.entry }
+{
+    match (noted, contamination) {
+        (Some(noted), Some(label)) => same(noted, label),
         (None, None) => true,
         _ => false,
     }
 }
 
-/// What is noted, a second time.
-fn copy(noted: &Option<Label>) -> Result<Option<Label>, NoMemory>
-    ensures { IfOk result (λ c. c ≡ noted.now) }
+/// A contamination, with its line.
+#[inline(never)]
+fn spelled(alloc: Global, contamination: Option<&Label>) -> Result<Note, NoMemory>
+    ensures { IfOk result (λ note. note ≡ option_copied contamination.entry) }
 {
-    match noted {
-        Some(label) => Ok(Some(label.copy()?)),
-        None => Ok(None),
-    }
+    let Some(label) = contamination else {
+        return Ok(Note::new(alloc));
+    };
+    let mut line = Vec::new(alloc);
+    append_contamination(label, &mut line)?;
+    let label = label.copy()?;
+    Ok(Note {
+        contamination: Some(label),
+        line,
+    })
 }
 
 impl Note {
@@ -71,21 +92,16 @@ impl Note {
         self.line.as_slice()
     }
 
-    /// Notes this contamination. Its line is spelled only where it wasn't the one that is noted.
-    pub fn set(&mut self, contamination: &Option<Label>) -> Result<(), NoMemory>
-        ensures ok { OnOk result (self.new ≡ contamination.now) }
+    /// Notes this contamination, or none. Its line is spelled only where it is another than what
+    /// was noted.
+    pub fn set(&mut self, contamination: Option<&Label>) -> Result<(), NoMemory>
+        ensures ok { OnOk result (self.new ≡ option_copied contamination.entry) }
         ensures err { OnErr result (self.new ≡ self.old) }
     {
-        if same(&self.contamination, contamination) {
+        if is_noted(&self.contamination, contamination) {
             return Ok(());
         }
-        let mut line = Vec::new(*self.line.allocator());
-        append_note(contamination, &mut line)?;
-        let contamination = copy(contamination)?;
-        *self = Note {
-            contamination,
-            line,
-        };
+        *self = spelled(*self.line.allocator(), contamination)?;
         Ok(())
     }
 }

@@ -1,5 +1,5 @@
 -- What the calls of a unit make of it.
-use Rattle.std.specs.Prelude.{Some, ℕ, ◌≡◌, ◌+◌, ⊤, not, ◌&&◌, if◌then◌else◌, nat_le, length, List, [], ◌∷◌}
+use Rattle.std.specs.Prelude.{Bool, true, false, Option, None, Some, ℕ, ◌≡◌, ◌+◌, ⊤, not, ◌&&◌, if◌then◌else◌, nat_le, length, List, [], ◌∷◌}
 use Rattle.df_label.specs.declared.label.Label.{Label}
 use Rattle.df_label.specs.declared.privilege.Privilege.{Privilege}
 use Rattle.df_unit.specs.declared.call.Call.{Call}
@@ -122,3 +122,27 @@ IsRefusal NoMemory r = ⊤
 -- the closing call is refused in this way
 abbrev pub Refuses : Close → ℕ → LocalState → EditRefused → Type 0
 Refuses how h l e = IsRefusal e (reply l.unit l.own [] (closing how h))
+
+-- whether the call is made of the unit's own state alone and has no effect
+abbrev pub is_alone : Call → Bool
+is_alone Call.CreateEvent = true
+is_alone (Call.AddPart h label name value) = true
+is_alone (Call.DelPart h label name) = true
+is_alone (Call.ReadPart h name) = true
+is_alone (Call.CloneEvent h label) = true
+is_alone (Call.AttachPrivilege h label name p) = true
+is_alone (Call.ChangeOutLabel half act tag) = true
+is_alone Call.CreateTag = true
+is_alone (Call.DropEvent h) = true
+is_alone _ = false
+
+-- such a call is answered by its row, whichever deliveries are left, and taken in
+pub record IsMadeAlone (call : Call) (r : Reply) (old new : LocalState) : Type 0 where
+  pub alone : is_alone call ≡ true
+  pub answered : (left : List Given) → row_answer old left call ≡ (r, Effect.Nothing)
+  pub moved : new ≡ with_own old (after old.unit old.own call r Effect.Nothing)
+
+-- such a call is made, with this reply; at any other nothing is done
+abbrev pub MakesAlone : Call → Option Reply → LocalState → LocalState → Type 0
+MakesAlone call (Some r) old new = IsMadeAlone call r old new
+MakesAlone call None old new = (is_alone call ≡ false) × (new ≡ old)

@@ -1,6 +1,7 @@
 //! A unit's own state, and the calls that concern no other unit.
 #![tactic(auto)]
 
+mod alone;
 mod answer;
 mod child;
 mod clone;

@@ -6,4 +6,4 @@ mod tables;
 mod taking;
 
 pub use machine::{BookCause, Core, NotBooked, NotEmitted, NotStepped};
-pub use tables::{Stepped, Tables};
+pub use tables::Tables;

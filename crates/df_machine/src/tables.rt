@@ -1,35 +1,24 @@
 //! The tables of a machine, which keep no journal.
 
-ghost use Rattle.std.specs.Prelude.{◌≡◌, ◌^◌, ◌<◌, ◌∷◌, [], length, IfOk, OnErr, OnOk, map};
-ghost use Rattle.std.specs.Option.{option_map};
+ghost use Rattle.std.specs.Prelude.{◌≡◌, ◌^◌, ◌<◌, ◌∷◌, [], length, IfOk, OnErr, OnOk, map, option_copied};
 ghost use Rattle.df_start.specs.Begun.{begun};
-ghost use Rattle.df_tables.specs.Board.{row_by};
 ghost use Rattle.df_tables.specs.Table.{rows_from};
 ghost use Rattle.df_unit.specs.declared.entry.Entry.TheVariants.{Emitted};
-ghost use Rattle.df_machine.specs.Journal.{State, appended};
-ghost use Rattle.df_machine.specs.Tables.{AgreesWith, IsStep, place_in};
+ghost use Rattle.df_unit.specs.declared.name.UnitName.{UnitName};
+ghost use Rattle.df_machine.specs.Journal.{State, answer_in, appended, contamination_in};
+ghost use Rattle.df_machine.specs.Tables.{AgreesWith, place_in};
 
 use df_label::{Label, NoMemory};
 use df_local::Answer;
 use df_start::{RootStart, Start};
 use df_tables::{Board, Unit, first_unit};
-use df_unit::{Call, Commit, Effect, Reply, UnitName};
+use df_unit::{Call, Commit, UnitName};
 use std::alloc::Global;
 
 /// The tables of a machine. The journal of which they tell is kept by the caller, or by nobody.
 #[derive(Drop)]
 pub struct Tables {
     pub(crate) board: Board,
-}
-
-/// A call that was made: its answer, and its actor's contamination before it. The place is that of
-/// the actor's row, where it has one.
-#[derive(Drop)]
-pub struct Stepped {
-    pub place: Option<usize>,
-    pub reply: Reply,
-    pub effect: Effect,
-    pub contamination: Option<Label>,
 }
 
 /// The rows of the roots as they begin, root 0 first.
@@ -46,17 +35,6 @@ fn first_units(alloc: Global, roots: &[RootStart]) -> Result<Vec<Unit>, NoMemory
     Ok(units)
 }
 
-/// The contamination of the unit at a place, if there is one.
-fn contamination_at(board: &Board, place: Option<usize>) -> Result<Option<Label>, NoMemory>
-    ensures { IfOk result (λ c.
-        c ≡ option_map (λ u. u.local.own.contamination) (row_by board.now place)) }
-{
-    match board.row(place) {
-        Some(unit) => Ok(Some(unit.local.contamination().copy()?)),
-        None => Ok(None),
-    }
-}
-
 impl Tables {
     /// The tables of a machine whose journal is empty.
     pub fn begin(alloc: Global, start: &Start) -> Result<Tables, NoMemory>
@@ -67,28 +45,42 @@ impl Tables {
         Ok(Tables { board })
     }
 
-    /// Makes a call for a unit. Whatever journal the tables agreed with, they agree with it and the
-    /// call's entry. Without memory they agree with what they agreed with.
-    pub fn step(&mut self, actor: &UnitName, call: &Call) -> Result<Stepped, NoMemory>
-        requires { (core : State) × AgreesWith core self.old }
-        ensures step { IfOk result (λ step. (core : State) → AgreesWith core self.old →
-            IsStep core actor.now call.now step) }
-        ensures place { IfOk result (λ step. step.place ≡ place_in self.old actor.now) }
-        ensures entry { OnOk result ((core : State) → AgreesWith core self.old →
-            AgreesWith (appended actor.now call.now core) self.new) }
+    /// The place of a unit's row, where it has one.
+    pub fn place(&self, unit: &UnitName) -> Option<usize>
+        requires { (core : State) × AgreesWith core self.now }
+        ensures { result ≡ place_in self.now unit.now }
+    {
+        self.board.place(unit)
+    }
+
+    /// The contamination of the unit whose row is at a place; none where there isn't one.
+    pub fn contamination(&self, place: Option<usize>) -> Option<&Label>
+        ensures { (core : State) (unit : UnitName) → AgreesWith core self.now →
+            place ≡ place_in self.now unit →
+            option_copied result ≡ contamination_in core unit }
+    {
+        match self.board.row(place) {
+            Some(unit) => Some(unit.local.contamination()),
+            None => None,
+        }
+    }
+
+    /// Makes a call for the unit at a place, and answers it. Whatever journal the tables agreed
+    /// with, they agree with it and the call's entry. Without memory they agree with what they
+    /// agreed with.
+    pub fn step(&mut self, place: Option<usize>, call: &Call) -> Result<Answer, NoMemory>
+        requires agrees { (core : State) × AgreesWith core self.old }
+        requires seated { (actor : UnitName) × (place ≡ place_in self.old actor) }
+        ensures answer { IfOk result (λ answer. (core : State) (actor : UnitName) →
+            AgreesWith core self.old → place ≡ place_in self.old actor →
+            answer_in core actor call.now ≡ (answer.reply, answer.effect)) }
+        ensures entry { IfOk result (λ _. (core : State) (actor : UnitName) →
+            AgreesWith core self.old → place ≡ place_in self.old actor →
+            AgreesWith (appended actor call.now core) self.new) }
         ensures kept { OnErr result ((core : State) → AgreesWith core self.old →
             AgreesWith core self.new) }
     {
-        let place = self.board.place(actor);
-        let contamination = contamination_at(&self.board, place)?;
-        let Answer { reply, effect } = self.board.answer(place, call)?;
-        self.board.book(place, call, &reply, &effect)?;
-        Ok(Stepped {
-            place,
-            reply,
-            effect,
-            contamination,
-        })
+        self.board.make(place, call)
     }
 
     /// Takes in an emitted commit. Whatever journal the tables agreed with, they agree with it and

@@ -1,13 +1,15 @@
 ghost use Rattle.std.specs.Prelude.{◌≡◌, IfOk, OnOk};
-ghost use Rattle.df_machine.specs.Journal.{State};
-ghost use Rattle.df_machine.specs.Tables.{AgreesWith};
+ghost use Rattle.df_machine.specs.Journal.{State, contamination_in};
+ghost use Rattle.df_machine.specs.Tables.{AgreesWith, place_in};
 ghost use Rattle.df_replay.specs.Noted.{contamination_of};
 ghost use Rattle.df_replay.specs.Replay.{Compares, ComparesTo, replayed};
 ghost use Rattle.df_unit.specs.declared.entry.Entry.TheVariants.{Done};
+ghost use Rattle.df_unit.specs.declared.name.UnitName.{UnitName};
 
 use crate::copy_call;
 use df_label::{Label, NoMemory};
-use df_machine::{Stepped, Tables};
+use df_local::Answer;
+use df_machine::Tables;
 use df_unit::{Call, Effect, Entry, Noted, Reply, UnitName};
 
 /// What a kept entry is, beside the one that the rules give there.
@@ -30,8 +32,10 @@ pub fn repeat(tables: &mut Tables, kept: &Entry) -> Result<Option<Label>, NoMemo
 {
     match kept {
         Entry::Done { actor, call, .. } => {
-            let step = tables.step(actor, call)?;
-            Ok(step.contamination)
+            let place = tables.place(actor);
+            let contamination = contamination_at(tables, place)?;
+            drop(tables.step(place, call)?);
+            Ok(contamination)
         }
         Entry::Emitted(commit) => {
             tables.emitted(commit)?;
@@ -55,8 +59,10 @@ pub fn compare(tables: &mut Tables, kept: &Entry) -> Result<Compared, NoMemory>
             reply,
             effect,
         } => {
-            let step = tables.step(actor, call)?;
-            compare_step(actor, call, reply, effect, step)
+            let place = tables.place(actor);
+            let contamination = contamination_at(tables, place)?;
+            let answer = tables.step(place, call)?;
+            compare_answer(actor, call, reply, effect, answer, contamination)
         }
         Entry::Emitted(commit) => {
             tables.emitted(commit)?;
@@ -67,28 +73,38 @@ pub fn compare(tables: &mut Tables, kept: &Entry) -> Result<Compared, NoMemory>
     }
 }
 
-/// Compares the kept answer to a call with this one.
-fn compare_step(
+/// The contamination of the unit whose row is at a place, a second time.
+fn contamination_at(tables: &Tables, place: Option<usize>) -> Result<Option<Label>, NoMemory>
+    ensures { IfOk result (λ c. (core : State) (unit : UnitName) → AgreesWith core tables.now →
+        place ≡ place_in tables.now unit → c ≡ contamination_in core unit) }
+{
+    match tables.contamination(place) {
+        Some(label) => Ok(Some(label.copy()?)),
+        None => Ok(None),
+    }
+}
+
+/// Compares the kept answer to a call with this one, before which the actor has this contamination.
+fn compare_answer(
     actor: &UnitName,
     call: &Call,
     reply: &Reply,
     effect: &Effect,
-    step: Stepped,
+    answer: Answer,
+    contamination: Option<Label>,
 ) -> Result<Compared, NoMemory>
-    ensures { IfOk result (ComparesTo (Done actor.now call.now step.reply step.effect)
-        step.contamination (Done actor.now call.now reply.now effect.now)) }
+    ensures { IfOk result (ComparesTo (Done actor.now call.now answer.reply answer.effect)
+        contamination (Done actor.now call.now reply.now effect.now)) }
 {
-    if step.reply.same(reply) && step.effect.same(effect) {
-        let contamination = step.contamination;
+    if answer.reply.same(reply) && answer.effect.same(effect) {
         return Ok(Compared::Same { contamination });
     }
     let entry = Entry::Done {
         actor: actor.copy()?,
         call: copy_call(call)?,
-        reply: step.reply,
-        effect: step.effect,
+        reply: answer.reply,
+        effect: answer.effect,
     };
-    let contamination = step.contamination;
     let expected = Noted {
         entry,
         contamination,

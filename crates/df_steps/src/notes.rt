@@ -1,6 +1,6 @@
 //! What is noted of units, by the places of their rows.
 
-ghost use Rattle.std.specs.Prelude.{◌≡◌, ◌<◌, IfOk, OnOk, vec_len};
+ghost use Rattle.std.specs.Prelude.{◌≡◌, ◌<◌, IfOk, OnOk, option_copied, vec_len};
 
 use df_journal_text::Note;
 use df_label::{Label, NoMemory};
@@ -17,6 +17,7 @@ pub struct Notes {
 }
 
 /// Makes place for the notes up to this place.
+#[inline(never)]
 fn reach(alloc: Global, notes: &mut Vec<Note>, place: usize) -> Result<(), NoMemory>
     ensures { OnOk result (place < vec_len notes.new) }
 {
@@ -43,15 +44,17 @@ impl Notes {
     pub(crate) fn of(
         &mut self,
         place: Option<usize>,
-        contamination: &Option<Label>,
+        contamination: Option<&Label>,
     ) -> Result<&Note, NoMemory>
-        ensures { IfOk result (λ note. note.now ≡ contamination.now) }
+        ensures { IfOk result (λ note. note.now ≡ option_copied contamination.entry) }
     {
         let Some(place) = place else {
             self.of_none.set(contamination)?;
             return Ok(&self.of_none);
         };
-        reach(self.alloc, &mut self.notes, place)?;
+        if self.notes.len() <= place {
+            reach(self.alloc, &mut self.notes, place)?;
+        }
         self.notes[place].set(contamination)?;
         Ok(&self.notes[place])
     }

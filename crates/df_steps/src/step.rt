@@ -23,7 +23,8 @@ pub fn append_step(
     ensures { OnOk result ((core : State) → AgreesWith core tables.old →
         AppendsStep read.now.line core tables.new text.old.items text.new.items) }
 {
-    let step = tables.step(&read.line.actor, &read.line.call)?;
-    let note = notes.of(step.place, &step.contamination)?;
-    append_spelled(read.words, &step.reply, &step.effect, note, text)
+    let place = tables.place(&read.line.actor);
+    let note = notes.of(place, tables.contamination(place))?;
+    let answer = tables.step(place, &read.line.call)?;
+    append_spelled(read.words, &answer.reply, &answer.effect, note, text)
 }

@@ -36,3 +36,4 @@ pub mod Alike
 pub mod Swapped
 pub mod FirstRoll
 pub mod Receiving
+pub mod Alone

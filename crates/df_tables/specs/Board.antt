@@ -164,6 +164,18 @@ pub record IsRenewed (old new : Board) : Type 0 where
   pub managed : new.managed ≡ old.managed
   pub told : new.marks.handed ≡ old.marks.handed
 
+-- the row at a place answers so to a call, which whatever the tables told is its unit's next entry
+pub record IsMade (place : Option ℕ) (c : Call) (a : Reply × Effect) (old new : Board)
+    : Type 0 where
+  pub answer : answer_from (row_by old place) c ≡ a
+  pub booked : (actor : UnitName) → place_on old actor ≡ place → IsBooked actor c a.0 a.1 old new
+
+-- a call that its unit makes of its own state alone is made; at any other at most the labels are
+-- others
+abbrev pub MakesAlone : Option ℕ → Call → Option Reply → Board → Board → Type 0
+MakesAlone place c None old new = IsRenewed old new
+MakesAlone place c (Some r) old new = IsMade place c (r, Effect.Nothing) old new
+
 -- the row at a place is moved as its unit's call does, and the subscription that is made, if any,
 -- is enrolled
 pub record IsMovedBoard (k : ℕ) (c : Call) (r : Reply) (f : Effect)

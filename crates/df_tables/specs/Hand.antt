@@ -1,8 +1,9 @@
 -- What receivers are handed, row by row.
-use Rattle.std.specs.Prelude.{◌≡◌, ℕ, zero, suc, ◌<◌, ◌==◌, List, [], ◌∷◌, ◌++◌, map, length, slice_index_or}
+use Rattle.std.specs.Prelude.{◌≡◌, ℕ, zero, suc, ◌<◌, ◌==◌, true, List, [], ◌∷◌, ◌++◌, Option, None, Some, map, length, slice_index_or}
 use Rattle.std.specs.List.{filter}
 use Rattle.df_index.specs.Due.{Pair}
 use Rattle.df_label.specs.declared.label.Label.{Label}
+use Rattle.df_local.specs.Locally.{is_alone}
 use Rattle.df_local.specs.code.LocalState.{LocalState}
 use Rattle.df_part.specs.Part.{cut}
 use Rattle.df_part.specs.declared.part.Part.{Part}
@@ -13,7 +14,9 @@ use Rattle.df_unit.specs.declared.entry.Effect.{Effect}
 use Rattle.df_unit.specs.declared.name.EventName.{EventName}
 use Rattle.df_unit.specs.declared.reply.Reply.{Reply}
 use Rattle.df_tables.specs.Line.{quiet, settled, staged_more}
+use Rattle.df_rules.specs.Start.{rows}
 use Rattle.df_tables.specs.Moves.{IsAnswered}
+use Rattle.df_tables.specs.Table.{moved_row}
 use Rattle.df_tables.specs.declared.units.Unit.{Unit}
 
 -- nothing is staged at the row
@@ -74,3 +77,10 @@ with_state c r f u = moved_by (λ l. record { unit = l.unit; own = after l.unit 
 -- the reply and the effect are the answer of the unit at the place
 abbrev pub IsAnsweredAt : ℕ → Call → Reply → Effect → List Unit → Type 0
 IsAnsweredAt k c r f us = (d : Unit) → k < length us → IsAnswered c r f (slice_index_or us k d)
+
+-- the unit at the place has made the call of its own state alone, with this reply; where that is
+-- none, nothing is another
+abbrev pub IsMadeAt : ℕ → Call → Option Reply → List Unit → List Unit → Type 0
+IsMadeAt k c None old new = new ≡ old
+IsMadeAt k c (Some r) old new = (is_alone c ≡ true) × IsAnsweredAt k c r Effect.Nothing old
+    × (new ≡ modify k (moved_row rows c r Effect.Nothing) old)

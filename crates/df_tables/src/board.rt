@@ -1,6 +1,6 @@
 //! The tables of the machine in one: the units, the events, and the index of subscriptions.
 
-ghost use Rattle.std.specs.Prelude.{◌≡◌, ℕ, ◌+◌, ◌<◌, [], false, List, None, Some, IfOk, OnErr, OnOk, length, option_copied, slice_get, vec_len};
+ghost use Rattle.std.specs.Prelude.{◌≡◌, ℕ, ◌+◌, ◌<◌, [], false, List, None, Some, IfOk, IfSome, OnErr, OnOk, length, option_copied, slice_get, vec_len};
 ghost use Rattle.std.specs.List.{All};
 ghost use Rattle.std.specs.Option.{option_map};
 ghost use Rattle.df_label.specs.declared.label.Label.{Label};
@@ -14,7 +14,7 @@ ghost use Rattle.df_unit.specs.declared.reply.Reply.TheVariants.{Sub};
 ghost use Rattle.df_unit.specs.UnitOrder.{unit_cmp};
 ghost use Rattle.df_label.specs.Ascending.{IsAscending};
 ghost use Rattle.df_tables.specs.Births.{IsEnrolled, IsNewborn, beside_of, rows_in};
-ghost use Rattle.df_tables.specs.Board.{AreBorn, HasRoom, IsBoard, IsBooked, IsBornBoard, IsChildBoard, IsKept, IsMovedBoard, IsRenewed, TellsOf, answer_from, place_on, row_by, row_on, units_in};
+ghost use Rattle.df_tables.specs.Board.{AreBorn, HasRoom, IsBoard, IsBooked, IsBornBoard, IsChildBoard, IsKept, IsMade, IsMovedBoard, IsRenewed, MakesAlone, TellsOf, answer_from, place_on, row_by, row_on, units_in};
 ghost use Rattle.df_tables.specs.Hand.{IsAnsweredAt, IsCalm};
 ghost use Rattle.df_tables.specs.Labels.{AreLabels, inputs};
 ghost use Rattle.df_tables.specs.Moves.{child_by, is_in_out, made_by, managed_sub_by};
@@ -23,7 +23,7 @@ ghost use Rattle.df_tables.specs.Table.{IsInOrder, rows_from};
 use crate::births::{Beside, Newborn, beside_of, child_of, count_child, make_room};
 use crate::events::Events;
 use crate::managing::subscribe_managed;
-use crate::moves::{move_at, subscribe};
+use crate::moves::{make_at, move_at, subscribe};
 use crate::units::{Unit, first_roll, labels_of, refresh};
 use df_filter::Filter;
 use df_index::Index;
@@ -114,12 +114,35 @@ impl Board {
         })
     }
 
+    /// The place of a root's row, where that is the root's number, as it is of the first units.
+    fn root_place(&self, name: &UnitName) -> Option<usize>
+        requires { IsBoard self.now }
+        ensures { IfSome result (λ place. place_on self.now name.now ≡ Some place) }
+    {
+        let UnitName::Root(path) = name else {
+            return None;
+        };
+        let [number] = path.as_slice() else {
+            return None;
+        };
+        let place = *number as usize;
+        let unit = self.rows.get(place)?;
+        if unit.local.name().same(name) {
+            Some(place)
+        } else {
+            None
+        }
+    }
+
     /// The place of a unit's row, where it has one.
     pub fn place(&self, name: &UnitName) -> Option<usize>
         requires { IsBoard self.now }
         ensures { result ≡ place_on self.now name.now }
     {
-        self.roll.place(name)
+        match self.root_place(name) {
+            Some(place) => Some(place),
+            None => self.roll.place(name),
+        }
     }
 
     /// The row at a place, if there is one.
@@ -418,6 +441,56 @@ impl Board {
         match place {
             Some(place) => self.book_at(place, call, reply, effect),
             None => Ok(()),
+        }
+    }
+
+    /// Makes a call that the unit at a place makes of its own state alone; None where it is
+    /// another. Where memory is wanting, at most the labels are others.
+    fn make_alone(&mut self, place: Option<usize>, call: &Call) -> Result<Option<Reply>, NoMemory>
+        requires board { IsBoard self.old }
+        requires seated { (actor : UnitName) × (place_on self.old actor ≡ place) }
+        ensures board { IsBoard self.new }
+        ensures made { IfOk result (λ made. MakesAlone place call.now made self.old self.new) }
+        ensures same { OnErr result (IsRenewed self.old self.new) }
+    {
+        match place {
+            Some(place) => make_at(self.rows.as_mut_slice(), place, call),
+            None => Ok(None),
+        }
+    }
+
+    /// Makes a call of the unit whose place this is: works out its answer, and takes the entry in.
+    /// Without memory the tables agree with the journal as before.
+    #[inline(never)]
+    fn answer_and_book(&mut self, place: Option<usize>, call: &Call) -> Result<Answer, NoMemory>
+        requires board { IsBoard self.old }
+        requires seated { (actor : UnitName) × (place_on self.old actor ≡ place) }
+        ensures board { IsBoard self.new }
+        ensures made { IfOk result (λ a. IsMade place call.now (a.reply, a.effect)
+            self.old self.new) }
+        ensures kept { OnErr result (IsKept self.old self.new) }
+    {
+        let answer = self.answer(place, call)?;
+        self.book(place, call, &answer.reply, &answer.effect)?;
+        Ok(answer)
+    }
+
+    /// Makes a call of the unit whose place this is, and answers it. Without memory the tables agree
+    /// with the journal as before.
+    pub fn make(&mut self, place: Option<usize>, call: &Call) -> Result<Answer, NoMemory>
+        requires board { IsBoard self.old }
+        requires seated { (actor : UnitName) × (place_on self.old actor ≡ place) }
+        ensures board { IsBoard self.new }
+        ensures made { IfOk result (λ a. IsMade place call.now (a.reply, a.effect)
+            self.old self.new) }
+        ensures kept { OnErr result (IsKept self.old self.new) }
+    {
+        match self.make_alone(place, call)? {
+            Some(reply) => Ok(Answer {
+                reply,
+                effect: Effect::Nothing,
+            }),
+            None => self.answer_and_book(place, call),
         }
     }
 }

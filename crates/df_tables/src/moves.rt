@@ -1,11 +1,11 @@
 //! What an entry without a commit makes of the row of its actor.
 
-ghost use Rattle.std.specs.Prelude.{◌≡◌, ◌<◌, ◌∷◌, [], ◌++◌, length, OnErr, OnOk};
+ghost use Rattle.std.specs.Prelude.{◌≡◌, ◌<◌, ◌∷◌, [], ◌++◌, length, IfOk, OnErr, OnOk};
 ghost use Rattle.df_rules.specs.Start.{rows};
 ghost use Rattle.df_unit.specs.declared.call.Call.TheVariants.{Subscribe};
 ghost use Rattle.df_unit.specs.declared.entry.Effect.{Effect};
 ghost use Rattle.df_unit.specs.declared.reply.Reply.TheVariants.{Sub};
-ghost use Rattle.df_tables.specs.Hand.{IsAnsweredAt, modify};
+ghost use Rattle.df_tables.specs.Hand.{IsAnsweredAt, IsMadeAt, modify};
 ghost use Rattle.df_tables.specs.Moves.{IsAnswered};
 ghost use Rattle.df_tables.specs.Table.{moved_row, taken};
 
@@ -58,6 +58,20 @@ pub fn move_at(
         return Err(NoMemory);
     };
     Ok(())
+}
+
+/// Makes a call that the unit at a place makes of its own state alone; None where it is another.
+/// Where memory is wanting, the table is as before.
+pub fn make_at(units: &mut [Unit], place: usize, call: &Call) -> Result<Option<Reply>, NoMemory>
+    requires within { place < length units.old }
+    ensures made { IfOk result (λ made. IsMadeAt place call.now made units.old units.new) }
+    ensures unchanged { OnErr result (units.new ≡ units.old) }
+{
+    let unit = &mut units[place];
+    match unit.local.make_alone(call) {
+        Ok(made) => Ok(made),
+        Err(refused) => Err(refused),
+    }
 }
 
 /// Counts a subscription in the own state of the unit at a place. Takes no memory.

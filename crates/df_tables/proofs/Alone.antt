@@ -1,0 +1,130 @@
+-- A call that a unit makes of its own state alone, in the tables.
+use Rattle.std.proofs.Common.{◌≡◌, ℕ, ◌<◌, true, false, List, get_or, length, set, slice_get, Option, None, Some, Result, Ok, Err, IfOk, OnErr, refl, ap, sym, subst, ◌∙◌}
+use Rattle.std.proofs.lemmas.List.{append-nil, get_or_default, set-get_or}
+use Rattle.df_filter.specs.declared.clause.Clause.{Clause}
+use Rattle.df_local.specs.Locally.{is_alone, MakesAlone as MakesAloneOf, row_answer}
+use Rattle.df_local.specs.code.LocalState.{LocalState}
+use Rattle.df_rules.specs.Start.{rows}
+use Rattle.df_unit.specs.declared.call.Call.{Call}
+use Rattle.df_unit.specs.declared.call.Call.TheVariants.{ChangeInOut, Instantiate, Subscribe, SubscribeManaged}
+use Rattle.df_unit.specs.declared.entry.Effect.{Effect}
+use Rattle.df_unit.specs.declared.name.UnitName.{UnitName}
+use Rattle.df_unit.specs.declared.reply.Reply.{Reply}
+use Rattle.df_label.specs.declared.label.Label.{Label}
+use Rattle.df_label.specs.declared.no_memory.NoMemory.{NoMemory}
+use Rattle.df_tables.specs.Agree.{FilterIndex, IsWhole}
+use Rattle.df_tables.specs.Board.{IsBoard, IsMade, IsMovedBoard, IsRenewed, MakesAlone, answer_from, place_on, row_by}
+use Rattle.df_tables.specs.Hand.{IsAnsweredAt, IsMadeAt}
+use Rattle.df_tables.specs.Labels.{AreLabels, inputs}
+use Rattle.df_tables.specs.Moves.{child_by, is_in_out, made_by, managed_sub_by}
+use Rattle.df_tables.specs.Table.{moved_row, names_of, place_of}
+use Rattle.df_tables.specs.declared.board.Board.{Board}
+use Rattle.df_tables.specs.declared.events.EventRow.{EventRow}
+use Rattle.df_tables.specs.declared.units.Unit.{Unit}
+use Rattle.df_tables.proofs.Booked.{booked_plain, found, kept_renewed, place_in, row_is}
+use Rattle.df_tables.proofs.Each.{set_modify}
+use Rattle.df_tables.proofs.Moved.{board_other}
+use Rattle.df_tables.proofs.Order.{roll_like}
+
+-- such a call makes no unit and no subscription, and changes no label at which its unit reads
+
+pub alone_childless : (c : Call) (r : Reply) → is_alone c ≡ true → child_by c r ≡ None
+alone_childless (Instantiate s privileges) r h = absurd (let z : ⊥ = cc in z)
+alone_childless _ r h = refl
+
+pub alone_unmanaged : (c : Call) (r : Reply) → is_alone c ≡ true → managed_sub_by c r ≡ None
+alone_unmanaged (SubscribeManaged filter) r h = absurd (let z : ⊥ = cc in z)
+alone_unmanaged _ r h = refl
+
+alone_makes_none : (c : Call) (r : Reply) → is_alone c ≡ true → made_by c r ≡ None
+alone_makes_none (Subscribe filter) r h = absurd (let z : ⊥ = cc in z)
+alone_makes_none _ r h = refl
+
+alone_quiet : (c : Call) → is_alone c ≡ true → is_in_out c ≡ false
+alone_quiet (ChangeInOut half act tag) h = absurd (let z : ⊥ = cc in z)
+alone_quiet _ h = refl
+
+-- the row with another own state of its unit
+abbrev with_local : Unit → LocalState → Unit
+with_local u l = record { local = l; line = u.line }
+
+-- what the unit at a place makes of its own state alone is made in the table
+pub made_at : (k : ℕ) (c : Call) (made : Option Reply) (d : Unit) (us : List Unit) (new : LocalState) → k < length us
+    → MakesAloneOf c made (get_or us k d).local new → IsMadeAt k c made us (set us k (with_local (get_or us k d) new))
+made_at k c None d us new within h = ap (λ (l : LocalState). set us k (with_local (get_or us k d) l)) h.1 ∙ set-get_or us k d
+made_at k c (Some r) d us new within h =
+    let u = get_or us k d in
+    let answered : IsAnsweredAt k c r Effect.Nothing us
+    = λ e i. subst (λ (v : Unit). row_answer v.local v.line.left c ≡ (r, Effect.Nothing)) (get_or_default us k d e within) (h.answered u.line.left) in
+    (h.alone, answered, ap (λ (l : LocalState). set us k (with_local u l)) h.moved ∙ set_modify k (moved_row rows c r Effect.Nothing) d us)
+
+-- all but the rows is as before
+pub record IsBesideRows (old new : Board) : Type 0 where
+  pub seats : new.roll.seats ≡ old.roll.seats
+  pub labels : new.labels.items ≡ old.labels.items
+  pub stale : new.stale ≡ old.stale
+  pub events : new.events ≡ old.events
+  pub index : new.index ≡ old.index
+  pub managed : new.managed ≡ old.managed
+  pub told : new.marks.handed ≡ old.marks.handed
+
+module _ (a : UnitName) (k : ℕ) (c : Call) (old new : Board) (here : place_on old a ≡ Some k) (board : IsBoard old) (beside : IsBesideRows old new) where
+  moved : (r : Reply) → IsMadeAt k c (Some r) old.rows.items new.rows.items → IsMovedBoard k c r Effect.Nothing None old new
+  moved r made = record {
+    rows = made.2;
+    roll = beside.seats;
+    events = beside.events;
+    enrolled = ap (λ (x : FilterIndex). x.enrolled) beside.index ∙ sym (append-nil old.index.enrolled);
+    handed = ap (λ (x : FilterIndex). x.handed) beside.index;
+    told = beside.told;
+  }
+
+  pub board_alone : (made : Option Reply) → IsMadeAt k c made old.rows.items new.rows.items → IsBoard new
+  board_alone None same = record {
+    whole = subst (λ (us : List Unit). IsWhole us new.events new.index) (sym same)
+        (subst (λ (evs : List EventRow). IsWhole old.rows.items evs new.index) (sym beside.events)
+        (subst (λ (x : FilterIndex). IsWhole old.rows.items old.events x) (sym beside.index) board.whole));
+    roll = roll_like old.roll.seats new.roll.seats old.rows.items new.rows.items beside.seats (ap names_of same) board.roll;
+    labels = subst (λ (us : List Unit). AreLabels (inputs us) new.labels.items new.stale) (sym same)
+        (subst (λ (ls : List Label). AreLabels (inputs old.rows.items) ls new.stale) (sym beside.labels)
+        (subst (λ (p : Option ℕ). AreLabels (inputs old.rows.items) old.labels.items p) (sym beside.stale) board.labels));
+  }
+  board_alone (Some r) made =
+      board_other k c r Effect.Nothing None old new (place_in a old.rows.items k here) board (moved r made) (alone_quiet c made.0) beside.labels beside.stale
+
+  pub makes_alone : (made : Option Reply) → IsMadeAt k c made old.rows.items new.rows.items → MakesAlone (Some k) c made old new
+  makes_alone None same = record {
+    rows = same;
+    roll = beside.seats;
+    events = beside.events;
+    index = beside.index;
+    managed = beside.managed;
+    told = beside.told;
+  }
+  makes_alone (Some r) made =
+      let row = found a old.rows.items k here in
+      let makes_none = sym (alone_makes_none c r made.0) in
+      record {
+        answer = ap (λ (o : Option Unit). answer_from o c) (row_is old a (Some k) here ∙ row.1) ∙ row.2 c r Effect.Nothing made.1;
+        booked = λ actor at.
+            booked_plain actor k c r Effect.Nothing old new at (alone_unmanaged c r made.0) (alone_childless c r made.0) made.1 refl board.whole
+            (subst (λ (m : Option (ℕ × List Clause)). IsMovedBoard k c r Effect.Nothing m old new) makes_none (moved r made)) beside.managed;
+      }
+
+-- whether memory was wanting or not, something was made, or nothing
+pub made_or_not : (k : ℕ) (c : Call) (us vs : List Unit) (r : Result (Option Reply) NoMemory) → IfOk r (λ made. IsMadeAt k c made us vs) → OnErr r (vs ≡ us) → (made : Option Reply) × IsMadeAt k c made us vs
+made_or_not k c us vs (Ok made) is same = (made, is)
+made_or_not k c us vs (Err refused) is same = (None, same)
+
+-- a row stands where it stood, where at most the labels are others
+row_renewed : (place : Option ℕ) (old new : Board) → IsRenewed old new → row_by new place ≡ row_by old place
+row_renewed None old new same = refl
+row_renewed (Some k) old new same = ap (λ (us : List Unit). slice_get us k) same.rows
+
+-- what is made where at most the labels became others is made
+pub made_renewed : (place : Option ℕ) (c : Call) (a : Reply × Effect) (old between new : Board) → IsRenewed old between → IsMade place c a between new → IsMade place c a old new
+made_renewed place c a old between new same made = record {
+  answer = ap (λ (o : Option Unit). answer_from o c) (sym (row_renewed place old between same)) ∙ made.answer;
+  booked = λ actor here starts past tells.
+      made.booked actor (ap (λ (us : List Unit). place_of actor us) same.rows ∙ here) starts past (kept_renewed old between same starts past tells);
+}
