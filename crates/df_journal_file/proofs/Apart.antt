@@ -1,7 +1,6 @@
 -- What is spelled has no value that is too large.
-use Rattle.std.proofs.Common.{◌≡◌, ℕ, List, [], ◌∷◌, ◌++◌, codes, ap, ◌∙◌}
-use Rattle.std.proofs.lemmas.List.{append_cancel_right}
-use Rattle.df_format.specs.Reading.{Read, behind_at}
+use Rattle.std.proofs.Common.{◌≡◌, ℕ, List, ◌++◌, codes}
+use Rattle.df_format.specs.Reading.{behind_at}
 use Rattle.df_label.specs.declared.label.Label.{Label}
 use Rattle.df_part.specs.declared.part.Part.{Part}
 use Rattle.df_unit.specs.declared.call.Call.{Call}
@@ -22,26 +21,15 @@ use Rattle.df_journal_text.specs.ReadCall.{call_at}
 use Rattle.df_journal_text.specs.ReadName.{unit_at}
 use Rattle.df_journal_text.specs.ReadWords.{named_at, privileges_at, word_at}
 use Rattle.df_journal_text.specs.code.Judging.{EndsCall, answer_at, call_text, ended}
-use Rattle.df_journal_text.proofs.Frames.{Frame, Parted, small_middle}
+use Rattle.df_journal_text.proofs.Frames.{spelled_small}
 use Rattle.df_journal_text.proofs.LineTells.{IsNamed, answer_text, called, called_parts, named_text, part_frame, part_parts, privileges_text, shown_frame, shown_parts}
 use Rattle.df_journal_text.proofs.ValueTells.{value_word_text}
 
-module _ {F M T W : Type 0} (sf : F → List ℕ) (Ff : F → Type 0) (Nf : List ℕ → Type 0) (rf : List ℕ → Read ℕ F) (sm : M → List ℕ) (Fm : M → Type 0) (Nm : List ℕ → Type 0) (Lm : List ℕ → Type 0) (rm : List ℕ → Read ℕ M)
-    (st : T → List ℕ) (Ft : T → Type 0) (rt : List ℕ → Read ℕ T) (k : Frame sf Ff Nf rf sm Fm Nm Lm rm st Ft rt) (text : W → List ℕ) (FW : W → Type 0) (part : (w : W) → FW w → Parted sf Ff sm Fm st Ft text FW w) where
-  not_large : (line : List ℕ) (w : W) → FW w → ended line ≡ text w → ((x : F) × (rest : List ℕ) × Ff x × (line ≡ sf x ++ rest) × Lm rest) → ⊥
-  not_large line w fits is =
-      let p = part w fits in
-      let behind : List ℕ = sm p.middle ++ st p.tail in
-      let whole : line ≡ sf p.front ++ behind = append_cancel_right line (sf p.front ++ behind) (10 ∷ []) (is ∙ p.parts) in
-      small_middle sf Ff Nf rf sm Fm Nm Lm rm st Ft rt k line p.front behind
-      (ap rf whole ∙ k.front_back p.front behind p.front_fits (k.front_next p.middle p.tail p.middle_fits p.tail_fits))
-      (k.apart behind p.middle (st p.tail) (k.middle_back p.middle (st p.tail) p.middle_fits (k.middle_next p.tail p.tail_fits)) p.middle_fits)
-
 pub call_small : (line : List ℕ) (w : UnitName × Call × Reply) → IsCalled w → ended line ≡ call_line w.0 w.1 w.2 → ¬ IsLargeCalled line
-call_small = not_large unit_text IsUnit EndsWord unit_at call_text IsCall EndsCall IsLargeCall call_at answer_text IsAnswer answer_at called (λ w. call_line w.0 w.1 w.2) IsCalled called_parts
+call_small = spelled_small unit_text IsUnit EndsWord unit_at call_text IsCall EndsCall IsLargeCall call_at answer_text IsAnswer answer_at called (λ w. call_line w.0 w.1 w.2) IsCalled called_parts
 
 pub part_small : (mark line : List ℕ) (w : Part) → IsPart w → ended line ≡ part_line mark w → ¬ IsLargePart mark line
-part_small mark = not_large (λ (n : Label × List ℕ). mark ++ named_text n) IsNamed EndsWord (behind_at mark named_at) value_word_text IsValue EndsWord IsLargeWord (word_at value_at) privileges_text ArePrivileges privileges_at (part_frame mark) (part_line mark) IsPart (part_parts mark)
+part_small mark = spelled_small (λ (n : Label × List ℕ). mark ++ named_text n) IsNamed EndsWord (behind_at mark named_at) value_word_text IsValue EndsWord IsLargeWord (word_at value_at) privileges_text ArePrivileges privileges_at (part_frame mark) (part_line mark) IsPart (part_parts mark)
 
 pub shown_small : (line : List ℕ) (w : PartRead) → IsPartRead w → ended line ≡ read_line w → ¬ IsLargeShown line
-shown_small = not_large (λ (label : Label). codes ":" ++ word (label_text label)) IsLabel EndsWord (behind_at (codes ":") (word_at label_at)) value_word_text IsValue EndsWord IsLargeWord (word_at value_at) privileges_text ArePrivileges privileges_at shown_frame read_line IsPartRead shown_parts
+shown_small = spelled_small (λ (label : Label). codes ":" ++ word (label_text label)) IsLabel EndsWord (behind_at (codes ":") (word_at label_at)) value_word_text IsValue EndsWord IsLargeWord (word_at value_at) privileges_text ArePrivileges privileges_at shown_frame read_line IsPartRead shown_parts

@@ -1,4 +1,3 @@
-pub mod Wholes
 pub mod WordLines
 pub mod Apart
 pub mod Places

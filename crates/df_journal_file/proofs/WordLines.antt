@@ -1,6 +1,6 @@
 -- The lines that have no value.
-use Rattle.std.proofs.Common.{◌≡◌, ℕ, List, [], ◌∷◌, ◌++◌, Ok, codes, decimal, refl, sym, ap, subst, ◌∙◌, append_assoc, append-nil, inl}
-use Rattle.df_format.specs.Reading.{Read, as_at, behind_at}
+use Rattle.std.proofs.Common.{◌≡◌, ℕ, List, [], ◌∷◌, ◌++◌, Ok, codes, decimal, refl, sym, ap, ◌∙◌, append_assoc, append-nil, inl}
+use Rattle.df_format.specs.Reading.{behind_at}
 use Rattle.df_label.specs.declared.label.Label.{Label}
 use Rattle.df_part.specs.declared.edit.Spot.{Spot}
 use Rattle.df_unit.specs.declared.name.EventName.{EventName}
@@ -17,22 +17,12 @@ use Rattle.df_journal_text.specs.ReadName.{event_at, event_of}
 use Rattle.df_journal_text.specs.ReadWords.{word_at}
 use Rattle.df_journal_text.specs.code.Judging.{ended}
 use Rattle.df_journal_text.proofs.CallFounds.{named_finds}
-use Rattle.df_journal_text.proofs.Founds.{Finds, as_found, finds_behind, finds_then, finds_word, label_finds, short_finds, unit_finds}
+use Rattle.df_journal_text.proofs.Founds.{Finds, finds_as, finds_behind, finds_then, finds_word, label_finds, short_finds, unit_finds}
 use Rattle.df_journal_text.proofs.NameBacks.{event_word}
 use Rattle.df_journal_text.proofs.StartBacks.{behind_back}
 use Rattle.df_journal_text.proofs.WordBacks.{label_word, name_word}
 use Rattle.df_journal_file.specs.Below.{event_line, note_line}
-use Rattle.df_journal_file.proofs.Wholes.{WholeLine}
-
--- what is read is made of what another reads
-finds_as : {X Y : Type 0} {sx : X → List ℕ} {FX : X → Type 0} {read : List ℕ → Read ℕ X} (make : X → Y) (f : Finds sx FX read) (sy : Y → List ℕ) (FY : Y → Type 0) → ((x : X) → FX x → (sy (make x) ≡ sx x) × FY (make x)) → Finds sy FY (as_at make read)
-finds_as {X} {Y} {sx} {FX} {read} make f sy FY to = record {
-  found = λ bytes y rest e.
-      let a = as_found make read bytes y rest e in
-      let k = f.found bytes a.0 rest a.1 in
-      let t = to a.0 k.1 in
-      subst (λ (z : Y). (bytes ≡ sy z ++ rest) × FY z) a.2 (k.0 ∙ ap (λ (u : List ℕ). u ++ rest) (sym t.0), t.1);
-}
+use Rattle.df_journal_text.proofs.Wholes.{WholeLine}
 
 -- a line of one word
 one_word : (mark text : List ℕ) → (mark ++ (word text ++ [])) ++ 10 ∷ [] ≡ ended (mark ++ word text)

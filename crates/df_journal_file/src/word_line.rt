@@ -1,5 +1,5 @@
 //! Lines that have no value, each without its line feed.
-ghost use Rattle.std.specs.Prelude.{◌∷◌, [], length};
+ghost use Rattle.std.specs.Prelude.{◌∷◌, []};
 ghost use Rattle.df_format.specs.Reading.{behind_at};
 ghost use Rattle.df_value_text.specs.Fits.{IsLabel};
 ghost use Rattle.df_value_text.specs.ReadLabel.{label_at};
@@ -9,39 +9,22 @@ ghost use Rattle.df_journal_text.specs.Fits.{IsEvent, IsSpot};
 ghost use Rattle.df_journal_text.specs.ReadEntry.{deleted_at};
 ghost use Rattle.df_journal_text.specs.ReadName.{event_at};
 ghost use Rattle.df_journal_text.specs.ReadWords.{word_at};
-ghost use Rattle.df_journal_text.specs.code.Judging.{IsWhole, TellsLine};
+ghost use Rattle.df_journal_text.specs.code.Judging.{TellsLine};
 ghost use Rattle.df_journal_file.specs.Below.{event_line, note_line};
 
-use df_journal_text::{LineFault, event_at};
+use df_journal_text::{LineFault, event_at, label_word, whole};
 use df_label::Label;
 use df_part::Spot;
 use df_unit::EventName;
-use df_value_text::{Fault, byte_at, label_at, name_at, text_at};
+use df_value_text::{Fault, byte_at, name_at, text_at};
 use std::alloc::Global;
-
-/// What was read, if it ends where the line does.
-fn whole<X: Drop>(line: &[u8], read: Result<(X, usize), Fault>) -> Result<X, LineFault>
-    ensures { IsWhole (length line.now) read result }
-{
-    match read {
-        Ok((x, end)) => {
-            if end == line.len() {
-                Ok(x)
-            } else {
-                Err(LineFault::Syntax)
-            }
-        }
-        Err(fault) => Err(LineFault::from(fault)),
-    }
-}
 
 /// The label behind `@`, and the place behind it.
 fn noted_at(alloc: Global, line: &[u8]) -> Result<(Label, usize), Fault>
     ensures { Gives (λ l. l) line.now result (behind_at (64 ∷ []) (word_at label_at) line.now) }
 {
     let (_, start) = text_at(line, 0, b"@")?;
-    let (_, place) = byte_at(line, start, b' ')?;
-    let (label, end) = label_at(alloc, line, place)?;
+    let (label, end) = label_word(alloc, line, start)?;
     Ok((label, end))
 }
 
@@ -74,8 +57,7 @@ fn deleted_label_at(alloc: Global, line: &[u8]) -> Result<(Label, usize), Fault>
     ensures { Gives (λ l. l) line.now result (behind_at (45 ∷ []) (word_at label_at) line.now) }
 {
     let (_, start) = text_at(line, 0, b"-")?;
-    let (_, place) = byte_at(line, start, b' ')?;
-    let (label, end) = label_at(alloc, line, place)?;
+    let (label, end) = label_word(alloc, line, start)?;
     Ok((label, end))
 }
 

@@ -51,6 +51,16 @@ then_found {X} {Y} rx ry bytes x y rest e =
     let p = ok_is ((a.0.0, b.0.0), b.0.1) ((x, y), rest) b.2 in
     (a.0.1, a.1 ∙ ap (λ (q : (X × Y) × List ℕ). Ok (q.0.0, a.0.1)) p, b.1 ∙ ap (λ (q : (X × Y) × List ℕ). Ok (q.0.1, q.1)) p)
 
+-- what is read is made of what another reads
+pub finds_as : {X Y : Type 0} {sx : X → List ℕ} {FX : X → Type 0} {read : List ℕ → Read ℕ X} (make : X → Y) (f : Finds sx FX read) (sy : Y → List ℕ) (FY : Y → Type 0) → ((x : X) → FX x → (sy (make x) ≡ sx x) × FY (make x)) → Finds sy FY (as_at make read)
+finds_as {X} {Y} {sx} {FX} {read} make f sy FY to = record {
+  found = λ bytes y rest e.
+      let a = as_found make read bytes y rest e in
+      let k = f.found bytes a.0 rest a.1 in
+      let t = to a.0 k.1 in
+      subst (λ (z : Y). (bytes ≡ sy z ++ rest) × FY z) a.2 (k.0 ∙ ap (λ (u : List ℕ). u ++ rest) (sym t.0), t.1);
+}
+
 pub finds_then : {X Y : Type 0} {sx : X → List ℕ} {FX : X → Type 0} {rx : List ℕ → Read ℕ X} {sy : Y → List ℕ} {FY : Y → Type 0} {ry : List ℕ → Read ℕ Y} → Finds sx FX rx → Finds sy FY ry → Finds (λ (p : X × Y). sx p.0 ++ sy p.1) (λ (p : X × Y). FX p.0 × FY p.1) (then_at rx ry)
 finds_then {X} {Y} {sx} {FX} {rx} {sy} {FY} {ry} f g = record {
   found = λ bytes p rest e.

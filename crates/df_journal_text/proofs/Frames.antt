@@ -90,7 +90,7 @@ pub record Parted {F M T W : Type 0} (sf : F → List ℕ) (Ff : F → Type 0) (
   pub parts : text w ≡ ended (sf front ++ (sm middle ++ st tail))
 
 -- lines that end alike begin alike
-unended : (line text : List ℕ) → ended line ≡ ended text → line ≡ text
+pub unended : (line text : List ℕ) → ended line ≡ ended text → line ≡ text
 unended line text is = append_cancel_right line text (10 ∷ []) is
 
 nothing_left : (line : List ℕ) (end : ℕ) → end ≡ length line → drop end line ≡ []
@@ -108,6 +108,16 @@ module _ {F M T W : Type 0} (sf : F → List ℕ) (Ff : F → Type 0) (Nf : List
   no_line h w fits is =
       let p = part w fits in
       h p.front p.middle p.tail p.front_fits p.middle_fits p.tail_fits (unended line (sf p.front ++ (sm p.middle ++ st p.tail)) (is ∙ p.parts))
+
+  -- what is spelled as this line has nothing that is too large
+  pub spelled_small : (w : W) → FW w → ended line ≡ text w → ¬ IsLargeFrame sf Ff Nf rf sm Fm Nm Lm rm st Ft rt k line
+  spelled_small w fits is =
+      let p = part w fits in
+      let behind : List ℕ = sm p.middle ++ st p.tail in
+      let whole : line ≡ sf p.front ++ behind = unended line (sf p.front ++ behind) (is ∙ p.parts) in
+      small_middle sf Ff Nf rf sm Fm Nm Lm rm st Ft rt k line p.front behind
+      (ap rf whole ∙ k.front_back p.front behind p.front_fits (k.front_next p.middle p.tail p.middle_fits p.tail_fits))
+      (k.apart behind p.middle (st p.tail) (k.middle_back p.middle (st p.tail) p.middle_fits (k.middle_next p.tail p.tail_fits)) p.middle_fits)
 
   pub front_failed : (e : Fault) → Fails line e (rf line) → LineTold (Err (line_fault e))
   front_failed literal.NoMemory h = tt

@@ -11,6 +11,7 @@ pub mod CallFounds
 pub mod ValueTells
 pub mod CallTells
 pub mod Frames
+pub mod Wholes
 pub mod LineTells
 pub mod ReplyBacks
 pub mod ReplyFounds

@@ -23,11 +23,10 @@ pub use call_reader::read_call_at;
 pub use entry::append_spelled;
 pub use laws::{a_journal_is_read_back, a_text_is_one_journal};
 pub use line_fault::LineFault;
-pub use line_reader::{read_call_line, read_part_line, read_shown_line};
-pub use name_reader::{braced_at, event_at, unit_at};
+pub use line_reader::{read_call_line, read_part_line, read_shown_line, whole};
+pub use name_reader::{event_at, unit_at};
 pub use note::Note;
-pub use reply_reader::reply_at;
-pub use word_reader::are_ascending;
+pub use word_reader::{label_word, privileges_at};
 pub use writers::{
     write_entry, write_event, write_head, write_noted, write_noting, write_start, write_unit,
 };

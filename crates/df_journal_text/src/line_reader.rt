@@ -23,7 +23,7 @@ use df_value_text::{Fault, text_at};
 use std::alloc::Global;
 
 /// What was read, if it ends where the line does.
-fn whole<X: Drop>(line: &[u8], read: Result<(X, usize), Fault>) -> Result<X, LineFault>
+pub fn whole<X: Drop>(line: &[u8], read: Result<(X, usize), Fault>) -> Result<X, LineFault>
     ensures { IsWhole (length line.now) read result }
 {
     match read {

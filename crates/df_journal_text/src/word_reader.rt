@@ -139,7 +139,7 @@ fn each_privilege_at(
 }
 
 /// Whether each privilege is above all before it.
-pub fn are_ascending(privileges: &[Privilege]) -> bool
+fn are_ascending(privileges: &[Privilege]) -> bool
     ensures { IsTrue result ↔ IsAscending privilege_cmp privileges.now }
 {
     for i in 1..privileges.len() {

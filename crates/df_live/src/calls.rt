@@ -10,25 +10,19 @@ ghost use Rattle.df_live.specs.declared.status.LiveStatus.TheVariants as status;
 use crate::head::take_line;
 use crate::lines::{Lines, Taken};
 use crate::status::{BadKind, LiveStatus};
-use df_script_text::{ScriptLine, Unread, read_line};
+use df_journal_text::LineFault;
+use df_script_text::{ScriptLine, read_line};
 use std::alloc::Global;
 
-/// How a run ends where this line isn't read.
-fn unread(line: u64, why: Unread) -> LiveStatus
+/// How a run ends where the line of this number isn't read.
+fn unread(line: u64, why: LineFault) -> LiveStatus
     ensures { result ≡ unread line why }
 {
     let kind = match why {
-        Unread::NoMemory => return LiveStatus::NoMemory,
-        Unread::TooLarge => BadKind::TooLarge,
+        LineFault::NoMemory => return LiveStatus::NoMemory,
+        LineFault::TooLarge => BadKind::TooLarge,
+        LineFault::Syntax => BadKind::Syntax,
     };
-    LiveStatus::BadInput { line, kind }
-}
-
-/// How a run ends where the line of this number isn't one of a call.
-fn syntax(line: u64) -> LiveStatus
-    ensures { result ≡ status.BadInput line kind.Syntax }
-{
-    let kind = BadKind::Syntax;
     LiveStatus::BadInput { line, kind }
 }
 
@@ -38,10 +32,17 @@ fn line_call(alloc: Global, number: u64, line: &[u8]) -> Result<Option<ScriptLin
     ensures refused { IfErr result (RefusesCall number taken.Line line.now) }
 {
     match read_line(alloc, line) {
-        Ok(Some(call)) => Ok(Some(call)),
-        Ok(None) => Err(syntax(number)),
-        Err(why) => Err(unread(number, why)),
+        Ok(call) => Ok(Some(call)),
+        Err(fault) => Err(unread(number, fault)),
     }
+}
+
+/// How a run ends where a call stands in the line of this number, which has no line feed.
+fn unended(line: u64, call: ScriptLine) -> LiveStatus
+    ensures { result ≡ status.BadInput line kind.Syntax }
+{
+    drop(call);
+    unread(line, LineFault::Syntax)
 }
 
 /// The call in what stands behind the last line feed: none, and nothing may stand there.
@@ -53,7 +54,7 @@ fn end_call(alloc: Global, number: u64, line: &[u8]) -> Result<Option<ScriptLine
         return Ok(None);
     }
     match read_line(alloc, line) {
-        Ok(_) => Err(syntax(number)),
+        Ok(call) => Err(unended(number, call)),
         Err(why) => Err(unread(number, why)),
     }
 }

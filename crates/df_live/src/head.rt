@@ -11,6 +11,7 @@ ghost use Rattle.df_live.specs.declared.status.LiveStatus.TheVariants as status;
 
 use crate::lines::{Lines, NotTaken, Taken};
 use crate::status::{BadKind, LiveStatus};
+use df_journal_text::LineFault;
 use df_script_text::read_root;
 use df_start::{RootStart, Start};
 use std::alloc::Global;
@@ -82,9 +83,9 @@ fn root_in(
         return Err(bad_line(place));
     }
     match read_root(alloc, number as u32, line) {
-        Ok(Some(root)) => Ok(Some(root)),
-        Ok(None) => Err(bad_line(place)),
-        Err(_) => Err(LiveStatus::NoMemory),
+        Ok(root) => Ok(Some(root)),
+        Err(LineFault::NoMemory) => Err(LiveStatus::NoMemory),
+        Err(_) => Err(bad_line(place)),
     }
 }
 

@@ -1,12 +1,9 @@
 pub mod Calls
-pub mod Cuts
 pub mod Files
-pub mod Lists
-pub mod Literals
 pub mod Numbered
-pub mod Privileges
-pub mod Readers
+pub mod RootLines
 pub mod ScriptBacks
+pub mod ScriptLines
 pub mod Splits
 pub mod Stops
 pub mod Values

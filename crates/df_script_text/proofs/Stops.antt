@@ -1,5 +1,5 @@
 -- Where reading a script stops, there is its first bad line.
-use Rattle.std.proofs.Common.{◌≡◌, ℕ, ◌+◌, ◌<◌, ◌≤◌, List, [], ◌∷◌, ◌++◌, length, length-drop, take, drop, map, false, eqb, Option, Some, None, Result, Ok, Err, refl, sym, ap, subst, ◌∙◌, arith, append-nil, append_assoc, length-append, zero-add}
+use Rattle.std.proofs.Common.{◌≡◌, ℕ, ◌+◌, ◌<◌, ◌≤◌, List, [], ◌∷◌, ◌++◌, length, length-drop, take, drop, map, false, eqb, Some, None, Ok, Err, refl, sym, ap, subst, ◌∙◌, arith, append-nil, append_assoc, length-append, zero-add}
 use Rattle.std.proofs.lemmas.List.{map-append}
 use Rattle.std.proofs.lemmas.List.Concat.{flat_map-append}
 use Rattle.std.proofs.lemmas.List.Elements.{All-nil, All-push, recursion_from_All}
@@ -12,19 +12,21 @@ use Rattle.df_lines.specs.declared.fault.FileFault.{FileFault}
 use Rattle.df_lines.specs.declared.fault.FileFault.TheVariants as fault
 use Rattle.df_lines.proofs.FirstBad.{first_bad, names_line}
 use Rattle.df_journal_text.specs.Fits.{IsRoot}
+use Rattle.df_journal_text.specs.Large.{IsLargeCalled}
 use Rattle.df_journal_text.specs.Start.{root_text}
+use Rattle.df_journal_text.specs.code.Judging.{IsNoLine, TellsLine as Told}
+use Rattle.df_journal_text.specs.declared.line_fault.LineFault.{LineFault}
+use Rattle.df_journal_text.specs.declared.line_fault.LineFault.TheVariants as line_fault
 use Rattle.df_start.specs.declared.start.RootStart.{RootStart}
 use Rattle.df_script_text.specs.Reader.{HasReadUpTo}
-use Rattle.df_script_text.specs.Script.{IsScript, IsScriptLine, IsScriptText}
-use Rattle.df_script_text.specs.TooLarge.{IsTooLargeIn, IsTooLargeLine}
+use Rattle.df_script_text.specs.Script.{IsScript, IsScriptLine, IsScriptText, script_line}
+use Rattle.df_script_text.specs.TooLarge.{IsTooLargeIn}
 use Rattle.df_script_text.specs.code.Lines.{call_line, head_lines, numbered, script_lines}
 use Rattle.df_script_text.specs.code.Stops.{ArePassed, AreRootsAt, IsCallLine, IsFirstAt, RootsStop, StopsAt, StopsCall, StopsFirst, TellsRoot, fault_of}
-use Rattle.df_script_text.specs.code.Reads.{Reads, Tells}
 use Rattle.df_script_text.specs.declared.line.ScriptLine.{ScriptLine}
-use Rattle.df_script_text.specs.declared.word.Unread.{Unread}
-use Rattle.df_script_text.specs.declared.word.Unread.TheVariants as unread
 use Rattle.df_script_text.proofs.Files.{run, first, script_text-lines, AreLines-head, AreLines-script, next_head, more_head, no_run, next_call, front_is, roots_before, start_before, script_grammar}
 use Rattle.df_script_text.proofs.Numbered.{numbered-push}
+use Rattle.df_script_text.proofs.ScriptLines.{made_small}
 
 -- ---- loops
 
@@ -155,27 +157,29 @@ calls_refused bytes rs ls place f r is h s =
 pub open_stop : (Is : List ℕ → Type 0) (bytes : List ℕ) → IsLine bytes → StopsAt Is bytes bytes
 open_stop Is bytes line = record { behind = []; parts = sym (append-nil bytes); line = line; end = tt; refused = λ more e. cc }
 
-pub open_call : (bytes : List ℕ) (at : ℕ) → at < length bytes → IsLine (drop at bytes) → (r : Result (Option ScriptLine) Unread) → Tells call_line IsScriptLine IsTooLargeLine (drop at bytes) r → StopsCall bytes at (fault_of at r)
-open_call bytes at some line (Ok o) t = (refl, some, (drop at bytes, open_stop IsCallLine (drop at bytes) line, t.1))
-open_call bytes at some line (Err unread.NoMemory) t = tt
-open_call bytes at some line (Err unread.TooLarge) t = (refl, some, (drop at bytes, open_stop IsCallLine (drop at bytes) line, t.1))
+pub open_call : (bytes : List ℕ) (at : ℕ) → at < length bytes → IsLine (drop at bytes) → (l : ScriptLine) → Told script_line IsScriptLine IsLargeCalled (drop at bytes) (Ok l) → StopsCall bytes at (fault.Bad at)
+open_call bytes at some line l t = (refl, some, (drop at bytes, open_stop IsCallLine (drop at bytes) line, made_small (drop at bytes) l t.0 t.1))
+
+pub open_unread : (bytes : List ℕ) (at : ℕ) → at < length bytes → IsLine (drop at bytes) → (f : LineFault) → Told script_line IsScriptLine IsLargeCalled (drop at bytes) (Err f) → StopsCall bytes at (fault_of at f)
+open_unread bytes at some line line_fault.NoMemory t = tt
+open_unread bytes at some line line_fault.Syntax t = (refl, some, (drop at bytes, open_stop IsCallLine (drop at bytes) line, t.1))
+open_unread bytes at some line line_fault.TooLarge t = (refl, some, (drop at bytes, open_stop IsCallLine (drop at bytes) line, t.1))
 
 -- a line is bad where no call is spelled so
-line_stop : (bytes : List ℕ) (at : ℕ) (line : List ℕ) (next : ℕ) → TellsLine bytes at (Some (line, next))
-    → Reads call_line IsScriptLine line None → StopsAt IsCallLine (drop at bytes) line
+line_stop : (bytes : List ℕ) (at : ℕ) (line : List ℕ) (next : ℕ) → TellsLine bytes at (Some (line, next)) → IsNoLine script_line IsScriptLine line → StopsAt IsCallLine (drop at bytes) line
 line_stop bytes at line next l none =
-    record { behind = 10 ∷ drop next bytes; parts = l.3; line = l.0; end = refl; refused = λ more e k. none k.0 k.1 k.2 }
+    record { behind = 10 ∷ drop next bytes; parts = l.3; line = l.0; end = refl; refused = λ more e k. none k.0 k.1 (ap ended k.2) }
 
--- a line that isn't a call's
-pub bad_call : (bytes : List ℕ) (at : ℕ) (line : List ℕ) (next : ℕ) → TellsLine bytes at (Some (line, next))
-    → Tells call_line IsScriptLine IsTooLargeLine line (Ok None) → StopsCall bytes at (fault.Bad at)
-bad_call bytes at line next l t = (refl, omega (arith, l.1, l.2), (line, line_stop bytes at line next l t.0, t.1))
+-- a line of which no call is read
+pub line_unread : (bytes : List ℕ) (at : ℕ) (line : List ℕ) (next : ℕ) → TellsLine bytes at (Some (line, next))
+    → (f : LineFault) → Told script_line IsScriptLine IsLargeCalled line (Err f) → StopsCall bytes at (fault_of at f)
+line_unread bytes at line next l line_fault.NoMemory t = tt
+line_unread bytes at line next l line_fault.Syntax t = (refl, omega (arith, l.1, l.2), (line, line_stop bytes at line next l t.0, t.1))
+line_unread bytes at line next l line_fault.TooLarge t = (refl, omega (arith, l.1, l.2), (line, line_stop bytes at line next l t.0, t.1))
 
--- a line that can't be read
-pub line_call : (bytes : List ℕ) (at : ℕ) (line : List ℕ) (next : ℕ) → TellsLine bytes at (Some (line, next))
-    → (e : Unread) → Tells call_line IsScriptLine IsTooLargeLine line (Err e) → StopsCall bytes at (fault_of at (Err e))
-line_call bytes at line next l unread.NoMemory t = tt
-line_call bytes at line next l unread.TooLarge t = (refl, omega (arith, l.1, l.2), (line, line_stop bytes at line next l t.0, t.1))
+-- a line with its line feed, and what stands behind it
+line_is : (bytes : List ℕ) (at : ℕ) (line : List ℕ) (next : ℕ) → TellsLine bytes at (Some (line, next)) → drop at bytes ≡ ended line ++ drop next bytes
+line_is bytes at line next l = l.3 ∙ sym (append_assoc line (10 ∷ []) (drop next bytes))
 
 -- the line `run`
 pub run_at : (bytes : List ℕ) (at : ℕ) (line : List ℕ) (next : ℕ) → line ≡ run → TellsLine bytes at (Some (line, next)) → TellsRoot 0 bytes at None
@@ -189,15 +193,9 @@ run_at bytes at line next is l =
 pub start_read : (bytes : List ℕ) (at : ℕ) (rs : List RootStart) (mid : ℕ) → IsFirstAt bytes at → AreRootsAt bytes at rs mid → HasReadUpTo bytes rs [] mid
 start_read bytes at rs mid i r = record { inside = r.inside; script = ((r.passed.few, r.passed.fit), All-nil IsScriptLine); text = start_before bytes at rs mid i r }
 
--- the line of a call, with its line feed
-line_read : (bytes : List ℕ) (at : ℕ) (line : List ℕ) (next : ℕ) (l : ScriptLine) → TellsLine bytes at (Some (line, next))
-    → line ≡ call_line l → drop at bytes ≡ ended (call_line l) ++ drop next bytes
-line_read bytes at line next l t is =
-    t.3 ∙ ap (λ (u : List ℕ). u ++ 10 ∷ drop next bytes) is ∙ sym (append_assoc (call_line l) (10 ∷ []) (drop next bytes))
-
 -- one more call
 pub call_read : (bytes : List ℕ) (rs : List RootStart) (ls : List ScriptLine) (l : ScriptLine) (place : ℕ) (line : List ℕ) (next : ℕ)
-    → HasReadUpTo bytes rs ls place → TellsLine bytes place (Some (line, next)) → Reads call_line IsScriptLine line (Some l)
+    → HasReadUpTo bytes rs ls place → TellsLine bytes place (Some (line, next)) → Told script_line IsScriptLine IsLargeCalled line (Ok l)
     → HasReadUpTo bytes rs (ls ++ l ∷ []) next
 call_read bytes rs ls l place line next h t read =
     let more : script_lines (rs, ls) ++ call_line l ∷ [] ≡ script_lines (rs, ls ++ l ∷ []) =
@@ -207,7 +205,7 @@ call_read bytes rs ls l place line next h t read =
       script = (h.script.0, All-push IsScriptLine ls l h.script.1 read.0);
       text =
           h.text ∙ ap (λ (u : List ℕ). u ++ drop place bytes) (script_text-lines rs ls)
-          ∙ ap (λ (u : List ℕ). lines_text (script_lines (rs, ls)) ++ u) (line_read bytes place line next l t read.1)
+          ∙ ap (λ (u : List ℕ). lines_text (script_lines (rs, ls)) ++ u) (line_is bytes place line next t ∙ ap (λ (u : List ℕ). u ++ drop next bytes) read.1)
           ∙ lines_push (script_lines (rs, ls)) (call_line l) (drop next bytes)
           ∙ ap (λ (m : List (List ℕ)). lines_text m ++ drop next bytes) more
           ∙ ap (λ (u : List ℕ). u ++ drop next bytes) (sym (script_text-lines rs (ls ++ l ∷ [])));

@@ -25,7 +25,7 @@ use Rattle.df_value_text.specs.ReadWhole.{IsWhole}
 use Rattle.df_journal_text.specs.Call.{act_text, half_text}
 use Rattle.df_journal_text.specs.Name.{unit_text}
 use Rattle.df_journal_text.specs.Fits.{IsUnit}
-use Rattle.df_script_text.specs.code.Lines.{braced}
+use Rattle.df_journal_text.proofs.WordBacks.{braced}
 
 -- whether each byte is above a space
 abbrev pub is_word : List ℕ → Bool

@@ -1,18 +1,14 @@
 //! The text of scripts: a line for each root, and a line for each call that a unit makes.
 #![tactic(auto)]
 
-mod call;
 mod file;
 mod laws;
 mod line;
-mod pieces;
 mod reader;
 mod root;
-mod word;
 
 pub use file::read_script;
 pub use laws::{a_script_is_read_back, a_text_is_one_script};
 pub use line::{ReadLine, ScriptLine, read_line};
 pub use reader::ScriptReader;
 pub use root::{read_root, roots_at};
-pub use word::Unread;

@@ -1,16 +1,13 @@
 //! The lines of calls.
 
-ghost use Rattle.std.specs.Prelude.{◌≡◌, ◌≤◌, ◌<◌, Err, drop, length, option_map, IfErr, IfOk};
+ghost use Rattle.std.specs.Prelude.{◌≡◌, ◌≤◌, ◌<◌, drop, length, option_map, IfErr, IfOk};
 ghost use Rattle.df_lines.specs.Lines.{IsLine};
-ghost use Rattle.df_script_text.specs.Script.{IsScriptLine};
-ghost use Rattle.df_script_text.specs.TooLarge.{IsTooLargeLine};
-ghost use Rattle.df_script_text.specs.code.Lines.{call_line};
-ghost use Rattle.df_script_text.specs.code.Reads.{Tells};
+ghost use Rattle.df_journal_text.specs.Large.{IsLargeCalled};
+ghost use Rattle.df_journal_text.specs.code.Judging.{TellsLine};
+ghost use Rattle.df_script_text.specs.Script.{IsScriptLine, script_line};
 ghost use Rattle.df_script_text.specs.code.Stops.{StopsCall, TellsWords, fault_of};
 
-use crate::call::read_call;
-use crate::pieces::cut_at_space;
-use crate::word::{Unread, read_actor};
+use df_journal_text::{LineFault, read_call_at, unit_at};
 use df_lines::{FileFault, line_at};
 use df_unit::{Call, UnitName};
 use std::alloc::Global;
@@ -30,39 +27,26 @@ pub struct ReadLine<'a> {
     pub line: ScriptLine,
 }
 
-/// The call of a line, without its line feed; none where the line isn't one of a call.
-pub fn read_line(alloc: Global, line: &[u8]) -> Result<Option<ScriptLine>, Unread>
-    ensures { Tells call_line IsScriptLine IsTooLargeLine line.now result }
+/// The call of a line, without its line feed.
+pub fn read_line(alloc: Global, line: &[u8]) -> Result<ScriptLine, LineFault>
+    ensures { TellsLine script_line IsScriptLine IsLargeCalled line.now result }
 {
-    let Some((actor, call)) = cut_at_space(line) else {
-        return Ok(None);
-    };
-    let Some(actor) = read_actor(alloc, actor)? else {
-        return Ok(None);
-    };
-    let Some(call) = read_call(alloc, call)? else {
-        return Ok(None);
-    };
-    Ok(Some(ScriptLine { actor, call }))
-}
-
-/// Why no call is read at the place, where this came of its line.
-fn fault_of(at: usize, read: Result<Option<ScriptLine>, Unread>) -> FileFault
-    ensures { result ≡ fault_of at read }
-{
-    match read {
-        Ok(_) => FileFault::Bad(at),
-        Err(unread) => fault_of_unread(at, unread),
+    let (actor, behind) = unit_at(alloc, line, 0)?;
+    let (call, end) = read_call_at(alloc, line, behind)?;
+    if end != line.len() {
+        return Err(LineFault::Syntax);
     }
+    Ok(ScriptLine { actor, call })
 }
 
-/// Why no call is read at the place, where this came of a value in its line.
-pub fn fault_of_unread(at: usize, unread: Unread) -> FileFault
-    ensures { result ≡ fault_of at (Err unread) }
+/// Why nothing is read at the place, where this came of its line.
+pub fn fault_of(at: usize, fault: LineFault) -> FileFault
+    ensures { result ≡ fault_of at fault }
 {
-    match unread {
-        Unread::NoMemory => FileFault::NoMemory,
-        Unread::TooLarge => FileFault::TooLarge(at),
+    match fault {
+        LineFault::Syntax => FileFault::Bad(at),
+        LineFault::TooLarge => FileFault::TooLarge(at),
+        LineFault::NoMemory => FileFault::NoMemory,
     }
 }
 
@@ -81,7 +65,13 @@ fn open_fault(alloc: Global, bytes: &[u8], at: usize) -> FileFault
     requires open { IsLine (drop at bytes.now) }
     ensures { StopsCall bytes.now at result }
 {
-    fault_of(at, read_line(alloc, rest_at(bytes, at)))
+    match read_line(alloc, rest_at(bytes, at)) {
+        Ok(line) => {
+            drop(line);
+            FileFault::Bad(at)
+        }
+        Err(fault) => fault_of(at, fault),
+    }
 }
 
 /// The line at the place without its line feed, and the place behind that; none where no byte is

@@ -11,7 +11,7 @@ ghost use Rattle.df_script_text.specs.TooLarge.{IsTooLargeIn};
 ghost use Rattle.df_script_text.specs.code.Stops.{IsFirstAt, StopsFirst};
 ghost use Rattle.df_script_text.specs.declared.line.ScriptLine.{ScriptLine};
 
-use crate::line::{ReadLine, fault_of_unread, read_line, words_at};
+use crate::line::{ReadLine, fault_of, read_line, words_at};
 use crate::root::roots_at;
 use df_lines::{FileFault, FileRefused, file_refused, line_at};
 use df_start::Start;
@@ -103,12 +103,11 @@ impl<'a> ScriptReader<'a> {
             Err(fault) => return Err(file_refused(self.bytes, fault)),
         };
         match read_line(self.alloc, words) {
-            Ok(Some(line)) => {
+            Ok(line) => {
                 self.place = next;
                 Ok(Some(ReadLine { words, line }))
             }
-            Ok(None) => Err(file_refused(self.bytes, FileFault::Bad(self.place))),
-            Err(unread) => Err(file_refused(self.bytes, fault_of_unread(self.place, unread))),
+            Err(fault) => Err(file_refused(self.bytes, fault_of(self.place, fault))),
         }
     }
 }

@@ -1,99 +1,38 @@
 //! The lines of roots.
 
-ghost use Rattle.std.specs.Prelude.{◌≡◌, ◌≤◌, ◌↔◌, IsTrue, codes, decimal, length, map, option_map, IfErr, IfOk};
-ghost use Rattle.std.specs.List.{All};
-ghost use Rattle.df_value_text.specs.Fits.{IsPrivilege};
-ghost use Rattle.df_value_text.specs.Label.{privilege_text};
-ghost use Rattle.df_journal_text.specs.Start.{root_text};
-ghost use Rattle.df_script_text.specs.code.Lines.{root_words};
-ghost use Rattle.df_script_text.specs.code.Reads.{Reads};
+ghost use Rattle.std.specs.Prelude.{◌≡◌, ◌≤◌, length, IfErr, IfOk};
+ghost use Rattle.df_value_text.specs.code.Answer.{Gives};
+ghost use Rattle.df_journal_text.specs.Fits.{IsRoot};
+ghost use Rattle.df_journal_text.specs.Start.{root_line};
+ghost use Rattle.df_journal_text.specs.code.Judging.{TellsLine};
+ghost use Rattle.df_script_text.specs.code.Lines.{root_line_at};
 ghost use Rattle.df_script_text.specs.code.Stops.{AreRootsAt, RootsStop, StopsRoot, TellsRoot};
-ghost use Rattle.df_journal_text.specs.Fits.{ArePrivileges, IsRoot};
 
-use crate::pieces::pieces;
-use crate::word::{read_label, read_number, read_privilege};
-use df_journal_text::are_ascending;
-use df_label::{NoMemory, Privilege, Privileges};
+use crate::line::fault_of;
+use df_journal_text::{LineFault, label_word, privileges_at, whole};
 use df_lines::{FileFault, line_at};
 use df_start::{RootStart, Start};
+use df_value_text::{Fault, text_at};
+use itoa::Buffer;
 use std::alloc::Global;
 
-/// Privileges, whatever their order.
-fn read_each(alloc: Global, words: &[&[u8]]) -> Result<Option<Vec<Privilege>>, NoMemory>
-    ensures { IfOk result (λ o. Reads (map privilege_text) (All IsPrivilege)
-        (map (λ w. w.now) words.now) (option_map (λ v. v.items) o)) }
+/// The root in the line of this number, and the place behind it.
+fn root_line_at(alloc: Global, number: u32, line: &[u8]) -> Result<(RootStart, usize), Fault>
+    ensures { Gives (λ root. root) line.now result (root_line_at number line.now) }
 {
-    let mut read = Vec::new(alloc);
-    for word in words {
-        let Some(privilege) = read_privilege(alloc, word)? else {
-            return Ok(None);
-        };
-        read.push(privilege)?;
-    }
-    Ok(Some(read))
-}
-
-/// Privileges in ascending order.
-pub fn read_privileges(alloc: Global, words: &[&[u8]]) -> Result<Option<Privileges>, NoMemory>
-    ensures { IfOk result (Reads (map privilege_text) ArePrivileges (map (λ w. w.now) words.now)) }
-{
-    let Some(read) = read_each(alloc, words)? else {
-        return Ok(None);
-    };
-    if !are_ascending(read.as_slice()) {
-        return Ok(None);
-    }
-    Ok(Some(Privileges::from_ascending(read)?))
-}
-
-/// Whether this number is spelled so.
-#[tactic(auto, using(crate::proofs::Literals::same_number))]
-fn is_number(word: &[u8], number: u32) -> Result<bool, NoMemory>
-    ensures { IfOk result (λ is. IsTrue is ↔ word.now ≡ decimal number) }
-{
-    match read_number(word)? {
-        Some(read) => Ok(read == number),
-        None => Ok(false),
-    }
-}
-
-/// Whether these are the first words of the line of the root that has this number.
-fn begins_root(number: u32, keyword: &[u8], place: &[u8]) -> Result<bool, NoMemory>
-    ensures { IfOk result (λ begins. IsTrue begins
-        ↔ (keyword.now ≡ codes "unit") × (place.now ≡ decimal number)) }
-{
-    if keyword == b"unit".as_slice() {
-        is_number(place, number)
-    } else {
-        Ok(false)
-    }
-}
-
-/// The words of the line of the root that has this number.
-fn read_words(alloc: Global, number: u32, words: &[&[u8]]) -> Result<Option<RootStart>, NoMemory>
-    ensures { IfOk result (Reads (root_words number) IsRoot (map (λ w. w.now) words.now)) }
-{
-    let [keyword, place, label, privileges @ ..] = words else {
-        return Ok(None);
-    };
-    if !begins_root(number, keyword, place)? {
-        return Ok(None);
-    }
-    let Some(label) = read_label(alloc, label)? else {
-        return Ok(None);
-    };
-    let Some(privileges) = read_privileges(alloc, privileges)? else {
-        return Ok(None);
-    };
-    Ok(Some(RootStart { label, privileges }))
+    let mut digits = Buffer::new();
+    let (_, place) = text_at(line, 0, b"unit ")?;
+    let (_, behind) = text_at(line, place, digits.format(number).as_bytes())?;
+    let (label, words) = label_word(alloc, line, behind)?;
+    let (privileges, end) = privileges_at(alloc, line, words)?;
+    Ok((RootStart { label, privileges }, end))
 }
 
 /// The line of the root that has this number, without its line feed.
-pub fn read_root(alloc: Global, number: u32, line: &[u8]) -> Result<Option<RootStart>, NoMemory>
-    ensures { IfOk result (Reads (root_text number) IsRoot line.now) }
+pub fn read_root(alloc: Global, number: u32, line: &[u8]) -> Result<RootStart, LineFault>
+    ensures { TellsLine (root_line number) IsRoot (λ _. ⊥) line.now result }
 {
-    let words = pieces(alloc, line, b' ')?;
-    read_words(alloc, number, words.as_slice())
+    whole(line, root_line_at(alloc, number, line))
 }
 
 /// The root in the line at the place, of which this is the number, and the place behind the line;
@@ -117,9 +56,9 @@ fn root_at(
     if number >= u32::MAX as usize {
         return Err(FileFault::Bad(at));
     }
-    match read_root(alloc, number as u32, line)? {
-        Some(root) => Ok(Some((root, next))),
-        None => Err(FileFault::Bad(at)),
+    match read_root(alloc, number as u32, line) {
+        Ok(root) => Ok(Some((root, next))),
+        Err(fault) => Err(fault_of(at, fault)),
     }
 }
 

@@ -5,18 +5,18 @@ use Rattle.df_io.specs.Faults.{Rose}
 use Rattle.df_io.specs.Limits.{longest_file}
 use Rattle.df_io.specs.Pieces.{HasAll, HasFront}
 use Rattle.df_journal_text.specs.Fits.{AreRoots, IsRoot}
+use Rattle.df_journal_text.specs.Large.{IsLargeCalled}
 use Rattle.df_journal_text.specs.Start.{root_text}
+use Rattle.df_journal_text.specs.declared.line_fault.LineFault.{LineFault}
+use Rattle.df_journal_text.specs.declared.line_fault.LineFault.TheVariants as fault
 use Rattle.df_lines.specs.Lines.{IsLine, ended}
 use Rattle.df_machine.specs.Journal.{State}
 use Rattle.df_machine.specs.Tables.{AgreesWith}
 use Rattle.df_machine.specs.declared.tables.Tables.{Tables}
 use Rattle.df_script_text.specs.Script.{IsScript, IsScriptLine, script_text}
-use Rattle.df_script_text.specs.TooLarge.{IsTooLargeLine}
 use Rattle.df_script_text.specs.code.Lines.{call_line}
 use Rattle.df_script_text.specs.code.Stops.{IsCallLine, StopsAt}
 use Rattle.df_script_text.specs.declared.line.ScriptLine.{ScriptLine}
-use Rattle.df_script_text.specs.declared.word.Unread.{Unread}
-use Rattle.df_script_text.specs.declared.word.Unread.TheVariants as unread_as
 use Rattle.df_start.specs.declared.start.RootStart.{RootStart}
 use Rattle.df_steps.specs.Steps.{AppendsStep, Records, journal_of}
 use Rattle.df_live.specs.Live.{AnswersAll, BeginsStart, BreaksOff, HasLongLine, IsDue, IsPartOfLine}
@@ -119,8 +119,8 @@ pub record StopsHead (left after : Option (List ℕ)) (before now : ℕ) (why : 
 
 -- what is wrong with a line
 abbrev pub IsKind : List ℕ → BadKind → Type 0
-IsKind bad Syntax = ¬ IsTooLargeLine bad
-IsKind bad TooLarge = IsTooLargeLine bad
+IsKind bad Syntax = ¬ IsLargeCalled bad
+IsKind bad TooLarge = IsLargeCalled bad
 
 -- a line isn't one of a call
 abbrev pub IsBadCall : List ℕ → BadKind → Type 0
@@ -128,9 +128,10 @@ IsBadCall left kind = (0 < length left)
     × ((bad : List ℕ) × StopsAt IsCallLine left bad × IsKind bad kind)
 
 -- how a run ends where a line isn't read
-abbrev pub unread : ℕ → Unread → LiveStatus
-unread line unread_as.NoMemory = status.NoMemory
-unread line unread_as.TooLarge = status.BadInput line TooLarge
+abbrev pub unread : ℕ → LineFault → LiveStatus
+unread line fault.Syntax = status.BadInput line Syntax
+unread line fault.TooLarge = status.BadInput line TooLarge
+unread line fault.NoMemory = status.NoMemory
 
 -- the line is that of a call, or nothing was taken
 abbrev pub ReadsCall : Taken → List ℕ → Option ScriptLine → Type 0

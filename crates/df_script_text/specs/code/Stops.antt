@@ -1,19 +1,19 @@
 -- What was read of a script up to a place, and why reading stops there.
-use Rattle.std.specs.Prelude.{◌≡◌, ℕ, ◌+◌, ◌<◌, ◌≤◌, ◌^◌, List, ◌∷◌, ◌++◌, length, drop, codes, Option, Some, None, Result, Ok, Err, ⊤, ◌⊎◌}
-use Rattle.std.specs.List.{All, join_with_byte}
+use Rattle.std.specs.Prelude.{◌≡◌, ℕ, ◌+◌, ◌<◌, ◌≤◌, ◌^◌, List, ◌∷◌, ◌++◌, length, drop, codes, Option, Some, None, ⊤, ◌⊎◌}
+use Rattle.std.specs.List.{All}
 use Rattle.df_lines.specs.Lines.{EndsLine, IsLine, ended, lines_text}
 use Rattle.df_lines.specs.code.Faults.{TellsLine}
 use Rattle.df_lines.specs.declared.fault.FileFault.{FileFault}
 use Rattle.df_lines.specs.declared.fault.FileFault.TheVariants as fault
 use Rattle.df_journal_text.specs.Fits.{IsRoot}
+use Rattle.df_journal_text.specs.Large.{IsLargeCalled}
 use Rattle.df_journal_text.specs.Start.{root_text}
+use Rattle.df_journal_text.specs.declared.line_fault.LineFault.{LineFault}
+use Rattle.df_journal_text.specs.declared.line_fault.LineFault.TheVariants as line_fault
 use Rattle.df_start.specs.declared.start.RootStart.{RootStart}
 use Rattle.df_script_text.specs.Script.{IsScriptLine}
-use Rattle.df_script_text.specs.TooLarge.{AddsTooLarge, IsTooLargeLine}
 use Rattle.df_script_text.specs.code.Lines.{call_line, numbered}
 use Rattle.df_script_text.specs.declared.line.ScriptLine.{ScriptLine}
-use Rattle.df_script_text.specs.declared.word.Unread.{Unread}
-use Rattle.df_script_text.specs.declared.word.Unread.TheVariants as unread
 
 -- this stands at the bytes: a line that isn't one of these, or one that has no line feed
 pub record StopsAt (Is : List ℕ → Type 0) (bytes bad : List ℕ) : Type 0 where
@@ -22,11 +22,6 @@ pub record StopsAt (Is : List ℕ → Type 0) (bytes bad : List ℕ) : Type 0 wh
   pub line : IsLine bad
   pub end : EndsLine behind
   pub refused : (more : List ℕ) → behind ≡ 10 ∷ more → ¬ Is bad
-
--- the text is that of a call that adds a part whose value is too large
-abbrev pub IsTooLargeText : List ℕ → Type 0
-IsTooLargeText text = (words : List (List ℕ)) × AddsTooLarge words
-    × (text ≡ join_with_byte 32 words)
 
 -- ---- calls
 
@@ -38,15 +33,15 @@ IsCallLine line = (l : ScriptLine) × IsScriptLine l × (line ≡ call_line l)
 abbrev pub StopsCall : List ℕ → ℕ → FileFault → Type 0
 StopsCall bytes at fault.NoMemory = ⊤
 StopsCall bytes at (fault.Bad place) = (place ≡ at) × (at < length bytes)
-    × ((bad : List ℕ) × StopsAt IsCallLine (drop at bytes) bad × ¬ IsTooLargeLine bad)
+    × ((bad : List ℕ) × StopsAt IsCallLine (drop at bytes) bad × ¬ IsLargeCalled bad)
 StopsCall bytes at (fault.TooLarge place) = (place ≡ at) × (at < length bytes)
-    × ((bad : List ℕ) × StopsAt IsCallLine (drop at bytes) bad × IsTooLargeLine bad)
+    × ((bad : List ℕ) × StopsAt IsCallLine (drop at bytes) bad × IsLargeCalled bad)
 
--- why no call is read at the place, where this came of its line
-abbrev pub fault_of : ℕ → Result (Option ScriptLine) Unread → FileFault
-fault_of at (Ok read) = fault.Bad at
-fault_of at (Err unread.NoMemory) = fault.NoMemory
-fault_of at (Err unread.TooLarge) = fault.TooLarge at
+-- why nothing is read at the place, where this came of its line
+abbrev pub fault_of : ℕ → LineFault → FileFault
+fault_of at line_fault.Syntax = fault.Bad at
+fault_of at line_fault.TooLarge = fault.TooLarge at
+fault_of at line_fault.NoMemory = fault.NoMemory
 
 -- the line at the place, and the place behind it; nothing, where no byte is left
 abbrev pub TellsWords : List ℕ → ℕ → Option (List ℕ × ℕ) → Type 0

@@ -3,7 +3,7 @@ use Rattle.df_journal_text.specs.Fits.{IsEvent}
 use Rattle.df_journal_text.specs.ReadName.{event_at}
 use Rattle.df_journal_text.specs.ReadWords.{word_at}
 use Rattle.df_journal_file.specs.Below.{event_line}
-use Rattle.df_journal_file.proofs.Wholes.{told}
+use Rattle.df_journal_text.proofs.Wholes.{told}
 use Rattle.df_journal_file.proofs.WordLines.{event_whole, event_words}
 use Rattle.df_journal_file.proofs.word_line.read_event_line.Goals as goal
 

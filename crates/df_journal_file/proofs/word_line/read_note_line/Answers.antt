@@ -4,7 +4,7 @@ use Rattle.df_value_text.specs.Fits.{IsLabel}
 use Rattle.df_value_text.specs.ReadLabel.{label_at}
 use Rattle.df_journal_text.specs.ReadWords.{word_at}
 use Rattle.df_journal_file.specs.Below.{note_line}
-use Rattle.df_journal_file.proofs.Wholes.{told}
+use Rattle.df_journal_text.proofs.Wholes.{told}
 use Rattle.df_journal_file.proofs.WordLines.{note_whole, note_words}
 use Rattle.df_journal_file.proofs.word_line.read_note_line.Goals as goal
 

@@ -3,7 +3,7 @@ use Rattle.df_format.specs.Reading.{behind_at}
 use Rattle.df_journal_text.specs.Entry.{spot_line}
 use Rattle.df_journal_text.specs.Fits.{IsSpot}
 use Rattle.df_journal_text.specs.ReadEntry.{deleted_at}
-use Rattle.df_journal_file.proofs.Wholes.{told}
+use Rattle.df_journal_text.proofs.Wholes.{told}
 use Rattle.df_journal_file.proofs.WordLines.{spot_whole, spot_words}
 use Rattle.df_journal_file.proofs.word_line.read_spot_line.Goals as goal
 

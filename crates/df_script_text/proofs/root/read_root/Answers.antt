@@ -1,7 +1,11 @@
-use Rattle.std.proofs.Common.{◌∙◌, ap, map, arith}
-use Rattle.df_script_text.proofs.Splits.{Reads-root_line, IfOk-weaker}
+use Rattle.df_journal_text.specs.Fits.{IsRoot}
+use Rattle.df_journal_text.specs.Start.{root_line, root_text}
+use Rattle.df_journal_text.proofs.Wholes.{told}
+use Rattle.df_script_text.specs.code.Lines.{root_line_at}
+use Rattle.df_script_text.proofs.RootLines.{root_whole}
 use Rattle.df_script_text.proofs.root.read_root.Goals as goal
 
 pub returns : goal.returns
 returns c =
-    IfOk-weaker _ (Reads-root_line c.args.number (omega arith) c.args.line.now _ (ap (map (λ w. w.now)) c.as_slice.ensures.value ∙ c.in_ok-words.ensures)) c.read_words.ensures
+    let number = c.args.number in
+    told (root_line number) (root_text number) IsRoot (root_line_at number) (root_whole number) c.args.line.now c.root_line_at.result c.root_line_at.ensures c.whole.result c.whole.ensures
