@@ -1,5 +1,6 @@
 pub mod Exact
 pub mod Grounds
+pub mod Passes
 pub mod Reports
 pub mod Sound
 pub mod Told

@@ -1,5 +1,5 @@
 //! Checks of journals.
-ghost use Rattle.std.specs.Prelude.{◌≡◌, IfErr, IfOk};
+ghost use Rattle.std.specs.Prelude.{◌≡◌, IfErr, IfOk, IfSome};
 ghost use Rattle.df_lines.specs.Refused.{NamesBadLine};
 ghost use Rattle.df_audit.specs.declared.audit.Finding.TheVariants.{Right, Wrong};
 ghost use Rattle.df_journal_text.specs.Entry.{entry_text};
@@ -8,6 +8,7 @@ ghost use Rattle.df_journal_file.specs.TooLarge.{IsLargeIn};
 ghost use Rattle.df_audit.specs.Audit.{IsCheckOf, IsCheckOfFirst, IsCheckOfSecond, OfJournal, valid_text, wrong_text};
 
 use crate::audit::{Audit, Finding};
+use crate::pass::{Wanted, right_text};
 use crate::text::{valid_text, wrong_text};
 use df_check::{NotedVerdict, Verdict, check, check_noted};
 use df_journal_file::{Journal, read_either};
@@ -17,8 +18,33 @@ use df_start::Start;
 use df_unit::{Entry, Noted};
 use std::alloc::Global;
 
-/// Whether the journal that these bytes are is right, in words.
+/// Whether the journal that these bytes are is right, in words. Where it is, no entry is kept. Any
+/// other is gone over twice: its first bad line, or first wrong place, is told of the whole.
 pub fn check_text(alloc: Global, bytes: &[u8]) -> Result<Audit, FileRefused>
+    ensures tells { IfOk result (λ audit. OfJournal bytes.now (λ journal.
+        IsCheckOf journal audit.finding audit.text.items)) }
+    ensures refuses { IfErr result (NamesBadLine IsEitherText (IsLargeIn IsEitherText) bytes.now) }
+{
+    match counted(alloc, bytes) {
+        Ok(Some(audit)) => Ok(audit),
+        Ok(None) => check_whole(alloc, bytes),
+        Err(NoMemory) => Err(FileRefused::NoMemory),
+    }
+}
+
+/// What is told of the journal that these bytes are, where it is right.
+fn counted(alloc: Global, bytes: &[u8]) -> Result<Option<Audit>, NoMemory>
+    ensures { IfOk result (λ told. IfSome told (λ audit. OfJournal bytes.now (λ journal.
+        IsCheckOf journal audit.finding audit.text.items))) }
+{
+    let Some(made) = right_text(alloc, bytes, &Wanted::Count)? else {
+        return Ok(None);
+    };
+    Ok(Some(right(alloc, made.count)?))
+}
+
+/// Whether the whole journal that these bytes are is right, or where it first isn't.
+fn check_whole(alloc: Global, bytes: &[u8]) -> Result<Audit, FileRefused>
     ensures tells { IfOk result (λ audit. OfJournal bytes.now (λ journal.
         IsCheckOf journal audit.finding audit.text.items)) }
     ensures refuses { IfErr result (NamesBadLine IsEitherText (IsLargeIn IsEitherText) bytes.now) }

@@ -5,6 +5,7 @@
 mod audit;
 mod check;
 mod laws;
+mod pass;
 mod right;
 mod text;
 mod why;

@@ -9,6 +9,7 @@ ghost use Rattle.df_audit.specs.code.Noting.{IsNotedOf, IsNotedOfFirst, IsNotedO
 ghost use Rattle.df_audit.specs.declared.audit.Finding.TheVariants.{Right, Wrong};
 
 use crate::audit::{Audit, Finding};
+use crate::pass::{Made, Wanted, right_text};
 use crate::text::noted_text;
 use df_check::{NotedVerdict, check_noted};
 use df_journal_file::{Journal, read_either};
@@ -27,8 +28,22 @@ pub enum Noting {
     Wrong { place: u64 },
 }
 
-/// The purge at the label of the journal that these bytes are, in the second version.
+/// The purge at the label of the journal that these bytes are, in the second version. Where it is
+/// right, no entry is kept; any other is gone over twice.
 pub fn purge_text(alloc: Global, label: &Label, bytes: &[u8]) -> Result<Audit, FileRefused>
+    ensures tells { IfOk result (λ audit. OfJournal bytes.now (λ journal.
+        Purges label.now journal audit.finding audit.text.items)) }
+    ensures refuses { IfErr result (NamesBadLine IsEitherText (IsLargeIn IsEitherText) bytes.now) }
+{
+    match right_text(alloc, bytes, &Wanted::Purge(label)) {
+        Ok(Some(made)) => Ok(right(made)),
+        Ok(None) => purge_whole(alloc, label, bytes),
+        Err(NoMemory) => Err(FileRefused::NoMemory),
+    }
+}
+
+/// The purge of the whole journal that these bytes are, or where it first isn't right.
+fn purge_whole(alloc: Global, label: &Label, bytes: &[u8]) -> Result<Audit, FileRefused>
     ensures tells { IfOk result (λ audit. OfJournal bytes.now (λ journal.
         Purges label.now journal audit.finding audit.text.items)) }
     ensures refuses { IfErr result (NamesBadLine IsEitherText (IsLargeIn IsEitherText) bytes.now) }
@@ -43,8 +58,22 @@ pub fn purge_text(alloc: Global, label: &Label, bytes: &[u8]) -> Result<Audit, F
     }
 }
 
-/// The journal that these bytes are, in the second version.
+/// The journal that these bytes are, in the second version. Where it is right, no entry is kept;
+/// any other is gone over twice.
 pub fn upgrade_text(alloc: Global, bytes: &[u8]) -> Result<Audit, FileRefused>
+    ensures tells { IfOk result (λ audit. OfJournal bytes.now (λ journal.
+        Upgrades journal audit.finding audit.text.items)) }
+    ensures refuses { IfErr result (NamesBadLine IsEitherText (IsLargeIn IsEitherText) bytes.now) }
+{
+    match right_text(alloc, bytes, &Wanted::Notes) {
+        Ok(Some(made)) => Ok(right(made)),
+        Ok(None) => upgrade_whole(alloc, bytes),
+        Err(NoMemory) => Err(FileRefused::NoMemory),
+    }
+}
+
+/// The whole journal that these bytes are, in the second version, or where it first isn't right.
+fn upgrade_whole(alloc: Global, bytes: &[u8]) -> Result<Audit, FileRefused>
     ensures tells { IfOk result (λ audit. OfJournal bytes.now (λ journal.
         Upgrades journal audit.finding audit.text.items)) }
     ensures refuses { IfErr result (NamesBadLine IsEitherText (IsLargeIn IsEitherText) bytes.now) }
@@ -121,6 +150,17 @@ fn told(alloc: Global, start: &Start, notes: &[Noted]) -> Result<Audit, NoMemory
         finding: Finding::Right,
         text,
     })
+}
+
+/// What was made of a right journal.
+fn right(made: Made) -> Audit
+    ensures finding { result.finding ≡ Right }
+    ensures text { result.text ≡ made.text }
+{
+    Audit {
+        finding: Finding::Right,
+        text: made.text,
+    }
 }
 
 /// Nothing but a wrong place.

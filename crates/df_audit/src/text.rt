@@ -1,6 +1,7 @@
 //! Texts of an audit.
-ghost use Rattle.std.specs.Prelude.{◌≡◌, IfOk};
-ghost use Rattle.df_journal_text.specs.Entry.{entry_text};
+ghost use Rattle.std.specs.Prelude.{◌≡◌, ◌++◌, IfOk, OnOk};
+ghost use Rattle.std.specs.List.{flat_map};
+ghost use Rattle.df_journal_text.specs.Entry.{entry_text, noted_text};
 ghost use Rattle.df_journal_text.specs.Start.{journal_text};
 ghost use Rattle.df_audit.specs.Audit.{valid_text, wrong_text};
 
@@ -44,14 +45,22 @@ pub fn wrong_text(
     Ok(text)
 }
 
+/// Appends noted entries.
+pub fn write_notes(notes: &[Noted], to: &mut Vec<u8>) -> Result<(), NoMemory>
+    ensures { OnOk result (to.new.items ≡ to.old.items ++ flat_map noted_text notes.now) }
+{
+    for noted in notes {
+        write_noted(noted, to)?;
+    }
+    Ok(())
+}
+
 /// A journal in its second version.
 pub fn noted_text(alloc: Global, start: &Start, notes: &[Noted]) -> Result<Vec<u8>, NoMemory>
     ensures { IfOk result (λ text. text.items ≡ journal_text start.now notes.now) }
 {
     let mut text = Vec::new(alloc);
     write_head(start, &mut text)?;
-    for noted in notes {
-        write_noted(noted, &mut text)?;
-    }
+    write_notes(notes, &mut text)?;
     Ok(text)
 }

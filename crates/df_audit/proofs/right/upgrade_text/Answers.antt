@@ -1,5 +1,8 @@
-use Rattle.df_journal_file.specs.Either.{journal_in}
+use Rattle.df_audit.proofs.Passes.{notes_told}
 use Rattle.df_audit.proofs.right.upgrade_text.Goals as goal
 
-pub returns-in-Ok-upgraded-clause-tells : goal.returns-in-Ok-upgraded-clause-tells
-returns-in-Ok-upgraded-clause-tells c = (journal_in c.in-Ok.journal, c.in-Ok.ensures.read, c.in-Ok-upgraded.ensures)
+pub returns-in-Ok-Some-clause-tells : goal.returns-in-Ok-Some-clause-tells
+returns-in-Ok-Some-clause-tells c =
+    let made = rw c.in-Ok-Some.field-0-is at c.in-Ok-Some.ensures in
+    rw (c.right.ensures.finding, c.right.ensures.text)
+    (made.0, made.1, notes_told made.0 c.in-Ok-Some.made.count c.in-Ok-Some.made.text.items made.2)

@@ -1,9 +1,8 @@
 use Rattle.std.proofs.Common.{◌≡◌, ◌++◌, take}
 use Rattle.std.specs.List.{flat_map}
 use Rattle.df_journal_text.specs.Entry.{noted_text}
-use Rattle.df_journal_text.specs.Start.{head_text}
-use Rattle.df_audit.proofs.text.noted_text.Given as goal
+use Rattle.df_audit.proofs.text.write_notes.Given as goal
 
 -- the entries so far are written
 abbrev pub invariant-loop-noted : goal.invariant-loop-noted
-invariant-loop-noted l = l.text.items ≡ head_text l.start ++ flat_map noted_text (take l.noted-index l.notes)
+invariant-loop-noted l = l.to.items ≡ l.initial.to.items ++ flat_map noted_text (take l.noted-index l.notes)

@@ -1,5 +1,5 @@
 use Rattle.df_journal_file.specs.Either.{journal_in}
-use Rattle.df_audit.proofs.check.check_text.Goals as goal
+use Rattle.df_audit.proofs.check.check_whole.Goals as goal
 
 pub returns-in-Ok-checked-clause-tells : goal.returns-in-Ok-checked-clause-tells
 returns-in-Ok-checked-clause-tells c = (journal_in c.in-Ok.journal, c.in-Ok.ensures.read, c.in-Ok-checked.ensures)
