@@ -7,3 +7,5 @@ pub mod ItemSteps
 pub mod Items
 pub mod Many
 pub mod Backs
+pub mod Tokens
+pub mod Longest

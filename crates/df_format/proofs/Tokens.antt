@@ -1,0 +1,307 @@
+-- Laws by kind of token. A reader that stops at no low place keeps its laws whatever is low.
+use Rattle.std.proofs.Common.{◌≡◌, ℕ, suc, Bool, true, false, cond, List, [], ◌∷◌, ◌++◌, length, Option, Some, None, Ok, Err, refl, sym, ap, subst, ◌∙◌}
+use Rattle.std.proofs.Common.{append_assoc, ◌⊎◌, inl, inr}
+use Rattle.std.specs.List.{AllByRecursion, flat_map}
+use Rattle.df_format.specs.Reading.{Stop, Bad, Low, Read, ◌>>=◌, as_at, either_at, text_at, behind_at, closed_at, one_at, many_of}
+use Rattle.df_format.specs.Spelling.{one_spell, many_spell}
+use Rattle.df_format.specs.Grammar.{CanGoOn}
+use Rattle.df_format.specs.Format.{Ends, Found, IsViable, Cause, Stuck, IsLocal, Format}
+use Rattle.df_format.proofs.Laws.{ok_is, err_is, not_both, bind_ok, bind_err, chosen, never, ends_never, can_go_on, cause_behind}
+use Rattle.df_format.proofs.Choices.{Begins, either_format}
+use Rattle.df_format.proofs.Joins.{Views, as_format, alike_format, same_read, behind_format, closed_format}
+use Rattle.df_format.proofs.Many.{AllFit, Items, many_goes, many_format, one_format}
+
+-- ---- no low place
+
+-- nowhere is anything low
+abbrev pub nowhere : List ℕ → List ℕ → Type 0
+nowhere front rest = ⊥
+
+pub nowhere_is_local : IsLocal nowhere
+nowhere_is_local before front rest low = low
+
+cause_as : {T X : Type 0} {IsLow Out : List T → List T → Type 0} (read : List T → Read T X) (front : List T) (stop : Stop T)
+    → ((front rest : List T) → IsLow front rest → Out front rest) → Cause IsLow read front stop → Cause Out read front stop
+cause_as read front (Bad rest) low c = c
+cause_as read front (Low rest) low c = low front rest c
+
+-- where one place is low, another is told
+pub low_as : {T X : Type 0} {IsLow Out : List T → List T → Type 0} {spell : X → List T} {Fits : X → Type 0} {goes : X → T → Bool} {read : List T → Read T X}
+    → ((front rest : List T) → IsLow front rest → Out front rest) → Format IsLow spell Fits goes read → Format Out spell Fits goes read
+low_as {read = read} low f = record {
+  found = f.found;
+  again = f.again;
+  stuck = λ tokens stop e.
+      let s = f.stuck tokens stop e in
+      record { front = s.front; parts = s.parts; viable = s.viable; cause = cause_as read s.front stop low s.cause };
+  on = f.on;
+}
+
+pub any_low : {X : Type 0} {spell : X → List ℕ} {Fits : X → Type 0} {goes : X → ℕ → Bool} {read : List ℕ → Read ℕ X} (IsLow : List ℕ → List ℕ → Type 0)
+    → Format nowhere spell Fits goes read → Format IsLow spell Fits goes read
+any_low IsLow f = low_as (λ front rest low. absurd low) f
+
+-- ---- other views of a reader
+
+-- what make makes of the things that fit
+abbrev pub Of : {X Y : Type 0} → (X → Y) → (X → Type 0) → Y → Type 0
+Of {X} make Fits y = (x : X) × Fits x × (make x ≡ y)
+
+pub viewed : {T X Y : Type 0} {IsLow : List T → List T → Type 0} {sx : X → List T} {FX : X → Type 0} {gx : X → T → Bool} {rx : List T → Read T X}
+    {sy : Y → List T} {FY : Y → Type 0} {gy : Y → T → Bool} (make : X → Y)
+    → Format IsLow sx FX gx rx → Views make sx FX gx sy FY gy → Format IsLow sy FY gy (as_at make rx)
+viewed {IsLow = IsLow} {sx = sx} {FX = FX} {gx = gx} {rx = rx} {sy = sy} {FY = FY} {gy = gy} make f v = as_format IsLow make sx FX gx rx sy FY gy v f
+
+-- of all that make makes
+pub made : {T X Y : Type 0} {IsLow : List T → List T → Type 0} {sx : X → List T} {FX : X → Type 0} {gx : X → T → Bool} {rx : List T → Read T X}
+    {sy : Y → List T} {gy : Y → T → Bool} (make : X → Y)
+    → Format IsLow sx FX gx rx → ((x : X) → FX x → sy (make x) ≡ sx x) → ((x : X) (t : T) → FX x → gy (make x) t ≡ gx x t)
+    → Format IsLow sy (Of make FX) gy (as_at make rx)
+made make f spelled alike = viewed make f (record { to = λ x h. (x, h, refl); from = λ y h. h; spelled = spelled; alike = alike })
+
+-- spelled, and going on, otherwise
+pub told_as : {T X : Type 0} {IsLow : List T → List T → Type 0} {spell text : X → List T} {Fits : X → Type 0} {goes on : X → T → Bool} {read : List T
+    → Read T X}
+    → ((x : X) → Fits x → text x ≡ spell x) → ((x : X) (t : T) → Fits x → on x t ≡ goes x t)
+    → Format IsLow spell Fits goes read → Format IsLow text Fits on read
+told_as {IsLow = IsLow} {spell = spell} {text = text} {Fits = Fits} {goes = goes} {on = on} {read = read} spelled alike f =
+    alike_format IsLow spell Fits goes text Fits on read (record { to = λ x h. h; from = λ x h. (x, h, refl); spelled = spelled; alike = alike }) f
+
+pub fitting : {T X : Type 0} {IsLow : List T → List T → Type 0} {spell : X → List T} {F G : X → Type 0} {goes : X → T → Bool} {read : List T → Read T X}
+    → ((x : X) → F x → G x) → ((x : X) → G x → F x) → Format IsLow spell F goes read → Format IsLow spell G goes read
+fitting {IsLow = IsLow} {spell = spell} {F = F} {G = G} {goes = goes} {read = read} to from f =
+    alike_format IsLow spell F goes spell G goes read (record { to = to; from = λ x h. (x, from x h, refl); spelled = λ x h. refl; alike = λ x t h. refl }) f
+
+pub either_of : {T X : Type 0} {IsLow : List T → List T → Type 0} {spell : X → List T} {F G : X → Type 0} {goes : X → T → Bool} {read other : List T → Read T X}
+    (begins : T → Bool) → Format IsLow spell F goes read → Format IsLow spell G goes other
+    → ((x : X) → F x → Begins begins true (spell x)) → ((x : X) → G x → Begins begins false (spell x))
+    → Format IsLow spell (λ x. F x ⊎ G x) goes (either_at begins read other)
+either_of {IsLow = IsLow} {spell = spell} {F = F} {G = G} {goes = goes} {read = read} {other = other} begins f g firsts seconds =
+    either_format IsLow begins spell F G goes read other f g firsts seconds
+
+-- ---- behind and between fixed bytes
+
+abbrev remade : {Y Z : Type 0} → (Y → Z) → Y × List ℕ → Read ℕ Z
+remade make y = Ok (make y.0, y.1)
+
+bind_made : {X Y Z : Type 0} (make : Y → Z) (r : Read ℕ X) (read : List ℕ → Read ℕ Y)
+    → ((r >>= λ h. read h.1) >>= remade make) ≡ (r >>= λ h. read h.1 >>= remade make)
+bind_made make (Ok h) read = refl
+bind_made make (Err s) read = refl
+
+-- what make makes of what stands behind these bytes
+pub led : {X Y : Type 0} {IsLow : List ℕ → List ℕ → Type 0} {sx : X → List ℕ} {FX : X → Type 0} {gx : X → ℕ → Bool} {rx : List ℕ → Read ℕ X}
+    {sy : Y → List ℕ} {gy : Y → ℕ → Bool} → IsLocal IsLow → (ws : List ℕ) (make : X → Y) (x : X) → FX x → Format IsLow sx FX gx rx
+    → ((x : X) → FX x → sy (make x) ≡ ws ++ sx x) → ((x : X) (c : ℕ) → FX x → gy (make x) c ≡ gx x c)
+    → Format IsLow sy (Of make FX) gy (behind_at ws (as_at make rx))
+led {IsLow = IsLow} {sx = sx} {FX = FX} {gx = gx} {rx = rx} {sy = sy} {gy = gy} moved ws make x fits f spelled alike =
+    same_read IsLow sy (Of make FX) gy (as_at make (behind_at ws rx)) (behind_at ws (as_at make rx)) (λ bytes. bind_made make (text_at ws bytes) rx)
+    (made make (behind_format IsLow moved ws sx FX gx rx x fits f) spelled alike)
+
+pub enclosed : {X : Type 0} {IsLow : List ℕ → List ℕ → Type 0} {spell text : X → List ℕ} {Fits : X → Type 0} {goes : X → ℕ → Bool} {read : List ℕ → Read ℕ X}
+    → IsLocal IsLow → (ws : List ℕ) (w : ℕ) (x : X) → Fits x → ((x : X) → Fits x → goes x w ≡ false) → ((x : X) → Fits x → text x ≡ ws ++ (spell x ++ w ∷ []))
+    → Format IsLow spell Fits goes read → Format IsLow text Fits never (behind_at ws (closed_at (w ∷ []) read))
+enclosed {IsLow = IsLow} {spell = spell} {Fits = Fits} {goes = goes} {read = read} moved ws w x fits apart spelled f =
+    told_as spelled (λ x c h. refl)
+    (behind_format IsLow moved ws (λ x. spell x ++ w ∷ []) Fits never (closed_at (w ∷ []) read) x fits
+    (closed_format IsLow moved w [] spell Fits goes read apart f))
+
+-- ---- where reading stops at a place
+
+-- it stops there whatever stands behind the first byte from there on
+pub stuck_at : {X : Type 0} (spell : X → List ℕ) (Fits : X → Type 0) (read : List ℕ → Read ℕ X) (bytes front rest : List ℕ) (stop : Stop ℕ)
+    → stop ≡ Bad rest → bytes ≡ front ++ rest → IsViable spell Fits front
+    → ((c : ℕ) (tail other : List ℕ) → rest ≡ c ∷ tail → read (front ++ c ∷ other) ≡ Err (Bad (c ∷ other))) → Stuck nowhere spell Fits read bytes stop
+stuck_at spell Fits read bytes front rest stop is parts viable stays =
+    subst (λ (s : Stop ℕ). Stuck nowhere spell Fits read bytes s) (sym is)
+    (record { front = front; parts = parts; viable = viable; cause = λ c tail same other. stays c tail other same })
+
+-- ---- what its first byte decides
+
+-- all of it is read, or that byte is bad
+abbrev pub first_at : {X : Type 0} → (ℕ → Bool) → (ℕ → List ℕ → X × List ℕ) → List ℕ → Read ℕ X
+first_at test rest [] = Err (Bad [])
+first_at test rest (c ∷ cs) = cond (test c) (Ok (rest c cs)) (Err (Bad (c ∷ cs)))
+
+pub first_stops : {X : Type 0} (test : ℕ → Bool) (rest : ℕ → List ℕ → X × List ℕ) (bytes : List ℕ) (stop : Stop ℕ) → first_at test rest bytes ≡ Err stop
+    → stop ≡ Bad bytes
+first_stops test rest [] stop e = sym (err_is (Bad []) stop e)
+first_stops test rest (c ∷ cs) stop e =
+    elim (chosen (test c) (Ok (rest c cs)) (Err (Bad (c ∷ cs))) (Err stop) e) [
+      | inl h ↦ not_both (rest c cs) stop h.1
+      | inr h ↦ sym (err_is (Bad (c ∷ cs)) stop h.1)
+    ]
+
+-- whatever stands behind that byte
+pub first_stays : {X : Type 0} (test : ℕ → Bool) (rest : ℕ → List ℕ → X × List ℕ) (c : ℕ) (cs other : List ℕ) (stop : Stop ℕ)
+    → first_at test rest (c ∷ cs) ≡ Err stop → first_at test rest (c ∷ other) ≡ Err (Bad (c ∷ other))
+first_stays test rest c cs other stop e =
+    elim (chosen (test c) (Ok (rest c cs)) (Err (Bad (c ∷ cs))) (Err stop) e) [ inl h ↦ not_both (rest c cs) stop h.1 | inr h ↦ rw (h.0) refl ]
+
+first_found : {X : Type 0} (spell : X → List ℕ) (Fits : X → Type 0) (goes : X → ℕ → Bool) (test : ℕ → Bool) (rest : ℕ → List ℕ → X × List ℕ)
+    → ((c : ℕ) (cs : List ℕ) → test c ≡ true → Found spell Fits goes (c ∷ cs) (rest c cs).0 (rest c cs).1)
+    → (bytes : List ℕ) (x : X) (left : List ℕ) → first_at test rest bytes ≡ Ok (x, left) → Found spell Fits goes bytes x left
+first_found spell Fits goes test rest found [] x left e = absurd cc
+first_found {X} spell Fits goes test rest found (c ∷ cs) x left e =
+    elim (chosen (test c) (Ok (rest c cs)) (Err (Bad (c ∷ cs))) (Ok (x, left)) e) [
+      | inl h ↦ subst (λ (q : X × List ℕ). Found spell Fits goes (c ∷ cs) q.0 q.1) (ok_is (rest c cs) (x, left) h.1) (found c cs h.0)
+      | inr h ↦ not_both (x, left) (Bad (c ∷ cs)) (sym h.1)
+    ]
+
+pub first_format : {X : Type 0} (spell : X → List ℕ) (Fits : X → Type 0) (goes : X → ℕ → Bool) (read : List ℕ → Read ℕ X) (test : ℕ → Bool)
+    (rest : ℕ → List ℕ → X × List ℕ) → ((bytes : List ℕ) → first_at test rest bytes ≡ read bytes)
+    → ((c : ℕ) (cs : List ℕ) → test c ≡ true → Found spell Fits goes (c ∷ cs) (rest c cs).0 (rest c cs).1)
+    → ((x : X) (left : List ℕ) → Fits x → Ends goes x left → first_at test rest (spell x ++ left) ≡ Ok (x, left))
+    → ((x : X) (c : ℕ) → Fits x → goes x c ≡ true → CanGoOn spell Fits (spell x ++ c ∷ [])) → Format nowhere spell Fits goes read
+first_format spell Fits goes read test rest same found again on =
+    same_read nowhere spell Fits goes (first_at test rest) read same (record {
+      found = first_found spell Fits goes test rest found;
+      again = again;
+      stuck = λ bytes stop e.
+          let bad = first_stops test rest bytes stop e in
+          stuck_at spell Fits (first_at test rest) bytes [] bytes stop bad refl tt
+          (λ c tail other is. first_stays test rest c tail other stop (ap (first_at test rest) (sym is) ∙ e));
+      on = on;
+    })
+
+-- ---- a byte, and behind it what it asks for
+
+abbrev pub chain_at : {X Y : Type 0} → (ℕ → Bool) → (ℕ → List ℕ → Read ℕ Y) → (ℕ → Y → X) → List ℕ → Read ℕ X
+chain_at test next make [] = Err (Bad [])
+chain_at test next make (c ∷ cs) = cond (test c) (next c cs >>= λ y. Ok (make c y.0, y.1)) (Err (Bad (c ∷ cs)))
+
+-- what stands behind the byte is read, and what both make are just the things that fit
+pub record Links {X Y : Type 0} (test : ℕ → Bool) (next : ℕ → List ℕ → Read ℕ Y) (make : ℕ → Y → X) (sy : Y → List ℕ) (FY : ℕ → Y → Type 0)
+    (spell : X → List ℕ) (Fits : X → Type 0) : Type 0 where
+  pub item : (c : ℕ) → test c ≡ true → Format nowhere sy (FY c) never (next c)
+  pub some : (c : ℕ) → test c ≡ true → (y : Y) × FY c y
+  pub to : (c : ℕ) (y : Y) → test c ≡ true → FY c y → Fits (make c y)
+  pub from : (x : X) → Fits x → (c : ℕ) × (y : Y) × (test c ≡ true) × FY c y × (make c y ≡ x)
+  pub spelled : (c : ℕ) (y : Y) → test c ≡ true → FY c y → spell (make c y) ≡ c ∷ sy y
+
+module _ {X Y : Type 0} {test : ℕ → Bool} {next : ℕ → List ℕ → Read ℕ Y} {make : ℕ → Y → X} {sy : Y → List ℕ} {FY : ℕ → Y → Type 0} {spell : X
+    → List ℕ} {Fits : X → Type 0}
+    (k : Links test next make sy FY spell Fits) where
+  chain_found : (bytes : List ℕ) (x : X) (rest : List ℕ) → chain_at test next make bytes ≡ Ok (x, rest) → Found spell Fits never bytes x rest
+  chain_found [] x rest e = absurd cc
+  chain_found (c ∷ cs) x rest e =
+      elim (chosen (test c) (next c cs >>= λ y. Ok (make c y.0, y.1)) (Err (Bad (c ∷ cs))) (Ok (x, rest)) e) [
+        | inr h ↦ not_both (x, rest) (Bad (c ∷ cs)) (sym h.1)
+        | inl h ↦
+            let y = bind_ok (next c cs) (λ y. Ok (make c y.0, y.1)) (x, rest) h.1 in
+            let f = (k.item c h.0).found cs y.0.0 y.0.1 y.1 in
+            subst (λ (q : X × List ℕ). Found spell Fits never (c ∷ cs) q.0 q.1) (ok_is (make c y.0.0, y.0.1) (x, rest) y.2)
+            (record {
+              parts = ap (λ (u : List ℕ). c ∷ u) f.parts ∙ ap (λ (u : List ℕ). u ++ y.0.1) (sym (k.spelled c y.0.0 h.0 f.fits));
+              fits = k.to c y.0.0 h.0 f.fits;
+              ends = ends_never (make c y.0.0) y.0.1;
+            })
+      ]
+
+  chain_can : (c : ℕ) (front : List ℕ) → test c ≡ true → CanGoOn sy (FY c) front → CanGoOn spell Fits (c ∷ front)
+  chain_can c front h v = record {
+    some = make c v.some;
+    fits = k.to c v.some h v.fits;
+    more = v.more;
+    is = k.spelled c v.some h v.fits
+        ∙ ap (λ (u : List ℕ). c ∷ u) v.is;
+  }
+
+  chain_stuck : (bytes : List ℕ) (stop : Stop ℕ) → chain_at test next make bytes ≡ Err stop → Stuck nowhere spell Fits (chain_at test next make) bytes stop
+  chain_stuck [] stop e = stuck_at spell Fits (chain_at test next make) [] [] [] stop (sym (err_is (Bad []) stop e)) refl tt
+      (λ c tail other is. absurd (let no : [] ≡ c ∷ tail = is in cc))
+  chain_stuck (c ∷ cs) stop e =
+      elim (chosen (test c) (next c cs >>= λ y. Ok (make c y.0, y.1)) (Err (Bad (c ∷ cs))) (Err stop) e) [
+        | inr h ↦
+            stuck_at spell Fits (chain_at test next make) (c ∷ cs) [] (c ∷ cs) stop (sym (err_is (Bad (c ∷ cs)) stop h.1)) refl tt
+            (λ d tail other is. let first : c ≡ d = cc in rw (← first, h.0) refl)
+        | inl h ↦ elim (bind_err (next c cs) (λ y. Ok (make c y.0, y.1)) stop h.1) [
+          | inr u ↦ not_both (make c u.0.0, u.0.1) stop u.2
+          | inl u ↦
+              let s = (k.item c h.0).stuck cs stop u in
+              let y = k.some c h.0 in
+              record {
+                front = c ∷ s.front;
+                parts = ap (λ (u : List ℕ). c ∷ u) s.parts;
+                viable = chain_can c s.front h.0 (can_go_on sy (FY c) y.0 y.1 s.front s.viable);
+                cause = cause_behind nowhere nowhere_is_local (next c) (chain_at test next make) (c ∷ []) s.front stop
+                    (λ t tail other is e. rw (h.0, e) refl) s.cause;
+              }
+        ]
+      ]
+
+  pub chain_format : Format nowhere spell Fits never (chain_at test next make)
+  chain_format = record {
+    found = chain_found;
+    again = λ x rest fits ends.
+        let b = k.from x fits in
+        let one : chain_at test next make (b.0 ∷ (sy b.1 ++ rest)) ≡ Ok
+        (make b.0 b.1, rest) = rw (b.2, (k.item b.0 b.2).again b.1 rest b.3 (ends_never b.1 rest)) refl in
+        ap (λ (u : List ℕ). chain_at test next make (u ++ rest)) (ap spell (sym b.4) ∙ k.spelled b.0 b.1 b.2 b.3) ∙ one ∙ ap (λ (y : X). Ok (y, rest)) b.4;
+    stuck = chain_stuck;
+    on = λ x c fits g. absurd (let no : false ≡ true = g in cc);
+  }
+
+-- ---- one byte that passes a test
+
+abbrev pub itself : ℕ → List ℕ
+itself c = c ∷ []
+
+abbrev pub passing : (ℕ → Bool) → ℕ → Option ℕ
+passing test c = cond (test c) (Some c) None
+
+passing_back : (test : ℕ → Bool) (c x : ℕ) → passing test c ≡ Some x → (c ≡ x) × (test x ≡ true)
+passing_back test c x e = by (test c) refl e
+  where
+    by : (b : Bool) → test c ≡ b → cond b (Some c) None ≡ Some x → (c ≡ x) × (test x ≡ true)
+    by false h e = absurd cc
+    by true h e = let same : c ≡ x = cc in (same, ap test (sym same) ∙ h)
+
+pub passing_format : (test : ℕ → Bool) → Format nowhere itself (λ c. test c ≡ true) never (one_at (passing test))
+passing_format test = one_format nowhere (λ c. c) (λ c. test c ≡ true) (passing test) (record { back = passing_back test; again = λ x fits. rw fits refl })
+
+-- ---- as many of one kind as there are
+
+all_fit : {X : Type 0} (Fits : X → Type 0) (k : ℕ) (xs : List X) → AllFit (λ k. Fits) k xs → AllByRecursion Fits xs
+all_fit Fits k [] h = tt
+all_fit Fits k (x ∷ xs) h = (h.0, all_fit Fits (suc k) xs h.1)
+
+fit_all : {X : Type 0} (Fits : X → Type 0) (k : ℕ) (xs : List X) → AllByRecursion Fits xs → AllFit (λ k. Fits) k xs
+fit_all Fits k [] h = tt
+fit_all Fits k (x ∷ xs) h = (h.0, fit_all Fits (suc k) xs h.1)
+
+spelled_all : {X : Type 0} (spell : X → List ℕ) (k : ℕ) (xs : List X) → flat_map spell xs ≡ many_spell (λ k. spell) k xs
+spelled_all spell k [] = refl
+spelled_all spell k (x ∷ xs) = ap (λ (u : List ℕ). spell x ++ u) (spelled_all spell (suc k) xs)
+
+goes_all : {X : Type 0} (begins : ℕ → Bool) (k : ℕ) (xs : List X) (c : ℕ) → begins c ≡ many_goes (λ k. begins) never k xs c
+goes_all begins k [] c = refl
+goes_all begins k (x ∷ []) c = elim (begins c) as (λ b. b ≡ cond b true false) [ true ↦ refl | false ↦ refl ]
+goes_all begins k (x ∷ y ∷ xs) c = goes_all begins (suc k) (y ∷ xs) c
+
+pub each_format : {X : Type 0} (begins : ℕ → Bool) {spell : X → List ℕ} {Fits : X → Type 0} {read : List ℕ → Read ℕ X} → Format nowhere spell Fits never read
+    → ((x : X) → Fits x → Begins begins true (spell x)) → ((c : ℕ) → begins c ≡ true → CanGoOn spell Fits (c ∷ []))
+    → Format nowhere (flat_map spell) (AllByRecursion Fits) (λ xs. begins) (many_of (λ k. begins) (λ k. read) 0)
+each_format {X} begins {spell} {Fits} {read} f starts some =
+    alike_format nowhere (many_spell (λ k. spell) 0) (AllFit (λ k. Fits) 0) (many_goes (λ k. begins) never 0) (flat_map spell) (AllByRecursion Fits)
+    (λ xs. begins)
+    (many_of (λ k. begins) (λ k. read) 0)
+    (record {
+      to = all_fit Fits 0;
+      from = λ xs h. (
+        xs,
+        fit_all Fits 0 xs h,
+        refl,
+      );
+      spelled = λ xs h. spelled_all spell 0 xs;
+      alike = λ xs c h. goes_all begins 0 xs c;
+    })
+    (many_format nowhere nowhere_is_local (λ k. begins) (λ k. spell) (λ k. Fits) never (λ k. read) items 0)
+  where
+    items : Items nowhere (λ k. begins) (λ k. spell) (λ k. Fits) never (λ k. read)
+    items = record {
+      item = λ k c h. f;
+      starts = λ k x fits. let b = starts x fits in (b.first, b.others, b.is, b.test);
+      apart = λ k j x c fits h. refl;
+      some = λ k c h. some c h;
+    }
