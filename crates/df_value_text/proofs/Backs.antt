@@ -1,27 +1,12 @@
 -- A literal that is spelled is read back, where a word ends, and what stands behind it is left.
-use Rattle.std.proofs.Common.{◌≡◌, ℕ, ◌+◌, ◌<◌, ◌≤◌, ◌^◌, true, false, cond, eqb, List, [], ◌∷◌, ◌++◌, length, Ok, decimal, refl, sym, ap, ◌∙◌, append_assoc, arith, length-append}
-use Rattle.std.specs.Char.{is_ascii_digit}
-use Rattle.std.proofs.lemmas.List.{append-nil}
-use Rattle.std.proofs.lemmas.Bool.Decides.{nat_tests}
-use Rattle.df_format.specs.Reading.{closed_at}
-use Rattle.df_format.specs.Format.{Ends}
-use Rattle.df_format.proofs.Laws.{ends_never}
-use Rattle.df_frozen.specs.Name.{is_name}
-use Rattle.df_frozen.specs.Plain.{Plain, node_count}
-use Rattle.df_label.specs.declared.label.Label.{Label}
-use Rattle.df_label.specs.declared.privilege.Privilege.{Privilege}
-use Rattle.df_value_text.specs.Counting.{begins, start, walk, walked}
-use Rattle.df_value_text.specs.Fits.{IsLabel, IsPrivilege, IsSpelled, IsTag, IsTagSet}
-use Rattle.df_value_text.specs.Label.{label_text, path_text, privilege_text, tag_text, tags_text}
-use Rattle.df_value_text.specs.Number.{number_at}
-use Rattle.df_value_text.specs.ReadLabel.{label_at, privilege_at}
-use Rattle.df_value_text.specs.ReadName.{name_at}
-use Rattle.df_value_text.specs.ReadTag.{numbers_at, short_at, tag_at, tags_at}
+use Rattle.df_value_text.proofs.Names.{◌≡◌, ℕ, ◌<◌, ◌≤◌, ◌^◌, true, false, eqb, List, [], ◌∷◌, ◌++◌, length, Ok, decimal, refl, sym, ap, ◌∙◌, append_assoc}
+use Rattle.df_value_text.proofs.Names.{arith, length-append, is_ascii_digit, append-nil, nat_tests, closed_at, Ends, ends_never, is_name, Plain, node_count}
+use Rattle.df_value_text.proofs.Names.{Label, Privilege, start, IsLabel, IsPrivilege, IsSpelled, IsTag, IsTagSet, label_text, path_text, privilege_text}
+use Rattle.df_value_text.proofs.Names.{tag_text, tags_text, number_at, label_at, privilege_at, name_at, numbers_at, short_at, tag_at, tags_at, value_text}
+use Rattle.df_value_text.proofs.Names.{EndsWord}
 use Rattle.df_value_text.specs.ReadValue.{value_at}
-use Rattle.df_value_text.specs.Value.{value_text}
-use Rattle.df_value_text.specs.code.WordEnd.{EndsWord}
-use Rattle.df_value_text.specs.declared.counting.Walk.{Walk}
 use Rattle.df_value_text.proofs.CountingEnds.{counted_behind}
+use Rattle.df_value_text.proofs.CountingSmall.{walked_few}
 use Rattle.df_value_text.proofs.LabelLaws.{label_format, privilege_format, tags_end_at}
 use Rattle.df_value_text.proofs.NameLaws.{name_format, name_goes}
 use Rattle.df_value_text.proofs.NumberLaws.{number_format, number_goes}
@@ -61,19 +46,11 @@ name_back name rest fits end = (name_format nowhere).again name rest fits (name_
 
 -- ---- values
 
--- a byte counts one node at most
-walk-nodes : (w : Walk) (c : ℕ) → (walk w c).nodes ≤ w.nodes + 1
-walk-nodes w c = elim (begins w.place c) as (λ b. cond b (w.nodes + 1) w.nodes ≤ w.nodes + 1) [ true ↦ omega arith | false ↦ omega arith ]
-
-walked-nodes : (w : Walk) (cs : List ℕ) → (walked w cs).nodes ≤ w.nodes + length cs
-walked-nodes w [] = omega arith
-walked-nodes w (c ∷ cs) = omega (arith, walk-nodes w c, walked-nodes (walk w c) cs)
-
 -- a value has no more nodes than bytes
 node_count-text : (p : Plain) → IsSpelled p → node_count p ≤ length (value_text p)
 node_count-text p fits =
     let exact = counted_behind p fits [] in
-    omega (arith, exact.nodes, walked-nodes start (value_text p ++ []), ap length (append-nil (value_text p)))
+    omega (arith, exact.nodes, (walked_few start (value_text p ++ [])).nodes, ap length (append-nil (value_text p)))
 
 value_ends_at : (p : Plain) (rest : List ℕ) → EndsWord rest → Ends value_goes p rest
 value_ends_at p [] end = tt

@@ -1,5 +1,5 @@
 -- How many bits there are, and how large a number of so many is.
-use Rattle.std.proofs.Common.{◌≡◌, ℕ, zero, suc, ◌/◌, ◌^◌, ◌<◌, ◌≤◌, length, refl, ap, arith}
+use Rattle.df_value_text.proofs.Names.{◌≡◌, ℕ, zero, suc, ◌/◌, ◌^◌, ◌<◌, ◌≤◌, length, refl, ap, arith}
 use Rattle.std.proofs.Math.Pow.{pow_mono}
 use Rattle.df_value_text.specs.code.Brackets.{bits}
 

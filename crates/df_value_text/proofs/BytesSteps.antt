@@ -1,10 +1,7 @@
 -- The reader of bytes, step by step.
-use Rattle.std.proofs.Common.{◌≡◌, ℕ, ◌+◌, ◌<◌, ◌≤◌, true, false, List, [], ◌∷◌, ◌++◌, length, length-append, length-drop, get_or, drop, Ok, refl, sym, ap, ◌∙◌, arith}
-use Rattle.std.proofs.lemmas.List.{drop_all, append-nil}
-use Rattle.df_format.specs.Reading.{Read, ◌>>=◌, text_at, with_front}
-use Rattle.df_format.proofs.ItemSteps.{regroup}
-use Rattle.df_format.proofs.Texts.{text_found}
-use Rattle.df_value_text.specs.ReadBytes.{is_hex, hex_byte, pairs_at}
+use Rattle.df_value_text.proofs.Names.{◌≡◌, ℕ, ◌+◌, ◌<◌, ◌≤◌, true, false, List, [], ◌∷◌, ◌++◌, length, length-append, get_or, drop, Ok, refl, sym, ap, ◌∙◌}
+use Rattle.df_value_text.proofs.Names.{arith, drop_all, append-nil, Read, ◌>>=◌, text_at, with_front, regroup, text_found, is_hex, hex_byte, pairs_at}
+use Rattle.std.proofs.Common.{length-drop}
 use Rattle.df_value_text.proofs.NameSteps.{first_of}
 
 two_of : (bytes : List ℕ) (place : ℕ) → place + 1 < length bytes → drop place bytes ≡ get_or bytes place 0 ∷ get_or bytes (place + 1) 0 ∷ drop (place + 2) bytes

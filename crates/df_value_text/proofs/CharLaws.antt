@@ -1,23 +1,13 @@
 -- A character of words is read as it is spelled.
-use Rattle.std.proofs.Common.{◌≡◌, ℕ, zero, suc, ◌<◌, ◌≤◌, Bool, true, false, eqb, nat_lt, List, [], ◌∷◌, ◌++◌, refl, sym, ap, subst, ◌∙◌, arith, ◌⊎◌, inl, inr}
-use Rattle.std.specs.List.{flat_map}
-use Rattle.std.proofs.Math.Utf8.{scalar, encode, low_scalar}
-use Rattle.std.proofs.lemmas.Bool.Decides.{nat_tests}
-use Rattle.std.proofs.lemmas.List.{append-nil}
+use Rattle.df_value_text.proofs.Names.{◌≡◌, ℕ, zero, suc, ◌<◌, ◌≤◌, Bool, true, false, eqb, nat_lt, List, [], ◌∷◌, ◌++◌, refl, sym, ap, subst, ◌∙◌, arith}
+use Rattle.df_value_text.proofs.Names.{◌⊎◌, inl, inr, flat_map, scalar, low_scalar, nat_tests, append-nil, CanGoOn, Format, never, Begins, nowhere, Of, made}
+use Rattle.df_value_text.proofs.Names.{told_as, either_of, escaped, is_quoted, is_control, is_plain, is_lead, trail_length, least_second, most_second}
+use Rattle.df_value_text.proofs.Names.{char_at, begins_char}
+use Rattle.std.proofs.Math.Utf8.{encode}
 use Rattle.std.proofs.lemmas.Str.{encode_ascii}
-use Rattle.df_format.specs.Reading.{as_at}
-use Rattle.df_format.specs.Grammar.{CanGoOn}
-use Rattle.df_format.specs.Format.{IsLocal, Format}
-use Rattle.df_format.proofs.Laws.{never}
-use Rattle.df_format.proofs.Joins.{as_format, alike_format}
-use Rattle.df_format.proofs.Choices.{Begins, either_format}
-use Rattle.df_format.proofs.Texts.{own}
-use Rattle.df_value_text.specs.Value.{escaped}
-use Rattle.df_value_text.specs.ReadEscape.{is_quoted, is_control, is_plain, ascii_at}
-use Rattle.df_value_text.specs.ReadWide.{is_lead, trail_length, least_second, most_second, wide_at}
-use Rattle.df_value_text.specs.ReadWords.{alone, char_at, begins_char}
+use Rattle.df_value_text.specs.ReadWords.{alone}
 use Rattle.df_value_text.proofs.EscapeLaws.{IsEscaped, IsPlain, behind_slash, escaped_is, plain_is, ascii_format}
-use Rattle.df_value_text.proofs.WideLaws.{IsWide, IsTrail, order, below, not_below, trail_some, some_second, least_is, between_is, wide_format, wide_char, char_wide}
+use Rattle.df_value_text.proofs.WideLaws.{IsWide, IsTrail, order, below, not_below, behind_some, between_is, wide_format, wide_char, char_wide}
 
 -- the bytes of a text, each escaped
 abbrev pub chars_text : List ℕ → List ℕ
@@ -26,13 +16,7 @@ chars_text text = flat_map escaped text
 -- ---- a byte of ASCII
 
 abbrev pub IsAscii : List ℕ → Type 0
-IsAscii x = (c : ℕ) × (IsEscaped c ⊎ IsPlain c) × (alone c ≡ x)
-
-alone_format : (IsLow : List ℕ → List ℕ → Type 0) → IsLocal IsLow → Format IsLow chars_text IsAscii never (as_at alone ascii_at)
-alone_format IsLow moved =
-    as_format IsLow alone escaped (λ c. IsEscaped c ⊎ IsPlain c) never ascii_at chars_text IsAscii never
-    (record { to = λ c h. (c, h, refl); from = λ x h. h; spelled = λ c h. append-nil (escaped c); alike = λ c t h. refl })
-    (ascii_format IsLow moved)
+IsAscii x = Of alone (λ c. IsEscaped c ⊎ IsPlain c) x
 
 ascii_all : (c : ℕ) → c < 128 → IsEscaped c ⊎ IsPlain c
 ascii_all c h = by (is_quoted c) (is_control c) refl refl
@@ -42,7 +26,7 @@ ascii_all c h = by (is_quoted c) (is_control c) refl refl
     by false true e f = inl (inr f)
     by false false e f = inr (grind (arith, nat_tests))
 
-ascii_small : (c : ℕ) → (IsEscaped c ⊎ IsPlain c) → c < 128
+pub ascii_small : (c : ℕ) → (IsEscaped c ⊎ IsPlain c) → c < 128
 ascii_small c (inl (inl h)) = grind (arith, nat_tests)
 ascii_small c (inl (inr h)) = grind (arith, nat_tests)
 ascii_small c (inr h) = grind (arith, nat_tests)
@@ -64,6 +48,12 @@ high_text : (x : List ℕ) → AreHigh x → chars_text x ≡ x
 high_text [] h = refl
 high_text (b ∷ bs) h = ap (λ (u : List ℕ). u ++ chars_text bs) (high_escaped b h.0) ∙ ap (λ (u : List ℕ). b ∷ u) (high_text bs h.1)
 
+pub least_is : (lead : ℕ) → 128 ≤ least_second lead
+least_is lead = grind (arith, nat_tests)
+
+pub most_is : (lead : ℕ) → most_second lead ≤ 191
+most_is lead = grind (arith, nat_tests)
+
 trail_high : (n least most : ℕ) (x : List ℕ) → 128 ≤ least → IsTrail n least most x → AreHigh x
 trail_high zero least most [] l t = tt
 trail_high zero least most (b ∷ bs) l t = absurd cc
@@ -72,15 +62,14 @@ trail_high (suc n) least most (b ∷ bs) l t = (omega (arith, l, (between_is lea
 
 wide_high : (x : List ℕ) → IsWide x → AreHigh x
 wide_high [] fits = absurd fits
-wide_high (lead ∷ bs) fits = (omega (arith, (between_is 194 244 lead fits.0).0), trail_high (trail_length lead) (least_second lead) (most_second lead) bs (least_is lead) fits.1)
+wide_high (lead ∷ bs) fits = (
+  omega (arith, (between_is 194 244 lead fits.0).0),
+  trail_high (trail_length lead) (least_second lead) (most_second lead) bs
+      (least_is lead) fits.1,
+)
 
 wide_text : (x : List ℕ) → IsWide x → chars_text x ≡ x
 wide_text x fits = high_text x (wide_high x fits)
-
-spelled_wide : (IsLow : List ℕ → List ℕ → Type 0) → IsLocal IsLow → Format IsLow chars_text IsWide never wide_at
-spelled_wide IsLow moved =
-    alike_format IsLow own IsWide never chars_text IsWide never wide_at
-    (record { to = λ x h. h; from = λ x h. (x, h, refl); spelled = wide_text; alike = λ x t h. refl }) (wide_format IsLow moved)
 
 -- ---- a character
 
@@ -99,8 +88,22 @@ pub plain_begins : (c : ℕ) → is_plain c ≡ true → begins_char c ≡ true
 plain_begins c h = grind (arith, nat_tests)
 
 first_ascii : (c : ℕ) → (IsEscaped c ⊎ IsPlain c) → FirstAscii (chars_text (alone c))
-first_ascii c (inl h) = record { first = 92; others = behind_slash c ++ []; is = ap (λ (u : List ℕ). u ++ []) (escaped_is c h); small = omega arith; begins = refl }
-first_ascii c (inr h) = record { first = c; others = []; is = ap (λ (u : List ℕ). u ++ []) (plain_is c h); small = ascii_small c (inr h); begins = plain_begins c h }
+first_ascii c (inl h) = record {
+  first = 92;
+  others = behind_slash c ++ [];
+  is = ap (λ (u : List ℕ). u ++ [])
+      (escaped_is c h);
+  small = omega arith;
+  begins = refl;
+}
+first_ascii c (inr h) = record {
+  first = c;
+  others = [];
+  is = ap (λ (u : List ℕ). u ++ []) (plain_is c h);
+  small = ascii_small c
+      (inr h);
+  begins = plain_begins c h;
+}
 
 ascii_first : (x : List ℕ) → IsAscii x → FirstAscii (chars_text x)
 ascii_first x h = subst (λ (u : List ℕ). FirstAscii (chars_text u)) h.2 (first_ascii h.0 h.1)
@@ -110,16 +113,24 @@ ascii_begins x h = let f = ascii_first x h in record { first = f.first; others =
 
 wide_begins : (x : List ℕ) → IsWide x → Begins (λ c. nat_lt c 128) false (chars_text x)
 wide_begins [] h = absurd h
-wide_begins (lead ∷ bs) h = record { first = lead; others = bs; is = wide_text (lead ∷ bs) h; test = not_below lead 128 (omega (arith, (between_is 194 244 lead h.0).0)) }
+wide_begins (lead ∷ bs) h = record {
+  first = lead;
+  others = bs;
+  is = wide_text (lead ∷ bs) h;
+  test = not_below lead 128
+      (omega (arith, (between_is 194 244 lead h.0).0));
+}
 
-pub char_format : (IsLow : List ℕ → List ℕ → Type 0) → IsLocal IsLow → Format IsLow chars_text IsChar never char_at
-char_format IsLow moved = either_format IsLow (λ c. nat_lt c 128) chars_text IsAscii IsWide never (as_at alone ascii_at) wide_at (alone_format IsLow moved) (spelled_wide IsLow moved) ascii_begins wide_begins
+pub char_format : Format nowhere chars_text IsChar never char_at
+char_format =
+    either_of (λ c. nat_lt c 128) (made alone ascii_format (λ c h. append-nil (escaped c)) (λ c t h. refl))
+    (told_as wide_text (λ x t h. refl) wide_format) ascii_begins wide_begins
 
 -- the first byte of a character begins one
-pub char_starts : (x : List ℕ) → IsChar x → (t : ℕ) × (others : List ℕ) × (chars_text x ≡ t ∷ others) × (begins_char t ≡ true)
-char_starts x (inl h) = let f = ascii_first x h in (f.first, f.others, f.is, f.begins)
+pub char_starts : (x : List ℕ) → IsChar x → Begins begins_char true (chars_text x)
+char_starts x (inl h) = let f = ascii_first x h in record { first = f.first; others = f.others; is = f.is; test = f.begins }
 char_starts [] (inr h) = absurd h
-char_starts (lead ∷ bs) (inr h) = (lead, bs, wide_text (lead ∷ bs) h, lead_begins lead h.0)
+char_starts (lead ∷ bs) (inr h) = record { first = lead; others = bs; is = wide_text (lead ∷ bs) h; test = lead_begins lead h.0 }
   where
     lead_begins : (lead : ℕ) → is_lead lead ≡ true → begins_char lead ≡ true
     lead_begins lead h = grind (arith, nat_tests)
@@ -135,7 +146,7 @@ char_some t h = by (eqb t 92) (is_plain t) refl refl
     by false true e f = record { some = alone t; fits = inl (t, inr f, refl); more = []; is = ap (λ (u : List ℕ). u ++ []) (plain_is t f) }
     by false false e f =
         let lead : is_lead t ≡ true = grind (arith, nat_tests) in
-        let y = trail_some (trail_length t) (least_second t) (most_second t) (some_second t) in
+        let y = behind_some t in
         record { some = t ∷ y.0; fits = inr (lead, y.1); more = y.0; is = wide_text (t ∷ y.0) (lead, y.1) }
 
 -- ---- the scalar value that it is

@@ -1,13 +1,7 @@
 -- The reader of characters, step by step.
-use Rattle.std.proofs.Common.{◌≡◌, ℕ, suc, ◌+◌, ◌-◌, ◌<◌, Bool, true, false, nat_lt, List, [], ◌∷◌, ◌++◌, length, get_or, drop, refl, sym, ap, ◌∙◌, arith}
-use Rattle.std.proofs.lemmas.Bool.Decides.{nat_tests}
-use Rattle.std.proofs.lemmas.List.{drop_all}
-use Rattle.df_format.specs.Reading.{Read, ◌>>=◌, with_front}
-use Rattle.df_format.proofs.ItemSteps.{onto, regroup}
-use Rattle.df_value_text.specs.Number.{begins_with}
-use Rattle.df_value_text.specs.ReadEscape.{escape_at, ascii_at}
-use Rattle.df_value_text.specs.ReadWide.{is_between, is_lead, trail_length, least_second, most_second, trail_at, wide_at}
-use Rattle.df_value_text.specs.ReadWords.{starts}
+use Rattle.df_value_text.proofs.Names.{◌≡◌, ℕ, suc, ◌+◌, ◌-◌, ◌<◌, Bool, true, false, nat_lt, List, [], ◌∷◌, ◌++◌, length, get_or, drop, refl, sym, ap, ◌∙◌}
+use Rattle.df_value_text.proofs.Names.{arith, nat_tests, drop_all, Read, ◌>>=◌, with_front, onto, regroup, begins_with, escape_at, ascii_at, is_between}
+use Rattle.df_value_text.proofs.Names.{is_lead, trail_length, least_second, most_second, trail_at, wide_at, starts}
 use Rattle.df_value_text.proofs.NameSteps.{first_of}
 use Rattle.df_value_text.proofs.TagSteps.{behind_it}
 

@@ -1,17 +1,14 @@
 -- Behind the whole value nothing counts.
-use Rattle.std.proofs.Common.{◌≡◌, ℕ, ◌+◌, ◌<◌, ◌≤◌, max, Bool, true, false, cond, ltb, List, [], ◌∷◌, ◌++◌, length, length-append, take, drop, refl, sym, ap, subst, ◌∙◌, append_assoc, arith, inl, inr}
+use Rattle.df_value_text.proofs.Names.{◌≡◌, ℕ, ◌+◌, ◌<◌, ◌≤◌, max, Bool, true, false, cond, List, [], ◌∷◌, ◌++◌, length, take, drop, refl, sym, ap, subst}
+use Rattle.df_value_text.proofs.Names.{◌∙◌, append_assoc, arith, inl, inr, ltb-true, append-nil, length-take-le, is_ascii_digit, goes_on, IsWithinLimits}
+use Rattle.df_value_text.proofs.Names.{Plain, int, bytes, node_count, byte_count, depth, value_text, IsSpelled, Place, Walk, closed, closes, walked, start}
+use Rattle.df_value_text.proofs.Names.{counts_of, AreWithin, IsOver, FirstOver, NeverOver}
+use Rattle.std.proofs.Common.{ltb}
 use Rattle.std.specs.Prelude.{◌↔◌}
-use Rattle.std.proofs.lemmas.Bool.{ltb-true, ltb-false}
-use Rattle.std.proofs.lemmas.List.{append-nil, drop-append-le, length-take-le, take-append-drop}
-use Rattle.std.specs.Char.{is_ascii_digit}
-use Rattle.df_frozen.specs.Limits.{IsWithinLimits}
-use Rattle.df_frozen.specs.Plain.{Plain, int, words, bytes, items, entries, node_count, byte_count, depth}
-use Rattle.df_value_text.specs.Value.{value_text}
-use Rattle.df_value_text.specs.Fits.{IsSpelled}
-use Rattle.df_value_text.specs.declared.place.Place.{Place}
+use Rattle.std.proofs.lemmas.Bool.{ltb-false}
+use Rattle.std.proofs.lemmas.List.{drop-append-le, take-append-drop}
 use Rattle.df_value_text.specs.declared.place.Place.TheVariants as place
-use Rattle.df_value_text.specs.declared.counting.Walk.{Walk}
-use Rattle.df_value_text.specs.Counting.{closed, closes, walked, start, counts_of, AreCountsOf, AreWithin, IsOver, FirstOver, NeverOver}
+use Rattle.df_value_text.specs.Counting.{AreCountsOf}
 use Rattle.df_value_text.proofs.CountingLaws.{at, Adds, same, passes, walked-append}
 use Rattle.df_value_text.proofs.CountingValues.{ended}
 use Rattle.df_value_text.proofs.CountingFronts.{counted_value, never_over}
@@ -23,46 +20,40 @@ record Counts (w : Walk) (nodes bytes deep : ℕ) : Type 0 where
   pub deep_is : w.deep ≡ deep
 
 none_closed : (c : ℕ) → closed [] c ≡ []
-none_closed c = by (closes c)
-  where
-    by : (t : Bool) → cond t (drop {A = Bool} 1 []) [] ≡ []
-    by true = refl
-    by false = refl
+none_closed c = elim (closes c) as (λ t. cond t (drop {A = Bool} 1 []) [] ≡ []) [ true ↦ refl | false ↦ refl ]
 
 -- a byte that counts nothing
-still_by : (p q : Place) (c : ℕ) (cs : List ℕ) (n b d : ℕ) → Adds p [] (c ∷ []) q [] 0 0 0 → Counts (walked (at q [] n b d) cs) n b d → Counts (walked (at p [] n b d) (c ∷ cs)) n b d
+still_by : (p q : Place) (c : ℕ) (cs : List ℕ) (n b d : ℕ) → Adds p [] (c ∷ []) q [] 0 0 0 → Counts (walked (at q [] n b d) cs) n b d
+    → Counts (walked (at p [] n b d) (c ∷ cs)) n b d
 still_by p q c cs n b d adds h =
-    subst (λ (w : Walk). Counts (walked w cs) n b d) (sym (adds n b d ∙ same q [] (n + 0) (b + 0) (max d 0) n b d (omega arith) (omega arith) (omega arith))) h
+    subst (λ (w : Walk). Counts (walked w cs) n b d) (sym (adds.run n b d
+    ∙ same q [] (n + 0) (b + 0) (max d 0) n b d (omega arith) (omega arith) (omega arith))) h
 
 done_still : (cs : List ℕ) (n b d : ℕ) → Counts (walked (at place.Done [] n b d) cs) n b d
 done_still [] n b d = record { nodes_are = refl; bytes_are = refl; deep_is = refl }
-done_still (c ∷ cs) n b d = still_by place.Done place.Done c cs n b d (passes place.Done [] c place.Done [] 0 refl refl refl refl) (done_still cs n b d)
-
-behind_still : (cs : List ℕ) (n b d : ℕ) → Counts (walked (at place.Behind [] n b d) cs) n b d
-behind_still [] n b d = record { nodes_are = refl; bytes_are = refl; deep_is = refl }
-behind_still (c ∷ cs) n b d = still_by place.Behind place.Done c cs n b d (passes place.Behind [] c place.Done [] 0 refl refl (none_closed c) refl) (done_still cs n b d)
-
-number_still : (cs : List ℕ) (n b d : ℕ) → Counts (walked (at place.Number [] n b d) cs) n b d
-number_still [] n b d = record { nodes_are = refl; bytes_are = refl; deep_is = refl }
-number_still (c ∷ cs) n b d = by (number_still cs n b d) (is_ascii_digit c) refl
-  where
-    by : Counts (walked (at place.Number [] n b d) cs) n b d → (t : Bool) → is_ascii_digit c ≡ t → Counts (walked (at place.Number [] n b d) (c ∷ cs)) n b d
-    by rest true e = still_by place.Number place.Number c cs n b d (passes place.Number [] c place.Number [] 0 refl (rw e refl) (none_closed c) refl) rest
-    by rest false e = still_by place.Number place.Done c cs n b d (passes place.Number [] c place.Done [] 0 refl (rw e refl) (none_closed c) refl) (done_still cs n b d)
+done_still (c ∷ cs) n b d = still_by place.Done place.Done c cs n b d (passes refl refl refl refl) (done_still cs n b d)
 
 ended_still : (p : Plain) (cs : List ℕ) (n b d : ℕ) → Counts (walked (at (ended p) [] n b d) cs) n b d
-ended_still (int z) cs n b d = number_still cs n b d
-ended_still (words s) cs n b d = behind_still cs n b d
-ended_still (bytes s) cs n b d = behind_still cs n b d
-ended_still (items ps) cs n b d = behind_still cs n b d
-ended_still (entries es) cs n b d = behind_still cs n b d
+ended_still p [] n b d = record { nodes_are = refl; bytes_are = refl; deep_is = refl }
+ended_still (int z) (c ∷ cs) n b d = by (ended_still (int z) cs n b d) (is_ascii_digit c) refl
+  where
+    by : Counts (walked (at place.Number [] n b d) cs) n b d → (t : Bool) → is_ascii_digit c ≡ t → Counts (walked (at place.Number [] n b d) (c ∷ cs)) n b d
+    by rest true e = still_by place.Number place.Number c cs n b d (passes refl (rw e refl) (none_closed c) refl) rest
+    by rest false e = still_by place.Number place.Done c cs n b d (passes refl (rw e refl) (none_closed c) refl) (done_still cs n b d)
+ended_still _ (c ∷ cs) n b d = still_by place.Behind place.Done c cs n b d (passes refl refl (none_closed c) refl) (done_still cs n b d)
 
 -- what is counted over a value's spelling is what the value has, whatever stands behind it
 pub counted_behind : (p : Plain) → IsSpelled p → (rest : List ℕ) → AreCountsOf p (counts_of (value_text p ++ rest))
 counted_behind p fits rest =
-    let e : counts_of (value_text p ++ rest) ≡ walked (at (ended p) [] (node_count p) (byte_count p) (depth p)) rest = walked-append start (value_text p) rest ∙ ap (λ (w : Walk). walked w rest) (counted_value p fits) in
+    let e : counts_of (value_text p ++ rest) ≡ walked (at (ended p) [] (node_count p) (byte_count p) (depth p)) rest = walked-append start (value_text p) rest
+    ∙ ap (λ (w : Walk). walked w rest) (counted_value p fits) in
     let h = ended_still p rest (node_count p) (byte_count p) (depth p) in
-    record { nodes = ap (λ (w : Walk). w.nodes) e ∙ h.nodes_are; bytes = ap (λ (w : Walk). w.bytes) e ∙ h.bytes_are; deep = ap (λ (w : Walk). w.deep) e ∙ h.deep_is }
+    record {
+      nodes = ap (λ (w : Walk). w.nodes) e ∙ h.nodes_are;
+      bytes = ap (λ (w : Walk). w.bytes) e ∙ h.bytes_are;
+      deep = ap (λ (w : Walk). w.deep) e
+          ∙ h.deep_is;
+    }
 
 -- ---- values and the limits
 
@@ -84,7 +75,8 @@ never_value p fits h rest = never_over (value_text p ++ rest) ((within_counts p 
 -- where no count is passed the value may be frozen
 pub value_within : (p : Plain) → IsSpelled p → (rest : List ℕ) → NeverOver (value_text p ++ rest) → IsWithinLimits p
 value_within p fits rest h =
-    let alone : AreCountsOf p (counts_of (value_text p)) = subst (λ (u : List ℕ). AreCountsOf p (counts_of u)) (append-nil (value_text p)) (counted_behind p fits []) in
+    let alone : AreCountsOf p (counts_of (value_text p)) = subst (λ (u : List ℕ). AreCountsOf p (counts_of u)) (append-nil (value_text p))
+    (counted_behind p fits []) in
     (within_counts p (counts_of (value_text p)) alone).1 (h (value_text p) rest refl)
 
 -- where one is passed it may not
@@ -92,16 +84,6 @@ pub value_over : (p : Plain) → IsSpelled p → (rest left : List ℕ) → Firs
 value_over p fits rest left over h =
     let front : value_text p ++ rest ≡ (over.front ++ over.first ∷ []) ++ over.more = over.parts ∙ sym (append_assoc over.front (over.first ∷ []) over.more) in
     not_both (counts_of (over.front ++ over.first ∷ [])) (never_value p fits h rest (over.front ++ over.first ∷ []) over.more front) over.over
-
--- a list that is no shorter in front goes on from the other
-pub goes_on : (a b c d : List ℕ) → a ++ b ≡ c ++ d → length d ≤ length b → (more : List ℕ) × (c ≡ a ++ more)
-goes_on [] b c d e le = (c, refl)
-goes_on (x ∷ a) b [] d e le = absurd (omega (arith, le, simp length-append at (ap (λ (u : List ℕ). length u) e)))
-goes_on (x ∷ a) b (y ∷ c) d e le =
-    let first : x ≡ y = cc in
-    let behind : a ++ b ≡ c ++ d = cc in
-    let r = goes_on a b c d behind le in
-    (r.0, rw first (ap (λ (u : List ℕ). y ∷ u) r.1))
 
 -- and its byte stands within the value
 pub over_inside : (p : Plain) → IsSpelled p → (rest left : List ℕ) → FirstOver (value_text p ++ rest) left → length rest < length left

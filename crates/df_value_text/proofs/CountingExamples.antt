@@ -1,8 +1,6 @@
 -- Walks that are worked out by hand: each computes.
-use Rattle.std.proofs.Common.{◌≡◌, true, false, [], ◌∷◌, ◌++◌, refl}
-use Rattle.std.specs.Prelude.{codes}
+use Rattle.df_value_text.proofs.Names.{◌≡◌, true, false, [], ◌∷◌, ◌++◌, refl, codes, counts_of}
 use Rattle.df_value_text.specs.declared.place.Place.TheVariants as place
-use Rattle.df_value_text.specs.Counting.{counts_of}
 use Rattle.df_value_text.proofs.CountingLaws.{at}
 
 -- a list of a number, words of one character of two bytes, and a map of bytes: 5 nodes, 2 + 1 + 2 bytes, 3 deep

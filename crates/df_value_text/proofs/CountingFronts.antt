@@ -1,15 +1,24 @@
 -- Walking on never lowers a count, and counts nothing behind the whole value.
-use Rattle.std.proofs.Common.{◌≡◌, ℕ, ◌+◌, ◌≤◌, max, Bool, true, false, cond, eqb, List, [], ◌∷◌, length, drop, refl, sym, ap, subst, ◌∙◌, arith, ◌⊎◌, inl, inr}
-use Rattle.std.proofs.lemmas.Bool.Decides.{nat_tests}
-use Rattle.df_frozen.specs.Plain.{Plain, node_count, byte_count, depth}
-use Rattle.df_value_text.specs.Value.{value_text}
-use Rattle.df_value_text.specs.Fits.{IsSpelled}
-use Rattle.df_value_text.specs.declared.place.Place.{Place}
+use Rattle.df_value_text.proofs.Names.{◌≡◌, ℕ, ◌+◌, ◌≤◌, max, Bool, true, false, cond, ◌||◌, eqb, List, [], ◌∷◌, length, drop, refl, sym, ap, subst, ◌∙◌}
+use Rattle.df_value_text.proofs.Names.{arith, ◌⊎◌, inl, inr, nat_tests, told, Plain, node_count, byte_count, depth, value_text, IsSpelled, Place, Walk}
+use Rattle.df_value_text.proofs.Names.{begins, weight, next, nested, closed, closes, walk, walked, start, counts_of, AreWithin, NeverOver}
 use Rattle.df_value_text.specs.declared.place.Place.TheVariants as place
-use Rattle.df_value_text.specs.declared.counting.Walk.{Walk}
-use Rattle.df_value_text.specs.Counting.{begins, begins_literal, weight, next, nested, closed, closes, walk, walked, start, counts_of, IsCounted, AreWithin, NeverOver}
+use Rattle.df_value_text.specs.Counting.{IsCounted}
 use Rattle.df_value_text.proofs.CountingLaws.{at, same, walked-append}
 use Rattle.df_value_text.proofs.CountingValues.{ended, walked_value}
+
+-- what one byte adds
+pub record IsStep (w v : Walk) : Type 0 where
+  pub nodes : w.nodes ≤ v.nodes
+  pub few : v.nodes ≤ w.nodes + 1
+  pub deep : w.deep ≤ v.deep
+  pub flat : v.deep ≤ max w.deep (length w.brackets + 1)
+
+pub is_step : (w : Walk) (c : ℕ) → IsStep w (walk w c)
+is_step w c = elim (told (begins w.place c)) [
+  | inl e ↦ record { nodes = rw e (omega arith); few = rw e (omega arith); deep = rw e (omega arith); flat = rw e (omega arith) }
+  | inr e ↦ record { nodes = rw e (omega arith); few = rw e (omega arith); deep = rw e (omega arith); flat = rw e (omega arith) }
+]
 
 -- no count of the one is below that of the other
 pub record IsFurther (w v : Walk) : Type 0 where
@@ -17,20 +26,13 @@ pub record IsFurther (w v : Walk) : Type 0 where
   pub bytes : w.bytes ≤ v.bytes
   pub deep : w.deep ≤ v.deep
 
-one_on : (w : Walk) (c : ℕ) → IsFurther w (walk w c)
-one_on w c = by (begins w.place c) refl
-  where
-    by : (b : Bool) → begins w.place c ≡ b → IsFurther w (walk w c)
-    by true e = record { nodes = rw e (omega arith); bytes = omega arith; deep = rw e (omega arith) }
-    by false e = record { nodes = rw e (omega arith); bytes = omega arith; deep = rw e (omega arith) }
-
 -- walking on never lowers a count
 pub walked_on : (w : Walk) (cs : List ℕ) → IsFurther w (walked w cs)
 walked_on w [] = record { nodes = omega arith; bytes = omega arith; deep = omega arith }
 walked_on w (c ∷ cs) =
-    let one = one_on w c in
+    let one = is_step w c in
     let rest = walked_on (walk w c) cs in
-    record { nodes = omega (arith, one.nodes, rest.nodes); bytes = omega (arith, one.bytes, rest.bytes); deep = omega (arith, one.deep, rest.deep) }
+    record { nodes = omega (arith, one.nodes, rest.nodes); bytes = omega (arith, rest.bytes); deep = omega (arith, one.deep, rest.deep) }
 
 -- what is within the limits was so before
 pub within_before : (w v : Walk) → IsFurther w v → AreWithin v → AreWithin w
@@ -55,7 +57,10 @@ done_on w (c ∷ cs) e h =
 
 -- what is counted over a value's spelling is what the value has
 pub counted_value : (p : Plain) → IsSpelled p → counts_of (value_text p) ≡ at (ended p) [] (node_count p) (byte_count p) (depth p)
-counted_value p fits = walked_value p fits [] 0 0 0 ∙ same (ended p) [] (0 + node_count p) (0 + byte_count p) (max 0 (0 + depth p)) (node_count p) (byte_count p) (depth p) (omega arith) (omega arith) (omega arith)
+counted_value p fits =
+    (walked_value p fits []).run 0 0 0
+    ∙ same (ended p) [] (0 + node_count p) (0 + byte_count p) (max 0 (0 + depth p)) (node_count p) (byte_count p) (depth p) (omega arith) (omega arith)
+    (omega arith)
 
 -- ---- how deep the brackets nest is counted
 
@@ -70,27 +75,30 @@ closed_low brackets c = by (closes c)
     by true = shorter brackets
     by false = omega arith
 
-nested_low : (p : Place) (brackets : List Bool) (c : ℕ) → (length (nested p brackets c) ≤ length brackets) ⊎ ((begins p c ≡ true) × (length (nested p brackets c) ≤ length brackets + 1))
+-- a byte that opens a bracket
+abbrev pub brackets_on : ℕ → Bool
+brackets_on c = eqb c 91 || eqb c 40
+
+pub record IsOpening (p : Place) (brackets : List Bool) (c : ℕ) : Type 0 where
+  pub on : brackets_on c ≡ true
+  pub begins : begins p c ≡ true
+  pub low : length (nested p brackets c) ≤ length brackets + 1
+
+pub nested_low : (p : Place) (brackets : List Bool) (c : ℕ) → (length (nested p brackets c) ≤ length brackets) ⊎ IsOpening p brackets c
 nested_low place.Before brackets c = by (eqb c 91) (eqb c 40) refl refl
   where
-    by : (x y : Bool) → eqb c 91 ≡ x → eqb c 40 ≡ y → (length (nested place.Before brackets c) ≤ length brackets) ⊎ ((begins_literal c ≡ true) × (length (nested place.Before brackets c) ≤ length brackets + 1))
-    by true y e e' = inr (grind (arith, nat_tests), rw e (omega arith))
-    by false true e e' = inr (grind (arith, nat_tests), rw (e, e') (omega arith))
+    by : (x y : Bool) → eqb c 91 ≡ x → eqb c 40 ≡ y → (length (nested place.Before brackets c) ≤ length brackets) ⊎ IsOpening place.Before brackets c
+    by true y e e' = inr (record { on = rw e refl; begins = grind (arith, nat_tests); low = rw e (omega arith) })
+    by false true e e' = inr (record { on = rw (e, e') refl; begins = grind (arith, nat_tests); low = rw (e, e') (omega arith) })
     by false false e e' = inl (rw (e, e') (closed_low brackets c))
 nested_low place.Number brackets c = inl (closed_low brackets c)
 nested_low place.Name brackets c = inl (closed_low brackets c)
 nested_low place.Behind brackets c = inl (closed_low brackets c)
-nested_low place.Words brackets c = inl (omega arith)
-nested_low place.Escape brackets c = inl (omega arith)
-nested_low place.EscapeDigit brackets c = inl (omega arith)
-nested_low place.Marked brackets c = inl (omega arith)
-nested_low place.Bytes brackets c = inl (omega arith)
-nested_low place.BytesDigit brackets c = inl (omega arith)
-nested_low place.Done brackets c = inl (omega arith)
+nested_low _ brackets c = inl (omega arith)
 
 pub counted_on : (w : Walk) (c : ℕ) → IsCounted w → IsCounted (walk w c)
 counted_on w c h =
     elim (nested_low w.place w.brackets c) [
-      | inl low ↦ let one = one_on w c in omega (arith, low, one.deep, h)
-      | inr both ↦ let low = both.1 in rw both.0 (omega (arith, low, h))
+      | inl low ↦ let one = is_step w c in omega (arith, low, one.deep, h)
+      | inr o ↦ let low = o.low in rw (o.begins) (omega (arith, low, h))
     ]

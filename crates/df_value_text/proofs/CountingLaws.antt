@@ -1,9 +1,7 @@
 -- Walking over a value's spelling counts what the value has.
-use Rattle.std.proofs.Common.{◌≡◌, ℕ, ◌+◌, max, Bool, true, false, List, [], ◌∷◌, ◌++◌, length, refl, ap, ◌∙◌, arith}
-use Rattle.df_value_text.specs.declared.place.Place.{Place}
+use Rattle.df_value_text.proofs.Names.{◌≡◌, ℕ, ◌+◌, max, Bool, true, false, List, [], ◌∷◌, ◌++◌, length, refl, ap, subst, ◌∙◌, sym, append_assoc, arith}
+use Rattle.df_value_text.proofs.Names.{Place, Walk, begins, weight, next, nested, walk, walked}
 use Rattle.df_value_text.specs.declared.place.Place.TheVariants as place
-use Rattle.df_value_text.specs.declared.counting.Walk.{Walk}
-use Rattle.df_value_text.specs.Counting.{begins, weight, next, nested, walk, walked}
 
 -- a walk at this place, within these brackets, with these counts
 abbrev pub at : Place → List Bool → ℕ → ℕ → ℕ → Walk
@@ -17,28 +15,50 @@ walked-append w [] rest = refl
 walked-append w (c ∷ front) rest = walked-append (walk w c) front rest
 
 -- walking over these bytes, from the one place to the other, opens or closes brackets and adds these counts
-abbrev pub Adds : Place → List Bool → List ℕ → Place → List Bool → ℕ → ℕ → ℕ → Type 0
-Adds p os text q ps nodes bytes deep = (n b d : ℕ) → walked (at p os n b d) text ≡ at q ps (n + nodes) (b + bytes) (max d deep)
+pub record Adds (p : Place) (os : List Bool) (text : List ℕ) (q : Place) (ps : List Bool) (nodes bytes deep : ℕ) : Type 0 where
+  pub run : (n b d : ℕ) → walked (at p os n b d) text ≡ at q ps (n + nodes) (b + bytes) (max d deep)
 
 pub nothing : (p : Place) (os : List Bool) → Adds p os [] p os 0 0 0
-nothing p os n b d = same p os n b d (n + 0) (b + 0) (max d 0) (omega arith) (omega arith) (omega arith)
+nothing p os = record { run = λ n b d. same p os n b d (n + 0) (b + 0) (max d 0) (omega arith) (omega arith) (omega arith) }
 
 -- the same counts, told otherwise
-pub told : (p : Place) (os : List Bool) (text : List ℕ) (q : Place) (ps : List Bool) (nodes bytes deep nodes' bytes' deep' : ℕ) → nodes ≡ nodes' → bytes ≡ bytes' → deep ≡ deep' → Adds p os text q ps nodes bytes deep → Adds p os text q ps nodes' bytes' deep'
-told p os text q ps nodes bytes deep nodes' bytes' deep' e e' e'' adds n b d =
-    adds n b d ∙ same q ps (n + nodes) (b + bytes) (max d deep) (n + nodes') (b + bytes') (max d deep') (omega arith) (omega arith) (omega arith)
+pub told : {p : Place} {os : List Bool} {text : List ℕ} {q : Place} {ps : List Bool} {nodes bytes deep nodes' bytes' deep' : ℕ}
+    → Adds p os text q ps nodes bytes deep → nodes ≡ nodes' → bytes ≡ bytes' → deep ≡ deep' → Adds p os text q ps nodes' bytes' deep'
+told {q = q} {ps = ps} {nodes = nodes} {bytes = bytes} {deep = deep} {nodes' = nodes'} {bytes' = bytes'} {deep' = deep'} adds e e' e'' = record {
+  run = λ n b d.
+      adds.run n b d ∙ same q ps (n + nodes) (b + bytes) (max d deep) (n + nodes') (b + bytes') (max d deep') (omega arith) (omega arith) (omega arith);
+}
 
 -- one text behind the other
-pub joins : (p : Place) (os : List Bool) (s : List ℕ) (q : Place) (ps : List Bool) (t : List ℕ) (r : Place) (qs : List Bool) (nodes bytes deep nodes' bytes' deep' : ℕ)
+pub joins : {p : Place} {os : List Bool} {s : List ℕ} {q : Place} {ps : List Bool} {t : List ℕ} {r : Place} {qs : List Bool} {nodes bytes deep nodes' bytes'
+    deep' : ℕ}
     → Adds p os s q ps nodes bytes deep → Adds q ps t r qs nodes' bytes' deep' → Adds p os (s ++ t) r qs (nodes + nodes') (bytes + bytes') (max deep deep')
-joins p os s q ps t r qs nodes bytes deep nodes' bytes' deep' left right n b d =
-    walked-append (at p os n b d) s t ∙ ap (λ (w : Walk). walked w t) (left n b d) ∙ right (n + nodes) (b + bytes) (max d deep)
-    ∙ same r qs ((n + nodes) + nodes') ((b + bytes) + bytes') (max (max d deep) deep') (n + (nodes + nodes')) (b + (bytes + bytes')) (max d (max deep deep')) (omega arith) (omega arith) (omega arith)
+joins {p} {os} {s} {q} {ps} {t} {r} {qs} {nodes} {bytes} {deep} {nodes'} {bytes'} {deep'} left right = record {
+  run = λ n b d.
+      walked-append (at p os n b d) s t ∙ ap (λ (w : Walk). walked w t) (left.run n b d) ∙ right.run (n + nodes) (b + bytes) (max d deep)
+      ∙ same r qs ((n + nodes) + nodes') ((b + bytes) + bytes') (max (max d deep) deep') (n + (nodes + nodes')) (b + (bytes + bytes')) (max d (max deep deep'))
+      (omega arith) (omega arith) (omega arith);
+}
+
+-- a text, a byte that counts nothing, others and a last byte
+pub and_more : {p : Place} {os : List Bool} {s : List ℕ} {q : Place} {ps : List Bool} {r : Place} {qs : List Bool} {u : Place} {us : List Bool} {nodes bytes
+    deep nodes' bytes' deep' : ℕ}
+    (c last : ℕ) (others : List ℕ) → Adds p os s q ps nodes bytes deep → Adds q ps (c ∷ []) r qs 0 0 0
+    → Adds r qs (others ++ last ∷ []) u us nodes' bytes' deep'
+    → Adds p os ((s ++ (c ∷ others)) ++ last ∷ []) u us (nodes + nodes') (bytes + bytes') (max deep deep')
+and_more {p} {os} {s} {q} {ps} {r} {qs} {u} {us} {nodes} {bytes} {deep} {nodes'} {bytes'} {deep'} c last others left between right =
+    subst (λ (t : List ℕ). Adds p os t u us (nodes + nodes') (bytes + bytes') (max deep deep')) (sym (append_assoc s (c ∷ others) (last ∷ [])))
+    (told (joins left (joins between right)) (omega arith) (omega arith) (omega arith))
 
 -- a byte that begins no literal
-pub passes : (p : Place) (os : List Bool) (c : ℕ) (q : Place) (ps : List Bool) (bytes : ℕ) → begins p c ≡ false → next p os c ≡ q → nested p os c ≡ ps → weight p c ≡ bytes → Adds p os (c ∷ []) q ps 0 bytes 0
-passes p os c q ps bytes opens_none is brackets adds n b d = rw (opens_none, is, brackets, adds) (same q ps n (b + bytes) d (n + 0) (b + bytes) (max d 0) (omega arith) refl (omega arith))
+pub passes : {p : Place} {os : List Bool} {c : ℕ} {q : Place} {ps : List Bool} {bytes : ℕ}
+    → begins p c ≡ false → next p os c ≡ q → nested p os c ≡ ps → weight p c ≡ bytes → Adds p os (c ∷ []) q ps 0 bytes 0
+passes {q = q} {ps = ps} {bytes = bytes} opens_none is brackets adds = record {
+  run = λ n b d.
+      rw (opens_none, is, brackets, adds) (same q ps n (b + bytes) d (n + 0) (b + bytes) (max d 0) (omega arith) refl (omega arith));
+}
 
 -- a byte that begins one
-pub opens : (os : List Bool) (c : ℕ) (q : Place) (ps : List Bool) → begins place.Before c ≡ true → next place.Before os c ≡ q → nested place.Before os c ≡ ps → Adds place.Before os (c ∷ []) q ps 1 0 (length os + 1)
-opens os c q ps opens_one is brackets n b d = rw (opens_one, is, brackets) (same q ps (n + 1) (b + 0) (max d (length os + 1)) (n + 1) (b + 0) (max d (length os + 1)) refl refl refl)
+pub opens : {os : List Bool} {c : ℕ} {q : Place} {ps : List Bool}
+    → begins place.Before c ≡ true → next place.Before os c ≡ q → nested place.Before os c ≡ ps → Adds place.Before os (c ∷ []) q ps 1 0 (length os + 1)
+opens opens_one is brackets = record { run = λ n b d. rw (opens_one, is, brackets) refl }

@@ -1,9 +1,7 @@
 -- The search for the first byte by which a count is passed, step by step.
-use Rattle.std.proofs.Common.{◌≡◌, ℕ, ◌+◌, ◌<◌, ◌≤◌, List, [], ◌∷◌, ◌++◌, length, get_or, drop, sym, ap, subst, ◌∙◌, append_assoc}
-use Rattle.std.proofs.lemmas.List.{drop_all}
+use Rattle.df_value_text.proofs.Names.{◌≡◌, ℕ, ◌+◌, ◌<◌, ◌≤◌, List, [], ◌∷◌, ◌++◌, length, get_or, drop, sym, ap, subst, ◌∙◌, append_assoc, drop_all, Walk}
+use Rattle.df_value_text.proofs.Names.{walk, walked, start, counts_of, AreWithin, IsOver, FirstOver, NeverOver}
 use Rattle.df_value_text.specs.declared.place.Place.TheVariants as place
-use Rattle.df_value_text.specs.declared.counting.Walk.{Walk}
-use Rattle.df_value_text.specs.Counting.{walk, walked, start, counts_of, AreWithin, IsOver, FirstOver, NeverOver}
 use Rattle.df_value_text.proofs.CountingLaws.{walked-append}
 use Rattle.df_value_text.proofs.CountingFronts.{never_over, done_on}
 use Rattle.df_value_text.proofs.NameSteps.{first_of}

@@ -1,9 +1,10 @@
 -- One more item behind others.
-use Rattle.std.proofs.Common.{◌≡◌, ℕ, ◌+◌, ◌<◌, List, [], ◌∷◌, ◌++◌, map, take, length, get_or, refl, sym, ap, ◌∙◌, append_assoc, arith}
-use Rattle.std.proofs.lemmas.List.{take_more, map-append, length-map, length-take-le}
-use Rattle.std.proofs.lemmas.Bool.Decides.{nat_tests}
+use Rattle.df_value_text.proofs.Names.{◌≡◌, ℕ, ◌+◌, ◌<◌, List, [], ◌∷◌, ◌++◌, take, length, get_or, refl, sym, ap, ◌∙◌, append_assoc, arith, take_more}
+use Rattle.df_value_text.proofs.Names.{length-take-le, nat_tests, joined}
+use Rattle.std.proofs.Common.{map}
+use Rattle.std.proofs.lemmas.List.{map-append, length-map}
 use Rattle.std.specs.List.{join_with_byte}
-use Rattle.df_value_text.specs.Join.{separator, joined}
+use Rattle.df_value_text.specs.Join.{separator}
 
 -- behind some item the byte stands
 separator-behind : (c n : ℕ) → 0 < n → separator c n ≡ c ∷ []

@@ -1,3 +1,4 @@
+mod Names
 pub mod Joins
 pub mod Values
 pub mod NumberLaws
@@ -17,6 +18,7 @@ pub mod EscapeLaws
 pub mod WideLaws
 pub mod CharLaws
 pub mod WordsLaws
+pub mod PathLaws
 pub mod TagLaws
 pub mod TagSetLaws
 pub mod LabelLaws

@@ -1,19 +1,11 @@
 -- Fronts of bytes, and bytes that are cut behind a place.
-use Rattle.std.proofs.Common.{◌≡◌, ℕ, suc, ◌+◌, ◌<◌, ◌≤◌, List, [], ◌∷◌, ◌++◌, length, length-append, refl, sym, ap, subst, ◌∙◌, append_assoc, arith, ◌⊎◌, inl, inr}
-use Rattle.std.specs.Prelude.{nat_lt}
-use Rattle.std.proofs.lemmas.Bool.Decides.{nat_tests}
-use Rattle.std.proofs.lemmas.List.{append_cancel_left, append_cancel_right}
-use Rattle.df_format.specs.Grammar.{CanGoOn, IsLongest}
-use Rattle.df_format.proofs.Laws.{told}
-use Rattle.df_format.proofs.Texts.{own}
-use Rattle.df_value_text.specs.Counting.{AreWithin, FirstOver, IsOver, counts_of}
-use Rattle.df_value_text.specs.Fits.{IsSpelled}
-use Rattle.df_value_text.specs.OrderNames.{NameStandsLow}
-use Rattle.df_value_text.specs.Value.{value_text}
-use Rattle.df_value_text.specs.ValueFault.{FirstBadValue, FirstLowName, FirstTooLarge, IsWithinBefore}
-use Rattle.df_value_text.proofs.CountingEnds.{goes_on, not_both}
+use Rattle.df_value_text.proofs.Names.{◌≡◌, ℕ, suc, ◌+◌, ◌<◌, ◌≤◌, List, [], ◌∷◌, ◌++◌, length, length-append, refl, sym, ap, subst, ◌∙◌, append_assoc, arith}
+use Rattle.df_value_text.proofs.Names.{◌⊎◌, inl, inr, nat_lt, nat_tests, append_cancel_right, CanGoOn, IsLongest, told, goes_on, own, AreWithin, FirstOver}
+use Rattle.df_value_text.proofs.Names.{IsOver, counts_of, IsSpelled, NameStandsLow, value_text, FirstBadValue, FirstLowName, FirstTooLarge, IsWithinBefore}
+use Rattle.std.proofs.lemmas.List.{append_cancel_left}
+use Rattle.df_value_text.proofs.CountingEnds.{not_both}
 use Rattle.df_value_text.proofs.CountingFronts.{never_over}
-use Rattle.df_value_text.proofs.HigherLaws.{name_whole}
+use Rattle.df_value_text.proofs.HigherLaws.{name_size}
 use Rattle.df_value_text.proofs.NameLaws.{IsName}
 
 -- ---- fronts
@@ -23,7 +15,8 @@ viable_front : (front more : List ℕ) → CanGoOn value_text IsSpelled (front +
 viable_front front more on = record { some = on.some; fits = on.fits; more = more ++ on.more; is = on.is ∙ append_assoc front more on.more }
 
 -- a longer front that can go on makes the shorter one do so
-pub viable_before : (front rest longer behind : List ℕ) → front ++ rest ≡ longer ++ behind → length behind ≤ length rest → CanGoOn value_text IsSpelled longer → CanGoOn value_text IsSpelled front
+pub viable_before : (front rest longer behind : List ℕ) → front ++ rest ≡ longer ++ behind → length behind ≤ length rest → CanGoOn value_text IsSpelled longer
+    → CanGoOn value_text IsSpelled front
 viable_before front rest longer behind e le on =
     let more = goes_on front rest longer behind e le in
     viable_front front more.0 (subst (CanGoOn value_text IsSpelled) more.1 on)
@@ -52,10 +45,15 @@ over_behind text rest here front over lt e within =
     not_both (counts_of (over.front ++ over.first ∷ [])) (never_over front within (over.front ++ over.first ∷ []) on.0 on.1) over.over
 
 -- with the first byte over a value can go on, where one goes on behind it
-pub first_too_large : (text rest here front : List ℕ) → FirstOver text rest → length here < length rest → text ≡ front ++ here → CanGoOn value_text IsSpelled front → FirstTooLarge text rest
+pub first_too_large : (text rest here front : List ℕ) → FirstOver text rest → length here < length rest → text ≡ front ++ here
+    → CanGoOn value_text IsSpelled front → FirstTooLarge text rest
 first_too_large text rest here front over lt e on =
     let long = over_length text rest over in
-    record { over = over; viable = viable_before (over.front ++ over.first ∷ []) over.more front here (with_over text rest over ∙ e) (omega (arith, long, lt)) on }
+    record {
+      over = over;
+      viable = viable_before (over.front ++ over.first ∷ []) over.more front here (with_over text rest over ∙ e)
+          (omega (arith, long, lt)) on;
+    }
 
 -- there is only one first byte over
 nothing_left : (xs ys zs : List ℕ) → xs ≡ zs ++ ys → length xs ≤ length ys → xs ≡ ys
@@ -89,7 +87,8 @@ over_shorter text (c ∷ here) behind lt over =
       front = over.front;
       first = c;
       more = here;
-      parts = append_cancel_right text (over.front ++ c ∷ here) behind (over_parts (text ++ behind) ((c ∷ here) ++ behind) over ∙ sym (append_assoc over.front (c ∷ here) behind));
+      parts = append_cancel_right text (over.front ++ c ∷ here) behind
+          (over_parts (text ++ behind) ((c ∷ here) ++ behind) over ∙ sym (append_assoc over.front (c ∷ here) behind));
       is = refl;
       within = over.within;
       over = subst (λ (b : ℕ). IsOver (counts_of (over.front ++ b ∷ []))) first over.over;
@@ -112,7 +111,8 @@ bad_longer text (c ∷ here) behind lt bad = record {
 
 -- a name that begins here ends in front of what stands behind
 name_inside : (here behind name tail : List ℕ) → (behind ≡ []) ⊎ (32 ≤ length here) → IsName name → here ++ behind ≡ name ++ tail → length behind ≤ length tail
-name_inside here behind name tail room fits e = shorter room (name_whole name fits).1 (sym (length-append here behind) ∙ ap (λ (u : List ℕ). length u) e ∙ length-append name tail)
+name_inside here behind name tail room fits e = shorter room (name_size name fits).1
+    (sym (length-append here behind) ∙ ap (λ (u : List ℕ). length u) e ∙ length-append name tail)
   where
     shorter : (behind ≡ []) ⊎ (32 ≤ length here) → length name ≤ 32 → length here + length behind ≡ length name + length tail → length behind ≤ length tail
     shorter (inl none) few sizes = omega (arith, ap (λ (u : List ℕ). length u) none)
@@ -126,10 +126,16 @@ pub record Inside (here behind name tail : List ℕ) : Type 0 where
 pub inside_of : (here behind name tail : List ℕ) → length behind ≤ length tail → here ++ behind ≡ name ++ tail → Inside here behind name tail
 inside_of here behind name tail short e =
     let on = goes_on name tail here behind (sym e) short in
-    record { more = on.0; parts = on.1; is = append_cancel_left name tail (on.0 ++ behind) (sym e ∙ ap (λ (u : List ℕ). u ++ behind) on.1 ∙ append_assoc name on.0 behind) }
+    record {
+      more = on.0;
+      parts = on.1;
+      is = append_cancel_left name tail (on.0 ++ behind)
+          (sym e ∙ ap (λ (u : List ℕ). u ++ behind) on.1 ∙ append_assoc name on.0 behind);
+    }
 
 -- the longest name stays so, where more bytes stand here than a name has
-longest_longer : (here name more behind : List ℕ) → (behind ≡ []) ⊎ (32 ≤ length here) → IsLongest own IsName here name more → IsLongest own IsName (here ++ behind) name (more ++ behind)
+longest_longer : (here name more behind : List ℕ) → (behind ≡ []) ⊎ (32 ≤ length here) → IsLongest own IsName here name more
+    → IsLongest own IsName (here ++ behind) name (more ++ behind)
 longest_longer here name more behind room l = record {
   parts = longer_parts here name more behind l.parts;
   fits = l.fits;
@@ -173,6 +179,11 @@ low_longer text here behind room low =
         other = low.low.other;
         may = low.low.may;
         is = low.low.is;
-        low = record { name = stands.name; more = stands.more ++ behind; longest = longest_longer here stands.name stands.more behind room stands.longest; low = stands.low };
+        low = record {
+          name = stands.name;
+          more = stands.more ++ behind;
+          longest = longest_longer here stands.name stands.more behind room stands.longest;
+          low = stands.low;
+        };
       };
     }

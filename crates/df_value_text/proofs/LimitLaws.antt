@@ -1,29 +1,23 @@
 -- Reading up to the first byte by which a count of freezing is passed, and what it says of all bytes.
-use Rattle.std.proofs.Common.{◌≡◌, None, Result, Some, ℕ, suc, ◌+◌, ◌<◌, ◌≤◌, min, List, [], ◌∷◌, ◌++◌, length, length-append, take, drop, Ok, Err, refl, sym, ap, subst, ◌∙◌, append_assoc, arith, ◌⊎◌, inl, inr}
-use Rattle.std.specs.Prelude.{true, nat_le, nat_lt}
+use Rattle.df_value_text.proofs.Names.{◌≡◌, None, Some, ℕ, suc, ◌+◌, ◌<◌, ◌≤◌, List, [], ◌∷◌, ◌++◌, length, length-append, take, drop, Ok, Err, refl, sym, ap}
+use Rattle.df_value_text.proofs.Names.{subst, ◌∙◌, append_assoc, arith, ◌⊎◌, inl, inr, true, nat_le, nat_lt, nat_tests, append-nil, drop_all, length-take-le}
+use Rattle.df_value_text.proofs.Names.{CanGoOn, Stands, Bad, Low, told, IsWithinLimits, Plain, Fails, IsSyntaxAt, refusal, FirstOver, NeverOver, counts_of}
+use Rattle.df_value_text.proofs.Names.{IsSpelled, IsValue, NameStandsLow, LowInValue, value_text, FirstBadValue, FirstLowName, FirstTooLarge, IsWithinBefore}
+use Rattle.df_value_text.proofs.Names.{Fault}
+use Rattle.std.proofs.Common.{Result, min}
 use Rattle.std.specs.Result.{result_err}
-use Rattle.std.proofs.lemmas.Bool.Decides.{nat_tests}
-use Rattle.std.proofs.lemmas.List.{append-nil, drop_all, length-drop, length-take-le}
-use Rattle.df_format.specs.Grammar.{CanGoOn, Stands}
-use Rattle.df_format.specs.Reading.{Bad, Low}
-use Rattle.df_format.proofs.Laws.{told}
-use Rattle.df_frozen.specs.Limits.{IsWithinLimits}
-use Rattle.df_frozen.specs.Plain.{Plain}
-use Rattle.df_value_text.specs.code.Answer.{Fails, Gives, IsSyntaxAt, refusal}
-use Rattle.df_value_text.specs.Counting.{FirstOver, NeverOver, counts_of}
-use Rattle.df_value_text.specs.Fits.{IsSpelled, IsValue}
-use Rattle.df_value_text.specs.OrderNames.{NameStandsLow, LowInValue}
+use Rattle.std.proofs.lemmas.List.{length-drop}
+use Rattle.df_value_text.specs.code.Answer.{Gives}
 use Rattle.df_value_text.specs.ReadValue.{value_within}
-use Rattle.df_value_text.specs.Value.{value_text}
-use Rattle.df_value_text.specs.ValueFault.{FirstBadValue, FirstLowName, FirstTooLarge, IsTooLargeAt, IsWithinBefore, NamesTooLarge, NamesValueFault, NoLowBefore, TellsSyntaxAt, up_to}
-use Rattle.df_value_text.specs.declared.refused.Fault.{Fault}
+use Rattle.df_value_text.specs.ValueFault.{IsTooLargeAt, NamesTooLarge, NamesValueFault, NoLowBefore, TellsSyntaxAt, up_to}
 use Rattle.df_value_text.specs.declared.refused.Fault.TheVariants as fault
 use Rattle.df_value_text.specs.declared.refused.TextRefused.{TextRefused}
 use Rattle.df_value_text.specs.declared.refused.TextRefused.TheVariants as refused
 use Rattle.df_value_text.proofs.CountingEnds.{value_within as counted_within, front_whole, not_both, over_inside, value_over}
 use Rattle.df_value_text.proofs.ValueAnswers.{Enough, first_bad_value, first_low_value, no_low_name, stops_low}
 use Rattle.df_value_text.proofs.ValueLaws.{value_format}
-use Rattle.df_value_text.proofs.LimitFronts.{viable_before, with_over, over_length, over_parts, within_in_front, over_behind, first_too_large, over_once, over_shorter, longer_parts, bad_longer, inside_of, low_shorter, low_longer}
+use Rattle.df_value_text.proofs.LimitFronts.{viable_before, with_over, over_length, over_parts, within_in_front, over_behind, first_too_large, over_once}
+use Rattle.df_value_text.proofs.LimitFronts.{over_shorter, longer_parts, bad_longer, inside_of, low_shorter, low_longer}
 
 -- ---- a value that is over the limits
 

@@ -1,14 +1,10 @@
 -- Items read one behind the other, as the code reads them.
-use Rattle.std.proofs.Common.{◌≡◌, ℕ, ◌+◌, ◌<◌, Bool, true, cond, List, [], ◌∷◌, ◌++◌, length, get_or, take, drop, length-drop, Ok, Err, refl, sym, ap, ◌∙◌, arith, add-one}
-use Rattle.std.proofs.Math.Seq.{drop-cons}
-use Rattle.df_format.specs.Reading.{Stop, Bad, Low, Read, ◌>>=◌, as_at, more_of, items_at, text_at, with_front}
-use Rattle.df_format.proofs.Laws.{ok_is, err_is, not_both}
-use Rattle.df_format.proofs.ItemSteps.{items_made, onto, regroup}
-use Rattle.std.proofs.lemmas.List.{drop_more, take_more}
-use Rattle.df_value_text.specs.code.Answer.{Fails}
-use Rattle.df_value_text.specs.Number.{begins_with}
-use Rattle.df_value_text.specs.ReadTag.{listed}
-use Rattle.df_value_text.specs.declared.refused.Fault.{Fault}
+use Rattle.df_value_text.proofs.Names.{◌≡◌, ℕ, ◌+◌, ◌<◌, Bool, true, cond, List, [], ◌∷◌, ◌++◌, length, get_or, take, drop, Ok, Err, refl, sym, ap, ◌∙◌}
+use Rattle.df_value_text.proofs.Names.{arith, add-one, drop-cons, Stop, Bad, Low, Read, ◌>>=◌, as_at, more_of, items_at, text_at, with_front, ok_is, err_is}
+use Rattle.df_value_text.proofs.Names.{not_both, onto, regroup, take_more, Fails, begins_with, listed, Fault}
+use Rattle.std.proofs.Common.{length-drop}
+use Rattle.df_format.proofs.ItemSteps.{items_made}
+use Rattle.std.proofs.lemmas.List.{drop_more}
 use Rattle.df_value_text.specs.declared.refused.Fault.TheVariants as fault
 
 -- a fault is one of another reader that stops there too

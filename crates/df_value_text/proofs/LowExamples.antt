@@ -1,12 +1,8 @@
 -- Low names, and names that aren't, worked out by hand.
-use Rattle.std.proofs.Common.{◌≡◌, ℕ, suc, List, [], ◌∷◌, Err, refl, sym, ◌∙◌, arith}
-use Rattle.std.specs.Prelude.{codes}
-use Rattle.df_format.specs.Reading.{Bad, Low}
-use Rattle.df_format.proofs.Laws.{err_is}
-use Rattle.df_frozen.specs.Plain.{items, no_items}
-use Rattle.df_value_text.specs.OrderNames.{in_list, in_map, LowInValue}
+use Rattle.df_value_text.proofs.Names.{◌≡◌, ℕ, suc, List, [], ◌∷◌, Err, refl, sym, ◌∙◌, arith, codes, Bad, Low, err_is, is_longest, items, no_items, in_list}
+use Rattle.df_value_text.proofs.Names.{in_map, LowInValue}
 use Rattle.df_value_text.specs.ReadValue.{value_within}
-use Rattle.df_value_text.proofs.HigherLaws.{name_is_longest}
+use Rattle.df_value_text.proofs.HigherLaws.{name_whole}
 use Rattle.df_value_text.proofs.LowLaws.{low_read}
 
 -- a name that begins the one before it is low, however it might go on
@@ -22,7 +18,7 @@ begins_the_last = (
     other = codes "b";
     may = (items no_items, (refl, tt, (refl, refl, tt, tt)));
     is = refl;
-    low = record { name = codes "a"; more = codes "=2)"; longest = name_is_longest (codes "a=2)") (codes "a") (codes "=2)") refl; low = refl };
+    low = record { name = codes "a"; more = codes "=2)"; longest = is_longest name_whole (codes "a=2)") (codes "a") (codes "=2)") refl; low = refl };
   },
 )
 
@@ -39,7 +35,7 @@ within_others = (
     other = codes "d";
     may = (items no_items, (refl, tt, (refl, refl, tt, tt)));
     is = refl;
-    low = record { name = codes "b"; more = []; longest = name_is_longest (codes "b") (codes "b") [] refl; low = refl };
+    low = record { name = codes "b"; more = []; longest = is_longest name_whole (codes "b") (codes "b") [] refl; low = refl };
   },
 )
 
@@ -66,4 +62,5 @@ behind_the_greatest low =
     let text : List ℕ = codes "(zzzzzzzzzzzzzzzzzzzzzzzzzzzzzzzz=0,a=1)" in
     let l = low_read text (codes "a=1)") low in
     let read : value_within (suc (suc l.0)) text ≡ Err (Bad (codes ",a=1)")) = refl in
-    absurd (let no : Bad (codes ",a=1)") ≡ Low (codes "a=1)") = err_is (Bad (codes ",a=1)")) (Low (codes "a=1)")) (sym read ∙ l.1 (suc (suc l.0)) (omega arith)) in cc)
+    absurd (let no : Bad (codes ",a=1)") ≡ Low (codes "a=1)") = err_is (Bad (codes ",a=1)")) (Low (codes "a=1)"))
+    (sym read ∙ l.1 (suc (suc l.0)) (omega arith)) in cc)

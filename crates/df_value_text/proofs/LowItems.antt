@@ -1,19 +1,9 @@
 -- Items of which the next stops at a low place, and what never stops at one.
-use Rattle.std.proofs.Common.{◌≡◌, ℕ, zero, suc, ◌≤◌, Bool, true, eqb, List, [], ◌∷◌, ◌++◌, length, Ok, Err, refl, sym, ap, ◌∙◌, append_assoc, arith, inl, inr}
-use Rattle.std.specs.List.{flat_map}
-use Rattle.df_format.specs.Reading.{Stop, Bad, Low, Read, ◌>>=◌, as_at, either_at, closed_at, more_of, items_at, text_at}
-use Rattle.df_format.specs.Format.{Format}
-use Rattle.df_format.proofs.Laws.{err_is, not_both, bind_err, told, chosen}
-use Rattle.df_format.proofs.Items.{Follow, Parts}
-use Rattle.df_format.proofs.ItemSteps.{onto, more_step, more_stop}
-use Rattle.df_format.proofs.Texts.{text_found, text_format}
-use Rattle.df_frozen.specs.Plain.{Plain, int, words, bytes}
-use Rattle.df_value_text.specs.ReadBytes.{bytes_at}
-use Rattle.df_value_text.specs.ReadName.{name_at}
-use Rattle.df_value_text.specs.ReadTag.{listed}
-use Rattle.df_value_text.specs.ReadValue.{none_listed, ended_at, given_at, leaf_at}
-use Rattle.df_value_text.specs.ReadWhole.{whole_at}
-use Rattle.df_value_text.specs.ReadWords.{words_at}
+use Rattle.df_value_text.proofs.Names.{◌≡◌, ℕ, zero, suc, ◌≤◌, Bool, true, eqb, List, [], ◌∷◌, ◌++◌, length, Ok, Err, refl, sym, ap, ◌∙◌, append_assoc, arith}
+use Rattle.df_value_text.proofs.Names.{inl, inr, flat_map, Stop, Bad, Low, Read, ◌>>=◌, as_at, either_at, closed_at, more_of, items_at, text_at, Format}
+use Rattle.df_value_text.proofs.Names.{err_is, not_both, bind_err, told, chosen, Follow, Parts, onto, more_step, text_found, text_format, Plain, int, words}
+use Rattle.df_value_text.proofs.Names.{bytes, bytes_at, name_at, listed, none_listed, ended_at, given_at, leaf_at, whole_at, words_at}
+use Rattle.df_format.proofs.ItemSteps.{more_stop}
 use Rattle.df_value_text.proofs.BytesLaws.{bytes_format}
 use Rattle.df_value_text.proofs.EndedLaws.{Chain}
 use Rattle.df_value_text.proofs.NameLaws.{name_format}

@@ -1,31 +1,22 @@
 -- A value is refused at a low name exactly where the path of what is open leads to it.
-use Rattle.std.proofs.Common.{◌≡◌, ℕ, zero, suc, ◌+◌, ◌≤◌, Bool, true, false, eqb, List, [], ◌∷◌, ◌++◌, length, take, drop, Ok, Err, refl, sym, ap, subst, ◌∙◌, append_assoc, arith, inl, inr}
-use Rattle.std.specs.Prelude.{pos, not}
-use Rattle.std.specs.List.{flat_map}
-use Rattle.std.specs.Ordering.{is_lt}
-use Rattle.std.proofs.lemmas.Bool.{eqb-true, and_parts}
-use Rattle.df_format.specs.Reading.{Stop, Bad, Low, Read, ◌>>=◌, either_at, behind_at, items_at}
-use Rattle.df_format.specs.Grammar.{IsLongest}
-use Rattle.df_format.specs.Format.{Format}
-use Rattle.df_format.proofs.Laws.{err_is, not_both, bind_err, told, chosen}
-use Rattle.df_format.proofs.Items.{Follow, Parts}
-use Rattle.df_format.proofs.Texts.{own}
-use Rattle.df_frozen.specs.Name.{is_letter}
-use Rattle.df_frozen.specs.Plain.{Plain, Plains, Pairs, int, items, entries, from_list, from_pairs, items_node_count, entries_node_count}
-use Rattle.df_value_text.specs.Fits.{AreSpelled, AreEntries, AreBehind}
-use Rattle.df_value_text.specs.OrderNames.{NameStandsLow, Open, in_list, in_map, values_led, entries_led, open_text, MayFollow, IsOpen, AreOpen, LowInValue}
-use Rattle.df_value_text.specs.ReadName.{name_bytes, name_at}
-use Rattle.df_value_text.specs.ReadValue.{ended_at, leads_value, list_of, list_at, is_greatest, leads_entry, higher_at, given_at, entry_at, next_entry_at, map_of, map_at, leaf_at, node_at, value_within}
-use Rattle.df_value_text.specs.Value.{entry_text}
+use Rattle.df_value_text.proofs.Names.{◌≡◌, ℕ, zero, suc, ◌+◌, ◌≤◌, Bool, true, false, eqb, List, [], ◌∷◌, ◌++◌, Ok, Err, refl, sym, ap, subst, ◌∙◌}
+use Rattle.df_value_text.proofs.Names.{append_assoc, arith, inl, inr, pos, not, flat_map, eqb-true, and_parts, Stop, Bad, Low, Read, ◌>>=◌, either_at}
+use Rattle.df_value_text.proofs.Names.{behind_at, items_at, Format, err_is, not_both, bind_err, told, chosen, Parts, longest_read, Plain, Plains, Pairs, int}
+use Rattle.df_value_text.proofs.Names.{items, entries, from_list, from_pairs, items_node_count, entries_node_count, AreSpelled, NameStandsLow, in_list}
+use Rattle.df_value_text.proofs.Names.{in_map, LowInValue, name_at, ended_at, leads_value, list_of, list_at, is_greatest, leads_entry, higher_at, given_at}
+use Rattle.df_value_text.proofs.Names.{entry_at, next_entry_at, map_of, map_at, leaf_at, node_at, entry_text}
+use Rattle.df_value_text.specs.OrderNames.{Open, values_led, entries_led, open_text, MayFollow, IsOpen, AreOpen}
+use Rattle.df_value_text.specs.ReadValue.{value_within}
 use Rattle.df_value_text.proofs.EndedLaws.{Chain}
-use Rattle.df_value_text.proofs.EntryLaws.{IsLowName, NearEntry, entry_format, entries_parts, name_apart}
-use Rattle.df_value_text.proofs.HigherLaws.{AfterName, higher_format, above_of, above_fits, not_greatest, name_is_longest}
+use Rattle.df_value_text.proofs.EntryLaws.{IsLowName, NearEntry, entry_goes, entry_format, entries_parts, name_apart}
+use Rattle.df_value_text.proofs.HigherLaws.{AfterName, name_whole, higher_format, greatest, above_fits, not_greatest}
 use Rattle.df_value_text.proofs.NameLaws.{IsName, name_format}
-use Rattle.df_value_text.proofs.NestLaws.{ItemsNest, EntriesNest, LevelFits, LevelEntry, LevelAfter, nests_more, nests_all, items_to, entries_to}
-use Rattle.df_value_text.proofs.OrderLaws.{same_split}
+use Rattle.df_value_text.proofs.NestLaws.{ItemsNest, EntriesNest, LevelEntry, LevelAfter, nests_more, nests_all, items_to, entries_to, list_chain}
+use Rattle.df_value_text.proofs.NestLaws.{entries_chain}
 use Rattle.df_value_text.proofs.TagLaws.{nowhere}
-use Rattle.df_value_text.proofs.ValueLaws.{value_apart, value_goes, items_parts, value_format}
-use Rattle.df_value_text.proofs.LowItems.{NextStops, StopsAt, LastOf, as_stops, name_no_low, leaf_no_low, ended_low, given_low, items_stop, last_of, items_stopped, follow_stops, last_stops, chain_front}
+use Rattle.df_value_text.proofs.ValueLaws.{items_parts, value_format}
+use Rattle.df_value_text.proofs.LowItems.{NextStops, StopsAt, LastOf, as_stops, name_no_low, leaf_no_low, ended_low, given_low, items_stop, last_of}
+use Rattle.df_value_text.proofs.LowItems.{items_stopped, follow_stops, last_stops, chain_front}
 
 -- ---- where reading stops at a low name, the path leads to it
 
@@ -40,41 +31,51 @@ low_deeper o is text inner rest e l = (
     last = l.2.last;
     other = l.2.other;
     may = l.2.may;
-    is = ap (λ (u : List ℕ). open_text o ++ u) l.2.is ∙ sym (append_assoc (open_text o) (flat_map open_text l.2.opened) (40 ∷ entries_led (l.2.es ++ l.2.last ∷ [])));
+    is = ap (λ (u : List ℕ). open_text o ++ u) l.2.is ∙ sym (append_assoc (open_text o) (flat_map open_text l.2.opened)
+        (40 ∷ entries_led (l.2.es ++ l.2.last ∷ [])));
     low = l.2.low;
   },
 )
 
-entry_parts : (n : ℕ) → Parts NearEntry leads_entry 44 entry_text (LevelEntry n) (LevelAfter n) (λ e. value_goes e.1) (λ prev. next_entry_at (value_within n) prev.0)
-entry_parts n = entries_parts (LevelFits n) value_goes (value_within n) (value_format n) (int (pos 0)) ((omega arith), tt) (λ p c h fits. value_apart p c (elim h [ inl k ↦ inl k | inr k ↦ inr (inr k) ]))
+abbrev entry_parts : (n : ℕ) → Parts NearEntry leads_entry 44 entry_text (LevelEntry n) (LevelAfter n) entry_goes
+    (λ prev. next_entry_at (value_within n) prev.0)
+entry_parts n = entries_parts n (value_within n) (value_format n)
 
-one_entry : (n : ℕ) → Format IsLowName entry_text (LevelEntry n) (λ e. value_goes e.1) (entry_at (value_within n))
-one_entry n = entry_format (LevelFits n) value_goes (value_within n) (value_format n) (int (pos 0)) ((omega arith), tt) (λ p c h fits. value_apart p c (elim h [ inl k ↦ inl k | inr k ↦ inr (inr k) ]))
+abbrev one_entry : (n : ℕ) → Format IsLowName entry_text (LevelEntry n) entry_goes (entry_at (value_within n))
+one_entry n = entry_format n (value_within n) (value_format n)
 
 -- behind these values the next one stops
-values_stop : (inner : List ℕ → Read ℕ Plain) (p : Plain) (ps : List Plain) (more : List ℕ) (stop : Stop ℕ) → NextStops leads_value (λ prev. inner) p ps more stop → inner more ≡ Err stop
+values_stop : (inner : List ℕ → Read ℕ Plain) (p : Plain) (ps : List Plain) (more : List ℕ) (stop : Stop ℕ)
+    → NextStops leads_value (λ prev. inner) p ps more stop → inner more ≡ Err stop
 values_stop inner p [] more stop s = s.1
 values_stop inner p (q ∷ ps) more stop s = values_stop inner q ps more stop s
 
-name_parts : (cs before more name behind value : List ℕ) → cs ≡ before ++ more → more ≡ name ++ behind → behind ≡ 61 ∷ value → cs ≡ (before ++ (name ++ 61 ∷ [])) ++ value
+name_parts : (cs before more name behind value : List ℕ) → cs ≡ before ++ more → more ≡ name ++ behind → behind ≡ 61 ∷ value
+    → cs ≡ (before ++ (name ++ 61 ∷ [])) ++ value
 name_parts cs before more name behind value e f g =
-    e ∙ ap (λ (u : List ℕ). before ++ u) (f ∙ ap (λ (u : List ℕ). name ++ u) g ∙ sym (append_assoc name (61 ∷ []) value)) ∙ sym (append_assoc before (name ++ 61 ∷ []) value)
+    e ∙ ap (λ (u : List ℕ). before ++ u) (f ∙ ap (λ (u : List ℕ). name ++ u) g ∙ sym (append_assoc name (61 ∷ []) value))
+    ∙ sym (append_assoc before (name ++ 61 ∷ []) value)
 
 module _ (n : ℕ) (deeper : (text rest : List ℕ) → value_within n text ≡ Err (Low rest) → LowInValue text rest) where
   list_low : (cs rest : List ℕ) → list_at (value_within n) cs ≡ Err (Low rest) → LowInValue (91 ∷ cs) rest
   list_low cs rest e =
-      let inside = ended_low 93 (items_at leads_value (value_within n) (λ prev. value_within n)) cs rest (as_stops list_of (ended_at 93 (items_at leads_value (value_within n) (λ prev. value_within n))) cs (Low rest) e) in
+      let inside = ended_low 93 (items_at leads_value (value_within n) (λ prev. value_within n)) cs rest
+      (as_stops list_of (ended_at 93 (items_at leads_value (value_within n) (λ prev. value_within n))) cs (Low rest) e) in
       let s = items_stop (items_parts n (value_within n) (value_format n)) IsLowName (value_within n) (value_format n) cs (Low rest) inside in
-      low_deeper (in_list s.xs) (items_to n s.xs s.chain).0 (91 ∷ cs) s.inner rest (ap (λ (u : List ℕ). 91 ∷ u) s.parts) (deeper s.inner rest (stopped s.xs s.inner s.stops))
+      low_deeper (in_list s.xs) (items_to n s.xs s.chain).0 (91 ∷ cs) s.inner rest (ap (λ (u : List ℕ). 91 ∷ u) s.parts)
+      (deeper s.inner rest (stopped s.xs s.inner s.stops))
     where
-      stopped : (ps : List Plain) (more : List ℕ) → StopsAt leads_value (value_within n) (λ prev. value_within n) ps more (Low rest) → value_within n more ≡ Err (Low rest)
+      stopped : (ps : List Plain) (more : List ℕ) → StopsAt leads_value (value_within n) (λ prev. value_within n) ps more (Low rest)
+          → value_within n more ≡ Err (Low rest)
       stopped [] more s = s
       stopped (p ∷ ps) more s = values_stop (value_within n) p ps more (Low rest) s
 
-  value_low : (es : List (List ℕ × Plain)) (name behind more cs rest : List ℕ) → MayFollow es name → cs ≡ entries_led es ++ more → more ≡ name ++ behind → given_at (value_within n) behind ≡ Err (Low rest) → LowInValue (40 ∷ cs) rest
+  value_low : (es : List (List ℕ × Plain)) (name behind more cs rest : List ℕ) → MayFollow es name → cs ≡ entries_led es ++ more → more ≡ name ++ behind
+      → given_at (value_within n) behind ≡ Err (Low rest) → LowInValue (40 ∷ cs) rest
   value_low es name behind more cs rest may parts is e =
       let g = given_low (value_within n) behind rest e in
-      low_deeper (in_map es name) may (40 ∷ cs) g.more rest (ap (λ (u : List ℕ). 40 ∷ u) (name_parts cs (entries_led es) more name behind g.more parts is g.is)) (deeper g.more rest g.low)
+      low_deeper (in_map es name) may (40 ∷ cs) g.more rest (ap (λ (u : List ℕ). 40 ∷ u)
+      (name_parts cs (entries_led es) more name behind g.more parts is g.is)) (deeper g.more rest g.low)
 
   entry_low : (more cs rest : List ℕ) → cs ≡ more → entry_at (value_within n) more ≡ Err (Low rest) → LowInValue (40 ∷ cs) rest
   entry_low more cs rest parts e =
@@ -88,7 +89,8 @@ module _ (n : ℕ) (deeper : (text rest : List ℕ) → value_within n text ≡ 
         ]
       ]
 
-  next_low : (e : List ℕ × Plain) (es : List (List ℕ × Plain)) (more cs rest : List ℕ) → cs ≡ entries_led (e ∷ es) ++ more → LevelEntry n e → LastOf leads_entry (LevelEntry n) (LevelAfter n) (λ prev. next_entry_at (value_within n) prev.0) e es more (Low rest) → LowInValue (40 ∷ cs) rest
+  next_low : (e : List ℕ × Plain) (es : List (List ℕ × Plain)) (more cs rest : List ℕ) → cs ≡ entries_led (e ∷ es) ++ more → LevelEntry n e
+      → LastOf leads_entry (LevelEntry n) (LevelAfter n) (λ prev. next_entry_at (value_within n) prev.0) e es more (Low rest) → LowInValue (40 ∷ cs) rest
   next_low e es more cs rest parts fits l =
       elim (bind_err (higher_at l.last.0 more) (λ x. given_at (value_within n) x.1 >>= λ y. Ok ((x.0, y.0), y.1)) (Low rest) l.stops.1) [
         | inl h ↦
@@ -102,8 +104,8 @@ module _ (n : ℕ) (deeper : (text rest : List ℕ) → value_within n text ≡ 
                 are = tt;
                 es = l.before;
                 last = l.last;
-                other = above_of l.last.0;
-                may = subst (λ (u : List (List ℕ × Plain)). MayFollow u (above_of l.last.0)) l.is (may (above_of l.last.0) (above_fits l.last.0 l.fits.0 room));
+                other = greatest;
+                may = subst (λ (u : List (List ℕ × Plain)). MayFollow u greatest) l.is (may greatest (above_fits l.last.0 l.fits.0 room));
                 is = ap (λ (u : List (List ℕ × Plain)). 40 ∷ entries_led u) l.is;
                 low = s.cause.1;
               },
@@ -125,26 +127,31 @@ module _ (n : ℕ) (deeper : (text rest : List ℕ) → value_within n text ≡ 
 
   map_low : (cs rest : List ℕ) → map_at (value_within n) cs ≡ Err (Low rest) → LowInValue (40 ∷ cs) rest
   map_low cs rest e =
-      let inside = ended_low 41 (items_at leads_entry (entry_at (value_within n)) (λ prev. next_entry_at (value_within n) prev.0)) cs rest (as_stops map_of (ended_at 41 (items_at leads_entry (entry_at (value_within n)) (λ prev. next_entry_at (value_within n) prev.0))) cs (Low rest) e) in
+      let inside = ended_low 41 (items_at leads_entry (entry_at (value_within n)) (λ prev. next_entry_at (value_within n) prev.0)) cs rest
+      (as_stops map_of (ended_at 41 (items_at leads_entry (entry_at (value_within n)) (λ prev. next_entry_at (value_within n) prev.0))) cs (Low rest) e) in
       let s = items_stop (entry_parts n) IsLowName (entry_at (value_within n)) (one_entry n) cs (Low rest) inside in
       by s.xs s.inner s.parts s.chain s.stops
     where
-      by : (es : List (List ℕ × Plain)) (more : List ℕ) → cs ≡ entries_led es ++ more → Chain (LevelEntry n) (LevelAfter n) es → StopsAt leads_entry (entry_at (value_within n)) (λ prev. next_entry_at (value_within n) prev.0) es more (Low rest) → LowInValue (40 ∷ cs) rest
+      by : (es : List (List ℕ × Plain)) (more : List ℕ) → cs ≡ entries_led es ++ more → Chain (LevelEntry n) (LevelAfter n) es
+          → StopsAt leads_entry (entry_at (value_within n)) (λ prev. next_entry_at (value_within n) prev.0) es more (Low rest) → LowInValue (40 ∷ cs) rest
       by [] more parts chain s = entry_low more cs rest parts s
       by (e ∷ es) more parts chain s = next_low e es more cs rest parts chain.0 (last_of (entry_parts n) e es more (Low rest) chain.0 chain.1 s)
 
   node_low : (text rest : List ℕ) → node_at (value_within n) text ≡ Err (Low rest) → LowInValue text rest
   node_low [] rest e = absurd (let no : Bad [] ≡ Low rest = err_is (Bad []) (Low rest) e in cc)
   node_low (c ∷ cs) rest e =
-      elim (chosen (eqb c 91) (behind_at (91 ∷ []) (list_at (value_within n)) (c ∷ cs)) (either_at (λ c. eqb c 40) (behind_at (40 ∷ []) (map_at (value_within n))) leaf_at (c ∷ cs)) (Err (Low rest)) e) [
+      elim (chosen (eqb c 91) (behind_at (91 ∷ []) (list_at (value_within n)) (c ∷ cs))
+      (either_at (λ c. eqb c 40) (behind_at (40 ∷ []) (map_at (value_within n))) leaf_at (c ∷ cs)) (Err (Low rest)) e) [
         | inl h ↦
             let same : c ≡ 91 = eqb-true c 91 h.0 in
-            let inside : list_at (value_within n) cs ≡ Err (Low rest) = ap (λ (b : ℕ). behind_at (91 ∷ []) (list_at (value_within n)) (b ∷ cs)) (sym same) ∙ h.1 in
+            let inside : list_at (value_within n) cs ≡ Err (Low rest) = ap (λ (b : ℕ). behind_at (91 ∷ []) (list_at (value_within n)) (b ∷ cs)) (sym same)
+            ∙ h.1 in
             subst (λ (b : ℕ). LowInValue (b ∷ cs) rest) (sym same) (list_low cs rest inside)
         | inr h ↦ elim (chosen (eqb c 40) (behind_at (40 ∷ []) (map_at (value_within n)) (c ∷ cs)) (leaf_at (c ∷ cs)) (Err (Low rest)) h.1) [
           | inl k ↦
               let same : c ≡ 40 = eqb-true c 40 k.0 in
-              let inside : map_at (value_within n) cs ≡ Err (Low rest) = ap (λ (b : ℕ). behind_at (40 ∷ []) (map_at (value_within n)) (b ∷ cs)) (sym same) ∙ k.1 in
+              let inside : map_at (value_within n) cs ≡ Err (Low rest) = ap (λ (b : ℕ). behind_at (40 ∷ []) (map_at (value_within n)) (b ∷ cs)) (sym same)
+              ∙ k.1 in
               subst (λ (b : ℕ). LowInValue (b ∷ cs) rest) (sym same) (map_low cs rest inside)
           | inr k ↦ absurd (leaf_no_low (c ∷ cs) rest k.1)
         ]
@@ -156,22 +163,6 @@ low_found zero text rest e = absurd (leaf_no_low text rest e)
 low_found (suc n) text rest e = node_low n (low_found n) text rest e
 
 -- ---- where the path leads to a low name, reading stops there
-
-list_follow : (n : ℕ) (prev : Plain) (ps : List Plain) → AreSpelled (from_list ps) → ItemsNest (from_list ps) n → Follow (λ prev. LevelFits n) prev ps
-list_follow n prev [] h k = tt
-list_follow n prev (p ∷ ps) h k = ((h.0, k.0), list_follow n p ps h.1 k.1)
-
-list_chain : (n : ℕ) (ps : List Plain) → AreSpelled (from_list ps) → ItemsNest (from_list ps) n → Chain (LevelFits n) (λ prev. LevelFits n) ps
-list_chain n [] h k = tt
-list_chain n (p ∷ ps) h k = ((h.0, k.0), list_follow n p ps h.1 k.1)
-
-behind_follow : (n : ℕ) (prev : List ℕ × Plain) (es : List (List ℕ × Plain)) → AreBehind prev.0 (from_pairs es) → EntriesNest (from_pairs es) n → Follow (LevelAfter n) prev es
-behind_follow n prev [] h k = tt
-behind_follow n prev (e ∷ es) h k = (((h.0, ap is_lt h.1), (h.2, k.0)), behind_follow n e es h.3 k.1)
-
-entries_chain : (n : ℕ) (es : List (List ℕ × Plain)) → AreEntries (from_pairs es) → EntriesNest (from_pairs es) n → Chain (LevelEntry n) (LevelAfter n) es
-entries_chain n [] h k = tt
-entries_chain n (e ∷ es) h k = ((h.0, (h.1, k.0)), behind_follow n e es h.2 k.1)
 
 -- from some number of levels on, reading stops at a low name here
 abbrev pub Eventually : List ℕ → List ℕ → Type 0
@@ -195,7 +186,8 @@ unfolding value_within
 within_bracket zero cs = refl
 within_bracket (suc n) cs = refl
 
-ended_stops : {X : Type 0} (last : ℕ) (some : List ℕ → Read ℕ (X × List X)) (text rest : List ℕ) → some [] ≡ Err (Bad []) → ((cs : List ℕ) → some (last ∷ cs) ≡ Err (Bad (last ∷ cs))) → some text ≡ Err (Low rest) → ended_at last some text ≡ Err (Low rest)
+ended_stops : {X : Type 0} (last : ℕ) (some : List ℕ → Read ℕ (X × List X)) (text rest : List ℕ) → some [] ≡ Err (Bad [])
+    → ((cs : List ℕ) → some (last ∷ cs) ≡ Err (Bad (last ∷ cs))) → some text ≡ Err (Low rest) → ended_at last some text ≡ Err (Low rest)
 ended_stops last some [] rest none bad e = absurd (let no : Bad [] ≡ Low rest = err_is (Bad []) (Low rest) (sym none ∙ e) in cc)
 ended_stops last some (c ∷ cs) rest none bad e =
     elim (told (eqb c last)) [
@@ -206,44 +198,30 @@ ended_stops last some (c ∷ cs) rest none bad e =
       | inr h ↦ rw (h, e) refl
     ]
 
--- a name that stands somewhere is read to its longest
-name_ok : (name more : List ℕ) (r : Read ℕ (List ℕ)) → IsName name → name_at (name ++ more) ≡ r → (x : List ℕ × List ℕ) × (r ≡ Ok x)
-name_ok name more (Ok x) fits e = (x, refl)
-name_ok [] more (Err s) fits e = absurd (let no : false ≡ true = fits in cc)
-name_ok (c ∷ cs) more (Err s) fits e =
-    let letter : is_letter c ≡ true = grind (arith, fits) in
-    elim (chosen (is_letter c) (Ok (c ∷ take (name_bytes 31 (cs ++ more)) (cs ++ more), drop (name_bytes 31 (cs ++ more)) (cs ++ more))) (Err (Bad (c ∷ (cs ++ more)))) (Err s) e) [
-      | inl h ↦ not_both (c ∷ take (name_bytes 31 (cs ++ more)) (cs ++ more), drop (name_bytes 31 (cs ++ more)) (cs ++ more)) s h.1
-      | inr h ↦ absurd (let both : true ≡ false = sym letter ∙ h.0 in cc)
-    ]
-
-name_reads : (rest name more : List ℕ) → IsLongest own IsName rest name more → name_at rest ≡ Ok (name, more)
-name_reads rest name more l =
-    let r = name_ok name more (name_at (name ++ more)) l.fits refl in
-    let read : name_at rest ≡ Ok r.0 = ap name_at l.parts ∙ r.1 in
-    let k = name_is_longest rest r.0.0 r.0.1 read in
-    let equal : length r.0.1 ≡ length more = omega (arith, k.longest name more l.fits l.parts, l.longest r.0.0 r.0.1 k.fits k.parts) in
-    let parts = same_split r.0.0 name r.0.1 more (sym k.parts ∙ l.parts) equal in
-    read ∙ ap (λ (u : List ℕ). Ok (u, r.0.1)) parts.0 ∙ ap (λ (u : List ℕ). Ok (name, u)) parts.1
-
 -- behind a comma an entry of a name above stops where its value does, and a low name at once
 leads_on : (last : List ℕ × Plain) (name inner : List ℕ) → AfterName last.0 name → leads_entry last 44 inner ≡ true
 leads_on last name inner after = rw (not_greatest last.0 name after) refl
 
-entry_stops : (read : List ℕ → Read ℕ Plain) (name text : List ℕ) (stop : Stop ℕ) → IsName name → read text ≡ Err stop → entry_at read (name ++ (61 ∷ text)) ≡ Err stop
+entry_stops : (read : List ℕ → Read ℕ Plain) (name text : List ℕ) (stop : Stop ℕ) → IsName name → read text ≡ Err stop
+    → entry_at read (name ++ (61 ∷ text)) ≡ Err stop
 entry_stops read name text stop fits e = rw ((name_format nowhere).again name (61 ∷ text) fits (name_apart name), e) refl
 
-next_stops : (read : List ℕ → Read ℕ Plain) (prev name text : List ℕ) (stop : Stop ℕ) → AfterName prev name → read text ≡ Err stop → next_entry_at read prev (name ++ (61 ∷ text)) ≡ Err stop
+next_stops : (read : List ℕ → Read ℕ Plain) (prev name text : List ℕ) (stop : Stop ℕ) → AfterName prev name → read text ≡ Err stop
+    → next_entry_at read prev (name ++ (61 ∷ text)) ≡ Err stop
 next_stops read prev name text stop after e = rw ((higher_format prev).again name (61 ∷ text) after (name_apart name), e) refl
 
 low_stops : (read : List ℕ → Read ℕ Plain) (prev rest : List ℕ) → NameStandsLow prev rest → next_entry_at read prev rest ≡ Err (Low rest)
-low_stops read prev rest s = rw (name_reads rest s.name s.more s.longest, s.low) refl
+low_stops read prev rest s = rw (longest_read name_whole rest s.name s.more s.longest, s.low) refl
 
 module _ (n : ℕ) where
-  list_stops : (ps : List Plain) (text rest : List ℕ) → AreSpelled (from_list ps) → ItemsNest (from_list ps) n → value_within n text ≡ Err (Low rest) → value_within (suc n) (open_text (in_list ps) ++ text) ≡ Err (Low rest)
+  list_stops : (ps : List Plain) (text rest : List ℕ) → AreSpelled (from_list ps) → ItemsNest (from_list ps) n → value_within n text ≡ Err (Low rest)
+      → value_within (suc n) (open_text (in_list ps) ++ text) ≡ Err (Low rest)
   list_stops ps text rest fits nest e =
-      let inside : items_at leads_value (value_within n) (λ prev. value_within n) (values_led ps ++ text) ≡ Err (Low rest) = items_stopped (items_parts n (value_within n) (value_format n)) IsLowName (value_within n) (value_format n) ps text (Low rest) (list_chain n ps fits nest) (stops ps) in
-      let ended = ended_stops 93 (items_at leads_value (value_within n) (λ prev. value_within n)) (values_led ps ++ text) rest (rw (within_nothing n) refl) (λ cs. rw (within_bracket n cs) refl) inside in
+      let inside : items_at leads_value (value_within n) (λ prev. value_within n) (values_led ps ++ text) ≡ Err (Low rest) = items_stopped
+      (items_parts n (value_within n) (value_format n)) IsLowName (value_within n) (value_format n) ps text (Low rest) (list_chain n ps fits nest)
+      (stops ps) in
+      let ended = ended_stops 93 (items_at leads_value (value_within n) (λ prev. value_within n)) (values_led ps ++ text) rest (rw (within_nothing n) refl)
+      (λ cs. rw (within_bracket n cs) refl) inside in
       within_list n (values_led ps ++ text) (Low rest) (rw ended refl)
     where
       stops_next : (p : Plain) (ps : List Plain) → NextStops leads_value (λ prev. value_within n) p ps text (Low rest)
@@ -254,20 +232,28 @@ module _ (n : ℕ) where
       stops [] = e
       stops (p ∷ ps) = stops_next p ps
 
-  map_stops : (es : List (List ℕ × Plain)) (text rest : List ℕ) → Chain (LevelEntry n) (LevelAfter n) es → StopsAt leads_entry (entry_at (value_within n)) (λ prev. next_entry_at (value_within n) prev.0) es text (Low rest) → value_within (suc n) (40 ∷ (entries_led es ++ text)) ≡ Err (Low rest)
+  map_stops : (es : List (List ℕ × Plain)) (text rest : List ℕ) → Chain (LevelEntry n) (LevelAfter n) es
+      → StopsAt leads_entry (entry_at (value_within n)) (λ prev. next_entry_at (value_within n) prev.0) es text (Low rest)
+      → value_within (suc n) (40 ∷ (entries_led es ++ text)) ≡ Err (Low rest)
   map_stops es text rest chain s =
-      let some : List ℕ → Read ℕ ((List ℕ × Plain) × List (List ℕ × Plain)) = items_at leads_entry (entry_at (value_within n)) (λ prev. next_entry_at (value_within n) prev.0) in
-      let inside : some (entries_led es ++ text) ≡ Err (Low rest) = items_stopped (entry_parts n) IsLowName (entry_at (value_within n)) (one_entry n) es text (Low rest) chain s in
+      let some : List ℕ → Read ℕ ((List ℕ × Plain) × List (List ℕ × Plain)) = items_at leads_entry (entry_at (value_within n))
+      (λ prev. next_entry_at (value_within n) prev.0) in
+      let inside : some (entries_led es ++ text) ≡ Err (Low rest) = items_stopped (entry_parts n) IsLowName (entry_at (value_within n)) (one_entry n) es text
+      (Low rest) chain s in
       let ended = ended_stops 41 some (entries_led es ++ text) rest refl (λ cs. refl) inside in
       within_map n (entries_led es ++ text) (Low rest) (rw ended refl)
 
-  name_stops : (es : List (List ℕ × Plain)) (name : List ℕ) (value : Plain) (text rest : List ℕ) → Chain (LevelEntry n) (LevelAfter n) (es ++ (name, value) ∷ []) → value_within n text ≡ Err (Low rest) → StopsAt leads_entry (entry_at (value_within n)) (λ prev. next_entry_at (value_within n) prev.0) es (name ++ (61 ∷ text)) (Low rest)
+  name_stops : (es : List (List ℕ × Plain)) (name : List ℕ) (value : Plain) (text rest : List ℕ)
+      → Chain (LevelEntry n) (LevelAfter n) (es ++ (name, value) ∷ []) → value_within n text ≡ Err (Low rest)
+      → StopsAt leads_entry (entry_at (value_within n)) (λ prev. next_entry_at (value_within n) prev.0) es (name ++ (61 ∷ text)) (Low rest)
   name_stops [] name value text rest chain e = entry_stops (value_within n) name text (Low rest) chain.0.0 e
   name_stops (d ∷ es) name value text rest chain e =
       follow_stops (entry_parts n) d es (name, value) (name ++ (61 ∷ text)) (Low rest) chain.0 chain.1
       (λ last fits after. (leads_on last name (name ++ (61 ∷ text)) after.0, next_stops (value_within n) last.0 name text (Low rest) after.0 e))
 
-  low_name_stops : (es : List (List ℕ × Plain)) (last : List ℕ × Plain) (other : List ℕ) (value : Plain) (rest : List ℕ) → Chain (LevelEntry n) (LevelAfter n) ((es ++ last ∷ []) ++ (other, value) ∷ []) → NameStandsLow last.0 rest → StopsAt leads_entry (entry_at (value_within n)) (λ prev. next_entry_at (value_within n) prev.0) (es ++ last ∷ []) rest (Low rest)
+  low_name_stops : (es : List (List ℕ × Plain)) (last : List ℕ × Plain) (other : List ℕ) (value : Plain) (rest : List ℕ)
+      → Chain (LevelEntry n) (LevelAfter n) ((es ++ last ∷ []) ++ (other, value) ∷ []) → NameStandsLow last.0 rest
+      → StopsAt leads_entry (entry_at (value_within n)) (λ prev. next_entry_at (value_within n) prev.0) (es ++ last ∷ []) rest (Low rest)
   low_name_stops [] last other value rest chain low = (leads_on last other rest chain.1.0.0, low_stops (value_within n) last.0 rest low)
   low_name_stops (d ∷ es) last other value rest chain low =
       last_stops (entry_parts n) d es last (other, value) rest (Low rest) chain.1
@@ -295,15 +281,19 @@ open_stops (in_map es name) may text rest h = (suc (h.0 + entries_node_count all
     stops zero le = absurd (omega (arith, le))
     stops (suc n) le =
         let chain = entries_chain n (es ++ (name, may.0) ∷ []) may.1 (entries_level all n (omega (arith, le))) in
-        let low = map_stops n es (name ++ (61 ∷ text)) rest (chain_front (entry_parts n) es ((name, may.0) ∷ []) chain) (name_stops n es name may.0 text rest chain (h.1 n (omega (arith, le)))) in
-        ap (λ (u : List ℕ). value_within (suc n) (40 ∷ u)) (append_assoc (entries_led es) (name ++ 61 ∷ []) text ∙ ap (λ (u : List ℕ). entries_led es ++ u) (append_assoc name (61 ∷ []) text)) ∙ low
+        let low = map_stops n es (name ++ (61 ∷ text)) rest (chain_front (entry_parts n) es ((name, may.0) ∷ []) chain)
+        (name_stops n es name may.0 text rest chain (h.1 n (omega (arith, le)))) in
+        ap (λ (u : List ℕ). value_within (suc n) (40 ∷ u)) (append_assoc (entries_led es) (name ++ 61 ∷ []) text
+        ∙ ap (λ (u : List ℕ). entries_led es ++ u) (append_assoc name (61 ∷ []) text)) ∙ low
 
 all_stop : (os : List Open) → AreOpen os → (text rest : List ℕ) → Eventually text rest → Eventually (flat_map open_text os ++ text) rest
 all_stop [] are text rest h = h
 all_stop (o ∷ os) are text rest h =
-    subst (λ (u : List ℕ). Eventually u rest) (sym (append_assoc (open_text o) (flat_map open_text os) text)) (open_stops o are.0 (flat_map open_text os ++ text) rest (all_stop os are.1 text rest h))
+    subst (λ (u : List ℕ). Eventually u rest) (sym (append_assoc (open_text o) (flat_map open_text os) text))
+    (open_stops o are.0 (flat_map open_text os ++ text) rest (all_stop os are.1 text rest h))
 
-innermost_stops : (es : List (List ℕ × Plain)) (last : List ℕ × Plain) (other rest : List ℕ) → MayFollow (es ++ last ∷ []) other → NameStandsLow last.0 rest → Eventually ((40 ∷ entries_led (es ++ last ∷ [])) ++ rest) rest
+innermost_stops : (es : List (List ℕ × Plain)) (last : List ℕ × Plain) (other rest : List ℕ) → MayFollow (es ++ last ∷ []) other → NameStandsLow last.0 rest
+    → Eventually ((40 ∷ entries_led (es ++ last ∷ [])) ++ rest) rest
 innermost_stops es last other rest may low = (suc (entries_node_count all), stops)
   where
     all : Pairs
@@ -313,11 +303,13 @@ innermost_stops es last other rest may low = (suc (entries_node_count all), stop
     stops zero le = absurd (omega (arith, le))
     stops (suc n) le =
         let chain = entries_chain n ((es ++ last ∷ []) ++ (other, may.0) ∷ []) may.1 (entries_level all n (omega (arith, le))) in
-        map_stops n (es ++ last ∷ []) rest rest (chain_front (entry_parts n) (es ++ last ∷ []) ((other, may.0) ∷ []) chain) (low_name_stops n es last other may.0 rest chain low)
+        map_stops n (es ++ last ∷ []) rest rest (chain_front (entry_parts n) (es ++ last ∷ []) ((other, may.0) ∷ []) chain)
+        (low_name_stops n es last other may.0 rest chain low)
 
 pub low_read : (text rest : List ℕ) → LowInValue text rest → Eventually text rest
 low_read text rest l =
     let w = l.2 in
     let inner : List ℕ = 40 ∷ entries_led (w.es ++ w.last ∷ []) in
-    let parts : text ≡ flat_map open_text w.opened ++ (inner ++ rest) = l.1 ∙ ap (λ (u : List ℕ). u ++ rest) w.is ∙ append_assoc (flat_map open_text w.opened) inner rest in
+    let parts : text ≡ flat_map open_text w.opened ++ (inner ++ rest) = l.1 ∙ ap (λ (u : List ℕ). u ++ rest) w.is
+    ∙ append_assoc (flat_map open_text w.opened) inner rest in
     subst (λ (u : List ℕ). Eventually u rest) (sym parts) (all_stop w.opened w.are (inner ++ rest) rest (innermost_stops w.es w.last w.other rest w.may w.low))

@@ -1,19 +1,11 @@
 -- A name is read as it is spelled.
-use Rattle.std.proofs.Common.{◌≡◌, ℕ, zero, suc, ◌<◌, ◌≤◌, Bool, true, false, cond, ◌&&◌, List, [], ◌∷◌, ◌++◌, length, take, drop, Ok, Err, refl, sym, ap, subst, ◌∙◌, arith, ◌⊎◌, inl, inr, length-append, take-append-drop}
-use Rattle.std.specs.Prelude.{nat_lt}
-use Rattle.std.specs.List.{list_all}
-use Rattle.std.proofs.lemmas.Bool.Decides.{nat_tests}
-use Rattle.std.proofs.lemmas.List.{append-nil}
+use Rattle.df_value_text.proofs.Names.{◌≡◌, ℕ, zero, suc, ◌<◌, ◌≤◌, Bool, true, false, cond, ◌&&◌, List, [], ◌∷◌, ◌++◌, length, take, drop, Ok, refl, sym, ap}
+use Rattle.df_value_text.proofs.Names.{◌∙◌, arith, ◌⊎◌, inl, inr, length-append, nat_lt, list_all, nat_tests, append-nil, is_letter, is_name_byte, is_name}
+use Rattle.df_value_text.proofs.Names.{CanGoOn, Ends, Found, Format, any_low, first_at, first_format, own, name_bytes, name_at}
+use Rattle.std.proofs.Common.{take-append-drop}
 use Rattle.std.proofs.lemmas.List.Folds.{list_all-append}
 use Rattle.std.proofs.Math.Seq.{take-append_seam, drop-append_seam}
 use Rattle.df_frozen.specs.Limits.{longest_name}
-use Rattle.df_frozen.specs.Name.{is_letter, is_name_byte, is_name}
-use Rattle.df_format.specs.Reading.{Stop, Bad, Low}
-use Rattle.df_format.specs.Grammar.{CanGoOn}
-use Rattle.df_format.specs.Format.{Ends, Found, Stuck, Format}
-use Rattle.df_format.proofs.Laws.{ok_is, err_is, not_both, chosen}
-use Rattle.df_format.proofs.Texts.{own}
-use Rattle.df_value_text.specs.ReadName.{name_bytes, name_at}
 
 abbrev pub IsName : List ℕ → Type 0
 IsName name = is_name name ≡ true
@@ -45,7 +37,8 @@ counted (suc most) (c ∷ cs) = by (is_name_byte c) (counted most cs) refl
         }
 
 -- bytes of a name in front are counted up to one that isn't, or to the limit
-counts : (most : ℕ) (ds rest : List ℕ) → length ds ≤ most → list_all is_name_byte ds ≡ true → ((c : ℕ) (tail : List ℕ) → rest ≡ c ∷ tail → (length ds ≡ most) ⊎ (is_name_byte c ≡ false)) → name_bytes most (ds ++ rest) ≡ length ds
+counts : (most : ℕ) (ds rest : List ℕ) → length ds ≤ most → list_all is_name_byte ds ≡ true
+    → ((c : ℕ) (tail : List ℕ) → rest ≡ c ∷ tail → (length ds ≡ most) ⊎ (is_name_byte c ≡ false)) → name_bytes most (ds ++ rest) ≡ length ds
 counts most [] [] le fits ends = refl
 counts zero [] (c ∷ rest) le fits ends = refl
 counts (suc most) [] (c ∷ rest) le fits ends =
@@ -56,31 +49,33 @@ counts (suc most) (d ∷ ds) rest le fits ends =
     let more : list_all is_name_byte ds ≡ true = grind (arith, fits) in
     rw here (ap suc (counts most ds rest (omega (arith, le)) more (λ c tail e. elim (ends c tail e) [ inl k ↦ inl (omega (arith, k)) | inr k ↦ inr k ])))
 
-name_found : (bytes x rest : List ℕ) → name_at bytes ≡ Ok (x, rest) → Found own IsName name_goes bytes x rest
-name_found [] x rest e = absurd cc
-name_found (c ∷ cs) x rest e =
-    elim (chosen (is_letter c) (Ok (c ∷ take (name_bytes 31 cs) cs, drop (name_bytes 31 cs) cs)) (Err (Bad (c ∷ cs))) (Ok (x, rest)) e) [
-      | inl h ↦
-          let k = name_bytes 31 cs in
-          let r = counted 31 cs in
-          subst (λ (q : List ℕ × List ℕ). Found own IsName name_goes (c ∷ cs) q.0 q.1) (ok_is (c ∷ take (name_bytes 31 cs) cs, drop (name_bytes 31 cs) cs) (x, rest) h.1)
-          (record {
-            parts = ap (λ (u : List ℕ). c ∷ u) (sym (take-append-drop (name_bytes 31 cs) cs));
-            fits = is_made c (take (name_bytes 31 cs) cs) h.0 (omega (arith, r.few, r.within)) r.fits;
-            ends = made_ends c (take (name_bytes 31 cs) cs) (drop (name_bytes 31 cs) cs) (λ d tail is. elim (r.ends d tail is) [ inl f ↦ inl (r.within ∙ f) | inr f ↦ inr f ]);
-          })
-      | inr h ↦ not_both (x, rest) (Bad (c ∷ cs)) (sym h.1)
-    ]
+-- what is read behind a letter
+abbrev pub name_of : ℕ → List ℕ → List ℕ × List ℕ
+name_of c cs = (c ∷ take (name_bytes 31 cs) cs, drop (name_bytes 31 cs) cs)
+
+pub name_first : (bytes : List ℕ) → first_at is_letter name_of bytes ≡ name_at bytes
+name_first [] = refl
+name_first (c ∷ cs) = refl
+
+name_found : (c : ℕ) (cs : List ℕ) → is_letter c ≡ true → Found own IsName name_goes (c ∷ cs) (name_of c cs).0 (name_of c cs).1
+name_found c cs letter =
+    let r = counted 31 cs in
+    record {
+      parts = ap (λ (u : List ℕ). c ∷ u) (sym (take-append-drop (name_bytes 31 cs) cs));
+      fits = made (take (name_bytes 31 cs) cs) (omega (arith, r.few, r.within)) r.fits;
+      ends = ends (take (name_bytes 31 cs) cs) (drop (name_bytes 31 cs) cs)
+          (λ d tail is. elim (r.ends d tail is) [ inl f ↦ inl (r.within ∙ f) | inr f ↦ inr f ]);
+    }
   where
-    is_made : (c : ℕ) (ds : List ℕ) → is_letter c ≡ true → length ds ≤ 31 → list_all is_name_byte ds ≡ true → is_name (c ∷ ds) ≡ true
-    is_made c ds letter few fits =
+    made : (ds : List ℕ) → length ds ≤ 31 → list_all is_name_byte ds ≡ true → is_name (c ∷ ds) ≡ true
+    made ds few fits =
         let short : nat_lt (length ds) 32 ≡ true = grind (arith, nat_tests) in
         rw (letter, short, fits) refl
 
-    made_ends : (c : ℕ) (ds rest : List ℕ) → ((d : ℕ) (tail : List ℕ) → rest ≡ d ∷ tail → (length ds ≡ 31) ⊎ (is_name_byte d ≡ false)) → Ends name_goes (c ∷ ds) rest
-    made_ends c ds [] ends = tt
-    made_ends c ds (d ∷ rest) ends =
-        elim (ends d rest refl) [
+    ends : (ds rest : List ℕ) → ((d : ℕ) (tail : List ℕ) → rest ≡ d ∷ tail → (length ds ≡ 31) ⊎ (is_name_byte d ≡ false)) → Ends name_goes (c ∷ ds) rest
+    ends ds [] h = tt
+    ends ds (d ∷ rest) h =
+        elim (h d rest refl) [
           | inl k ↦ let long : nat_lt (suc (length ds)) 32 ≡ false = grind (arith, nat_tests) in rw long refl
           | inr k ↦ grind (arith, nat_tests)
         ]
@@ -94,7 +89,8 @@ name_again (c ∷ ds) rest fits ends =
     let count : name_bytes 31 (ds ++ rest) ≡ length ds = counts 31 ds rest (omega (arith, few)) bytes (stops c ds rest few ends) in
     rw (letter, count, take-append_seam ds rest, drop-append_seam ds rest) refl
   where
-    stops : (c : ℕ) (ds rest : List ℕ) → length ds < 32 → Ends name_goes (c ∷ ds) rest → (d : ℕ) (tail : List ℕ) → rest ≡ d ∷ tail → (length ds ≡ 31) ⊎ (is_name_byte d ≡ false)
+    stops : (c : ℕ) (ds rest : List ℕ) → length ds < 32 → Ends name_goes (c ∷ ds) rest → (d : ℕ) (tail : List ℕ) → rest ≡ d ∷ tail
+        → (length ds ≡ 31) ⊎ (is_name_byte d ≡ false)
     stops c ds [] few ends d tail is = absurd (let none : [] ≡ d ∷ tail = is in cc)
     stops c ds (e ∷ rest) few ends d tail is =
         let same : e ≡ d = cc in
@@ -104,19 +100,6 @@ name_again (c ∷ ds) rest fits ends =
         by : (b : Bool) → is_name_byte d ≡ b → (nat_lt (suc (length ds)) 32 && b) ≡ false → (length ds ≡ 31) ⊎ (is_name_byte d ≡ false)
         by false h off = inr h
         by true h off = inl (grind (arith, nat_tests))
-
-name_stuck : (IsLow : List ℕ → List ℕ → Type 0) (bytes : List ℕ) (stop : Stop ℕ) → name_at bytes ≡ Err stop → Stuck IsLow own IsName name_at bytes stop
-name_stuck IsLow [] (Low rest) e = absurd cc
-name_stuck IsLow [] (Bad rest) e =
-    let rest-is : [] ≡ rest = cc in
-    record { front = []; parts = rest-is; viable = tt; cause = λ c tail is other. absurd (let k : [] ≡ c ∷ tail = rest-is ∙ is in cc) }
-name_stuck IsLow (c ∷ cs) stop e =
-    elim (chosen (is_letter c) (Ok (c ∷ take (name_bytes 31 cs) cs, drop (name_bytes 31 cs) cs)) (Err (Bad (c ∷ cs))) (Err stop) e) [
-      | inl h ↦ not_both (c ∷ take (name_bytes 31 cs) cs, drop (name_bytes 31 cs) cs) stop h.1
-      | inr h ↦
-          subst (λ (s : Stop ℕ). Stuck IsLow own IsName name_at (c ∷ cs) s) (err_is (Bad (c ∷ cs)) stop h.1)
-          (record { front = []; parts = refl; viable = tt; cause = λ d tail same other. let first : c ≡ d = cc in rw (← first, h.0) refl })
-    ]
 
 -- one more byte of a name is a longer name
 name_on : (x : List ℕ) (c : ℕ) → IsName x → name_goes x c ≡ true → CanGoOn own IsName (x ++ c ∷ [])
@@ -134,9 +117,6 @@ name_on (d ∷ ds) c fits g = record { some = (d ∷ ds) ++ c ∷ []; fits = lon
         rw (letter, few, all) refl
 
 pub name_format : (IsLow : List ℕ → List ℕ → Type 0) → Format IsLow own IsName name_goes name_at
-name_format IsLow = record {
-  found = name_found;
-  again = name_again;
-  stuck = name_stuck IsLow;
-  on = name_on;
-}
+name_format IsLow =
+    any_low IsLow (first_format own IsName name_goes name_at is_letter name_of name_first name_found
+    (λ x rest fits ends. name_first (x ++ rest) ∙ name_again x rest fits ends) name_on)

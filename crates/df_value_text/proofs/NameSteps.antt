@@ -1,9 +1,6 @@
 -- The reader of names, step by step.
-use Rattle.std.proofs.Common.{◌≡◌, ℕ, zero, suc, ◌+◌, ◌-◌, ◌<◌, ◌≤◌, true, false, List, [], ◌∷◌, length, get_or, take, drop, Ok, refl, sym, ap, ◌∙◌, arith, add-one}
-use Rattle.std.proofs.Math.Seq.{drop-cons}
-use Rattle.std.proofs.lemmas.List.{drop_all, drop-drop}
-use Rattle.df_frozen.specs.Name.{is_letter, is_name, is_name_byte}
-use Rattle.df_value_text.specs.ReadName.{name_bytes, name_at}
+use Rattle.df_value_text.proofs.Names.{◌≡◌, ℕ, zero, suc, ◌+◌, ◌-◌, ◌<◌, ◌≤◌, true, false, List, [], ◌∷◌, length, get_or, take, drop, Ok, refl, sym, ap, ◌∙◌}
+use Rattle.df_value_text.proofs.Names.{arith, add-one, drop-cons, drop_all, drop-drop, is_letter, is_name, is_name_byte, name_bytes, name_at}
 use Rattle.df_value_text.proofs.NameLaws.{name_format}
 
 pub none_left : (most : ℕ) (bytes : List ℕ) → most ≡ 0 → name_bytes most bytes ≡ 0

@@ -1,10 +1,7 @@
 -- How deep lists and maps nest.
-use Rattle.std.proofs.Common.{◌≡◌, ℕ, zero, suc, ◌+◌, ◌≤◌, List, [], ◌∷◌, refl, ap, arith}
-use Rattle.df_format.proofs.Items.{Follow}
-use Rattle.std.specs.Ordering.{is_lt}
-use Rattle.df_frozen.specs.Name.{name_cmp}
-use Rattle.df_frozen.specs.Plain.{Plain, Plains, Pairs, int, words, bytes, items, entries, no_items, item, no_entries, entry, from_list, from_pairs, node_count, items_node_count, entries_node_count}
-use Rattle.df_value_text.specs.Fits.{IsSpelled, AreSpelled, AreEntries, AreBehind}
+use Rattle.df_value_text.proofs.Names.{◌≡◌, ℕ, zero, suc, ◌+◌, ◌≤◌, List, [], ◌∷◌, refl, sym, ap, subst, arith, Follow, is_lt, name_cmp, Plain, Plains, Pairs}
+use Rattle.df_value_text.proofs.Names.{items, entries, no_items, item, no_entries, entry, from_list, from_pairs, node_count, items_node_count}
+use Rattle.df_value_text.proofs.Names.{entries_node_count, IsSpelled, AreSpelled, AreEntries, AreBehind}
 use Rattle.df_value_text.proofs.NameLaws.{IsName}
 use Rattle.df_value_text.proofs.HigherLaws.{AfterName, is_less}
 use Rattle.df_value_text.proofs.EndedLaws.{Chain}
@@ -12,13 +9,11 @@ use Rattle.df_value_text.proofs.EndedLaws.{Chain}
 -- lists and maps nest so deep at most
 abbrev mutual
   pub Nests : Plain → ℕ → Type 0
-  Nests (int z) n = Unit {0}
-  Nests (words s) n = Unit {0}
-  Nests (bytes s) n = Unit {0}
   Nests (items ps) zero = ⊥
   Nests (items ps) (suc n) = ItemsNest ps n
   Nests (entries es) zero = ⊥
   Nests (entries es) (suc n) = EntriesNest es n
+  Nests _ n = Unit {0}
 
   pub ItemsNest : Plains → ℕ → Type 0
   ItemsNest no_items n = Unit {0}
@@ -30,15 +25,13 @@ abbrev mutual
 
 mutual
   pub nests_more : (p : Plain) (n m : ℕ) → n ≤ m → Nests p n → Nests p m
-  nests_more (int z) n m le h = tt
-  nests_more (words s) n m le h = tt
-  nests_more (bytes s) n m le h = tt
   nests_more (items ps) zero m le h = absurd h
   nests_more (items ps) (suc n) zero le h = absurd (omega (arith, le))
   nests_more (items ps) (suc n) (suc m) le h = items_more ps n m (omega (arith, le)) h
   nests_more (entries es) zero m le h = absurd h
   nests_more (entries es) (suc n) zero le h = absurd (omega (arith, le))
   nests_more (entries es) (suc n) (suc m) le h = entries_more es n m (omega (arith, le)) h
+  nests_more _ n m le h = tt
 
   items_more : (ps : Plains) (n m : ℕ) → n ≤ m → ItemsNest ps n → ItemsNest ps m
   items_more no_items n m le h = tt
@@ -51,19 +44,25 @@ mutual
 mutual
   -- a value nests no deeper than it has nodes
   pub nests_all : (p : Plain) → Nests p (node_count p)
-  nests_all (int z) = tt
-  nests_all (words s) = tt
-  nests_all (bytes s) = tt
   nests_all (items ps) = items_all ps
   nests_all (entries es) = entries_all es
+  nests_all _ = tt
 
   items_all : (ps : Plains) → ItemsNest ps (items_node_count ps)
   items_all no_items = tt
-  items_all (item p ps) = (nests_more p (node_count p) (node_count p + items_node_count ps) (omega arith) (nests_all p), items_more ps (items_node_count ps) (node_count p + items_node_count ps) (omega arith) (items_all ps))
+  items_all (item p ps) = (
+    nests_more p (node_count p) (node_count p + items_node_count ps) (omega arith) (nests_all p),
+    items_more ps (items_node_count ps)
+        (node_count p + items_node_count ps) (omega arith) (items_all ps),
+  )
 
   entries_all : (es : Pairs) → EntriesNest es (entries_node_count es)
   entries_all no_entries = tt
-  entries_all (entry name p es) = (nests_more p (node_count p) (node_count p + entries_node_count es) (omega arith) (nests_all p), entries_more es (entries_node_count es) (node_count p + entries_node_count es) (omega arith) (entries_all es))
+  entries_all (entry name p es) = (
+    nests_more p (node_count p) (node_count p + entries_node_count es) (omega arith) (nests_all p),
+    entries_more es
+        (entries_node_count es) (node_count p + entries_node_count es) (omega arith) (entries_all es),
+  )
 
 -- a value that has a spelling, and nests so deep at most
 abbrev pub LevelFits : ℕ → Plain → Type 0
@@ -79,18 +78,23 @@ pub items_to : (n : ℕ) (ps : List Plain) → Chain (LevelFits n) (λ prev. Lev
 items_to n [] h = (tt, tt)
 items_to n (p ∷ ps) h = let r = items_follow n p ps h.1 in ((h.0.0, r.0), (h.0.1, r.1))
 
--- these items, as a list
-pub record ItemList (n : ℕ) (ps : Plains) : Type 0 where
-  pub list : List Plain
-  pub is : from_list list ≡ ps
-  pub follow : (prev : Plain) → Follow (λ prev. LevelFits n) prev list
-  pub chain : Chain (LevelFits n) (λ prev. LevelFits n) list
+list_follow : (n : ℕ) (prev : Plain) (ps : List Plain) → AreSpelled (from_list ps) → ItemsNest (from_list ps) n → Follow (λ prev. LevelFits n) prev ps
+list_follow n prev [] h k = tt
+list_follow n prev (p ∷ ps) h k = ((h.0, k.0), list_follow n p ps h.1 k.1)
 
-pub items_from : (n : ℕ) (ps : Plains) → AreSpelled ps → ItemsNest ps n → ItemList n ps
-items_from n no_items h k = record { list = []; is = refl; follow = λ prev. tt; chain = tt }
-items_from n (item p ps) h k =
-    let r = items_from n ps h.1 k.1 in
-    record { list = p ∷ r.list; is = ap (item p) r.is; follow = λ prev. ((h.0, k.0), r.follow p); chain = ((h.0, k.0), r.follow p) }
+pub list_chain : (n : ℕ) (ps : List Plain) → AreSpelled (from_list ps) → ItemsNest (from_list ps) n → Chain (LevelFits n) (λ prev. LevelFits n) ps
+list_chain n [] h k = tt
+list_chain n (p ∷ ps) h k = ((h.0, k.0), list_follow n p ps h.1 k.1)
+
+items_list : (ps : Plains) → (list : List Plain) × (from_list list ≡ ps)
+items_list no_items = ([], refl)
+items_list (item p ps) = let r = items_list ps in (p ∷ r.0, ap (item p) r.1)
+
+pub items_from : (n : ℕ) (ps : Plains) → AreSpelled ps → ItemsNest ps n
+    → (list : List Plain) × Chain (LevelFits n) (λ prev. LevelFits n) list × (from_list list ≡ ps)
+items_from n ps h k =
+    let r = items_list ps in
+    (r.0, list_chain n r.0 (subst AreSpelled (sym r.1) h) (subst (λ (qs : Plains). ItemsNest qs n) (sym r.1) k), r.1)
 
 -- ---- maps, entry by entry
 
@@ -100,7 +104,8 @@ LevelEntry n e = IsName e.0 × LevelFits n e.1
 abbrev pub LevelAfter : ℕ → List ℕ × Plain → List ℕ × Plain → Type 0
 LevelAfter n prev e = AfterName prev.0 e.0 × LevelFits n e.1
 
-entries_follow : (n : ℕ) (prev : List ℕ × Plain) (es : List (List ℕ × Plain)) → Follow (LevelAfter n) prev es → AreBehind prev.0 (from_pairs es) × EntriesNest (from_pairs es) n
+entries_follow : (n : ℕ) (prev : List ℕ × Plain) (es : List (List ℕ × Plain)) → Follow (LevelAfter n) prev es
+    → AreBehind prev.0 (from_pairs es) × EntriesNest (from_pairs es) n
 entries_follow n prev [] h = (tt, tt)
 entries_follow n prev (e ∷ es) h =
     let r = entries_follow n e es h.1 in
@@ -110,25 +115,21 @@ pub entries_to : (n : ℕ) (es : List (List ℕ × Plain)) → Chain (LevelEntry
 entries_to n [] h = (tt, tt)
 entries_to n (e ∷ es) h = let r = entries_follow n e es h.1 in ((h.0.0, h.0.1.0, r.0), (h.0.1.1, r.1))
 
-record Behind (n : ℕ) (prev : List ℕ) (es : Pairs) : Type 0 where
-  pub list : List (List ℕ × Plain)
-  pub is : from_pairs list ≡ es
-  pub follow : (p : Plain) → Follow (LevelAfter n) (prev, p) list
+behind_follow : (n : ℕ) (prev : List ℕ × Plain) (es : List (List ℕ × Plain)) → AreBehind prev.0 (from_pairs es) → EntriesNest (from_pairs es) n
+    → Follow (LevelAfter n) prev es
+behind_follow n prev [] h k = tt
+behind_follow n prev (e ∷ es) h k = (((h.0, ap is_lt h.1), (h.2, k.0)), behind_follow n e es h.3 k.1)
 
-behind_from : (n : ℕ) (prev : List ℕ) (es : Pairs) → AreBehind prev es → EntriesNest es n → Behind n prev es
-behind_from n prev no_entries h k = record { list = []; is = refl; follow = λ p. tt }
-behind_from n prev (entry name q es) h k =
-    let r = behind_from n name es h.3 k.1 in
-    record { list = (name, q) ∷ r.list; is = ap (entry name q) r.is; follow = λ p. (((h.0, ap is_lt h.1), (h.2, k.0)), r.follow q) }
+pub entries_chain : (n : ℕ) (es : List (List ℕ × Plain)) → AreEntries (from_pairs es) → EntriesNest (from_pairs es) n → Chain (LevelEntry n) (LevelAfter n) es
+entries_chain n [] h k = tt
+entries_chain n (e ∷ es) h k = ((h.0, (h.1, k.0)), behind_follow n e es h.2 k.1)
 
--- these entries, as a list
-pub record EntryList (n : ℕ) (es : Pairs) : Type 0 where
-  pub list : List (List ℕ × Plain)
-  pub is : from_pairs list ≡ es
-  pub chain : Chain (LevelEntry n) (LevelAfter n) list
+entries_list : (es : Pairs) → (list : List (List ℕ × Plain)) × (from_pairs list ≡ es)
+entries_list no_entries = ([], refl)
+entries_list (entry name p es) = let r = entries_list es in ((name, p) ∷ r.0, ap (entry name p) r.1)
 
-pub entries_from : (n : ℕ) (es : Pairs) → AreEntries es → EntriesNest es n → EntryList n es
-entries_from n no_entries h k = record { list = []; is = refl; chain = tt }
-entries_from n (entry name p es) h k =
-    let r = behind_from n name es h.2 k.1 in
-    record { list = (name, p) ∷ r.list; is = ap (entry name p) r.is; chain = ((h.0, (h.1, k.0)), r.follow p) }
+pub entries_from : (n : ℕ) (es : Pairs) → AreEntries es → EntriesNest es n
+    → (list : List (List ℕ × Plain)) × Chain (LevelEntry n) (LevelAfter n) list × (from_pairs list ≡ es)
+entries_from n es h k =
+    let r = entries_list es in
+    (r.0, entries_chain n r.0 (subst AreEntries (sym r.1) h) (subst (λ (ds : Pairs). EntriesNest ds n) (sym r.1) k), r.1)

@@ -1,11 +1,8 @@
 -- One more value in a list, and one more entry in a map.
-use Rattle.std.proofs.Common.{◌≡◌, ℕ, List, [], ◌∷◌, ◌++◌, Some, refl, sym, ap, ◌∙◌}
-use Rattle.std.specs.Cmp.Lexicographic.{nat_list_cmp_total}
-use Rattle.std.specs.declared.cmp.Ordering.TheVariants.{Less, Greater}
+use Rattle.df_value_text.proofs.Names.{◌≡◌, ℕ, List, [], ◌∷◌, ◌++◌, Some, refl, sym, ap, ◌∙◌, nat_list_cmp_total, Less, Greater, name_cmp, Plain, items}
+use Rattle.df_value_text.proofs.Names.{entries, item, entry, from_list, from_pairs}
 use Rattle.std.specs.Ordering.{ordering_reverse}
-use Rattle.df_frozen.specs.Name.{name_cmp}
 use Rattle.df_frozen.specs.Place.{push_item, put_entry, push_at, put_at}
-use Rattle.df_frozen.specs.Plain.{Plain, items, entries, item, entry, from_list, from_pairs}
 
 push_last : (ps : List Plain) (p : Plain) → push_item p (from_list ps) ≡ from_list (ps ++ p ∷ [])
 push_last [] p = refl

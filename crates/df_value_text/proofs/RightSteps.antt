@@ -1,8 +1,6 @@
 -- The reader of rights, step by step.
-use Rattle.std.proofs.Common.{◌≡◌, ℕ, ◌+◌, Bool, true, List, drop, Ok, Err, refl, ap, ◌∙◌}
-use Rattle.df_format.specs.Reading.{Stop, as_at}
-use Rattle.df_value_text.specs.Number.{begins_with}
-use Rattle.df_value_text.specs.ReadLabel.{auth_at, auth_word, plus_of, right_at}
+use Rattle.df_value_text.proofs.Names.{◌≡◌, ℕ, ◌+◌, Bool, true, List, drop, Ok, Err, refl, ap, ◌∙◌, Stop, as_at, begins_with, auth_at, plus_of, right_at}
+use Rattle.df_value_text.specs.ReadLabel.{auth_word}
 use Rattle.df_value_text.proofs.TagSteps.{behind_it}
 
 right_plus : (bytes : List ℕ) (at : ℕ) → begins_with 43 (drop at bytes) ≡ true → right_at (drop at bytes) ≡ as_at plus_of auth_at (drop (at + 1) bytes)

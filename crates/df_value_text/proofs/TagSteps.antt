@@ -1,12 +1,11 @@
 -- The loops that read numbers and tags, step by step.
-use Rattle.std.proofs.Common.{◌≡◌, ℕ, ◌+◌, true, false, cond, List, [], ◌∷◌, ◌++◌, length, get_or, drop, Option, Some, None, Ok, Err, refl, sym, ap, ◌∙◌, arith}
+use Rattle.df_value_text.proofs.Names.{◌≡◌, ℕ, ◌+◌, true, false, cond, List, [], ◌∷◌, ◌++◌, length, get_or, drop, Option, Some, None, Ok, Err, refl, sym, ap}
+use Rattle.df_value_text.proofs.Names.{◌∙◌, arith, Stop, Read, ◌>>=◌, more_of, items_at, with_front, item_read, item_failed, no_more, begins_with, short_at}
+use Rattle.df_value_text.proofs.Names.{leads_number, numbers_at, tag_at, next_at, leads_tag, listed, optional, some_tags_at, tags_at}
 use Rattle.std.specs.Prelude.{◌==◌}
 use Rattle.std.proofs.Math.Seq.{get_or-append_seam}
 use Rattle.std.proofs.lemmas.List.{length_push}
-use Rattle.df_format.specs.Reading.{Stop, Read, ◌>>=◌, more_of, items_at, with_front}
-use Rattle.df_format.proofs.ItemSteps.{item_read, item_failed, no_more}
-use Rattle.df_value_text.specs.Number.{begins_with}
-use Rattle.df_value_text.specs.ReadTag.{short_at, leads_number, leads_at, numbers_at, tag_at, next_at, leads_tag, listed, optional, some_tags_at, tags_at}
+use Rattle.df_value_text.specs.ReadTag.{leads_at}
 use Rattle.df_value_text.proofs.TagLaws.{short_shrinks}
 use Rattle.df_value_text.proofs.TagSetLaws.{next_shrinks}
 use Rattle.df_value_text.proofs.Loops.{drop_first, items_read, items_stop}

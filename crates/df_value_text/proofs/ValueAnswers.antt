@@ -1,20 +1,14 @@
 -- What reading, with as many levels as a text may need, says of the values that stand in it.
-use Rattle.std.proofs.Common.{◌≡◌, ℕ, suc, ◌+◌, ◌<◌, ◌≤◌, true, false, List, [], ◌∷◌, ◌++◌, length, drop, Ok, Err, refl, sym, ap, subst, ◌∙◌, append_assoc, arith, inl, inr}
-use Rattle.std.specs.Prelude.{pos}
-use Rattle.std.proofs.lemmas.List.{append_cancel_right}
-use Rattle.df_format.specs.Reading.{Stop, Bad, Low}
-use Rattle.df_format.specs.Grammar.{CanGoOn, Stands, FirstBad}
-use Rattle.df_format.specs.Format.{Ends, IsViable}
-use Rattle.df_format.proofs.Laws.{ok_is, err_is, not_both, told, viable_map, can_go_on, no_longer}
-use Rattle.df_frozen.specs.Limits.{IsWithinLimits}
-use Rattle.df_frozen.specs.Plain.{Plain, int, words, bytes, items, entries, node_count}
+use Rattle.df_value_text.proofs.Names.{◌≡◌, ℕ, suc, ◌+◌, ◌<◌, ◌≤◌, true, false, List, [], ◌∷◌, ◌++◌, length, drop, Ok, Err, refl, sym, ap, subst, ◌∙◌}
+use Rattle.df_value_text.proofs.Names.{append_assoc, arith, inl, inr, pos, append_cancel_right, Stop, Bad, Low, CanGoOn, Stands, Ends, ok_is, err_is}
+use Rattle.df_value_text.proofs.Names.{not_both, told, can_go_on, IsWithinLimits, Plain, int, words, bytes, items, entries, node_count, Fails, refusal}
+use Rattle.df_value_text.proofs.Names.{IsFound, IsRead, IsSpelled, IsValue, LowInValue, value_text, Fault}
+use Rattle.df_format.specs.Grammar.{FirstBad}
+use Rattle.df_format.specs.Format.{IsViable}
+use Rattle.df_format.proofs.Laws.{viable_map, no_longer}
 use Rattle.df_value_text.specs.ValueFault.{FirstLow}
-use Rattle.df_value_text.specs.code.Answer.{Fails, refusal, IsFound, IsRead}
-use Rattle.df_value_text.specs.Fits.{IsSpelled, IsValue}
-use Rattle.df_value_text.specs.OrderNames.{LowWithin, LowInValue}
+use Rattle.df_value_text.specs.OrderNames.{LowWithin}
 use Rattle.df_value_text.specs.ReadValue.{value_within}
-use Rattle.df_value_text.specs.Value.{value_text}
-use Rattle.df_value_text.specs.declared.refused.Fault.{Fault}
 use Rattle.df_value_text.specs.declared.refused.Fault.TheVariants as fault
 use Rattle.df_value_text.specs.declared.refused.TextRefused.TheVariants as refused
 use Rattle.df_value_text.proofs.EntryLaws.{IsLowName}

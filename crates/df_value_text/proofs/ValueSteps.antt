@@ -1,13 +1,9 @@
 -- The reader of values, step by step.
-use Rattle.std.proofs.Common.{◌≡◌, ℕ, zero, suc, ◌+◌, ◌<◌, ◌≤◌, Bool, true, false, ◌&&◌, List, [], ◌∷◌, ◌++◌, length, drop, Ok, Err, refl, sym, ap, ◌∙◌, arith}
-use Rattle.std.specs.Prelude.{not}
-use Rattle.std.proofs.lemmas.Bool.{and_parts}
-use Rattle.df_format.specs.Reading.{Stop, Bad, Read, ◌>>=◌, then_at, as_at, text_at, closed_at, more_of, items_at, with_front}
-use Rattle.df_format.proofs.ItemSteps.{Shrinks, item_read, item_failed, no_more}
-use Rattle.df_frozen.specs.Plain.{Plain}
-use Rattle.df_value_text.specs.Number.{begins_with}
-use Rattle.df_value_text.specs.ReadTag.{listed}
-use Rattle.df_value_text.specs.ReadValue.{ended_at, leads_value, list_at, is_greatest, leads_entry, map_at, leaf_at, node_at, value_within}
+use Rattle.df_value_text.proofs.Names.{◌≡◌, ℕ, zero, suc, ◌+◌, ◌<◌, ◌≤◌, Bool, true, false, ◌&&◌, List, [], ◌∷◌, ◌++◌, length, drop, Ok, Err, refl, sym, ap}
+use Rattle.df_value_text.proofs.Names.{◌∙◌, arith, not, and_parts, Stop, Bad, Read, ◌>>=◌, then_at, as_at, text_at, closed_at, more_of, items_at, with_front}
+use Rattle.df_value_text.proofs.Names.{Shrinks, item_read, item_failed, no_more, Plain, begins_with, listed, ended_at, leads_value, list_at, is_greatest}
+use Rattle.df_value_text.proofs.Names.{leads_entry, map_at, leaf_at, node_at}
+use Rattle.df_value_text.specs.ReadValue.{value_within}
 use Rattle.df_value_text.proofs.Loops.{drop_first, items_read, items_stop}
 use Rattle.df_value_text.proofs.TagSteps.{behind_it}
 

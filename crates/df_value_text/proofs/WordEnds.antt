@@ -1,20 +1,9 @@
 -- A literal that is written stands there where a word ends.
-use Rattle.std.proofs.Common.{◌≡◌, ℕ, suc, Bool, true, false, cond, eqb, List, [], ◌∷◌, ◌++◌, ℤ, pos, negsuc, refl, sym, subst, inl, inr}
-use Rattle.df_format.specs.Grammar.{Stands}
-use Rattle.df_format.specs.Format.{Ends}
-use Rattle.df_format.proofs.Laws.{never, ends_never, stands}
-use Rattle.df_frozen.specs.Plain.{Plain, int, words, bytes, items, entries}
-use Rattle.df_label.specs.declared.label.Label.{Label}
-use Rattle.df_label.specs.declared.privilege.Privilege.{Privilege}
-use Rattle.df_label.specs.declared.privilege.Right.{Right}
-use Rattle.df_label.specs.declared.privilege.Right.TheVariants.{Plus, Minus, PlusAuth, MinusAuth}
-use Rattle.df_value_text.specs.Fits.{IsLabel, IsPrivilege, IsTag, IsValue}
-use Rattle.df_value_text.specs.Label.{label_text, privilege_text, tag_text}
-use Rattle.df_value_text.specs.Order.{IsLowTag}
-use Rattle.df_value_text.specs.ReadLabel.{label_at, privilege_at}
-use Rattle.df_value_text.specs.ReadTag.{tag_at}
-use Rattle.df_value_text.specs.Value.{value_text}
-use Rattle.df_value_text.specs.code.WordEnd.{IsBreak, EndsWord}
+use Rattle.df_value_text.proofs.Names.{◌≡◌, ℕ, suc, Bool, true, false, cond, eqb, List, [], ◌∷◌, ◌++◌, ℤ, pos, negsuc, refl, sym, subst, inl, inr, Stands}
+use Rattle.df_value_text.proofs.Names.{Ends, never, ends_never, stands, Plain, int, words, bytes, items, entries, Label, Privilege, Right, Plus, Minus}
+use Rattle.df_value_text.proofs.Names.{PlusAuth, MinusAuth, IsLabel, IsPrivilege, IsTag, IsValue, label_text, privilege_text, tag_text, IsLowTag, label_at}
+use Rattle.df_value_text.proofs.Names.{privilege_at, tag_at, value_text, EndsWord}
+use Rattle.df_value_text.specs.code.WordEnd.{IsBreak}
 use Rattle.df_value_text.proofs.LabelLaws.{label_format, privilege_format, privilege_goes, right_goes}
 use Rattle.df_value_text.proofs.NumberLaws.{number_goes}
 use Rattle.df_value_text.proofs.TagLaws.{nowhere, nowhere_is_local, tag_goes, tag_format}

@@ -1,15 +1,10 @@
 -- The reader of words, step by step.
-use Rattle.std.proofs.Common.{◌≡◌, ℕ, zero, suc, ◌+◌, ◌-◌, ◌<◌, ◌≤◌, Bool, true, false, not, ◌&&◌, ◌||◌, cond, eqb, List, [], ◌∷◌, ◌++◌, length, length-append, take, drop, get_or, Ok, Err, refl, sym, ap, ◌∙◌, append_assoc, add-one, arith}
-use Rattle.std.specs.Prelude.{nat_le, nat_lt}
-use Rattle.std.specs.List.{concat}
-use Rattle.std.proofs.Math.Seq.{drop-cons}
-use Rattle.std.proofs.lemmas.Bool.{and_parts, lt-ltb, ltb-true}
-use Rattle.std.proofs.lemmas.List.{append-nil, drop_all, drop-drop}
-use Rattle.df_format.specs.Reading.{Stop, Read, ◌>>=◌, many_at, many_of, with_front}
-use Rattle.df_format.proofs.Laws.{ok_is, err_is, not_both, bind_same}
-use Rattle.df_format.proofs.ItemSteps.{onto}
-use Rattle.df_value_text.specs.ReadEscape.{is_plain, is_quoted}
-use Rattle.df_value_text.specs.ReadWords.{char_at, begins_char, starts, chars_at}
+use Rattle.df_value_text.proofs.Names.{◌≡◌, ℕ, zero, suc, ◌+◌, ◌-◌, ◌<◌, ◌≤◌, Bool, true, false, not, ◌&&◌, ◌||◌, cond, eqb, List, [], ◌∷◌, ◌++◌, length}
+use Rattle.df_value_text.proofs.Names.{length-append, take, drop, get_or, Ok, Err, refl, sym, ap, ◌∙◌, append_assoc, add-one, arith, nat_le, nat_lt, concat}
+use Rattle.df_value_text.proofs.Names.{drop-cons, and_parts, ltb-true, append-nil, drop_all, drop-drop, Stop, Read, ◌>>=◌, many_at, many_of, with_front}
+use Rattle.df_value_text.proofs.Names.{ok_is, err_is, not_both, onto, is_plain, is_quoted, char_at, begins_char, starts, chars_at}
+use Rattle.std.proofs.lemmas.Bool.{lt-ltb}
+use Rattle.df_format.proofs.Laws.{bind_same}
 use Rattle.df_value_text.specs.code.Short.{plain_run}
 use Rattle.df_value_text.proofs.CharLaws.{char_format, char_starts, plain_begins}
 
@@ -22,10 +17,10 @@ read k bytes = char_at bytes
 -- a character takes a byte at least
 char_takes : (c : ℕ) (cs x rest : List ℕ) → char_at (c ∷ cs) ≡ Ok (x, rest) → length rest ≤ length cs
 char_takes c cs x rest e =
-    let f = (char_format (λ front rest. ⊥) (λ before front rest low. low)).found (c ∷ cs) x rest e in
+    let f = char_format.found (c ∷ cs) x rest e in
     let s = char_starts x f.fits in
-    let whole : c ∷ cs ≡ s.0 ∷ (s.1 ++ rest) = f.parts ∙ ap (λ (u : List ℕ). u ++ rest) s.2 in
-    omega (arith, ap length whole, length-append s.1 rest)
+    let whole : c ∷ cs ≡ s.first ∷ (s.others ++ rest) = f.parts ∙ ap (λ (u : List ℕ). u ++ rest) s.is in
+    omega (arith, ap length whole, length-append s.others rest)
 
 -- more steps than there are bytes change nothing, and nor does the number of the first
 many_same : (n m k j : ℕ) (ts : List ℕ) → length ts ≤ n → length ts ≤ m → many_at begins read n k ts ≡ many_at begins read m j ts
@@ -38,7 +33,8 @@ many_same (suc n) (suc m) k j (t ∷ ts) l h =
     let shorter = char_takes t ts x.0 x.1 e in
     ap (λ (r : Read ℕ (List (List ℕ))). r >>= onto x.0) (many_same n m (suc k) (suc j) x.1 (omega (arith, shorter, l)) (omega (arith, shorter, h)))))
 
-joined_front : (x : List ℕ) (r : Read ℕ (List (List ℕ))) → ((r >>= onto x) >>= λ (xs : List (List ℕ) × List ℕ). Ok (concat xs.0, xs.1)) ≡ with_front x (r >>= λ (xs : List (List ℕ) × List ℕ). Ok (concat xs.0, xs.1))
+joined_front : (x : List ℕ) (r : Read ℕ (List (List ℕ))) → ((r >>= onto x) >>= λ (xs : List (List ℕ) × List ℕ). Ok (concat xs.0, xs.1)) ≡ with_front x
+    (r >>= λ (xs : List (List ℕ) × List ℕ). Ok (concat xs.0, xs.1))
 joined_front x (Ok xs) = refl
 joined_front x (Err s) = refl
 
@@ -76,17 +72,21 @@ front_stopped front stop (Ok x) e = not_both (front ++ x.0, x.1) stop e
 front_stopped front stop (Err s) e = ap (λ s. Err s) (err_is s stop e)
 
 -- a character is read
-pub char_read : (bytes front more rest : List ℕ) (total : Read ℕ (List ℕ)) → starts begins_char bytes ≡ true → with_front front (char_at bytes) ≡ Ok (more, rest) → with_front front (chars_at bytes) ≡ total → with_front more (chars_at rest) ≡ total
+pub char_read : (bytes front more rest : List ℕ) (total : Read ℕ (List ℕ)) → starts begins_char bytes ≡ true
+    → with_front front (char_at bytes) ≡ Ok (more, rest) → with_front front (chars_at bytes) ≡ total → with_front more (chars_at rest) ≡ total
 char_read bytes front more rest total h e so_far =
     let f = front_read front more rest (char_at bytes) e in
-    ap (λ (u : List ℕ). with_front u (chars_at rest)) (sym f.2) ∙ sym (fronts front f.0 (chars_at rest)) ∙ ap (with_front front) (sym (chars_step bytes f.0 rest h f.1)) ∙ so_far
+    ap (λ (u : List ℕ). with_front u (chars_at rest)) (sym f.2) ∙ sym (fronts front f.0 (chars_at rest))
+    ∙ ap (with_front front) (sym (chars_step bytes f.0 rest h f.1)) ∙ so_far
 
 -- a character is broken
-pub char_broken : (bytes front : List ℕ) (stop : Stop ℕ) (total : Read ℕ (List ℕ)) → starts begins_char bytes ≡ true → with_front front (chars_at bytes) ≡ total → with_front front (char_at bytes) ≡ Err stop → total ≡ Err stop
+pub char_broken : (bytes front : List ℕ) (stop : Stop ℕ) (total : Read ℕ (List ℕ)) → starts begins_char bytes ≡ true
+    → with_front front (chars_at bytes) ≡ total → with_front front (char_at bytes) ≡ Err stop → total ≡ Err stop
 char_broken bytes front stop total h so_far e = sym so_far ∙ ap (with_front front) (chars_stop bytes stop h (front_stopped front stop (char_at bytes) e))
 
 -- no character begins there
-pub chars_done : (bytes front : List ℕ) (total : Read ℕ (List ℕ)) → starts begins_char bytes ≡ false → with_front front (chars_at bytes) ≡ total → total ≡ Ok (front, bytes)
+pub chars_done : (bytes front : List ℕ) (total : Read ℕ (List ℕ)) → starts begins_char bytes ≡ false → with_front front (chars_at bytes) ≡ total
+    → total ≡ Ok (front, bytes)
 chars_done bytes front total h so_far = sym so_far ∙ ap (with_front front) (chars_none bytes h) ∙ ap (λ (u : List ℕ). Ok (u, bytes)) (append-nil front)
 
 -- ---- bytes that stand for themselves
@@ -115,11 +115,13 @@ chars_run (c ∷ cs) = by (is_plain c) refl (chars_run cs)
   where
     by : (t : Bool) → is_plain c ≡ t → chars_at cs ≡ with_front (take (plain_run cs) cs) (chars_at (drop (plain_run cs) cs))
         → chars_at (c ∷ cs) ≡ with_front (take (cond t (suc (plain_run cs)) 0) (c ∷ cs)) (chars_at (drop (cond t (suc (plain_run cs)) 0) (c ∷ cs)))
-    by true e rest = chars_step (c ∷ cs) (c ∷ []) cs (plain_begins c e) (plain_char c cs e) ∙ ap (with_front (c ∷ [])) rest ∙ fronts (c ∷ []) (take (plain_run cs) cs) (chars_at (drop (plain_run cs) cs))
+    by true e rest = chars_step (c ∷ cs) (c ∷ []) cs (plain_begins c e) (plain_char c cs e) ∙ ap (with_front (c ∷ [])) rest
+        ∙ fronts (c ∷ []) (take (plain_run cs) cs) (chars_at (drop (plain_run cs) cs))
     by false e rest = sym (none_front (chars_at (c ∷ cs)))
 
 -- once these are taken over, what is left is read as all was to be
-pub run_read : (bytes : List ℕ) (at end : ℕ) (front more : List ℕ) → end ≡ at + plain_run (drop at bytes) → more ≡ front ++ take (end - at) (drop at bytes) → with_front more (chars_at (drop end bytes)) ≡ with_front front (chars_at (drop at bytes))
+pub run_read : (bytes : List ℕ) (at end : ℕ) (front more : List ℕ) → end ≡ at + plain_run (drop at bytes) → more ≡ front ++ take (end - at) (drop at bytes)
+    → with_front more (chars_at (drop end bytes)) ≡ with_front front (chars_at (drop at bytes))
 run_read bytes at end front more is e =
     let k : ℕ = plain_run (drop at bytes) in
     let count : end - at ≡ k = omega (arith, is) in
@@ -136,5 +138,6 @@ run_ended bytes place le = ap plain_run (drop_all place bytes le)
 pub run_broken : (bytes : List ℕ) (place : ℕ) → place < length bytes → is_plain (get_or bytes place 0) ≡ false → plain_run (drop place bytes) ≡ 0
 run_broken bytes place lt h = ap plain_run (drop-cons bytes place 0 lt) ∙ rw h refl
 
-pub run_on : (bytes : List ℕ) (place : ℕ) → place < length bytes → is_plain (get_or bytes place 0) ≡ true → plain_run (drop place bytes) ≡ suc (plain_run (drop (place + 1) bytes))
+pub run_on : (bytes : List ℕ) (place : ℕ) → place < length bytes → is_plain (get_or bytes place 0) ≡ true
+    → plain_run (drop place bytes) ≡ suc (plain_run (drop (place + 1) bytes))
 run_on bytes place lt h = rw (add-one) (ap plain_run (drop-cons bytes place 0 lt) ∙ rw h refl)
