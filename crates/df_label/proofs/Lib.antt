@@ -1,3 +1,5 @@
+pub mod Joins
+pub mod Spellings
 pub mod TagFacts
 pub mod SetFacts
 pub mod TagSetFacts

@@ -115,6 +115,12 @@ is_subset-first_missing ts us missing none f n = told none (is_subset ts us) (sy
     told false true h = sym h
     told false false h = refl
 
+-- in the empty set none is included but itself
+pub is_subset-nil : (ts of : List (List ℕ)) (none : Bool) → of ≡ [] → Decides none (ts ≡ []) → none ≡ is_subset ts of
+is_subset-nil [] of none e d = d.1 refl
+is_subset-nil (t ∷ ts) of true e d = absurd (let no : t ∷ ts ≡ [] = d.0 refl in cc)
+is_subset-nil (t ∷ ts) of false e d = sym (ap (is_subset (t ∷ ts)) e)
+
 -- nothing is missing exactly where the set is included
 pub first_missing-none : (ts of : List (List ℕ)) → (IsNone (first_missing ts of) → is_subset of ts ≡ true) × (is_subset of ts ≡ true → IsNone (first_missing ts of))
 first_missing-none ts of =

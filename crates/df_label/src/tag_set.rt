@@ -1,13 +1,15 @@
 //! Sets of tags.
-ghost use Rattle.std.specs.Prelude.{◌≡◌, IsTrue, ◌↔◌, IfOk, Some, [], length, slice_get, option_copied, refl};
+ghost use Rattle.std.specs.Prelude.{◌≡◌, ◌++◌, All, IsTrue, ◌↔◌, IfOk, OnOk, Some, [], length, slice_get, option_copied, refl};
 ghost use Rattle.std.specs.Cmp.{partial_equiv_from_equiv, po};
 ghost use Rattle.std.specs.Cmp.Lexicographic.{pointwise_decides, bytes_decides, nat_list_eq_equiv, nat_list_cmp_total, texts_ties, lists_equiv, lists_total, lists_ties};
 ghost use Rattle.std.specs.Hash as fed;
 ghost use Rattle.std.proofs.Common.{ap};
 ghost use Rattle.df_label.specs.Ascending.{IsAscending};
+ghost use Rattle.df_label.specs.Spelling.{AreShort, tags_text};
 ghost use Rattle.df_label.specs.Tag.{tag_cmp};
 ghost use Rattle.df_label.specs.TagSet.{tag_set_cmp, tag_set_eq, contains, is_subset, first_missing, with, without, union, meet};
 
+use crate::spelled_tags::SpelledTags;
 use crate::{NoMemory, Tag, tags};
 use std::alloc::Global;
 use std::cmp::Ordering;
@@ -17,24 +19,25 @@ use std::slice;
 use std::sync::Arc;
 
 /// A set of tags. A contract sees it as the ascending list of its tags, without repeats. The empty
-/// set takes no memory, and an operation that adds nothing shares what it had.
+/// set takes no memory, an operation that adds nothing shares what it had, and copies share the
+/// spelling too, which a set of many tags keeps.
 #[derive(Debug, Drop)]
 pub struct TagSet {
-    tags: Option<Arc<Vec<Tag>>>,
+    tags: Option<Arc<SpelledTags>>,
     alloc: Global,
 }
 
 impl Model for TagSet {
     ghost use Rattle.std.specs.Prelude.{ℕ, List};
     ghost use Rattle.df_label.specs.Ascending.{IsAscending};
-    ghost use Rattle.df_label.specs.code.Shared.{items_of};
+    ghost use Rattle.df_label.specs.code.SpelledTags.{tags_of};
     ghost use Rattle.df_label.specs.Tag.{tag_cmp};
 
     ghost Value = { List (List ℕ) };
 
-    ghost view = { λ s. items_of s.tags };
+    ghost view = { λ s. tags_of s.tags };
 
-    ghost invariant = { λ s. IsAscending tag_cmp (items_of s.tags) };
+    ghost invariant = { λ s. IsAscending tag_cmp (tags_of s.tags) };
 }
 
 impl TagSet {
@@ -54,7 +57,19 @@ impl TagSet {
         if tags.is_empty() {
             return Ok(TagSet::new(alloc));
         }
-        let tags = Some(Arc::new(alloc, tags)?);
+        let tags = Some(Arc::new(alloc, SpelledTags::new(tags)?)?);
+        Ok(TagSet { tags, alloc })
+    }
+
+    /// The set of tags that stand in order, of numbers of 32 bits, of which this is the spelling.
+    pub fn from_spelled(tags: Vec<Tag>, spelling: &[u8]) -> Result<TagSet, NoMemory>
+        requires ascending { IsAscending tag_cmp tags.items }
+        requires spelled { spelling.now ≡ tags_text tags.items }
+        requires short { All AreShort tags.items }
+        ensures { IfOk result (λ s. s ≡ tags.items) }
+    {
+        let alloc = *tags.allocator();
+        let tags = Some(Arc::new(alloc, SpelledTags::from_spelled(tags, spelling)?)?);
         Ok(TagSet { tags, alloc })
     }
 
@@ -97,7 +112,11 @@ impl TagSet {
     pub fn is_subset(&self, of: &TagSet) -> bool
         ensures { result ≡ is_subset self.now of.now }
     {
-        of.first_missing(self).is_none()
+        match (&self.tags, &of.tags) {
+            (None, _) => true,
+            (Some(tags), Some(others)) => tags.is_subset(others),
+            (Some(_), None) => self.is_empty(),
+        }
     }
 
     /// The least tag of `of` that this set lacks.
@@ -175,7 +194,20 @@ impl TagSet {
     pub fn same(&self, other: &TagSet) -> bool
         ensures { IsTrue result ↔ self.now ≡ other.now }
     {
-        tags::same(self.as_slice(), other.as_slice())
+        match (&self.tags, &other.tags) {
+            (Some(tags), Some(others)) => tags.same(others),
+            _ => self.is_empty() && other.is_empty(),
+        }
+    }
+
+    /// Appends the tags with `,` between them; of the empty set no bytes.
+    pub fn append_to(&self, to: &mut Vec<u8>) -> Result<(), NoMemory>
+        ensures { OnOk result (to.new.items ≡ to.old.items ++ tags_text self.now) }
+    {
+        match &self.tags {
+            None => Ok(()),
+            Some(tags) => tags.append_to(to),
+        }
     }
 }
 
@@ -185,7 +217,7 @@ impl PartialEq for TagSet {
     ghost laws = { partial_equiv_from_equiv (lists_equiv nat_list_eq_equiv) };
 
     fn eq(&self, other: &TagSet) -> bool {
-        self.as_slice() == other.as_slice()
+        self.same(other)
     }
 }
 

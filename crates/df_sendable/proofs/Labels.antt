@@ -4,6 +4,7 @@ use Rattle.std.proofs.Crossing.{crosses}
 use Rattle.df_label.specs.contracts.label.Label as Label
 use Rattle.df_label.specs.contracts.privilege.Privilege as Privilege
 use Rattle.df_label.specs.contracts.privileges.Privileges as Privileges
+use Rattle.df_label.specs.contracts.spelled_tags.SpelledTags as SpelledTags
 use Rattle.df_label.specs.contracts.tag.Tag as Tag
 use Rattle.df_label.specs.contracts.tag_set.TagSet as TagSet
 
@@ -13,11 +14,17 @@ tag_send = search (sendable, crosses) depth 40 fits 20000
 pub tag_sync : IsSync Tag.the_row
 tag_sync = search (sendable, crosses) depth 40 fits 20000
 
+pub spelled_tags_send : IsSend SpelledTags.the_row
+spelled_tags_send = search (tag_send, sendable, crosses) depth 40 fits 20000
+
+pub spelled_tags_sync : IsSync SpelledTags.the_row
+spelled_tags_sync = search (tag_sync, sendable, crosses) depth 40 fits 20000
+
 pub tag_set_send : IsSend TagSet.the_row
-tag_set_send = search (tag_send, tag_sync, sendable, crosses) depth 40 fits 20000
+tag_set_send = search (spelled_tags_send, spelled_tags_sync, sendable, crosses) depth 40 fits 20000
 
 pub tag_set_sync : IsSync TagSet.the_row
-tag_set_sync = search (tag_send, tag_sync, sendable, crosses) depth 40 fits 20000
+tag_set_sync = search (spelled_tags_send, spelled_tags_sync, sendable, crosses) depth 40 fits 20000
 
 pub label_field_send : IsSend (Label.the_field).row
 label_field_send = search (tag_set_send, sendable, crosses) depth 40 fits 20000
@@ -52,6 +59,8 @@ privileges_sync = search (privilege_send, privilege_sync, sendable, crosses) dep
 pub ruleset labels = (
   tag_send,
   tag_sync,
+  spelled_tags_send,
+  spelled_tags_sync,
   tag_set_send,
   tag_set_sync,
   label_field_send,

@@ -1,10 +1,10 @@
 -- Sets of tags are read as they are spelled.
-use Rattle.df_value_text.proofs.Names.{◌≡◌, ℕ, Bool, true, false, eqb, List, [], ◌∷◌, ◌++◌, Option, Some, None, Ok, refl, sym, ap, subst, ◌∙◌, append_assoc}
+use Rattle.df_value_text.proofs.Names.{◌≡◌, ℕ, Bool, true, false, eqb, List, [], ◌∷◌, ◌++◌, Option, Some, None, Ok, refl, sym, ap, ◌∙◌, append_assoc}
 use Rattle.df_value_text.proofs.Names.{length-append, length, arith, decimal, nat_list_cmp_total, Ordering, Less, Equal, Greater, is_lt, eqb-true, nat_tests}
-use Rattle.df_value_text.proofs.Names.{items_at, more_spell, items_spell, maybe_spell, CanGoOn, Ends, IsLocal, Format, ok_is, bind_ok, Follow, Parts}
-use Rattle.df_value_text.proofs.Names.{ItemsFit, items_found, Leads, last_goes, items_goes, items_format, Shrinks, MaybeFits, maybe_goes, maybe_format}
-use Rattle.df_value_text.proofs.Names.{tag_cmp, path_text, tag_text, tags_text, IsTag, AreTags, IsTagSet, StandsLow, IsLowTag, listed, tag_at, next_at}
-use Rattle.df_value_text.proofs.Names.{leads_tag, optional, some_tags_at, tags_at}
+use Rattle.df_value_text.proofs.Names.{items_at, more_spell, items_spell, maybe_spell, CanGoOn, Ends, IsLocal, Format, Follow, Parts}
+use Rattle.df_value_text.proofs.Names.{ItemsFit, Leads, last_goes, items_goes, items_format, Shrinks, MaybeFits, maybe_goes, maybe_format}
+use Rattle.df_value_text.proofs.Names.{tag_cmp, path_text, tag_text, tags_text, IsTag, AreTags, IsTagSet, StandsLow, IsLowTag, tag_at, next_at}
+use Rattle.df_value_text.proofs.Names.{leads_tag, optional, tags_at}
 use Rattle.df_format.specs.Reading.{maybe_at}
 use Rattle.df_format.proofs.Joins.{as_format}
 use Rattle.df_label.specs.Ascending.{IsAscending}
@@ -141,11 +141,3 @@ tags_format =
     tags_some
     (items_format IsLowTag low_is_local NearTag leads_tag 44 tag_text IsTag AfterTag tag_goes tag_at next_at tags_parts tags_lead
     (tag_format IsLowTag low_is_local)))
-
--- tags that are read ascend
-pub some_ascend : (bytes : List ℕ) (tags : List (List ℕ)) (rest : List ℕ) → some_tags_at bytes ≡ Ok (tags, rest) → IsAscending tag_cmp tags
-some_ascend bytes tags rest e =
-    let a = bind_ok (items_at leads_tag tag_at next_at bytes) (λ x. Ok (listed x.0, x.1)) (tags, rest) e in
-    let f = items_found tags_parts IsLowTag tag_at (tag_format IsLowTag low_is_local) bytes a.0.0 a.0.1 a.1 in
-    let made : List (List ℕ) × List ℕ = (listed a.0.0, a.0.1) in
-    subst (λ (q : List (List ℕ) × List ℕ). IsAscending tag_cmp q.0) (ok_is made (tags, rest) a.2) (ascend a.0.0.0 a.0.0.1 f.fits.1)

@@ -1,13 +1,17 @@
 -- The loops that read numbers and tags, step by step.
-use Rattle.df_value_text.proofs.Names.{◌≡◌, ℕ, ◌+◌, true, false, cond, List, [], ◌∷◌, ◌++◌, length, get_or, drop, Option, Some, None, Ok, Err, refl, sym, ap}
-use Rattle.df_value_text.proofs.Names.{◌∙◌, arith, Stop, Read, ◌>>=◌, more_of, items_at, with_front, item_read, item_failed, no_more, begins_with, short_at}
-use Rattle.df_value_text.proofs.Names.{leads_number, numbers_at, tag_at, next_at, leads_tag, listed, optional, some_tags_at, tags_at}
-use Rattle.std.specs.Prelude.{◌==◌}
-use Rattle.std.proofs.Math.Seq.{get_or-append_seam}
-use Rattle.std.proofs.lemmas.List.{length_push}
+use Rattle.df_value_text.proofs.Names.{◌≡◌, ℕ, ◌+◌, ◌-◌, ◌<◌, ◌≤◌, ◌^◌, true, false, cond, List, [], ◌∷◌, ◌++◌, length, get_or, drop, take, Option, Some, None, Ok, Err}
+use Rattle.df_value_text.proofs.Names.{refl, sym, ap, ◌∙◌, arith, length-append, AllByRecursion, Stop, Read, ◌>>=◌, more_of, items_at, with_front, item_read, item_failed, no_more}
+use Rattle.df_value_text.proofs.Names.{begins_with, short_at, leads_number, numbers_at, tag_at, next_at, leads_tag, listed, optional, some_tags_at, tags_at}
+use Rattle.df_value_text.proofs.Names.{AreNumbers, AreTags, IsTag, tag_cmp, tags_text}
+use Rattle.std.specs.Prelude.{All, ◌==◌}
+use Rattle.std.proofs.Math.Seq.{get_or-append_seam, take-append_seam}
+use Rattle.std.proofs.lemmas.List.{length-drop, length_push}
+use Rattle.std.proofs.lemmas.List.Elements.{All-from_recursion}
+use Rattle.df_label.specs.Ascending.{IsAscending}
+use Rattle.df_label.specs.Spelling.{AreShort}
 use Rattle.df_value_text.specs.ReadTag.{leads_at}
 use Rattle.df_value_text.proofs.TagLaws.{short_shrinks}
-use Rattle.df_value_text.proofs.TagSetLaws.{next_shrinks}
+use Rattle.df_value_text.proofs.TagSetLaws.{next_shrinks, tags_format}
 use Rattle.df_value_text.proofs.Loops.{drop_first, items_read, items_stop}
 
 -- what leads to a number
@@ -104,3 +108,41 @@ tags_stop bytes at stop h e = optional_some (drop at bytes) h ∙ e
 
 pub tags_read : (bytes : List ℕ) (at place : ℕ) (tags set : List (List ℕ)) → begins_with 35 (drop at bytes) ≡ true → some_tags_at (drop at bytes) ≡ Ok (tags, drop place bytes) → set ≡ tags → tags_at (drop at bytes) ≡ Ok (set, drop place bytes)
 tags_read bytes at place tags set h e same = optional_some (drop at bytes) h ∙ e ∙ ap (λ (ts : List (List ℕ)). Ok (ts, drop place bytes)) (sym same)
+
+-- ---- a set's bytes
+
+numbers_short : (ns : List ℕ) → AreNumbers ns → AllByRecursion (λ n. n < 2 ^ 32) ns
+numbers_short [] fits = tt
+numbers_short (n ∷ ns) fits = (fits.0, numbers_short ns fits.1)
+
+tag_short : (tag : List ℕ) → IsTag tag → AreShort tag
+tag_short [] fits = absurd fits
+tag_short (n ∷ ns) fits = All-from_recursion (λ n. n < 2 ^ 32) (n ∷ ns) (fits.0, numbers_short ns fits.1)
+
+tags_short : (tags : List (List ℕ)) → AreTags tags → AllByRecursion AreShort tags
+tags_short [] fits = tt
+tags_short (tag ∷ tags) fits = (tag_short tag fits.0, tags_short tags fits.1)
+
+-- a set that is read: its spelling stands between the places
+pub record SetRead (bytes : List ℕ) (at place : ℕ) (tags : List (List ℕ)) : Type 0 where
+  pub onward : at ≤ place
+  pub spelled : take (place - at) (drop at bytes) ≡ tags_text tags
+  pub ascending : IsAscending tag_cmp tags
+  pub short : All AreShort tags
+
+pub set_read : (bytes : List ℕ) (at place : ℕ) (tags : List (List ℕ)) → at ≤ length bytes → place ≤ length bytes → begins_with 35 (drop at bytes) ≡ true
+    → some_tags_at (drop at bytes) ≡ Ok (tags, drop place bytes) → SetRead bytes at place tags
+set_read bytes at place tags start end h e =
+    let found = tags_format.found (drop at bytes) tags (drop place bytes) (tags_read bytes at place tags tags h e refl) in
+    let front = length-drop at bytes in
+    let rest = length-drop place bytes in
+    let whole = ap length found.parts ∙ length-append (tags_text tags) (drop place bytes) in
+    let size : place - at ≡ length (tags_text tags) = omega (arith, front, rest, whole) in
+    record {
+      onward = omega (arith, front, rest, whole);
+      spelled = ap (λ (k : ℕ). take k (drop at bytes)) size
+          ∙ ap (take (length (tags_text tags))) found.parts
+          ∙ take-append_seam (tags_text tags) (drop place bytes);
+      ascending = found.fits.1;
+      short = All-from_recursion AreShort tags (tags_short tags found.fits.0);
+    }

@@ -1,17 +1,8 @@
-ghost use Rattle.std.specs.Prelude.{◌≡◌, ◌++◌, OnOk, decimal};
+ghost use Rattle.std.specs.Prelude.{◌≡◌, ◌++◌, OnOk};
 ghost use Rattle.std.specs.Fmt.{signed_decimal};
 
 use df_label::NoMemory;
 use itoa::Buffer;
-
-/// Appends a number in decimal digits.
-pub fn append_number(number: u64, to: &mut Vec<u8>) -> Result<(), NoMemory>
-    ensures { OnOk result (to.new.items ≡ to.old.items ++ decimal number) }
-{
-    let mut buffer = Buffer::new();
-    to.extend_from_slice(buffer.format(number).as_bytes())?;
-    Ok(())
-}
 
 /// Appends a whole number: a number, or `-` and a number that isn't 0.
 pub fn append_whole(number: i64, to: &mut Vec<u8>) -> Result<(), NoMemory>

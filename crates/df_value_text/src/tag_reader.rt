@@ -1,5 +1,5 @@
 //! Reading tags and sets of tags.
-ghost use Rattle.std.specs.Prelude.{◌≡◌, ◌≤◌, ◌<◌, length, drop, IfOk};
+ghost use Rattle.std.specs.Prelude.{◌≡◌, ◌≤◌, ◌<◌, ◌-◌, length, drop, take, IfOk};
 ghost use Rattle.std.specs.Ordering.{is_lt};
 ghost use Rattle.df_value_text.specs.code.Answer.{EndsAt, Gives};
 ghost use Rattle.df_value_text.specs.ReadTag.{begins_digit, ended, leads_at, longest_at, next_at, numbers_at, some_tags_at, tag_at, tags_at};
@@ -59,6 +59,21 @@ fn tag_of(alloc: Global, numbers: &[u32]) -> Result<Tag, NoMemory>
     Tag::new(alloc, &numbers[..last], numbers[last])
 }
 
+/// The tag of the numbers at the place, and the place behind them. They are kept aside only where
+/// there are several.
+fn path_at(alloc: Global, bytes: &[u8], at: usize) -> Result<(Tag, usize), Fault>
+    requires { at ≤ length bytes.now }
+    ensures exact { Gives (λ t. t) bytes.now result (numbers_at (drop at bytes.now)) }
+    ensures onward { IfOk result (λ r. at ≤ r.1) }
+{
+    let (number, end) = short_at(bytes, at)?;
+    if !leads_number(bytes, end) {
+        return Ok((Tag::new(alloc, &[], number)?, end));
+    }
+    let (numbers, place) = numbers_at(alloc, bytes, at)?;
+    Ok((tag_of(alloc, numbers.as_slice())?, place))
+}
+
 /// The longest tag at the place, and the place behind it.
 fn longest_at(alloc: Global, bytes: &[u8], at: usize) -> Result<(Tag, usize), Fault>
     requires { at ≤ length bytes.now }
@@ -66,8 +81,7 @@ fn longest_at(alloc: Global, bytes: &[u8], at: usize) -> Result<(Tag, usize), Fa
     ensures onward { IfOk result (λ r. at < r.1) }
 {
     let (_, start) = byte_at(bytes, at, b'#')?;
-    let (numbers, place) = numbers_at(alloc, bytes, start)?;
-    Ok((tag_of(alloc, numbers.as_slice())?, place))
+    path_at(alloc, bytes, start)
 }
 
 /// The place behind a tag: behind a dot a number has to stand.
@@ -123,6 +137,15 @@ fn some_tags_at(alloc: Global, bytes: &[u8], at: usize) -> Result<(Vec<Tag>, usi
     Ok((tags, place))
 }
 
+/// What stands between two places.
+fn between(bytes: &[u8], at: usize, end: usize) -> &[u8]
+    requires order { at ≤ end }
+    requires inside { end ≤ length bytes.now }
+    ensures { result.now ≡ take (end - at) (drop at bytes.now) }
+{
+    &bytes[at..end]
+}
+
 /// The set of tags at the place, which may be empty, and the place behind it.
 pub fn tags_at(alloc: Global, bytes: &[u8], at: usize) -> Result<(TagSet, usize), Fault>
     requires { at ≤ length bytes.now }
@@ -132,5 +155,6 @@ pub fn tags_at(alloc: Global, bytes: &[u8], at: usize) -> Result<(TagSet, usize)
         return Ok((TagSet::new(alloc), at));
     }
     let (tags, place) = some_tags_at(alloc, bytes, at)?;
-    Ok((TagSet::from_ascending(tags)?, place))
+    let set = TagSet::from_spelled(tags, between(bytes, at, place))?;
+    Ok((set, place))
 }

@@ -1,6 +1,6 @@
 use Rattle.std.proofs.Common.{decimal}
-use Rattle.df_value_text.proofs.Joins.{item_appended}
-use Rattle.df_value_text.proofs.tag.append_path.Goals as goal
+use Rattle.df_label.proofs.Joins.{item_appended}
+use Rattle.df_label.proofs.spelling.append_path.Goals as goal
 
 pub loop-i-preserved : goal.loop-i-preserved
 loop-i-preserved c =
