@@ -1,27 +1,20 @@
 -- A filter that is spelled is read back, where a word ends, and what stands behind it is left.
-use Rattle.std.proofs.Common.{◌≡◌, ℕ, zero, suc, false, List, [], ◌∷◌, ◌++◌, Ok, refl}
+use Rattle.std.proofs.Common.{◌≡◌, ℕ, zero, suc, false, eqb, List, [], ◌∷◌, ◌++◌, Ok, refl}
 use Rattle.df_filter.specs.declared.clause.Clause.{Clause}
 use Rattle.df_format.specs.Format.{Ends}
 use Rattle.df_filter_text.specs.Filter.{filter_text}
 use Rattle.df_filter_text.specs.Fits.{IsFilter}
 use Rattle.df_filter_text.specs.ReadFilter.{filter_at}
-use Rattle.df_filter_text.proofs.ClauseLaws.{clause_goes, test_ends}
-use Rattle.df_filter_text.proofs.FilterLaws.{filter_format, filter_goes, leads_on, more_goes}
+use Rattle.df_filter_text.proofs.ClauseLaws.{clause_goes, clause_ends}
+use Rattle.df_filter_text.proofs.FilterLaws.{filter_format, filter_goes, more_goes}
 use Rattle.df_value_text.specs.code.WordEnd.{IsBreak, EndsWord}
-use Rattle.df_value_text.proofs.TagLaws.{nowhere, nowhere_is_local}
 use Rattle.df_value_text.proofs.WordEnds.{at_break}
 
-clause_stops : (clause : Clause) (c : ℕ) → IsBreak c → clause_goes clause c ≡ false
-clause_stops clause c end = at_break (clause_goes clause) (test_ends clause.test 32 refl) (test_ends clause.test 10 refl) c end
-
-leads_stop : (most c : ℕ) → IsBreak c → leads_on most c ≡ false
-leads_stop zero c end = refl
-leads_stop (suc most) c end = at_break (leads_on (suc most)) refl refl c end
-
 more_stop : (most : ℕ) (clauses : List Clause) (c : ℕ) → IsBreak c → more_goes most clauses c ≡ false
-more_stop most [] c end = leads_stop most c end
-more_stop zero (clause ∷ clauses) c end = refl
-more_stop (suc most) (clause ∷ []) c end = rw (leads_stop most c end) (clause_stops clause c end)
+more_stop zero clauses c end = refl
+more_stop (suc most) [] c end = at_break (λ c. eqb c 38) refl refl c end
+more_stop (suc most) (clause ∷ []) c end =
+    rw (more_stop most [] c end) (at_break (clause_goes clause) (clause_ends clause 32 refl) (clause_ends clause 10 refl) c end)
 more_stop (suc most) (clause ∷ next ∷ clauses) c end = more_stop most (next ∷ clauses) c end
 
 filter_stops : (clauses : List Clause) (rest : List ℕ) → EndsWord rest → Ends filter_goes clauses rest
@@ -29,4 +22,4 @@ filter_stops clauses [] end = tt
 filter_stops clauses (c ∷ rest) end = more_stop 4 clauses c end
 
 pub filter_back : (clauses : List Clause) (rest : List ℕ) → IsFilter clauses → EndsWord rest → filter_at (filter_text clauses ++ rest) ≡ Ok (clauses, rest)
-filter_back clauses rest fits end = (filter_format nowhere nowhere_is_local).again clauses rest fits (filter_stops clauses rest end)
+filter_back clauses rest fits end = filter_format.again clauses rest fits (filter_stops clauses rest end)

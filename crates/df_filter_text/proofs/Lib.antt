@@ -1,3 +1,5 @@
+mod Names
+pub mod Signs
 pub mod FieldTestLaws
 pub mod ClauseLaws
 pub mod FilterLaws

@@ -1,5 +1,6 @@
 -- What the laws of filters say of the reader of whole texts.
-use Rattle.std.proofs.Common.{◌≡◌, ℕ, ◌-◌, ◌<◌, ◌≤◌, true, false, eqb, List, [], ◌∷◌, ◌++◌, length, drop, length-drop, Result, Ok, Err, refl, sym, ap, subst, ◌∙◌, arith}
+use Rattle.std.proofs.Common.{◌≡◌, ℕ, ◌-◌, ◌<◌, ◌≤◌, true, false, eqb, List, [], ◌∷◌, ◌++◌, length, drop, length-drop, Result, Ok, Err, refl, sym, ap, subst}
+use Rattle.std.proofs.Common.{◌∙◌, arith}
 use Rattle.std.specs.Prelude.{nat_lt}
 use Rattle.std.proofs.lemmas.Bool.{eqb-true}
 use Rattle.std.proofs.lemmas.Bool.Decides.{nat_tests}
@@ -9,13 +10,12 @@ use Rattle.df_filter.specs.declared.clause.Clause.{Clause}
 use Rattle.df_filter.specs.declared.filter.FilterRefused.{FilterRefused}
 use Rattle.df_format.specs.Reading.{Bad, Low}
 use Rattle.df_format.specs.Grammar.{FirstBad}
-use Rattle.df_format.specs.Format.{Format}
 use Rattle.df_format.proofs.Laws.{ok_is, not_both, ends_of, first_bad}
 use Rattle.df_value_text.specs.code.Answer.{Fails}
 use Rattle.df_value_text.specs.Number.{begins_with}
 use Rattle.df_value_text.specs.declared.refused.Fault.{Fault}
 use Rattle.df_value_text.specs.declared.refused.Fault.TheVariants as fault
-use Rattle.df_value_text.proofs.TagLaws.{nowhere, nowhere_is_local}
+use Rattle.df_format.proofs.Tokens.{nowhere}
 use Rattle.df_filter_text.specs.code.Answer.{HasFifth, IsRefused, IsRefusedBy, refusal}
 use Rattle.df_filter_text.specs.Filter.{filter_text}
 use Rattle.df_filter_text.specs.Fits.{IsFilter}
@@ -42,10 +42,12 @@ same_made clauses filter e = cc
 not_unmade : (clauses : List Clause) (why : FilterRefused) → made clauses ≡ unmade why → ⊥
 not_unmade clauses why e = absurd cc
 
-pub made_is : (clauses filter : List Clause) (r : Result (List Clause) FilterRefused) → IsFilter clauses → r ≡ filter_of clauses → r ≡ made filter → clauses ≡ filter
+pub made_is : (clauses filter : List Clause) (r : Result (List Clause) FilterRefused) → IsFilter clauses → r ≡ filter_of clauses → r ≡ made filter
+    → clauses ≡ filter
 made_is clauses filter r fits is e = same_made clauses filter (sym (filter_made clauses fits) ∙ sym is ∙ e)
 
-pub is_made : (clauses : List Clause) (why : FilterRefused) (r : Result (List Clause) FilterRefused) → IsFilter clauses → r ≡ filter_of clauses → r ≡ unmade why → ⊥
+pub is_made : (clauses : List Clause) (why : FilterRefused) (r : Result (List Clause) FilterRefused) → IsFilter clauses → r ≡ filter_of clauses
+    → r ≡ unmade why → ⊥
 is_made clauses why r fits is e = not_unmade clauses why (sym (filter_made clauses fits) ∙ sym is ∙ e)
 
 pub no_bytes : (bytes : List ℕ) → eqb (length bytes) 0 ≡ true → bytes ≡ []
@@ -68,14 +70,12 @@ nothing_left bytes place le = by (drop place bytes) (length-drop place bytes)
 pub something_left : (bytes : List ℕ) (place : ℕ) → place < length bytes → drop place bytes ≡ [] → ⊥
 something_left bytes place lt e = omega (arith, ap length e, length-drop place bytes, lt)
 
-law : Format nowhere filter_text IsFilter filter_goes filter_at
-law = filter_format nowhere nowhere_is_local
-
 whole_read : (bytes : List ℕ) (filter : List Clause) → IsFilter filter → bytes ≡ filter_text filter → filter_at bytes ≡ Ok (filter, [])
-whole_read bytes filter fits is = ap filter_at (is ∙ sym (append-nil (filter_text filter))) ∙ law.again filter [] fits tt
+whole_read bytes filter fits is = ap filter_at (is ∙ sym (append-nil (filter_text filter))) ∙ filter_format.again filter [] fits tt
 
 fifth_read : (bytes : List ℕ) (m : HasFifth bytes) → filter_at bytes ≡ Ok (m.clauses, 38 ∷ m.more)
-fifth_read bytes m = ap filter_at m.is ∙ law.again m.clauses (38 ∷ m.more) (m.fits, omega (arith, m.four), omega (arith, m.four)) (four_end m.clauses m.four)
+fifth_read bytes m = ap filter_at m.is
+    ∙ filter_format.again m.clauses (38 ∷ m.more) (m.fits, omega (arith, m.four), omega (arith, m.four)) (four_end m.clauses m.four)
 
 -- ---- no clause
 
@@ -84,29 +84,39 @@ none_is_whole bytes filter none fits is = not_both (filter, []) (Bad []) (sym (w
 
 -- ---- reading failed
 
-pub failed_only : (bytes : List ℕ) (e : Fault) → Fails bytes e (filter_at bytes) → (filter : List Clause) → IsFilter filter → bytes ≡ filter_text filter → refusal e ≡ refused.NoMemory
+pub failed_only : (bytes : List ℕ) (e : Fault) → Fails bytes e (filter_at bytes) → (filter : List Clause) → IsFilter filter → bytes ≡ filter_text filter
+    → refusal e ≡ refused.NoMemory
 failed_only bytes fault.NoMemory h filter fits is = refl
 failed_only bytes (fault.Bad place) h filter fits is = not_both (filter, []) (Bad (drop place bytes)) (sym (whole_read bytes filter fits is) ∙ h.1)
 failed_only bytes (fault.Low place) h filter fits is = not_both (filter, []) (Low (drop place bytes)) (sym (whole_read bytes filter fits is) ∙ h.1)
 
 fifth_fails : (bytes : List ℕ) (e : Fault) → Fails bytes e (filter_at bytes) → HasFifth bytes → e ≡ fault.NoMemory
 fifth_fails bytes fault.NoMemory h m = refl
-fifth_fails bytes (fault.Bad place) h m = let here : List Clause × List ℕ = (m.clauses, 38 ∷ m.more) in not_both here (Bad (drop place bytes)) (sym (fifth_read bytes m) ∙ h.1)
-fifth_fails bytes (fault.Low place) h m = let here : List Clause × List ℕ = (m.clauses, 38 ∷ m.more) in not_both here (Low (drop place bytes)) (sym (fifth_read bytes m) ∙ h.1)
+fifth_fails bytes (fault.Bad place) h m = let here : List Clause × List ℕ = (m.clauses, 38 ∷ m.more) in not_both here (Bad (drop place bytes))
+    (sym (fifth_read bytes m) ∙ h.1)
+fifth_fails bytes (fault.Low place) h m = let here : List Clause × List ℕ = (m.clauses, 38 ∷ m.more) in not_both here (Low (drop place bytes))
+    (sym (fifth_read bytes m) ∙ h.1)
 
-pub failed_many : (X : Type 0) (bytes : List ℕ) (e : Fault) → Fails bytes e (filter_at bytes) → HasFifth bytes → IsRefused {X = X} refused.TooManyClauses (Err (refusal e))
+pub failed_many : (X : Type 0) (bytes : List ℕ) (e : Fault) → Fails bytes e (filter_at bytes) → HasFifth bytes
+    → IsRefused {X = X} refused.TooManyClauses (Err (refusal e))
 failed_many X bytes e h m = subst (λ (e : Fault). IsRefused {X = X} refused.TooManyClauses (Err (refusal e))) (sym (fifth_fails bytes e h m)) tt
 
 pub failed_refused : (bytes : List ℕ) (e : Fault) → (bytes ≡ [] → ⊥) → Fails bytes e (filter_at bytes) → IsRefusedBy bytes (refusal e)
 failed_refused bytes fault.NoMemory some h = tt
-failed_refused bytes (fault.Bad place) some h =
-    (h.0, first_bad nowhere filter_text IsFilter filter_goes filter_at law (short_clause ∷ []) ((short_fits, tt), omega arith, omega arith) bytes (drop place bytes) h.1, some, λ m. absurd (let no = fifth_fails bytes (fault.Bad place) h m in cc))
-failed_refused bytes (fault.Low place) some h = absurd ((law.stuck bytes (Low (drop place bytes)) h.1).cause)
+failed_refused bytes (fault.Bad place) some h = (
+  h.0,
+  first_bad nowhere filter_text IsFilter filter_goes filter_at filter_format (short_clause ∷ []) ((short_fits, tt), omega arith, omega arith) bytes
+      (drop place bytes) h.1,
+  some,
+  λ m. absurd (let no = fifth_fails bytes (fault.Bad place) h m in cc),
+)
+failed_refused bytes (fault.Low place) some h = absurd ((filter_format.stuck bytes (Low (drop place bytes)) h.1).cause)
 
 -- ---- clauses were read
 
 -- a whole filter is all of it
-pub whole_is : (bytes : List ℕ) (clauses : List Clause) (rest : List ℕ) → filter_at bytes ≡ Ok (clauses, rest) → (filter : List Clause) → IsFilter filter → bytes ≡ filter_text filter → (clauses ≡ filter) × (rest ≡ [])
+pub whole_is : (bytes : List ℕ) (clauses : List Clause) (rest : List ℕ) → filter_at bytes ≡ Ok (clauses, rest) → (filter : List Clause) → IsFilter filter
+    → bytes ≡ filter_text filter → (clauses ≡ filter) × (rest ≡ [])
 whole_is bytes clauses rest e filter fits is =
     let both = ok_is (clauses, rest) (filter, []) (sym e ∙ whole_read bytes filter fits is) in
     (ap (λ (q : List Clause × List ℕ). q.0) both, ap (λ (q : List Clause × List ℕ). q.1) both)
@@ -120,7 +130,7 @@ fifth_stands bytes clauses rest e m =
 pub has_fifth : (bytes : List ℕ) (clauses : List Clause) (rest : List ℕ) → filter_at bytes ≡ Ok (clauses, rest) → begins_with 38 rest ≡ true → HasFifth bytes
 has_fifth bytes clauses [] e h = absurd cc
 has_fifth bytes clauses (c ∷ more) e h =
-    let found = law.found bytes clauses (c ∷ more) e in
+    let found = filter_format.found bytes clauses (c ∷ more) e in
     let is : c ≡ 38 = eqb-true c 38 h in
     record {
       clauses = clauses;
@@ -130,30 +140,33 @@ has_fifth bytes clauses (c ∷ more) e h =
       is = found.parts ∙ ap (λ (v : ℕ). filter_text clauses ++ v ∷ more) is;
     }
 
-pub whole_has_no_more : (bytes : List ℕ) (clauses : List Clause) (rest : List ℕ) → filter_at bytes ≡ Ok (clauses, rest) → begins_with 38 rest ≡ true → (filter : List Clause) → IsFilter filter → bytes ≡ filter_text filter → ⊥
+pub whole_has_no_more : (bytes : List ℕ) (clauses : List Clause) (rest : List ℕ) → filter_at bytes ≡ Ok (clauses, rest) → begins_with 38 rest ≡ true
+    → (filter : List Clause) → IsFilter filter → bytes ≡ filter_text filter → ⊥
 whole_has_no_more bytes clauses rest e h filter fits is =
     let no : false ≡ true = sym (ap (begins_with 38) (whole_is bytes clauses rest e filter fits is).1) ∙ h in
     absurd cc
 
-pub no_fifth : (bytes : List ℕ) (clauses : List Clause) (rest : List ℕ) → filter_at bytes ≡ Ok (clauses, rest) → begins_with 38 rest ≡ false → HasFifth bytes → ⊥
+pub no_fifth : (bytes : List ℕ) (clauses : List Clause) (rest : List ℕ) → filter_at bytes ≡ Ok (clauses, rest) → begins_with 38 rest ≡ false → HasFifth bytes
+    → ⊥
 no_fifth bytes clauses rest e h m =
     let no : true ≡ false = sym (fifth_stands bytes clauses rest e m) ∙ h in
     absurd cc
 
 -- what is read is a filter
 pub read_fits : (bytes : List ℕ) (clauses : List Clause) (rest : List ℕ) → filter_at bytes ≡ Ok (clauses, rest) → IsFilter clauses
-read_fits bytes clauses rest e = (law.found bytes clauses rest e).fits
+read_fits bytes clauses rest e = (filter_format.found bytes clauses rest e).fits
 
 pub read_is : (bytes : List ℕ) (clauses : List Clause) (rest : List ℕ) → filter_at bytes ≡ Ok (clauses, rest) → rest ≡ [] → bytes ≡ filter_text clauses
-read_is bytes clauses rest e none = (law.found bytes clauses rest e).parts ∙ ap (λ (u : List ℕ). filter_text clauses ++ u) none ∙ append-nil (filter_text clauses)
+read_is bytes clauses rest e none = (filter_format.found bytes clauses rest e).parts ∙ ap (λ (u : List ℕ). filter_text clauses ++ u) none
+    ∙ append-nil (filter_text clauses)
 
 -- behind it a byte stands with which no filter goes on
 pub bad_behind : (bytes : List ℕ) (clauses : List Clause) (rest : List ℕ) → filter_at bytes ≡ Ok (clauses, rest) → FirstBad filter_text IsFilter bytes rest
 bad_behind bytes clauses rest e =
-    let found = law.found bytes clauses rest e in
+    let found = filter_format.found bytes clauses rest e in
     record {
       front = filter_text clauses;
       parts = found.parts;
       viable = record { some = clauses; fits = found.fits; more = []; is = sym (append-nil (filter_text clauses)) };
-      dead = ends_of nowhere filter_text IsFilter filter_goes filter_at law clauses rest found.fits found.ends;
+      dead = ends_of nowhere filter_text IsFilter filter_goes filter_at filter_format clauses rest found.fits found.ends;
     }

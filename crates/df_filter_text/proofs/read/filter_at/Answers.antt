@@ -5,7 +5,9 @@ use Rattle.df_filter_text.proofs.Whole.{made_is, is_made, read_fits}
 use Rattle.df_filter_text.proofs.read.filter_at.Goals as goal
 
 pub unreachable-requires : goal.unreachable-requires
-unreachable-requires c = is_made c.in_ok-clauses.clauses.items c.in-Err.field-0 c.new.result (read_fits (drop c.args.at c.args.bytes.now) c.in_ok-clauses.clauses.items (drop c.in_ok-clauses.end c.args.bytes.now) c.in_ok-clauses.ensures.1) c.new.ensures c.in-Err.is
+unreachable-requires c = is_made c.in_ok-clauses.clauses.items c.in-Err.field-0 c.new.result
+    (read_fits (drop c.args.at c.args.bytes.now) c.in_ok-clauses.clauses.items (drop c.in_ok-clauses.end c.args.bytes.now) c.in_ok-clauses.ensures.1)
+    c.new.ensures c.in-Err.is
 
 pub returns : goal.returns
 returns c =
