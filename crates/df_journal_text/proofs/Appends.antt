@@ -1,15 +1,6 @@
 -- Texts put together in another order.
 use Rattle.std.proofs.Common.{◌≡◌, ℕ, List, [], ◌++◌, append_assoc, append-nil}
 
-pub one_end : (k a : List ℕ) → k ++ (a ++ []) ≡ k ++ a
-one_end k a = simp append-nil
-
-pub two_end : (k a b : List ℕ) → k ++ (a ++ (b ++ [])) ≡ k ++ (a ++ b)
-two_end k a b = simp append-nil
-
-pub three_end : (k a b c : List ℕ) → k ++ (a ++ (b ++ (c ++ []))) ≡ k ++ (a ++ (b ++ c))
-three_end k a b c = simp append-nil
-
 pub four_end : (k a b c d : List ℕ) → k ++ (a ++ (b ++ (c ++ (d ++ [])))) ≡ k ++ ((a ++ (b ++ c)) ++ d)
 four_end k a b c d = simp (append_assoc, append-nil)
 

@@ -6,7 +6,8 @@ use Rattle.df_priv.specs.declared.need.Half.TheVariants.{S, I}
 use Rattle.df_priv.specs.declared.need.Act.{Act}
 use Rattle.df_priv.specs.declared.need.Act.TheVariants.{Add, Del}
 use Rattle.df_unit.specs.declared.call.Call.{Call}
-use Rattle.df_unit.specs.declared.call.Call.TheVariants.{CreateEvent, AddPart, DelPart, ReadPart, CloneEvent, AttachPrivilege, ChangeOutLabel, CreateTag, DropEvent, Subscribe, SubscribeManaged, Get, Publish, Release, ChangeInOut, Instantiate}
+use Rattle.df_unit.specs.declared.call.Call.TheVariants.{AddPart, DelPart, ReadPart, CloneEvent, AttachPrivilege, ChangeOutLabel, DropEvent, Subscribe}
+use Rattle.df_unit.specs.declared.call.Call.TheVariants.{SubscribeManaged, Publish, Release, ChangeInOut, Instantiate}
 use Rattle.df_value_text.specs.Fits.{IsPrivilege}
 use Rattle.df_value_text.specs.Label.{label_text, privilege_text, tag_text}
 use Rattle.df_value_text.specs.Value.{value_text}
@@ -16,7 +17,8 @@ use Rattle.df_journal_text.specs.Fits.{IsCall}
 use Rattle.df_journal_text.specs.Line.{spaced}
 use Rattle.df_journal_text.specs.ReadCall.{act_at, half_at, call_at}
 use Rattle.df_journal_text.specs.ReadWords.{begins_pair}
-use Rattle.df_journal_text.proofs.WordBacks.{word_back, short_word, label_word, name_word, value_word, privilege_word, tag_word, filter_word, braced_word, privileges_back}
+use Rattle.df_journal_text.proofs.WordBacks.{word_back, short_word, label_word, name_word, value_word, privilege_word, tag_word, filter_word, braced_word}
+use Rattle.df_journal_text.proofs.WordBacks.{privileges_back}
 
 half_back : (half : Half) (words : List (List ℕ)) (rest : List ℕ) → half_at (spaced (half_text half ∷ words) ++ rest) ≡ Ok (half, spaced words ++ rest)
 half_back S words rest = refl
@@ -27,8 +29,8 @@ act_back Add words rest = refl
 act_back Del words rest = refl
 
 -- where a word ends and no privilege follows
-pub call_back : (call : Call) (rest : List ℕ) → IsCall call → EndsWord rest → begins_pair 32 35 rest ≡ false → call_at (spaced (call_words call) ++ rest) ≡ Ok (call, rest)
-call_back CreateEvent rest f end last = refl
+pub call_back : (call : Call) (rest : List ℕ) → IsCall call → EndsWord rest → begins_pair 32 35 rest ≡ false
+    → call_at (spaced (call_words call) ++ rest) ≡ Ok (call, rest)
 call_back (AddPart h label name value) rest f end last =
     let e1 = word_back short_word h (label_text label ∷ name ∷ value_text value ∷ []) rest f.0 end in
     let e2 = word_back label_word label (name ∷ value_text value ∷ []) rest f.1 end in
@@ -59,11 +61,9 @@ call_back (ChangeOutLabel half act tag) rest f end last =
     let e2 = act_back act (tag_text tag ∷ []) rest in
     let e3 = word_back tag_word tag [] rest f end in
     rw (e1, e2, e3) refl
-call_back CreateTag rest f end last = refl
 call_back (DropEvent h) rest f end last = rw (word_back short_word h [] rest f end) refl
 call_back (Subscribe filter) rest f end last = rw (word_back filter_word filter [] rest f end) refl
 call_back (SubscribeManaged filter) rest f end last = rw (word_back filter_word filter [] rest f end) refl
-call_back Get rest f end last = refl
 call_back (Publish h) rest f end last = rw (word_back short_word h [] rest f end) refl
 call_back (Release h) rest f end last = rw (word_back short_word h [] rest f end) refl
 call_back (ChangeInOut half act tag) rest f end last =
@@ -75,3 +75,4 @@ call_back (Instantiate s privileges) rest f end last =
     let e1 = word_back braced_word s (map privilege_text privileges) rest f.0 end in
     let e2 = privileges_back privileges rest (recursion_from_All IsPrivilege privileges f.1.0) f.1.1 end last in
     rw (e1, e2) refl
+call_back _ rest f end last = refl

@@ -1,5 +1,5 @@
 -- Calls that are read are spelled so.
-use Rattle.std.proofs.Common.{◌≡◌, ℕ, ◌<◌, ◌^◌, true, List, [], ◌∷◌, ◌++◌, codes, decimal, refl}
+use Rattle.std.proofs.Common.{append-nil, ◌≡◌, ℕ, ◌<◌, ◌^◌, true, List, [], ◌∷◌, ◌++◌, codes, decimal, refl}
 use Rattle.df_priv.specs.declared.need.Half.{Half}
 use Rattle.df_priv.specs.declared.need.Half.TheVariants.{S, I}
 use Rattle.df_priv.specs.declared.need.Act.{Act}
@@ -7,23 +7,25 @@ use Rattle.df_priv.specs.declared.need.Act.TheVariants.{Add, Del}
 use Rattle.df_format.specs.Reading.{Read}
 use Rattle.df_frozen.specs.Name.{is_name}
 use Rattle.df_label.specs.declared.label.Label.{Label}
-use Rattle.df_unit.specs.declared.call.Call.TheVariants.{CreateEvent, DelPart, ReadPart, CloneEvent, AttachPrivilege, ChangeOutLabel, CreateTag, DropEvent, Subscribe, SubscribeManaged, Get, Publish, Release, ChangeInOut, Instantiate}
+use Rattle.df_unit.specs.declared.call.Call.TheVariants.{CreateEvent, DelPart, ReadPart, CloneEvent, AttachPrivilege, ChangeOutLabel, CreateTag, DropEvent}
+use Rattle.df_unit.specs.declared.call.Call.TheVariants.{Subscribe, SubscribeManaged, Get, Publish, Release, ChangeInOut, Instantiate}
 use Rattle.df_value_text.specs.Fits.{IsLabel, IsTag}
 use Rattle.df_value_text.specs.Label.{label_text, privilege_text, tag_text}
-use Rattle.df_filter_text.specs.Filter.{filter_text}
 use Rattle.df_journal_text.specs.Call.{act_text, half_text}
 use Rattle.df_journal_text.specs.Fits.{IsCall}
 use Rattle.df_journal_text.specs.Line.{word}
 use Rattle.df_journal_text.specs.ReadCall.{act_at, change_at, half_at, named_kinds, plain_kinds, last_kinds, spot_at}
 use Rattle.df_journal_text.specs.ReadWords.{bare_at, named_at}
 use Rattle.df_journal_text.specs.code.Judging.{call_text}
-use Rattle.df_journal_text.proofs.Appends.{four_end, one_end, three_end, two_end}
-use Rattle.df_journal_text.proofs.Founds.{AllFind, Finds, bare_finds, braced_finds, filter_finds, finds_then, finds_word, kind_finds, kinds_found, label_finds, name_finds, privilege_finds, privileges_finds, short_finds, tag_finds}
+use Rattle.df_journal_text.proofs.Appends.{four_end}
+use Rattle.df_journal_text.proofs.Founds.{◌⊕◌, AllFind, Finds, bare_finds, braced_finds, filter_finds, finds_then, finds_word, kind_finds, kinds_found}
+use Rattle.df_journal_text.proofs.Founds.{label_finds, name_finds, privilege_finds, privileges_finds, short_finds, tag_finds}
 
 pub named_finds : Finds (λ (n : Label × List ℕ). word (label_text n.0) ++ word n.1) (λ (n : Label × List ℕ). IsLabel n.0 × (is_name n.1 ≡ true)) named_at
 named_finds = finds_then (finds_word label_finds) (finds_word name_finds)
 
-pub spot_finds : Finds (λ (s : ℕ × (Label × List ℕ)). word (decimal s.0) ++ (word (label_text s.1.0) ++ word s.1.1)) (λ (s : ℕ × (Label × List ℕ)). (s.0 < 2 ^ 32) × (IsLabel s.1.0 × (is_name s.1.1 ≡ true))) spot_at
+pub spot_finds : Finds (λ (s : ℕ × (Label × List ℕ)). word (decimal s.0) ++ (word (label_text s.1.0) ++ word s.1.1))
+    (λ (s : ℕ × (Label × List ℕ)). (s.0 < 2 ^ 32) × (IsLabel s.1.0 × (is_name s.1.1 ≡ true))) spot_at
 spot_finds = finds_then (finds_word short_finds) named_finds
 
 abbrev half_kinds : List (List ℕ × (List ℕ → Read ℕ Half))
@@ -33,55 +35,47 @@ abbrev act_kinds : List (List ℕ × (List ℕ → Read ℕ Act))
 act_kinds = (codes "add", bare_at Add) ∷ (codes "del", bare_at Del) ∷ []
 
 half_finds : Finds (λ (h : Half). word (half_text h)) (λ (h : Half). Unit {0}) half_at
-half_finds = record { found = kinds_found (λ (h : Half). word (half_text h)) (λ (h : Half). Unit {0}) half_kinds (bare_finds (λ (h : Half). word (half_text h)) (λ (h : Half). Unit {0}) (codes "S") S refl tt, (bare_finds (λ (h : Half). word (half_text h)) (λ (h : Half). Unit {0}) (codes "I") I refl tt, tt)) }
+half_finds = record {
+  found = kinds_found (λ (h : Half). word (half_text h)) (λ (h : Half). Unit {0}) half_kinds
+      (bare_finds S refl tt ⊕ bare_finds I refl tt ⊕ tt);
+}
 
 act_finds : Finds (λ (a : Act). word (act_text a)) (λ (a : Act). Unit {0}) act_at
-act_finds = record { found = kinds_found (λ (a : Act). word (act_text a)) (λ (a : Act). Unit {0}) act_kinds (bare_finds (λ (a : Act). word (act_text a)) (λ (a : Act). Unit {0}) (codes "add") Add refl tt, (bare_finds (λ (a : Act). word (act_text a)) (λ (a : Act). Unit {0}) (codes "del") Del refl tt, tt)) }
+act_finds = record {
+  found = kinds_found (λ (a : Act). word (act_text a)) (λ (a : Act). Unit {0}) act_kinds
+      (bare_finds Add refl tt ⊕ bare_finds Del refl tt ⊕ tt);
+}
 
-change_finds : Finds (λ (c : Half × (Act × List ℕ)). word (half_text c.0) ++ (word (act_text c.1.0) ++ word (tag_text c.1.1))) (λ (c : Half × (Act × List ℕ)). Unit {0} × (Unit {0} × IsTag c.1.1)) change_at
+change_finds : Finds (λ (c : Half × (Act × List ℕ)). word (half_text c.0) ++ (word (act_text c.1.0) ++ word (tag_text c.1.1)))
+    (λ (c : Half × (Act × List ℕ)). Unit {0} × (Unit {0} × IsTag c.1.1)) change_at
 change_finds = finds_then half_finds (finds_then act_finds (finds_word tag_finds))
 
 last_find : AllFind call_text IsCall last_kinds
-last_find = (
-  bare_finds call_text IsCall (codes "tag") CreateTag refl tt,
-  (
-    kind_finds call_text IsCall (codes "out") (λ x. ChangeOutLabel x.0 x.1.0 x.1.1) change_finds (λ x f. (three_end (word (codes "out")) (word (half_text x.0)) (word (act_text x.1.0)) (word (tag_text x.1.1)), f.1.1)),
-    (
-      kind_finds call_text IsCall (codes "inout") (λ x. ChangeInOut x.0 x.1.0 x.1.1) change_finds (λ x f. (three_end (word (codes "inout")) (word (half_text x.0)) (word (act_text x.1.0)) (word (tag_text x.1.1)), f.1.1)),
-      (
-        kind_finds call_text IsCall (codes "sub") (λ x. Subscribe x) (finds_word filter_finds) (λ x f. (one_end (word (codes "sub")) (word (filter_text x)), f)),
-        (
-          kind_finds call_text IsCall (codes "msub") (λ x. SubscribeManaged x) (finds_word filter_finds) (λ x f. (one_end (word (codes "msub")) (word (filter_text x)), f)),
-          (kind_finds call_text IsCall (codes "spawn") (λ x. Instantiate x.0 x.1) (finds_then (finds_word braced_finds) privileges_finds) (λ x f. (refl, f)), tt),
-        ),
-      ),
-    ),
-  ),
-)
+last_find =
+    bare_finds CreateTag refl tt
+    ⊕ kind_finds (λ x. ChangeOutLabel x.0 x.1.0 x.1.1) change_finds (λ x f. (simp append-nil, f.1.1))
+    ⊕ kind_finds (λ x. ChangeInOut x.0 x.1.0 x.1.1) change_finds (λ x f. (simp append-nil, f.1.1))
+    ⊕ kind_finds (λ x. Subscribe x) (finds_word filter_finds) (λ x f. (simp append-nil, f))
+    ⊕ kind_finds (λ x. SubscribeManaged x) (finds_word filter_finds) (λ x f. (simp append-nil, f))
+    ⊕ kind_finds (λ x. Instantiate x.0 x.1) (finds_then (finds_word braced_finds) privileges_finds) (λ x f. (refl, f))
+    ⊕ tt
 
 named_find : AllFind call_text IsCall named_kinds
-named_find = (
-  kind_finds call_text IsCall (codes "del") (λ x. DelPart x.0 x.1.0 x.1.1) spot_finds (λ x f. (three_end (word (codes "del")) (word (decimal x.0)) (word (label_text x.1.0)) (word x.1.1), (f.0, f.1.0, f.1.1))),
-  (
-    kind_finds call_text IsCall (codes "read") (λ x. ReadPart x.0 x.1) (finds_then (finds_word short_finds) (finds_word name_finds)) (λ x f. (two_end (word (codes "read")) (word (decimal x.0)) (word x.1), f)),
-    (
-      kind_finds call_text IsCall (codes "clone") (λ x. CloneEvent x.0 x.1) (finds_then (finds_word short_finds) (finds_word label_finds)) (λ x f. (two_end (word (codes "clone")) (word (decimal x.0)) (word (label_text x.1)), f)),
-      (kind_finds call_text IsCall (codes "attach") (λ x. AttachPrivilege x.0.0 x.0.1.0 x.0.1.1 x.1) (finds_then spot_finds (finds_word privilege_finds)) (λ x f. (four_end (word (codes "attach")) (word (decimal x.0.0)) (word (label_text x.0.1.0)) (word x.0.1.1) (word (privilege_text x.1)), (f.0.0, f.0.1.0, f.0.1.1, f.1))), last_find),
-    ),
-  ),
-)
+named_find =
+    kind_finds (λ x. DelPart x.0 x.1.0 x.1.1) spot_finds (λ x f. (simp append-nil, (f.0, f.1.0, f.1.1)))
+    ⊕ kind_finds (λ x. ReadPart x.0 x.1) (finds_then (finds_word short_finds) (finds_word name_finds)) (λ x f. (simp append-nil, f))
+    ⊕ kind_finds (λ x. CloneEvent x.0 x.1) (finds_then (finds_word short_finds) (finds_word label_finds)) (λ x f. (simp append-nil, f))
+    ⊕ kind_finds (λ x. AttachPrivilege x.0.0 x.0.1.0 x.0.1.1 x.1) (finds_then spot_finds (finds_word privilege_finds)) (λ x f. (
+      four_end (word (codes "attach")) (word (decimal x.0.0)) (word (label_text x.0.1.0)) (word x.0.1.1) (word (privilege_text x.1)),
+      (f.0.0, f.0.1.0, f.0.1.1, f.1),
+    ))
+    ⊕ last_find
 
 pub plain_find : AllFind call_text IsCall plain_kinds
-plain_find = (
-  bare_finds call_text IsCall (codes "get") Get refl tt,
-  (
-    bare_finds call_text IsCall (codes "create") CreateEvent refl tt,
-    (
-      kind_finds call_text IsCall (codes "publish") (λ x. Publish x) (finds_word short_finds) (λ x f. (one_end (word (codes "publish")) (word (decimal x)), f)),
-      (
-        kind_finds call_text IsCall (codes "release") (λ x. Release x) (finds_word short_finds) (λ x f. (one_end (word (codes "release")) (word (decimal x)), f)),
-        (kind_finds call_text IsCall (codes "drop") (λ x. DropEvent x) (finds_word short_finds) (λ x f. (one_end (word (codes "drop")) (word (decimal x)), f)), named_find),
-      ),
-    ),
-  ),
-)
+plain_find =
+    bare_finds Get refl tt
+    ⊕ bare_finds CreateEvent refl tt
+    ⊕ kind_finds (λ x. Publish x) (finds_word short_finds) (λ x f. (simp append-nil, f))
+    ⊕ kind_finds (λ x. Release x) (finds_word short_finds) (λ x f. (simp append-nil, f))
+    ⊕ kind_finds (λ x. DropEvent x) (finds_word short_finds) (λ x f. (simp append-nil, f))
+    ⊕ named_find

@@ -1,6 +1,6 @@
 -- What the reader of calls answers.
 use Rattle.std.proofs.Common.{◌≡◌, ℕ, ◌≤◌, List, ◌++◌, length, drop, Result, Ok, Err, codes, decimal, refl, sym, ap, subst, ◌∙◌, inl}
-use Rattle.df_format.specs.Reading.{Stop, Bad, Low, Read, then_at, text_at}
+use Rattle.df_format.specs.Reading.{Stop, Read, then_at, text_at}
 use Rattle.df_format.proofs.Laws.{not_both, ok_is}
 use Rattle.df_format.proofs.Texts.{text_again, text_found}
 use Rattle.df_frozen.specs.Plain.{Plain}
@@ -17,7 +17,6 @@ use Rattle.df_value_text.specs.Value.{value_text}
 use Rattle.df_value_text.specs.code.Answer.{Fails}
 use Rattle.df_value_text.specs.code.WordEnd.{EndsWord}
 use Rattle.df_value_text.specs.declared.refused.Fault.{Fault}
-use Rattle.df_value_text.specs.declared.refused.Fault.TheVariants as literal
 use Rattle.df_value_text.proofs.ValueLaws.{value_format}
 use Rattle.df_journal_text.specs.Fits.{IsCall}
 use Rattle.df_journal_text.specs.Large.{IsLargeCall, IsLargeWord}
@@ -31,6 +30,7 @@ use Rattle.df_journal_text.proofs.Appends.{four_apart, three_apart}
 use Rattle.df_journal_text.proofs.CallBacks.{call_back}
 use Rattle.df_journal_text.proofs.CallFounds.{plain_find, spot_finds}
 use Rattle.df_journal_text.proofs.Founds.{Finds, as_found, finds_word, kinds_found, then_found}
+use Rattle.df_journal_text.proofs.Stopped.{on_fault}
 use Rattle.df_journal_text.proofs.ValueTells.{value_apart, value_word_text}
 use Rattle.df_journal_text.proofs.WordBacks.{label_word, name_word, short_word}
 
@@ -39,7 +39,8 @@ value_finds = record { found = λ bytes v rest e. let f = (value_format (length 
 
 -- ---- what stands behind `add`
 
-call_is : (bytes : List ℕ) (call : Call) (rest : List ℕ) → IsCall call → EndsCall rest → behind_add bytes ≡ call_text call ++ rest → added_at bytes ≡ Ok (call, rest)
+call_is : (bytes : List ℕ) (call : Call) (rest : List ℕ) → IsCall call → EndsCall rest → behind_add bytes ≡ call_text call ++ rest
+    → added_at bytes ≡ Ok (call, rest)
 call_is bytes call rest fits may is = ap call_at is ∙ call_back call rest fits may.0 may.1
 
 -- the words of a call whose value is too large are read up to it
@@ -47,15 +48,18 @@ spot_large : (bytes : List ℕ) (l : IsLargeCall (behind_add bytes)) → spot_at
 spot_large bytes l =
     let n = l.large in
     let last : List ℕ = word n.name ++ n.rest in
-    let all : behind_add bytes ≡ behind_add (word (decimal l.h) ++ (word (label_text n.label) ++ last)) = l.parts ∙ ap (λ (u : List ℕ). behind_add (word (decimal l.h) ++ u)) n.parts in
+    let all : behind_add bytes ≡ behind_add (word (decimal l.h) ++ (word (label_text n.label) ++ last)) = l.parts
+    ∙ ap (λ (u : List ℕ). behind_add (word (decimal l.h) ++ u)) n.parts in
     let whole : bytes ≡ word (decimal l.h) ++ (word (label_text n.label) ++ last) = cc in
-    let e1 : short_at (decimal l.h ++ (word (label_text n.label) ++ last)) ≡ Ok (l.h, word (label_text n.label) ++ last) = short_word.back l.h (word (label_text n.label) ++ last) l.small (inl refl) in
+    let e1 : short_at (decimal l.h ++ (word (label_text n.label) ++ last)) ≡ Ok (l.h, word (label_text n.label) ++ last) = short_word.back l.h
+    (word (label_text n.label) ++ last) l.small (inl refl) in
     let e2 : label_at (label_text n.label ++ last) ≡ Ok (n.label, last) = label_word.back n.label last n.label_fits (inl refl) in
     let e3 : name_at (n.name ++ n.rest) ≡ Ok (n.name, n.rest) = name_word.back n.name n.rest n.name_fits (subst EndsWord (sym n.large.parts) (inl refl)) in
     ap spot_at whole ∙ rw (e1, e2, e3) refl
 
 -- where no handle, label and name stand
-no_spot : (bytes : List ℕ) (stop : Stop ℕ) → spot_at bytes ≡ Err stop → IsUnspelled call_text IsCall EndsCall (behind_add bytes) × ¬ IsLargeCall (behind_add bytes)
+no_spot : (bytes : List ℕ) (stop : Stop ℕ) → spot_at bytes ≡ Err stop
+    → IsUnspelled call_text IsCall EndsCall (behind_add bytes) × ¬ IsLargeCall (behind_add bytes)
 no_spot bytes stop e = (
   λ call rest fits may is.
       let a = as_found add_of (then_at spot_at (word_at value_at)) bytes call rest (call_is bytes call rest fits may is) in
@@ -65,9 +69,7 @@ no_spot bytes stop e = (
 )
 
 pub added_no_spot : (bytes : List ℕ) (at : ℕ) (e : Fault) → Fails bytes e (spot_at (drop at bytes)) → TellsAdded bytes at (Err (line_fault e))
-added_no_spot bytes at literal.NoMemory h = tt
-added_no_spot bytes at (literal.Bad place) h = no_spot (drop at bytes) (Bad (drop place bytes)) h.1
-added_no_spot bytes at (literal.Low place) h = no_spot (drop at bytes) (Low (drop place bytes)) h.1
+added_no_spot bytes at e h = on_fault (λ f. TellsAdded bytes at (Err f)) bytes (spot_at (drop at bytes)) e h tt (no_spot (drop at bytes))
 
 module _ (bytes : List ℕ) (at behind : ℕ) (x : ℕ × (Label × List ℕ)) (spot : spot_at (drop at bytes) ≡ Ok (x, drop behind bytes)) where
   unspelled : IsUnspelled value_word_text IsValue EndsWord (drop behind bytes) → IsUnspelled call_text IsCall EndsCall (behind_add (drop at bytes))
@@ -87,7 +89,8 @@ module _ (bytes : List ℕ) (at behind : ℕ) (x : ℕ × (Label × List ℕ)) (
   is_large : IsLargeWord (drop behind bytes) → IsLargeCall (behind_add (drop at bytes))
   is_large h =
       let s = spot_finds.found (drop at bytes) x (drop behind bytes) spot in
-      let parts : drop at bytes ≡ word (decimal x.0) ++ (word (label_text x.1.0) ++ (word x.1.1 ++ drop behind bytes)) = s.0 ∙ three_apart (word (decimal x.0)) (word (label_text x.1.0)) (word x.1.1) (drop behind bytes) in
+      let parts : drop at bytes ≡ word (decimal x.0) ++ (word (label_text x.1.0) ++ (word x.1.1 ++ drop behind bytes)) = s.0
+      ∙ three_apart (word (decimal x.0)) (word (label_text x.1.0)) (word x.1.1) (drop behind bytes) in
       record {
         h = x.0;
         rest = word (label_text x.1.0) ++ (word x.1.1 ++ drop behind bytes);
@@ -96,16 +99,19 @@ module _ (bytes : List ℕ) (at behind : ℕ) (x : ℕ × (Label × List ℕ)) (
         large = record { label = x.1.0; name = x.1.1; rest = drop behind bytes; parts = refl; label_fits = s.1.1.0; name_fits = s.1.1.1; large = h };
       }
 
-  pub added_no_value : (f : LineFault) → Tells value_word_text IsValue EndsWord IsLargeWord (word_at value_at) bytes behind (Err f) → TellsAdded bytes at (Err f)
+  pub added_no_value : (f : LineFault) → Tells value_word_text IsValue EndsWord IsLargeWord (word_at value_at) bytes behind (Err f)
+      → TellsAdded bytes at (Err f)
   added_no_value fault.NoMemory v = tt
   added_no_value fault.Syntax v = (unspelled v.0, not_large v.1)
   added_no_value fault.TooLarge v = (unspelled v.0, is_large v.1)
 
-  pub added_found : (value : Plain) (end : ℕ) → Tells value_word_text IsValue EndsWord IsLargeWord (word_at value_at) bytes behind (Ok (value, end)) → TellsAdded bytes at (Ok (AddPart x.0 x.1.0 x.1.1 value, end))
+  pub added_found : (value : Plain) (end : ℕ) → Tells value_word_text IsValue EndsWord IsLargeWord (word_at value_at) bytes behind (Ok (value, end))
+      → TellsAdded bytes at (Ok (AddPart x.0 x.1.0 x.1.1 value, end))
   added_found value end v =
       let s = spot_finds.found (drop at bytes) x (drop behind bytes) spot in
       let front : List ℕ = word (decimal x.0) ++ (word (label_text x.1.0) ++ word x.1.1) in
-      let whole : call_text (AddPart x.0 x.1.0 x.1.1 value) ++ drop end bytes ≡ behind_add (front ++ (value_word_text value ++ drop end bytes)) = four_apart (word (codes "add")) (word (decimal x.0)) (word (label_text x.1.0)) (word x.1.1) (value_word_text value) (drop end bytes) in
+      let whole : call_text (AddPart x.0 x.1.0 x.1.1 value) ++ drop end bytes ≡ behind_add (front ++ (value_word_text value ++ drop end bytes)) = four_apart
+      (word (codes "add")) (word (decimal x.0)) (word (label_text x.1.0)) (word x.1.1) (value_word_text value) (drop end bytes) in
       (v.0, (s.1.0, s.1.1.0, s.1.1.1, v.1), ap behind_add (s.0 ∙ ap (λ (u : List ℕ). front ++ u) v.2) ∙ sym whole, rw (spot, v.3) refl)
 
 -- a call that is read adds nothing that is too large
@@ -122,15 +128,18 @@ call_apart bytes call rest e fits l =
 
 -- ---- any call
 
-tells_added : (bytes : List ℕ) (at start : ℕ) → drop at bytes ≡ behind_add (drop start bytes) → (f : LineFault) → TellsAdded bytes start (Err f) → Tells call_text IsCall EndsCall IsLargeCall call_at bytes at (Err f)
+tells_added : (bytes : List ℕ) (at start : ℕ) → drop at bytes ≡ behind_add (drop start bytes) → (f : LineFault) → TellsAdded bytes start (Err f)
+    → Tells call_text IsCall EndsCall IsLargeCall call_at bytes at (Err f)
 tells_added bytes at start is fault.NoMemory h = tt
 tells_added bytes at start is fault.Syntax h = (λ call rest fits may e. h.0 call rest fits may (sym is ∙ e), λ l. h.1 (subst IsLargeCall is l))
 tells_added bytes at start is fault.TooLarge h = (λ call rest fits may e. h.0 call rest fits may (sym is ∙ e), subst IsLargeCall (sym is) h.1)
 
-tells_added_call : (bytes : List ℕ) (at start : ℕ) → drop at bytes ≡ behind_add (drop start bytes) → (x : Call × ℕ) → TellsAdded bytes start (Ok x) → Tells call_text IsCall EndsCall IsLargeCall call_at bytes at (Ok x)
+tells_added_call : (bytes : List ℕ) (at start : ℕ) → drop at bytes ≡ behind_add (drop start bytes) → (x : Call × ℕ) → TellsAdded bytes start (Ok x)
+    → Tells call_text IsCall EndsCall IsLargeCall call_at bytes at (Ok x)
 tells_added_call bytes at start is x h = (h.0, h.1, is ∙ h.2, ap call_at is ∙ h.3)
 
-pub tells_add : (bytes : List ℕ) (at start : ℕ) → drop at bytes ≡ behind_add (drop start bytes) → (r : Result (Call × ℕ) LineFault) → TellsAdded bytes start r → Tells call_text IsCall EndsCall IsLargeCall call_at bytes at r
+pub tells_add : (bytes : List ℕ) (at start : ℕ) → drop at bytes ≡ behind_add (drop start bytes) → (r : Result (Call × ℕ) LineFault) → TellsAdded bytes start r
+    → Tells call_text IsCall EndsCall IsLargeCall call_at bytes at r
 tells_add bytes at start is (Ok x) h = tells_added_call bytes at start is x h
 tells_add bytes at start is (Err f) h = tells_added bytes at start is f h
 
@@ -141,20 +150,26 @@ add_stands bytes rest e = (text_found (word (codes "add")) bytes (word (codes "a
 no_add : (bytes : List ℕ) → IsStopped (text_at (word (codes "add")) bytes) → call_at bytes ≡ kinds_at plain_kinds bytes
 no_add bytes s = ap (λ (r : Read ℕ (List ℕ)). keyed r added_at (kinds_at plain_kinds bytes)) s.1
 
-plain_is : (bytes : List ℕ) (call : Call) (rest : List ℕ) → IsStopped (text_at (word (codes "add")) bytes) → IsCall call → EndsCall rest → bytes ≡ call_text call ++ rest → kinds_at plain_kinds bytes ≡ Ok (call, rest)
+plain_is : (bytes : List ℕ) (call : Call) (rest : List ℕ) → IsStopped (text_at (word (codes "add")) bytes) → IsCall call → EndsCall rest
+    → bytes ≡ call_text call ++ rest → kinds_at plain_kinds bytes ≡ Ok (call, rest)
 plain_is bytes call rest s fits may is =
     sym (no_add bytes s) ∙ ap call_at is ∙ call_back call rest fits may.0 may.1
 
-no_plain : (bytes : List ℕ) (stop : Stop ℕ) → IsStopped (text_at (word (codes "add")) bytes) → kinds_at plain_kinds bytes ≡ Err stop → IsUnspelled call_text IsCall EndsCall bytes × ¬ IsLargeCall bytes
+no_plain : (bytes : List ℕ) (stop : Stop ℕ) → IsStopped (text_at (word (codes "add")) bytes) → kinds_at plain_kinds bytes ≡ Err stop
+    → IsUnspelled call_text IsCall EndsCall bytes × ¬ IsLargeCall bytes
 no_plain bytes stop s e = (
   λ call rest fits may is. not_both (call, rest) stop (sym (plain_is bytes call rest s fits may is) ∙ e),
-  λ l. not_both (word (codes "add"), word (decimal l.h) ++ l.rest) s.0 (sym (ap (text_at (word (codes "add"))) l.parts ∙ text_again (word (codes "add")) (word (decimal l.h) ++ l.rest)) ∙ s.1),
+  λ l. not_both (word (codes "add"), word (decimal l.h) ++ l.rest) s.0
+      (sym (ap (text_at (word (codes "add"))) l.parts ∙ text_again (word (codes "add")) (word (decimal l.h) ++ l.rest)) ∙ s.1),
 )
 
-pub plain_fails : (bytes : List ℕ) (at : ℕ) (e : Fault) → IsStopped (text_at (word (codes "add")) (drop at bytes)) → Fails bytes e (kinds_at plain_kinds (drop at bytes)) → Tells call_text IsCall EndsCall IsLargeCall call_at bytes at (Err (line_fault e))
-plain_fails bytes at literal.NoMemory s h = tt
-plain_fails bytes at (literal.Bad place) s h = no_plain (drop at bytes) (Bad (drop place bytes)) s h.1
-plain_fails bytes at (literal.Low place) s h = no_plain (drop at bytes) (Low (drop place bytes)) s h.1
+pub plain_fails : (bytes : List ℕ) (at : ℕ) (e : Fault) → IsStopped (text_at (word (codes "add")) (drop at bytes))
+    → Fails bytes e (kinds_at plain_kinds (drop at bytes)) → Tells call_text IsCall EndsCall IsLargeCall call_at bytes at (Err (line_fault e))
+plain_fails bytes at e s h =
+    on_fault (λ f. Tells call_text IsCall EndsCall IsLargeCall call_at bytes at (Err f)) bytes (kinds_at plain_kinds (drop at bytes)) e h tt
+    (λ stop. no_plain (drop at bytes) stop s)
 
-pub plain_tells : (bytes : List ℕ) (at : ℕ) (call : Call) (end : ℕ) → IsStopped (text_at (word (codes "add")) (drop at bytes)) → end ≤ length bytes → kinds_at plain_kinds (drop at bytes) ≡ Ok (call, drop end bytes) → Tells call_text IsCall EndsCall IsLargeCall call_at bytes at (Ok (call, end))
-plain_tells bytes at call end s within e = let k = kinds_found call_text IsCall plain_kinds plain_find (drop at bytes) call (drop end bytes) e in (within, k.1, k.0, no_add (drop at bytes) s ∙ e)
+pub plain_tells : (bytes : List ℕ) (at : ℕ) (call : Call) (end : ℕ) → IsStopped (text_at (word (codes "add")) (drop at bytes)) → end ≤ length bytes
+    → kinds_at plain_kinds (drop at bytes) ≡ Ok (call, drop end bytes) → Tells call_text IsCall EndsCall IsLargeCall call_at bytes at (Ok (call, end))
+plain_tells bytes at call end s within e = let k = kinds_found call_text IsCall plain_kinds plain_find (drop at bytes) call (drop end bytes)
+    e in (within, k.1, k.0, no_add (drop at bytes) s ∙ e)

@@ -1,9 +1,9 @@
 -- Entries that are spelled are read back.
-use Rattle.std.proofs.Common.{◌≡◌, ℕ, ◌+◌, ◌<◌, true, false, eqb, List, [], ◌∷◌, ◌++◌, length, map, Option, Some, None, Ok, codes, refl, sym, ap, ◌∙◌, append_assoc, arith, inl, inr}
+use Rattle.std.proofs.Common.{◌≡◌, ℕ, ◌+◌, ◌<◌, true, false, eqb, eq-eqb, List, [], ◌∷◌, ◌++◌, length, map, Option, Some, None, Ok, codes, refl, sym, ap, ◌∙◌}
+use Rattle.std.proofs.Common.{append_assoc, arith, inl, inr}
 use Rattle.std.specs.List.{AllByRecursion, flat_map}
 use Rattle.std.proofs.lemmas.List.Elements.{recursion_from_All}
 use Rattle.std.proofs.lemmas.List.Concat.{flat_map-append}
-use Rattle.std.proofs.lemmas.Bool.Decides.{nat_tests}
 use Rattle.df_format.specs.Reading.{Read}
 use Rattle.df_format.proofs.Backs.{Back, all_back}
 use Rattle.df_label.specs.declared.label.Label.{Label}
@@ -28,7 +28,8 @@ use Rattle.df_journal_text.specs.Entry.{part_line, spot_line, edit_text, given_t
 use Rattle.df_journal_text.specs.Fits.{IsCall, IsCommit, IsEdit, IsEffectOf, IsEvent, IsPart, IsPartRead, IsReply, IsSpot, IsUnit}
 use Rattle.df_journal_text.specs.Line.{line, spaced, word}
 use Rattle.df_journal_text.specs.Name.{event_text, unit_text}
-use Rattle.df_journal_text.specs.ReadEntry.{IsUnmarked, all_marked_at, call_line_at, commit_at, deleted_at, done_at, done_of, edit_at, effect_at, marked_at, note_at, part_at, part_read_at, shown_at}
+use Rattle.df_journal_text.specs.ReadEntry.{IsUnmarked, all_marked_at, call_line_at, commit_at, deleted_at, done_at, done_of, edit_at, effect_at, marked_at}
+use Rattle.df_journal_text.specs.ReadEntry.{note_at, part_at, part_read_at, shown_at}
 use Rattle.df_journal_text.specs.ReadName.{event_at}
 use Rattle.df_journal_text.specs.ReadWords.{begins_pair, line_at, word_at}
 use Rattle.df_journal_text.specs.Reply.{reply_words}
@@ -48,19 +49,19 @@ pub record Words {X : Type 0} (words : X → List (List ℕ)) (Fits : X → Type
 abbrev marked_text : {X : Type 0} → ℕ → (X → List (List ℕ)) → X → List ℕ
 marked_text mark words x = line (mark ∷ []) (words x)
 
-eqb-same : (n : ℕ) → eqb n n ≡ true
-eqb-same n = grind (arith, nat_tests)
-
-marked_back : {X : Type 0} {words : X → List (List ℕ)} {Fits : X → Type 0} {read : List ℕ → Read ℕ X} (w : Words words Fits read) (mark : ℕ) (x : X) (rest : List ℕ) → Fits x → marked_at mark read (marked_text mark words x ++ rest) ≡ Ok (x, rest)
+marked_back : {X : Type 0} {words : X → List (List ℕ)} {Fits : X → Type 0} {read : List ℕ
+    → Read ℕ X} (w : Words words Fits read) (mark : ℕ) (x : X) (rest : List ℕ) → Fits x → marked_at mark read (marked_text mark words x ++ rest) ≡ Ok (x, rest)
 marked_back {X} {words} {Fits} {read} w mark x rest fits =
-    ap (marked_at mark read) (line-rest (mark ∷ []) (words x) rest) ∙ rw (eqb-same mark) (line_back read (spaced (words x) ++ 10 ∷ rest) x rest (w.back x rest fits))
+    ap (marked_at mark read) (line-rest (mark ∷ []) (words x) rest)
+    ∙ rw (eq-eqb mark mark refl) (line_back read (spaced (words x) ++ 10 ∷ rest) x rest (w.back x rest fits))
 
 -- behind a mark stands a space, where there are words
 begins_marked : (mark : ℕ) (words : List (List ℕ)) (more : List ℕ) → 0 < length words → begins_pair mark 32 (mark ∷ (spaced words ++ more)) ≡ true
 begins_marked mark [] more some = absurd (omega arith)
-begins_marked mark (w ∷ ws) more some = rw (eqb-same mark) refl
+begins_marked mark (w ∷ ws) more some = rw (eq-eqb mark mark refl) refl
 
-marked_lines : {X : Type 0} {words : X → List (List ℕ)} {Fits : X → Type 0} {read : List ℕ → Read ℕ X} (w : Words words Fits read) (mark : ℕ) → Back (begins_pair mark 32) (marked_text mark words) Fits (λ rest. Unit {0}) (marked_at mark read)
+marked_lines : {X : Type 0} {words : X → List (List ℕ)} {Fits : X → Type 0} {read : List ℕ → Read ℕ X} (w : Words words Fits read) (mark : ℕ)
+    → Back (begins_pair mark 32) (marked_text mark words) Fits (λ rest. Unit {0}) (marked_at mark read)
 marked_lines {X} {words} {Fits} {read} w mark = record {
   back = λ x rest fits next. marked_back w mark x rest fits;
   stand = λ x rest fits. ap (begins_pair mark 32) (line-rest (mark ∷ []) (words x) rest) ∙ begins_marked mark (words x) (10 ∷ rest) (w.some x);
@@ -68,7 +69,8 @@ marked_lines {X} {words} {Fits} {read} w mark = record {
   next = λ x rest fits. tt;
 }
 
-all_marked_back : {X : Type 0} {words : X → List (List ℕ)} {Fits : X → Type 0} {read : List ℕ → Read ℕ X} (w : Words words Fits read) (mark : ℕ) (xs : List X) (rest : List ℕ) → AllByRecursion Fits xs → begins_pair mark 32 rest ≡ false
+all_marked_back : {X : Type 0} {words : X → List (List ℕ)} {Fits : X → Type 0} {read : List ℕ
+    → Read ℕ X} (w : Words words Fits read) (mark : ℕ) (xs : List X) (rest : List ℕ) → AllByRecursion Fits xs → begins_pair mark 32 rest ≡ false
     → all_marked_at mark read (flat_map (marked_text mark words) xs ++ rest) ≡ Ok (xs, rest)
 all_marked_back w mark xs rest fits end = all_back (marked_lines w mark) xs rest fits tt end
 
@@ -123,12 +125,15 @@ not_deleted (part ∷ parts) rest end = refl
 edit_back : (edit : List Spot × List Part) (rest : List ℕ) → IsEdit edit → IsUnmarked rest → edit_at (edit_text edit ++ rest) ≡ Ok (edit, rest)
 edit_back edit rest fits end =
     let added : List ℕ = flat_map (part_line (43 ∷ [])) edit.1 ++ rest in
-    let e1 : all_marked_at 45 deleted_at (flat_map spot_line edit.0 ++ added) ≡ Ok (edit.0, added) = all_marked_back spots_are 45 edit.0 added (recursion_from_All IsSpot edit.0 fits.0) (not_deleted edit.1 rest end) in
-    let e2 : all_marked_at 43 part_at added ≡ Ok (edit.1, rest) = all_marked_back parts_are 43 edit.1 rest (recursion_from_All IsPart edit.1 fits.1) end.added in
+    let e1 : all_marked_at 45 deleted_at (flat_map spot_line edit.0 ++ added) ≡ Ok (edit.0, added) = all_marked_back spots_are 45 edit.0 added
+    (recursion_from_All IsSpot edit.0 fits.0) (not_deleted edit.1 rest end) in
+    let e2 : all_marked_at 43 part_at added ≡ Ok (edit.1, rest) = all_marked_back parts_are 43 edit.1 rest (recursion_from_All IsPart edit.1 fits.1)
+    end.added in
     ap edit_at (append_assoc (flat_map spot_line edit.0) (flat_map (part_line (43 ∷ [])) edit.1) rest) ∙ rw (e1, e2) refl
 
 event_line_back : (event : _) (rest : List ℕ) → IsEvent event → line_at (word_at event_at) (spaced (event_text event ∷ []) ++ 10 ∷ rest) ≡ Ok (event, rest)
-event_line_back event rest fits = line_back (word_at event_at) (spaced (event_text event ∷ []) ++ 10 ∷ rest) event rest (word_back event_word event [] (10 ∷ rest) fits (inr refl))
+event_line_back event rest fits = line_back (word_at event_at) (spaced (event_text event ∷ []) ++ 10 ∷ rest) event rest
+    (word_back event_word event [] (10 ∷ rest) fits (inr refl))
 
 -- what stands behind a commit's first word
 abbrev pub commit_text : Commit → List ℕ
@@ -141,7 +146,8 @@ commit_back commit rest fits end =
     ap commit_at (append_assoc (spaced (event_text commit.event ∷ [])) (10 ∷ edit_text commit.edit) rest) ∙ rw (e1, e2) refl
 
 -- a first word, and a commit behind it
-pub commit-rest : (first : List ℕ) (commit : Commit) (rest : List ℕ) → (line first (event_text commit.event ∷ []) ++ edit_text commit.edit) ++ rest ≡ first ++ (commit_text commit ++ rest)
+pub commit-rest : (first : List ℕ) (commit : Commit) (rest : List ℕ)
+    → (line first (event_text commit.event ∷ []) ++ edit_text commit.edit) ++ rest ≡ first ++ (commit_text commit ++ rest)
 commit-rest first commit rest = simp append_assoc
 
 -- ---- what stands below a call's line
@@ -154,7 +160,8 @@ effect_back (effect.Commit commit) r rest fits end =
 effect_back (effect.Given given) (reply.Event h sub) rest fits end =
     let parts : List ℕ = flat_map (part_line (46 ∷ [])) given.parts ++ rest in
     let words : List (List ℕ) = event_text given.event ∷ [] in
-    let whole : given_text given ++ rest ≡ 60 ∷ (spaced words ++ 10 ∷ parts) = append_assoc (line (60 ∷ []) words) (flat_map (part_line (46 ∷ [])) given.parts) rest ∙ line-rest (60 ∷ []) words parts in
+    let whole : given_text given ++ rest ≡ 60 ∷ (spaced words ++ 10 ∷ parts) = append_assoc (line (60 ∷ []) words)
+    (flat_map (part_line (46 ∷ [])) given.parts) rest ∙ line-rest (60 ∷ []) words parts in
     let e1 = event_line_back given.event parts fits.1 in
     let e2 = all_marked_back parts_are 46 given.parts rest (recursion_from_All IsPart given.parts fits.2) end.part in
     let made : Given = record { event = given.event; sub = sub; parts = given.parts } in
@@ -165,28 +172,7 @@ effect_back (effect.Given given) _ rest fits end = absurd fits
 -- the reply is that of the line, with what a read shows
 shown_back : (r : Reply) (rest : List ℕ) → IsReply r → begins_pair 58 32 rest ≡ false → shown_at (bare_of r) (reads_text r ++ rest) ≡ Ok (r, rest)
 shown_back (reply.Parts parts) rest fits end = let e = all_marked_back parts_read_are 58 parts rest (recursion_from_All IsPartRead parts fits) end in rw e refl
-shown_back reply.Ok rest fits end = refl
-shown_back (reply.Handle h) rest fits end = refl
-shown_back (reply.Tag tag) rest fits end = refl
-shown_back (reply.Sub n) rest fits end = refl
-shown_back (reply.Unit n) rest fits end = refl
-shown_back (reply.Event h sub) rest fits end = refl
-shown_back reply.Nothing rest fits end = refl
-shown_back reply.NoSuchUnit rest fits end = refl
-shown_back reply.NoSuchHandle rest fits end = refl
-shown_back reply.NoSuchPart rest fits end = refl
-shown_back reply.NotDraft rest fits end = refl
-shown_back reply.NotReceived rest fits end = refl
-shown_back reply.EmptyEvent rest fits end = refl
-shown_back reply.NotInManaged rest fits end = refl
-shown_back reply.TooManyHandles rest fits end = refl
-shown_back (reply.TooManyParts wanted) rest fits end = refl
-shown_back reply.TooManySubs rest fits end = refl
-shown_back reply.TooManyUnits rest fits end = refl
-shown_back reply.TooDeep rest fits end = refl
-shown_back reply.Exhausted rest fits end = refl
-shown_back (reply.Lacks p) rest fits end = refl
-shown_back (reply.CannotWrite out part) rest fits end = refl
+shown_back _ rest fits end = refl
 
 abbrev pub IsNote : Option Label → Type 0
 IsNote None = Unit {0}
@@ -200,7 +186,8 @@ note_back (Some label) rest fits end =
     ap note_at (line-rest (64 ∷ []) words rest) ∙ rw e refl
 
 -- an effect's text begins with none of the marks before it
-effect_begins : (e : Effect) (rest : List ℕ) (mark : ℕ) → eqb 61 mark ≡ false → eqb 60 mark ≡ false → begins_pair mark 32 rest ≡ false → begins_pair mark 32 (effect_text e ++ rest) ≡ false
+effect_begins : (e : Effect) (rest : List ℕ) (mark : ℕ) → eqb 61 mark ≡ false → eqb 60 mark ≡ false → begins_pair mark 32 rest ≡ false
+    → begins_pair mark 32 (effect_text e ++ rest) ≡ false
 effect_begins effect.Nothing rest mark a b end = end
 effect_begins (effect.Commit commit) rest mark a b end = rw a refl
 effect_begins (effect.Given given) rest mark a b end = rw b refl
@@ -208,37 +195,18 @@ effect_begins (effect.Given given) rest mark a b end = rw b refl
 reads_begin : (r : Reply) (rest : List ℕ) → begins_pair 64 32 rest ≡ false → begins_pair 64 32 (reads_text r ++ rest) ≡ false
 reads_begin (reply.Parts []) rest end = end
 reads_begin (reply.Parts (part ∷ parts)) rest end = refl
-reads_begin reply.Ok rest end = end
-reads_begin (reply.Handle h) rest end = end
-reads_begin (reply.Tag tag) rest end = end
-reads_begin (reply.Sub n) rest end = end
-reads_begin (reply.Unit n) rest end = end
-reads_begin (reply.Event h sub) rest end = end
-reads_begin reply.Nothing rest end = end
-reads_begin reply.NoSuchUnit rest end = end
-reads_begin reply.NoSuchHandle rest end = end
-reads_begin reply.NoSuchPart rest end = end
-reads_begin reply.NotDraft rest end = end
-reads_begin reply.NotReceived rest end = end
-reads_begin reply.EmptyEvent rest end = end
-reads_begin reply.NotInManaged rest end = end
-reads_begin reply.TooManyHandles rest end = end
-reads_begin (reply.TooManyParts wanted) rest end = end
-reads_begin reply.TooManySubs rest end = end
-reads_begin reply.TooManyUnits rest end = end
-reads_begin reply.TooDeep rest end = end
-reads_begin reply.Exhausted rest end = end
-reads_begin (reply.Lacks p) rest end = end
-reads_begin (reply.CannotWrite out part) rest end = end
+reads_begin _ rest end = end
 
 -- ---- a call's line
 
-call_line_back : (actor : UnitName) (call : Call) (r : Reply) (rest : List ℕ) → IsUnit actor → IsCall call → IsReply r → call_line_at (call_line actor call r ++ rest) ≡ Ok ((actor, (call, bare_of r)), rest)
+call_line_back : (actor : UnitName) (call : Call) (r : Reply) (rest : List ℕ) → IsUnit actor → IsCall call → IsReply r
+    → call_line_at (call_line actor call r ++ rest) ≡ Ok ((actor, (call, bare_of r)), rest)
 call_line_back actor call r rest fits_actor fits_call fits_reply =
     let behind : List ℕ = spaced (reply_words r) ++ 10 ∷ rest in
     let arrow : List ℕ = 32 ∷ 45 ∷ 62 ∷ behind in
     let words : spaced (call_words call ++ codes "->" ∷ reply_words r) ++ 10 ∷ rest ≡ spaced (call_words call) ++ arrow =
-    ap (λ (u : List ℕ). u ++ 10 ∷ rest) (flat_map-append word (call_words call) (codes "->" ∷ reply_words r)) ∙ append_assoc (spaced (call_words call)) (spaced (codes "->" ∷ reply_words r)) (10 ∷ rest) in
+    ap (λ (u : List ℕ). u ++ 10 ∷ rest) (flat_map-append word (call_words call) (codes "->" ∷ reply_words r))
+    ∙ append_assoc (spaced (call_words call)) (spaced (codes "->" ∷ reply_words r)) (10 ∷ rest) in
     let whole : call_line actor call r ++ rest ≡ unit_text actor ++ (spaced (call_words call) ++ arrow) =
     line-rest (unit_text actor) (call_words call ++ codes "->" ∷ reply_words r) rest ∙ ap (λ (u : List ℕ). unit_text actor ++ u) words in
     let e1 = unit_word.back actor (spaced (call_words call) ++ arrow) fits_actor (ends_spaced (call_words call) arrow (inl refl)) in
@@ -248,16 +216,14 @@ call_line_back actor call r rest fits_actor fits_call fits_reply =
 
 -- ---- entries
 
-pub done_back : (actor : UnitName) (call : Call) (r : Reply) (e : Effect) (note : Option Label) (rest : List ℕ) → IsUnit actor → IsCall call → IsReply r → IsEffectOf e r → IsNote note → IsUnmarked rest
+pub done_back : (actor : UnitName) (call : Call) (r : Reply) (e : Effect) (note : Option Label) (rest : List ℕ) → IsUnit actor → IsCall call → IsReply r
+    → IsEffectOf e r → IsNote note → IsUnmarked rest
     → done_at (entry_text note (Done actor call r e) ++ rest) ≡ Ok (done_of actor call note r e, rest)
 done_back actor call r e note rest fits_actor fits_call fits_reply fits_effect fits_note end =
     let behind_reads : List ℕ = effect_text e ++ rest in
     let behind_note : List ℕ = reads_text r ++ behind_reads in
     let behind_line : List ℕ = note_text note ++ behind_note in
-    let whole : entry_text note (Done actor call r e) ++ rest ≡ call_line actor call r ++ behind_line =
-    append_assoc ((call_line actor call r ++ note_text note) ++ reads_text r) (effect_text e) rest
-    ∙ append_assoc (call_line actor call r ++ note_text note) (reads_text r) behind_reads
-    ∙ append_assoc (call_line actor call r) (note_text note) behind_note in
+    let whole : entry_text note (Done actor call r e) ++ rest ≡ call_line actor call r ++ behind_line = simp append_assoc in
     let e1 = call_line_back actor call r behind_line fits_actor fits_call fits_reply in
     let e2 = note_back note behind_note fits_note (reads_begin r behind_reads (effect_begins e rest 64 refl refl end.note)) in
     let e3 = shown_back r behind_reads fits_reply (effect_begins e rest 58 refl refl end.shown) in

@@ -1,8 +1,10 @@
 -- What reading gives is spelled so, and fits.
-use Rattle.std.proofs.Common.{◌≡◌, ℕ, suc, zero, ◌<◌, ◌^◌, true, eqb, Bool, Option, Some, None, List, [], ◌∷◌, ◌++◌, length, map, Ok, Err, decimal, refl, sym, ap, subst, ◌∙◌, arith, append_assoc, ◌⊎◌, inl, inr}
+use Rattle.std.proofs.Common.{◌≡◌, ℕ, suc, zero, ◌<◌, ◌^◌, true, eqb, Bool, Option, Some, None, List, [], ◌∷◌, ◌++◌, length, map, Ok, Err, decimal, refl, sym}
+use Rattle.std.proofs.Common.{ap, subst, ◌∙◌, arith, append_assoc, ◌⊎◌, inl, inr}
 use Rattle.std.specs.List.{AllByRecursion, flat_map}
 use Rattle.std.proofs.lemmas.List.Elements.{All-from_recursion}
 use Rattle.df_format.specs.Reading.{Bad, Low, Read, ◌>>=◌, as_at, then_at, maybe_at, text_at, behind_at, closed_at, while_at}
+use Rattle.df_format.specs.Format.{Format}
 use Rattle.df_format.proofs.Laws.{bind_ok, chosen, ok_is, not_both}
 use Rattle.df_format.proofs.Texts.{text_found}
 use Rattle.df_frozen.specs.Name.{is_name}
@@ -16,7 +18,8 @@ use Rattle.df_value_text.specs.ReadName.{name_at}
 use Rattle.df_value_text.specs.ReadTag.{numbers_at, short_at, tag_at}
 use Rattle.df_value_text.proofs.LabelLaws.{label_format, privilege_format}
 use Rattle.df_value_text.proofs.NameLaws.{name_format}
-use Rattle.df_value_text.proofs.TagLaws.{behind_byte, long_found, nowhere, nowhere_is_local, short_format, tag_format}
+use Rattle.df_format.proofs.Tokens.{nowhere, nowhere_is_local}
+use Rattle.df_value_text.proofs.TagLaws.{behind_byte, long_found, short_format, tag_format}
 use Rattle.df_value_text.proofs.TagSetLaws.{tags_format}
 use Rattle.df_filter_text.specs.Filter.{filter_text}
 use Rattle.df_filter_text.specs.Fits.{IsFilter}
@@ -37,13 +40,15 @@ pub record Finds {X : Type 0} (spell : X → List ℕ) (Fits : X → Type 0) (re
 
 -- ---- steps
 
-pub as_found : {X Y : Type 0} (make : X → Y) (read : List ℕ → Read ℕ X) (bytes : List ℕ) (y : Y) (rest : List ℕ) → as_at make read bytes ≡ Ok (y, rest) → (x : X) × (read bytes ≡ Ok (x, rest)) × (make x ≡ y)
+pub as_found : {X Y : Type 0} (make : X → Y) (read : List ℕ → Read ℕ X) (bytes : List ℕ) (y : Y) (rest : List ℕ) → as_at make read bytes ≡ Ok (y, rest)
+    → (x : X) × (read bytes ≡ Ok (x, rest)) × (make x ≡ y)
 as_found {X} {Y} make read bytes y rest e =
     let b = bind_ok (read bytes) (λ x. Ok (make x.0, x.1)) (y, rest) e in
     let p = ok_is (make b.0.0, b.0.1) (y, rest) b.2 in
     (b.0.0, b.1 ∙ ap (λ (q : Y × List ℕ). Ok (b.0.0, q.1)) p, ap (λ (q : Y × List ℕ). q.0) p)
 
-pub then_found : {X Y : Type 0} (rx : List ℕ → Read ℕ X) (ry : List ℕ → Read ℕ Y) (bytes : List ℕ) (x : X) (y : Y) (rest : List ℕ) → then_at rx ry bytes ≡ Ok ((x, y), rest)
+pub then_found : {X Y : Type 0} (rx : List ℕ → Read ℕ X) (ry : List ℕ → Read ℕ Y) (bytes : List ℕ) (x : X) (y : Y) (rest : List ℕ)
+    → then_at rx ry bytes ≡ Ok ((x, y), rest)
     → (mid : List ℕ) × (rx bytes ≡ Ok (x, mid)) × (ry mid ≡ Ok (y, rest))
 then_found {X} {Y} rx ry bytes x y rest e =
     let a = bind_ok (rx bytes) (λ x. ry x.1 >>= λ y. Ok ((x.0, y.0), y.1)) ((x, y), rest) e in
@@ -52,7 +57,8 @@ then_found {X} {Y} rx ry bytes x y rest e =
     (a.0.1, a.1 ∙ ap (λ (q : (X × Y) × List ℕ). Ok (q.0.0, a.0.1)) p, b.1 ∙ ap (λ (q : (X × Y) × List ℕ). Ok (q.0.1, q.1)) p)
 
 -- what is read is made of what another reads
-pub finds_as : {X Y : Type 0} {sx : X → List ℕ} {FX : X → Type 0} {read : List ℕ → Read ℕ X} (make : X → Y) (f : Finds sx FX read) (sy : Y → List ℕ) (FY : Y → Type 0) → ((x : X) → FX x → (sy (make x) ≡ sx x) × FY (make x)) → Finds sy FY (as_at make read)
+pub finds_as : {X Y : Type 0} {sx : X → List ℕ} {FX : X → Type 0} {read : List ℕ → Read ℕ X} (make : X → Y) (f : Finds sx FX read) (sy : Y → List ℕ) (FY : Y
+    → Type 0) → ((x : X) → FX x → (sy (make x) ≡ sx x) × FY (make x)) → Finds sy FY (as_at make read)
 finds_as {X} {Y} {sx} {FX} {read} make f sy FY to = record {
   found = λ bytes y rest e.
       let a = as_found make read bytes y rest e in
@@ -61,7 +67,8 @@ finds_as {X} {Y} {sx} {FX} {read} make f sy FY to = record {
       subst (λ (z : Y). (bytes ≡ sy z ++ rest) × FY z) a.2 (k.0 ∙ ap (λ (u : List ℕ). u ++ rest) (sym t.0), t.1);
 }
 
-pub finds_then : {X Y : Type 0} {sx : X → List ℕ} {FX : X → Type 0} {rx : List ℕ → Read ℕ X} {sy : Y → List ℕ} {FY : Y → Type 0} {ry : List ℕ → Read ℕ Y} → Finds sx FX rx → Finds sy FY ry → Finds (λ (p : X × Y). sx p.0 ++ sy p.1) (λ (p : X × Y). FX p.0 × FY p.1) (then_at rx ry)
+pub finds_then : {X Y : Type 0} {sx : X → List ℕ} {FX : X → Type 0} {rx : List ℕ → Read ℕ X} {sy : Y → List ℕ} {FY : Y → Type 0} {ry : List ℕ → Read ℕ Y}
+    → Finds sx FX rx → Finds sy FY ry → Finds (λ (p : X × Y). sx p.0 ++ sy p.1) (λ (p : X × Y). FX p.0 × FY p.1) (then_at rx ry)
 finds_then {X} {Y} {sx} {FX} {rx} {sy} {FY} {ry} f g = record {
   found = λ bytes p rest e.
       let t = then_found rx ry bytes p.0 p.1 rest e in
@@ -70,7 +77,8 @@ finds_then {X} {Y} {sx} {FX} {rx} {sy} {FY} {ry} f g = record {
       (a.0 ∙ ap (λ (u : List ℕ). sx p.0 ++ u) b.0 ∙ sym (append_assoc (sx p.0) (sy p.1) rest), (a.1, b.1));
 }
 
-pub finds_behind : {X : Type 0} {spell : X → List ℕ} {Fits : X → Type 0} {read : List ℕ → Read ℕ X} (ws : List ℕ) → Finds spell Fits read → Finds (λ (x : X). ws ++ spell x) Fits (behind_at ws read)
+pub finds_behind : {X : Type 0} {spell : X → List ℕ} {Fits : X → Type 0} {read : List ℕ → Read ℕ X} (ws : List ℕ) → Finds spell Fits read
+    → Finds (λ (x : X). ws ++ spell x) Fits (behind_at ws read)
 finds_behind {X} {spell} {Fits} {read} ws f = record {
   found = λ bytes x rest e.
       let b = bind_ok (text_at ws bytes) (λ h. read h.1) (x, rest) e in
@@ -78,7 +86,8 @@ finds_behind {X} {spell} {Fits} {read} ws f = record {
       ((text_found ws bytes b.0.0 b.0.1 b.1).1 ∙ ap (λ (u : List ℕ). ws ++ u) k.0 ∙ sym (append_assoc ws (spell x) rest), k.1);
 }
 
-pub finds_closed : {X : Type 0} {spell : X → List ℕ} {Fits : X → Type 0} {read : List ℕ → Read ℕ X} (ws : List ℕ) → Finds spell Fits read → Finds (λ (x : X). spell x ++ ws) Fits (closed_at ws read)
+pub finds_closed : {X : Type 0} {spell : X → List ℕ} {Fits : X → Type 0} {read : List ℕ → Read ℕ X} (ws : List ℕ) → Finds spell Fits read
+    → Finds (λ (x : X). spell x ++ ws) Fits (closed_at ws read)
 finds_closed {X} {spell} {Fits} {read} ws f = record {
   found = λ bytes x rest e.
       let a = bind_ok (read bytes) (λ x. text_at ws x.1 >>= λ h. Ok (x.0, h.1)) (x, rest) e in
@@ -90,11 +99,13 @@ finds_closed {X} {spell} {Fits} {read} ws f = record {
       (k.0 ∙ ap (λ (u : List ℕ). spell a.0.0 ++ u) t ∙ sym (append_assoc (spell a.0.0) ws b.0.1), k.1);
 }
 
-pub finds_word : {X : Type 0} {spell : X → List ℕ} {Fits : X → Type 0} {read : List ℕ → Read ℕ X} → Finds spell Fits read → Finds (λ (x : X). word (spell x)) Fits (word_at read)
+pub finds_word : {X : Type 0} {spell : X → List ℕ} {Fits : X → Type 0} {read : List ℕ → Read ℕ X} → Finds spell Fits read
+    → Finds (λ (x : X). word (spell x)) Fits (word_at read)
 finds_word f = finds_behind (32 ∷ []) f
 
 -- nothing was read, or something
-maybe_found : {X : Type 0} (begins : ℕ → Bool) (read : List ℕ → Read ℕ X) (bytes : List ℕ) (o : Option X) (rest : List ℕ) → maybe_at begins read bytes ≡ Ok (o, rest)
+maybe_found : {X : Type 0} (begins : ℕ → Bool) (read : List ℕ → Read ℕ X) (bytes : List ℕ) (o : Option X) (rest : List ℕ)
+    → maybe_at begins read bytes ≡ Ok (o, rest)
     → ((o ≡ None) × (bytes ≡ rest)) ⊎ ((x : X) × (o ≡ Some x) × (read bytes ≡ Ok (x, rest)))
 maybe_found {X} begins read [] o rest e =
     let p = ok_is (None, []) (o, rest) e in
@@ -113,62 +124,84 @@ maybe_found {X} begins read (c ∷ cs) o rest e =
 -- ---- keywords
 
 -- what is read behind this keyword is spelled with it
-abbrev pub KindFinds : {Y : Type 0} → (Y → List ℕ) → (Y → Type 0) → List ℕ → (List ℕ → Read ℕ Y) → Type 0
-KindFinds {Y} spell Fits keyword read = (bytes : List ℕ) (y : Y) (rest : List ℕ) → read bytes ≡ Ok (y, rest) → (word keyword ++ bytes ≡ spell y ++ rest) × Fits y
+pub record KindFinds {Y : Type 0} (spell : Y → List ℕ) (Fits : Y → Type 0) (keyword : List ℕ) (read : List ℕ → Read ℕ Y) : Type 0 where
+  pub found : (bytes : List ℕ) (y : Y) (rest : List ℕ) → read bytes ≡ Ok (y, rest) → (word keyword ++ bytes ≡ spell y ++ rest) × Fits y
 
 abbrev pub AllFind : {Y : Type 0} → (Y → List ℕ) → (Y → Type 0) → List (List ℕ × (List ℕ → Read ℕ Y)) → Type 0
 AllFind spell Fits [] = Unit {0}
 AllFind spell Fits (kind ∷ kinds) = KindFinds spell Fits kind.0 kind.1 × AllFind spell Fits kinds
 
-kind_found : {Y : Type 0} (spell : Y → List ℕ) (Fits : Y → Type 0) (keyword : List ℕ) (read : List ℕ → Read ℕ Y) (h : KindFinds spell Fits keyword read) (bytes : List ℕ) (y : Y) (rest : List ℕ) (others : Read ℕ Y) → (others ≡ Ok (y, rest) → (bytes ≡ spell y ++ rest) × Fits y)
-    → (r : Read ℕ (List ℕ)) → text_at (word keyword) bytes ≡ r → keyed r read others ≡ Ok (y, rest) → (bytes ≡ spell y ++ rest) × Fits y
-kind_found spell Fits keyword read h bytes y rest others f (Ok t) is e = let b = h t.1 y rest e in ((text_found (word keyword) bytes t.0 t.1 is).1 ∙ b.0, b.1)
-kind_found spell Fits keyword read h bytes y rest others f (Err s) is e = f e
+-- what holds of one kind, and what holds of the others
+infixr 4 ◌⊕◌
+pub ◌⊕◌ : {A B : Type 0} → A → B → A × B
+a ⊕ b = (a, b)
 
-pub kinds_found : {Y : Type 0} (spell : Y → List ℕ) (Fits : Y → Type 0) (kinds : List (List ℕ × (List ℕ → Read ℕ Y))) → AllFind spell Fits kinds → (bytes : List ℕ) (y : Y) (rest : List ℕ) → kinds_at kinds bytes ≡ Ok (y, rest) → (bytes ≡ spell y ++ rest) × Fits y
+pub kinds_found : {Y : Type 0} (spell : Y → List ℕ) (Fits : Y → Type 0) (kinds : List (List ℕ × (List ℕ → Read ℕ Y))) → AllFind spell Fits kinds
+    → (bytes : List ℕ) (y : Y) (rest : List ℕ)
+    → kinds_at kinds bytes ≡ Ok (y, rest) → (bytes ≡ spell y ++ rest) × Fits y
 kinds_found spell Fits [] h bytes y rest e = not_both (y, rest) (Bad bytes) (sym e)
-kinds_found spell Fits (kind ∷ kinds) h bytes y rest e = kind_found spell Fits kind.0 kind.1 h.0 bytes y rest (kinds_at kinds bytes) (kinds_found spell Fits kinds h.1 bytes y rest) (text_at (word kind.0) bytes) refl e
+kinds_found {Y} spell Fits (kind ∷ kinds) h bytes y rest e = by (text_at (word kind.0) bytes) refl e (kinds_found spell Fits kinds h.1 bytes y rest)
+  where
+    by : (r : Read ℕ (List ℕ)) → text_at (word kind.0) bytes ≡ r → keyed r kind.1 (kinds_at kinds bytes) ≡ Ok (y, rest)
+        → (kinds_at kinds bytes ≡ Ok (y, rest) → (bytes ≡ spell y ++ rest) × Fits y) → (bytes ≡ spell y ++ rest) × Fits y
+    by (Ok t) is e f = let b = h.0.found t.1 y rest e in ((text_found (word kind.0) bytes t.0 t.1 is).1 ∙ b.0, b.1)
+    by (Err s) is e f = f e
 
-pub kind_finds : {X Y : Type 0} {sx : X → List ℕ} {FX : X → Type 0} {read : List ℕ → Read ℕ X} (spell : Y → List ℕ) (Fits : Y → Type 0) (keyword : List ℕ) (make : X → Y) (f : Finds sx FX read) → ((x : X) → FX x → (spell (make x) ≡ word keyword ++ sx x) × Fits (make x)) → KindFinds spell Fits keyword (λ (bytes : List ℕ). as_at make read bytes)
-kind_finds {X} {Y} {sx} {FX} {read} spell Fits keyword make f to bytes y rest e =
-    let a = as_found make read bytes y rest e in
-    let k = f.found bytes a.0 rest a.1 in
-    let t = to a.0 k.1 in
-    subst (λ (z : Y). (word keyword ++ bytes ≡ spell z ++ rest) × Fits z) a.2
-    (ap (λ (u : List ℕ). word keyword ++ u) k.0 ∙ sym (append_assoc (word keyword) (sx a.0) rest) ∙ ap (λ (u : List ℕ). u ++ rest) (sym t.0), t.1)
+pub kind_finds : {X Y : Type 0} {spell : Y → List ℕ} {Fits : Y → Type 0} {keyword : List ℕ} {sx : X → List ℕ} {FX : X → Type 0} {read : List ℕ
+    → Read ℕ X} (make : X → Y) → Finds sx FX read
+    → ((x : X) → FX x → (spell (make x) ≡ word keyword ++ sx x) × Fits (make x)) → KindFinds spell Fits keyword (λ (bytes : List ℕ). as_at make read bytes)
+kind_finds {X} {Y} {spell} {Fits} {keyword} {sx} {FX} {read} make f to = record {
+  found = λ bytes y rest e.
+      let a = as_found make read bytes y rest e in
+      let k = f.found bytes a.0 rest a.1 in
+      let t = to a.0 k.1 in
+      subst (λ (z : Y). (word keyword ++ bytes ≡ spell z ++ rest) × Fits z) a.2
+      (ap (λ (u : List ℕ). word keyword ++ u) k.0 ∙ sym (append_assoc (word keyword) (sx a.0) rest) ∙ ap (λ (u : List ℕ). u ++ rest) (sym t.0), t.1);
+}
 
-pub bare_finds : {Y : Type 0} (spell : Y → List ℕ) (Fits : Y → Type 0) (keyword : List ℕ) (y0 : Y) → word keyword ≡ spell y0 → Fits y0 → KindFinds spell Fits keyword (bare_at y0)
-bare_finds {Y} spell Fits keyword y0 is fits bytes y rest e =
-    let p = ok_is (y0, bytes) (y, rest) e in
-    subst (λ (q : Y × List ℕ). (word keyword ++ bytes ≡ spell q.0 ++ q.1) × Fits q.0) p (ap (λ (u : List ℕ). u ++ bytes) is, fits)
+pub bare_finds : {Y : Type 0} {spell : Y → List ℕ} {Fits : Y → Type 0} {keyword : List ℕ} (y0 : Y) → word keyword ≡ spell y0 → Fits y0
+    → KindFinds spell Fits keyword (bare_at y0)
+bare_finds {Y} {spell} {Fits} {keyword} y0 is fits = record {
+  found = λ bytes y rest e.
+      subst (λ (q : Y × List ℕ). (word keyword ++ bytes ≡ spell q.0 ++ q.1) × Fits q.0) (ok_is (y0, bytes) (y, rest) e)
+      (ap (λ (u : List ℕ). u ++ bytes) is, fits);
+}
 
 -- ---- literals
 
 pub short_finds : Finds decimal (λ (n : ℕ). n < 2 ^ 32) short_at
 short_finds = record { found = λ bytes n rest e. let f = (short_format nowhere).found bytes n rest e in (f.parts, omega (arith, f.fits)) }
 
+-- what is read by the laws of a format
+formed : {X : Type 0} {IsLow : List ℕ → List ℕ → Type 0} {spell : X → List ℕ} {Fits : X → Type 0} {goes : X → ℕ → Bool} {read : List ℕ → Read ℕ X}
+    → Format IsLow spell Fits goes read → Finds spell Fits read
+formed format = record { found = λ bytes x rest e. let f = format.found bytes x rest e in (f.parts, f.fits) }
+
 pub tag_finds : Finds tag_text IsTag tag_at
-tag_finds = record { found = λ bytes tag rest e. let f = (tag_format nowhere nowhere_is_local).found bytes tag rest e in (f.parts, f.fits) }
+tag_finds = formed (tag_format nowhere nowhere_is_local)
 
 pub label_finds : Finds label_text IsLabel label_at
-label_finds = record { found = λ bytes label rest e. let f = label_format.found bytes label rest e in (f.parts, f.fits) }
+label_finds = formed label_format
 
 pub privilege_finds : Finds privilege_text IsPrivilege privilege_at
-privilege_finds = record { found = λ bytes p rest e. let f = privilege_format.found bytes p rest e in (f.parts, f.fits) }
+privilege_finds = formed privilege_format
 
 pub name_finds : Finds (λ (name : List ℕ). name) (λ (name : List ℕ). is_name name ≡ true) name_at
-name_finds = record { found = λ bytes name rest e. let f = (name_format nowhere).found bytes name rest e in (f.parts, f.fits) }
+name_finds = formed (name_format nowhere)
 
 pub filter_finds : Finds filter_text IsFilter filter_at
-filter_finds = record { found = λ bytes clauses rest e. let f = (filter_format nowhere nowhere_is_local).found bytes clauses rest e in (f.parts, f.fits) }
+filter_finds = formed filter_format
 
 pub braced_finds : Finds braced IsTagSet braced_at
-braced_finds = finds_behind (123 ∷ []) (finds_closed (125 ∷ []) (record { found = λ bytes tags rest e. let f = tags_format.found bytes tags rest e in (f.parts, f.fits) }))
+braced_finds = finds_behind (123 ∷ []) (finds_closed (125 ∷ []) (formed tags_format))
 
 -- ---- several
 
-while_found : {X : Type 0} {spell : X → List ℕ} {Fits : X → Type 0} {read : List ℕ → Read ℕ X} (stands : List ℕ → Bool) (f : Finds spell Fits read) (n : ℕ) (bytes : List ℕ) (xs : List X) (rest : List ℕ) → while_at stands read n bytes ≡ Ok (xs, rest) → (bytes ≡ flat_map spell xs ++ rest) × AllByRecursion Fits xs
-while_found {X} {spell} {Fits} {read} stands f zero bytes xs rest e = subst (λ (q : List X × List ℕ). (bytes ≡ flat_map spell q.0 ++ q.1) × AllByRecursion Fits q.0) (ok_is ([], bytes) (xs, rest) e) (refl, tt)
+while_found : {X : Type 0} {spell : X → List ℕ} {Fits : X → Type 0} {read : List ℕ → Read ℕ X} (stands : List ℕ
+    → Bool) (f : Finds spell Fits read) (n : ℕ) (bytes : List ℕ) (xs : List X) (rest : List ℕ) → while_at stands read n bytes ≡ Ok (xs, rest)
+    → (bytes ≡ flat_map spell xs ++ rest) × AllByRecursion Fits xs
+while_found {X} {spell} {Fits} {read} stands f zero bytes xs rest e = subst
+    (λ (q : List X × List ℕ). (bytes ≡ flat_map spell q.0 ++ q.1) × AllByRecursion Fits q.0) (ok_is ([], bytes) (xs, rest) e) (refl, tt)
 while_found {X} {spell} {Fits} {read} stands f (suc n) bytes xs rest e =
     elim (chosen (stands bytes) (read bytes >>= λ x. while_at stands read n x.1 >>= λ xs. Ok (x.0 ∷ xs.0, xs.1)) (Ok ([], bytes)) (Ok (xs, rest)) e) [
       | inl h ↦
@@ -218,7 +251,8 @@ unit_found bytes u rest e =
           let is : Managed a.0.0 m.0.0 m.0.1 ≡ u = ap (λ (o : Option (ℕ × List (List ℕ))). unit_of (a.0.0, o)) (sym m.1) ∙ a.2 in
           let i = instance_finds.found t.0 m.0 rest m.2 in
           let whole : unit_text (Managed a.0.0 m.0.0 m.0.1) ++ rest ≡ path_text a.0.0 ++ ((47 ∷ (decimal m.0.0 ++ braced m.0.1)) ++ rest) = simp append_assoc in
-          subst (λ (v : UnitName). (bytes ≡ unit_text v ++ rest) × IsUnit v) is (n.0 ∙ ap (λ (w : List ℕ). path_text a.0.0 ++ w) i.0 ∙ sym whole, (n.1, i.1.0, i.1.1))
+          subst (λ (v : UnitName). (bytes ≡ unit_text v ++ rest) × IsUnit v) is
+          (n.0 ∙ ap (λ (w : List ℕ). path_text a.0.0 ++ w) i.0 ∙ sym whole, (n.1, i.1.0, i.1.1))
     ]
 
 pub unit_finds : Finds unit_text IsUnit unit_at

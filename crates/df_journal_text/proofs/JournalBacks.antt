@@ -1,5 +1,6 @@
 -- Journals that are spelled are read back, so a text is that of one journal.
-use Rattle.std.proofs.Common.{◌≡◌, ℕ, ◌<◌, ◌||◌, true, false, eqb, List, [], ◌∷◌, ◌++◌, length, Option, Some, None, Ok, codes, decimal, refl, sym, ap, subst, ◌∙◌, append_assoc, arith, inl, inr}
+use Rattle.std.proofs.Common.{◌≡◌, ℕ, ◌<◌, ◌||◌, true, false, eqb, List, [], ◌∷◌, ◌++◌, length, Option, Some, None, Ok, codes, decimal, refl, sym, ap, subst}
+use Rattle.std.proofs.Common.{◌∙◌, append_assoc, arith, inl, inr}
 use Rattle.std.specs.Char.{is_ascii_digit}
 use Rattle.std.specs.List.{flat_map}
 use Rattle.std.proofs.lemmas.Bool.{eqb-true}
@@ -25,7 +26,7 @@ use Rattle.df_unit.specs.declared.call.Call.{Call}
 use Rattle.df_unit.specs.declared.reply.Reply.{Reply}
 use Rattle.df_unit.specs.declared.entry.Effect.{Effect}
 use Rattle.df_journal_text.specs.Call.{call_words}
-use Rattle.df_journal_text.specs.Entry.{call_line, effect_text, entry_text, note_text, noted_text, reads_text}
+use Rattle.df_journal_text.specs.Entry.{effect_text, entry_text, note_text, noted_text, reads_text}
 use Rattle.df_journal_text.specs.Line.{spaced}
 use Rattle.df_journal_text.specs.Reply.{reply_words}
 use Rattle.df_journal_text.specs.Fits.{IsEntry, IsJournal, IsNoteOf, IsNoted, IsRoot, IsUnit}
@@ -49,13 +50,9 @@ path_first (n ∷ ns) fits = ap begins_digit (joined_items 46 decimal n ns) ∙ 
 pub unit_first : (unit : UnitName) → IsUnit unit → begins_digit (unit_text unit) ≡ true
 unit_first (Root path) fits = path_first path fits
 unit_first (Managed owner sub s) fits =
-    let path : List ℕ = path_text owner in
-    let digit = path_first owner fits.0 in
-    more_first (path ++ codes "/" ++ decimal sub ++ codes "{" ++ tags_text s) (codes "}")
-    (more_first (path ++ codes "/" ++ decimal sub ++ codes "{") (tags_text s)
-    (more_first (path ++ codes "/" ++ decimal sub) (codes "{")
-    (more_first (path ++ codes "/") (decimal sub)
-    (more_first path (codes "/") digit))))
+    let more : List ℕ = 47 ∷ (decimal sub ++ (123 ∷ (tags_text s ++ 125 ∷ []))) in
+    let whole : unit_text (Managed owner sub s) ≡ path_text owner ++ more = simp append_assoc in
+    ap begins_digit whole ∙ more_first (path_text owner) more (path_first owner fits.0)
 
 -- a digit is none of these bytes
 other : (c mark : ℕ) → is_ascii_digit c ≡ true → is_ascii_digit mark ≡ false → eqb c mark ≡ false
@@ -88,16 +85,13 @@ digit_some (c ∷ cs) digit = omega arith
 -- ---- entries
 
 -- the line of a call begins with its unit
-done_first : (note : Option Label) (actor : UnitName) (call : Call) (r : Reply) (e : Effect) (rest : List ℕ) → IsUnit actor → begins_digit (entry_text note (Done actor call r e) ++ rest) ≡ true
+done_first : (note : Option Label) (actor : UnitName) (call : Call) (r : Reply) (e : Effect) (rest : List ℕ) → IsUnit actor
+    → begins_digit (entry_text note (Done actor call r e) ++ rest) ≡ true
 done_first note actor call r e rest fits =
     let words : List (List ℕ) = call_words call ++ codes "->" ∷ reply_words r in
-    let head : List ℕ = call_line actor call r in
-    more_first (head ++ note_text note ++ reads_text r ++ effect_text e) rest
-    (more_first (head ++ note_text note ++ reads_text r) (effect_text e)
-    (more_first (head ++ note_text note) (reads_text r)
-    (more_first head (note_text note)
-    (more_first (unit_text actor ++ spaced words) (10 ∷ [])
-    (more_first (unit_text actor) (spaced words) (unit_first actor fits))))))
+    let more : List ℕ = spaced words ++ (10 ∷ (note_text note ++ (reads_text r ++ (effect_text e ++ rest)))) in
+    let whole : entry_text note (Done actor call r e) ++ rest ≡ unit_text actor ++ more = simp append_assoc in
+    ap begins_digit whole ∙ more_first (unit_text actor) more (unit_first actor fits)
 
 emitted_whole : (commit : Commit) (rest : List ℕ) → entry_text None (Emitted commit) ++ rest ≡ codes "emitted" ++ (commit_text commit ++ rest)
 emitted_whole commit rest = commit-rest (codes "emitted") commit rest
@@ -105,7 +99,8 @@ emitted_whole commit rest = commit-rest (codes "emitted") commit rest
 abbrev noted_of : Entry → Option Label → Noted
 noted_of entry note = record { entry = entry; contamination = note }
 
-entry_back : (entry : Entry) (note : Option Label) (rest : List ℕ) → IsEntry entry → IsNoteOf entry note → IsUnmarked rest → noted_at (entry_text note entry ++ rest) ≡ Ok (noted_of entry note, rest)
+entry_back : (entry : Entry) (note : Option Label) (rest : List ℕ) → IsEntry entry → IsNoteOf entry note → IsUnmarked rest
+    → noted_at (entry_text note entry ++ rest) ≡ Ok (noted_of entry note, rest)
 entry_back (Done actor call r e) None rest fits noted end =
     rw (digit_no_word _ (done_first None actor call r e rest fits.0)) (done_back actor call r e None rest fits.0 fits.1 fits.2 fits.3 tt end)
 entry_back (Done actor call r e) (Some label) rest fits noted end =
@@ -114,7 +109,8 @@ entry_back (Emitted commit) None rest fits noted end = ap noted_at (emitted_whol
 entry_back (Emitted commit) (Some label) rest fits noted end = absurd noted
 
 entry_stands : (entry : Entry) (note : Option Label) (rest : List ℕ) → IsEntry entry → begins_entry (entry_text note entry ++ rest) ≡ true
-entry_stands (Done actor call r e) note rest fits = ap (λ b. b || begins_with 101 (entry_text note (Done actor call r e) ++ rest)) (done_first note actor call r e rest fits.0)
+entry_stands (Done actor call r e) note rest fits = ap (λ b. b || begins_with 101 (entry_text note (Done actor call r e) ++ rest))
+    (done_first note actor call r e rest fits.0)
 entry_stands (Emitted commit) note rest fits = refl
 
 entry_unmarked : (entry : Entry) (note : Option Label) (rest : List ℕ) → IsEntry entry → IsUnmarked (entry_text note entry ++ rest)
@@ -137,7 +133,8 @@ entries_are = record {
 
 -- ---- journals
 
-pub journal_back : (roots : List RootStart) (noted : List Noted) (rest : List ℕ) → IsJournal roots noted → EndsJournal rest → journal_at (journal_text roots noted ++ rest) ≡ Ok ((roots, noted), rest)
+pub journal_back : (roots : List RootStart) (noted : List Noted) (rest : List ℕ) → IsJournal roots noted → EndsJournal rest
+    → journal_at (journal_text roots noted ++ rest) ≡ Ok ((roots, noted), rest)
 journal_back roots noted rest fits end =
     let entries : List ℕ = flat_map noted_text noted ++ rest in
     let whole : journal_text roots noted ++ rest ≡ codes "defcon-journal 2\n" ++ (start_text roots ++ (codes "run\n" ++ entries)) =
@@ -150,9 +147,12 @@ journal_back roots noted rest fits end =
 nothing_ends : EndsJournal []
 nothing_ends = record { unmarked = record { note = refl; shown = refl; commit = refl; given = refl; deleted = refl; added = refl; part = refl }; last = refl }
 
-pub journal_is_one : (roots others : List RootStart) (noted more : List Noted) → IsJournal roots noted → IsJournal others more → journal_text roots noted ≡ journal_text others more → (roots ≡ others) × (noted ≡ more)
+pub journal_is_one : (roots others : List RootStart) (noted more : List Noted) → IsJournal roots noted → IsJournal others more
+    → journal_text roots noted ≡ journal_text others more → (roots ≡ others) × (noted ≡ more)
 journal_is_one roots others noted more fits fits' same =
     let one : (List RootStart × List Noted) × List ℕ = ((roots, noted), []) in
     let two : (List RootStart × List Noted) × List ℕ = ((others, more), []) in
-    let both : one ≡ two = ok_is one two (sym (journal_back roots noted [] fits nothing_ends) ∙ ap (λ (u : List ℕ). journal_at (u ++ [])) same ∙ journal_back others more [] fits' nothing_ends) in
+    let both : one ≡ two = ok_is one two
+    (sym (journal_back roots noted [] fits nothing_ends) ∙ ap (λ (u : List ℕ). journal_at (u ++ [])) same
+    ∙ journal_back others more [] fits' nothing_ends) in
     (ap (λ (q : (List RootStart × List Noted) × List ℕ). q.0.0) both, ap (λ (q : (List RootStart × List Noted) × List ℕ). q.0.1) both)

@@ -1,3 +1,4 @@
+pub mod Stopped
 pub mod Appends
 pub mod Orders
 pub mod Loops

@@ -16,7 +16,6 @@ bare_of (reply.Parts parts) = reply.Parts []
 bare_of r = r
 
 pub reply_back : (r : Reply) (rest : List ℕ) → IsReply r → EndsWord rest → reply_at (spaced (reply_words r) ++ rest) ≡ Ok (bare_of r, rest)
-reply_back reply.Ok rest f end = refl
 reply_back (reply.Handle h) rest f end = rw (word_back short_word h [] rest f end) refl
 reply_back (reply.Tag tag) rest f end = rw (word_back tag_word tag [] rest f end) refl
 reply_back (reply.Sub n) rest f end = rw (word_back short_word n [] rest f end) refl
@@ -25,23 +24,10 @@ reply_back (reply.Event h sub) rest f end =
     let e1 = word_back short_word h (decimal sub ∷ []) rest f.0 end in
     let e2 = word_back short_word sub [] rest f.1 end in
     rw (e1, e2) refl
-reply_back (reply.Parts parts) rest f end = refl
-reply_back reply.Nothing rest f end = refl
-reply_back reply.NoSuchUnit rest f end = refl
-reply_back reply.NoSuchHandle rest f end = refl
-reply_back reply.NoSuchPart rest f end = refl
-reply_back reply.NotDraft rest f end = refl
-reply_back reply.NotReceived rest f end = refl
-reply_back reply.EmptyEvent rest f end = refl
-reply_back reply.NotInManaged rest f end = refl
-reply_back reply.TooManyHandles rest f end = refl
 reply_back (reply.TooManyParts wanted) rest f end = rw (word_back long_word wanted [] rest f end) refl
-reply_back reply.TooManySubs rest f end = refl
-reply_back reply.TooManyUnits rest f end = refl
-reply_back reply.TooDeep rest f end = refl
-reply_back reply.Exhausted rest f end = refl
 reply_back (reply.Lacks p) rest f end = rw (word_back privilege_word p [] rest f end) refl
 reply_back (reply.CannotWrite out part) rest f end =
     let e1 = word_back label_word out (label_text part ∷ []) rest f.0 end in
     let e2 = word_back label_word part [] rest f.1 end in
     rw (e1, e2) refl
+reply_back _ rest f end = refl

@@ -1,11 +1,13 @@
 -- What the reader of values answers, as a word of a line.
-use Rattle.std.proofs.Common.{◌≡◌, ℕ, ◌+◌, ◌≤◌, true, false, cond, List, [], ◌∷◌, ◌++◌, length, drop, Ok, Err, refl, sym, ap, subst, ◌∙◌, arith, append-nil, length-append, inl, inr}
+use Rattle.std.proofs.Common.{◌≡◌, ℕ, ◌+◌, ◌≤◌, true, false, cond, List, [], ◌∷◌, ◌++◌, length, drop, Ok, Err, refl, sym, ap, subst, ◌∙◌, arith, append-nil}
+use Rattle.std.proofs.Common.{length-append, inl, inr}
 use Rattle.std.specs.Prelude.{nat_lt}
 use Rattle.std.proofs.lemmas.Bool.Decides.{nat_tests}
-use Rattle.df_format.specs.Reading.{Bad, Low, text_at}
+use Rattle.df_format.specs.Reading.{text_at}
 use Rattle.df_format.specs.Format.{Ends}
 use Rattle.df_format.specs.Grammar.{CanGoOn, Stands}
 use Rattle.df_format.proofs.Laws.{not_both, told}
+use Rattle.df_format.proofs.Longest.{goes_on}
 use Rattle.df_format.proofs.Texts.{text_found}
 use Rattle.df_frozen.specs.Plain.{Plain, int, words, bytes as blob, items, entries, node_count}
 use Rattle.df_value_text.specs.Counting.{AreWithin, FirstOver, begins, counts_of, start, walk, walked}
@@ -18,14 +20,13 @@ use Rattle.df_value_text.specs.ValueFault.{FirstTooLarge, IsTooLargeAt, IsWithin
 use Rattle.df_value_text.specs.code.Answer.{Fails, IsFound, IsRead, IsSyntaxAt}
 use Rattle.df_value_text.specs.code.WordEnd.{EndsWord}
 use Rattle.df_value_text.specs.declared.refused.Fault.{Fault}
-use Rattle.df_value_text.specs.declared.refused.Fault.TheVariants as literal
 use Rattle.df_value_text.specs.declared.refused.TextRefused.{TextRefused}
 use Rattle.df_value_text.specs.declared.refused.TextRefused.TheVariants as refused
 use Rattle.df_value_text.proofs.CountingEnds.{counted_behind}
 use Rattle.df_value_text.proofs.CountingFronts.{walked_on, within_before}
 use Rattle.df_value_text.proofs.CountingLaws.{walked-append}
 use Rattle.df_value_text.proofs.LimitLaws.{no_value}
-use Rattle.df_value_text.proofs.TagLaws.{nowhere, nowhere_is_local}
+use Rattle.df_format.proofs.Tokens.{nowhere, nowhere_is_local}
 use Rattle.df_value_text.proofs.ValueAnswers.{level_fits, value_ends}
 use Rattle.df_value_text.proofs.ValueLaws.{value_format, value_goes}
 use Rattle.df_value_text.proofs.WholeLaws.{whole_format}
@@ -34,6 +35,7 @@ use Rattle.df_journal_text.specs.Large.{IsLargeWord, IsTooLarge}
 use Rattle.df_journal_text.specs.Line.{word}
 use Rattle.df_journal_text.specs.ReadWords.{word_at}
 use Rattle.df_journal_text.specs.code.Judging.{Tells, line_fault, value_fault}
+use Rattle.df_journal_text.proofs.Stopped.{on_fault}
 
 abbrev pub value_word_text : Plain → List ℕ
 value_word_text v = word (value_text v)
@@ -50,7 +52,8 @@ value_on (blob s) c fits g = absurd (let no_end : false ≡ true = g in cc)
 value_on (items ps) c fits g = absurd (let no_end : false ≡ true = g in cc)
 value_on (entries es) c fits g = absurd (let no_end : false ≡ true = g in cc)
 
-stands_ends : (p : Plain) (rest : List ℕ) → IsSpelled p → ((c : ℕ) (tail : List ℕ) → rest ≡ c ∷ tail → CanGoOn value_text IsValue (value_text p ++ c ∷ []) → ⊥) → Ends value_goes p rest
+stands_ends : (p : Plain) (rest : List ℕ) → IsSpelled p
+    → ((c : ℕ) (tail : List ℕ) → rest ≡ c ∷ tail → CanGoOn value_text IsValue (value_text p ++ c ∷ []) → ⊥) → Ends value_goes p rest
 stands_ends p [] fits ends = tt
 stands_ends p (c ∷ rest) fits ends = elim (told (value_goes p c)) [ inl h ↦ absurd (ends c rest refl (value_on p c fits h)) | inr h ↦ h ]
 
@@ -71,7 +74,8 @@ few_nodes p fits =
 value_is : (bytes : List ℕ) (p : Plain) (rest : List ℕ) → Stands value_text IsValue bytes p rest → value_at bytes ≡ Ok (p, rest)
 value_is bytes p rest s =
     let enough : node_count p ≤ length bytes = omega (arith, few_nodes p s.fits.0, ap length s.parts, length-append (value_text p) rest) in
-    ap (value_within (length bytes)) s.parts ∙ (value_format (length bytes)).again p rest (level_fits p (length bytes) enough s.fits.0) (stands_ends p rest s.fits.0 s.ends)
+    ap (value_within (length bytes)) s.parts
+    ∙ (value_format (length bytes)).again p rest (level_fits p (length bytes) enough s.fits.0) (stands_ends p rest s.fits.0 s.ends)
 
 -- a value that is read is none that is too large
 pub value_apart : (bytes : List ℕ) (p : Plain) (rest : List ℕ) → word_at value_at bytes ≡ Ok (p, rest) → IsValue p → IsLargeWord bytes → ⊥
@@ -81,40 +85,26 @@ value_apart bytes p rest e fits l =
     no_value l.value l.large.rest l.large.over.over p rest (record {
       parts = f.parts;
       fits = fits;
-      ends = λ c tail is on. value_ends p c f.fits.0 (subst (Ends value_goes p) is f.ends) (record { some = on.some; fits = on.fits.0; more = on.more; is = on.is });
+      ends = λ c tail is on. value_ends p c f.fits.0 (subst (Ends value_goes p) is f.ends)
+          (record { some = on.some; fits = on.fits.0; more = on.more; is = on.is });
     })
 
 -- ---- no space
 
-spaces_read : (bytes more : List ℕ) → bytes ≡ 32 ∷ more → text_at (32 ∷ []) bytes ≡ Ok (32 ∷ [], more)
-spaces_read bytes more is = ap (text_at (32 ∷ [])) is
-
-pub no_space : (bytes : List ℕ) (at : ℕ) (e : Fault) → Fails bytes e (text_at (32 ∷ []) (drop at bytes)) → Tells value_word_text IsValue EndsWord IsLargeWord (word_at value_at) bytes at (Err (line_fault e))
-no_space bytes at literal.NoMemory h = tt
-no_space bytes at (literal.Bad place) h = (
-  λ v rest fits end is. not_both (32 ∷ [], value_text v ++ rest) (Bad (drop place bytes)) (sym (spaces_read (drop at bytes) (value_text v ++ rest) is) ∙ h.1),
-  λ large. not_both (32 ∷ [], large.value) (Bad (drop place bytes)) (sym (spaces_read (drop at bytes) large.value large.parts) ∙ h.1),
-)
-no_space bytes at (literal.Low place) h = (
-  λ v rest fits end is. not_both (32 ∷ [], value_text v ++ rest) (Low (drop place bytes)) (sym (spaces_read (drop at bytes) (value_text v ++ rest) is) ∙ h.1),
-  λ large. not_both (32 ∷ [], large.value) (Low (drop place bytes)) (sym (spaces_read (drop at bytes) large.value large.parts) ∙ h.1),
-)
+pub no_space : (bytes : List ℕ) (at : ℕ) (e : Fault) → Fails bytes e (text_at (32 ∷ []) (drop at bytes))
+    → Tells value_word_text IsValue EndsWord IsLargeWord (word_at value_at) bytes at (Err (line_fault e))
+no_space bytes at e h =
+    on_fault (λ f. Tells value_word_text IsValue EndsWord IsLargeWord (word_at value_at) bytes at (Err f)) bytes (text_at (32 ∷ []) (drop at bytes)) e h tt
+    (λ stop s. (
+      λ v rest fits end is. not_both (32 ∷ [], value_text v ++ rest) stop (sym (ap (text_at (32 ∷ [])) is) ∙ s),
+      λ large. not_both (32 ∷ [], large.value) stop (sym (ap (text_at (32 ∷ [])) large.parts) ∙ s),
+    ))
 
 -- ---- no value
 
--- the longer of two fronts goes on from the shorter
-front_on : (a b c d : List ℕ) → a ++ b ≡ c ++ d → length d ≤ length b → (e : List ℕ) × (c ≡ a ++ e)
-front_on [] b c d same le = (c, refl)
-front_on (x ∷ a) b [] d same le = absurd (omega (arith, ap length same, length-append (x ∷ a) b))
-front_on (x ∷ a) b (y ∷ c) d same le =
-    let tails : a ++ b ≡ c ++ d = cc in
-    let heads : x ≡ y = cc in
-    let f = front_on a b c d tails le in
-    (f.0, ap (λ (u : List ℕ). y ∷ u) f.1 ∙ ap (λ (z : ℕ). z ∷ (a ++ f.0)) (sym heads))
-
 within_front : (bytes low rest : List ℕ) → FirstOver bytes rest → length rest ≤ length low → IsWithinBefore bytes low
 within_front bytes low rest o le front is =
-    let f = front_on front low o.front (o.first ∷ o.more) (sym is ∙ o.parts) (omega (arith, ap length o.is)) in
+    let f = goes_on front low o.front (o.first ∷ o.more) (sym is ∙ o.parts) (omega (arith, ap length o.is)) in
     let further : counts_of o.front ≡ walked (counts_of front) f.0 = ap counts_of f.1 ∙ walked-append start front f.0 in
     within_before (counts_of front) (walked (counts_of front) f.0) (walked_on (counts_of front) f.0) (subst AreWithin further o.within)
 
@@ -125,13 +115,16 @@ module _ (bytes : List ℕ) (at behind : ℕ) (space : text_at (32 ∷ []) (drop
   value_behind : (more : List ℕ) → drop at bytes ≡ 32 ∷ more → more ≡ drop behind bytes
   value_behind more is = let same : 32 ∷ more ≡ 32 ∷ drop behind bytes = sym is ∙ spaced in cc
 
-  no_word : (r : TextRefused) → (r ≡ refused.NoMemory → ⊥) → ((v : Plain) (rest : List ℕ) → Stands value_text IsValue (drop behind bytes) v rest → r ≡ refused.NoMemory)
+  no_word : (r : TextRefused) → (r ≡ refused.NoMemory → ⊥)
+      → ((v : Plain) (rest : List ℕ) → Stands value_text IsValue (drop behind bytes) v rest → r ≡ refused.NoMemory)
       → (v : Plain) (rest : List ℕ) → IsValue v → EndsWord rest → drop at bytes ≡ value_word_text v ++ rest → ⊥
   no_word r told only v rest fits end is =
       let same : value_text v ++ rest ≡ drop behind bytes = value_behind (value_text v ++ rest) is in
       told (only v rest (subst (λ (u : List ℕ). Stands value_text IsValue u v rest) same (value_stands v rest fits end)))
 
-  pub refused_tells : (r : TextRefused) → ((v : Plain) (rest : List ℕ) → Stands value_text IsValue (drop behind bytes) v rest → IsRead {X = Plain} bytes v rest (Err r)) → NamesTooLarge bytes behind r
+  pub refused_tells : (r : TextRefused)
+      → ((v : Plain) (rest : List ℕ) → Stands value_text IsValue (drop behind bytes) v rest → IsRead {X = Plain} bytes v rest (Err r))
+      → NamesTooLarge bytes behind r
       → ((rest : List ℕ) → FirstTooLarge (drop behind bytes) rest → NoLowBefore (drop behind bytes) rest → IsTooLargeAt {X = Plain} bytes rest (Err r))
       → ((rest : List ℕ) → LowInValue (drop behind bytes) rest → IsWithinBefore (drop behind bytes) rest → IsSyntaxAt {X = Plain} bytes rest (Err r))
       → Tells value_word_text IsValue EndsWord IsLargeWord (word_at value_at) bytes at (Err (value_fault r))
@@ -161,7 +154,8 @@ module _ (bytes : List ℕ) (at behind : ℕ) (space : text_at (32 ∷ []) (drop
     },
   )
 
-  pub found_tells : (v : Plain) (end : ℕ) → IsFound value_text IsValue bytes behind (v, end) → Tells value_word_text IsValue EndsWord IsLargeWord (word_at value_at) bytes at (Ok (v, end))
+  pub found_tells : (v : Plain) (end : ℕ) → IsFound value_text IsValue bytes behind (v, end)
+      → Tells value_word_text IsValue EndsWord IsLargeWord (word_at value_at) bytes at (Ok (v, end))
   found_tells v end f = (
     f.0,
     f.1.fits,

@@ -1,7 +1,9 @@
 -- Keywords, instances and privileges, as the code reads them.
-use Rattle.std.proofs.Common.{◌≡◌, ℕ, ◌+◌, ◌<◌, ◌≤◌, Bool, true, false, ◌&&◌, eqb, List, [], ◌∷◌, length, get_or, take, drop, length-drop, Some, None, Ok, Err, refl, sym, ap, ◌∙◌, arith, inl, inr}
+use Rattle.std.proofs.Common.{◌≡◌, ℕ, ◌+◌, ◌<◌, ◌≤◌, true, false, eqb, List, [], ◌∷◌, length, get_or, take, drop, length-drop, Some, None, Ok, Err, refl, sym}
+use Rattle.std.proofs.Common.{ap, ◌∙◌, arith, inl, inr}
 use Rattle.std.specs.Ordering.{is_lt}
 use Rattle.std.specs.declared.cmp.Ordering.TheVariants.{Less}
+use Rattle.std.proofs.lemmas.Bool.{and_parts}
 use Rattle.std.proofs.lemmas.List.{drop_more}
 use Rattle.df_format.specs.Reading.{Bad, Low, Read, ◌>>=◌, maybe_at, text_at, with_front}
 use Rattle.df_format.proofs.ItemSteps.{format_shrinks}
@@ -17,7 +19,7 @@ use Rattle.df_value_text.specs.Fits.{IsPrivilege}
 use Rattle.df_value_text.specs.Number.{begins_with}
 use Rattle.df_value_text.specs.ReadLabel.{privilege_at}
 use Rattle.df_value_text.proofs.LabelLaws.{privilege_format, privilege_goes}
-use Rattle.df_value_text.proofs.TagLaws.{nowhere}
+use Rattle.df_format.proofs.Tokens.{nowhere}
 use Rattle.df_journal_text.specs.ReadWords.{ascend, ascending, begins_pair, each_privilege_at, privileges_at, word_at}
 use Rattle.df_journal_text.proofs.Loops.{Several}
 use Rattle.df_journal_text.proofs.Orders.{is_less}
@@ -28,24 +30,30 @@ no_byte : (b : ℕ) (ws tokens : List ℕ) → begins_with b tokens ≡ false �
 no_byte b ws [] h = refl
 no_byte b ws (c ∷ cs) h = rw h refl
 
-pub text_off : (bytes text : List ℕ) (i place b d : ℕ) (total : Read ℕ (List ℕ)) → i < length text → b ≡ get_or text i d → begins_with b (drop place bytes) ≡ false → with_front (take i text) (text_at (drop i text) (drop place bytes)) ≡ total → total ≡ Err (Bad (drop place bytes))
+pub text_off : (bytes text : List ℕ) (i place b d : ℕ) (total : Read ℕ (List ℕ)) → i < length text → b ≡ get_or text i d
+    → begins_with b (drop place bytes) ≡ false → with_front (take i text) (text_at (drop i text) (drop place bytes)) ≡ total
+    → total ≡ Err (Bad (drop place bytes))
 text_off bytes text i place b d total lt is h so_far =
     let ws : drop i text ≡ b ∷ drop (i + 1) text = drop_more text i d lt ∙ ap (λ (v : ℕ). v ∷ drop (i + 1) text) (sym is) in
-    sym so_far ∙ ap (λ (u : List ℕ). with_front (take i text) (text_at u (drop place bytes))) ws ∙ ap (with_front (take i text)) (no_byte b (drop (i + 1) text) (drop place bytes) h)
+    sym so_far ∙ ap (λ (u : List ℕ). with_front (take i text) (text_at u (drop place bytes))) ws
+    ∙ ap (with_front (take i text)) (no_byte b (drop (i + 1) text) (drop place bytes) h)
 
 -- ---- what may stand, by its first byte
 
-pub maybe_not : {X : Type 0} (byte : ℕ) (read : List ℕ → Read ℕ X) (bytes : List ℕ) → begins_with byte bytes ≡ false → maybe_at (λ c. eqb c byte) read bytes ≡ Ok (None, bytes)
+pub maybe_not : {X : Type 0} (byte : ℕ) (read : List ℕ → Read ℕ X) (bytes : List ℕ) → begins_with byte bytes ≡ false
+    → maybe_at (λ c. eqb c byte) read bytes ≡ Ok (None, bytes)
 maybe_not byte read [] h = refl
 maybe_not byte read (c ∷ cs) h = rw h refl
 
-pub maybe_so : {X : Type 0} (byte : ℕ) (read : List ℕ → Read ℕ X) (bytes : List ℕ) → begins_with byte bytes ≡ true → maybe_at (λ c. eqb c byte) read bytes ≡ (read bytes >>= λ x. Ok (Some x.0, x.1))
+pub maybe_so : {X : Type 0} (byte : ℕ) (read : List ℕ → Read ℕ X) (bytes : List ℕ) → begins_with byte bytes ≡ true
+    → maybe_at (λ c. eqb c byte) read bytes ≡ (read bytes >>= λ x. Ok (Some x.0, x.1))
 maybe_so byte read [] h = absurd cc
 maybe_so byte read (c ∷ cs) h = rw h refl
 
 -- ---- privileges
 
-pub word_read : {X : Type 0} (read : List ℕ → Read ℕ X) (bytes more : List ℕ) (x : X) (rest : List ℕ) → text_at (32 ∷ []) bytes ≡ Ok (32 ∷ [], more) → read more ≡ Ok (x, rest) → word_at read bytes ≡ Ok (x, rest)
+pub word_read : {X : Type 0} (read : List ℕ → Read ℕ X) (bytes more : List ℕ) (x : X) (rest : List ℕ) → text_at (32 ∷ []) bytes ≡ Ok (32 ∷ [], more)
+    → read more ≡ Ok (x, rest) → word_at read bytes ≡ Ok (x, rest)
 word_read read bytes more x rest space e = rw (space, e) refl
 
 privilege_shorter : (bytes : List ℕ) (p : Privilege) (rest : List ℕ) → word_at privilege_at bytes ≡ Ok (p, rest) → length rest < length bytes
@@ -58,22 +66,19 @@ privilege_shorter bytes p rest e =
 pub several_privileges : Several (begins_pair 32 35) (word_at privilege_at)
 several_privileges = record { none = refl; some = privilege_shorter }
 
-pub privilege_onward : (bytes : List ℕ) (place after : ℕ) (p : Privilege) → after ≤ length bytes → word_at privilege_at (drop place bytes) ≡ Ok (p, drop after bytes) → place < after
+pub privilege_onward : (bytes : List ℕ) (place after : ℕ) (p : Privilege) → after ≤ length bytes
+    → word_at privilege_at (drop place bytes) ≡ Ok (p, drop after bytes) → place < after
 privilege_onward bytes place after p inside e =
     let shorter = privilege_shorter (drop place bytes) p (drop after bytes) e in
     omega (arith, shorter, length-drop place bytes, length-drop after bytes)
 
 -- ---- their order
 
-both_true : (a b : Bool) → (a && b) ≡ true → (a ≡ true) × (b ≡ true)
-both_true true b h = (refl, h)
-both_true false b h = let no : false ≡ true = h in absurd cc
-
 pub ascending_of : (ps : List Privilege) → ascend ps ≡ true → IsAscending privilege_cmp ps
 ascending_of [] h = tt
 ascending_of (p ∷ []) h = (tt, tt)
 ascending_of (p ∷ q ∷ ps) h =
-    let two = both_true (is_lt (privilege_cmp p q)) (ascend (q ∷ ps)) h in
+    let two = and_parts (is_lt (privilege_cmp p q)) (ascend (q ∷ ps)) h in
     let less : privilege_cmp p q ≡ Less = is_less (privilege_cmp p q) two.0 in
     let others = ascending_of (q ∷ ps) two.1 in
     ((less, below_trans privilege_cmp privilege_cmp_exact p q ps less others.0), others)
@@ -85,10 +90,13 @@ ascend_of (p ∷ q ∷ ps) h = rw (h.0.0, ascend_of (q ∷ ps) h.1) refl
 
 -- ---- as they are read
 
-pub privileges_made : (bytes : List ℕ) (ps made : List Privilege) (rest : List ℕ) → each_privilege_at bytes ≡ Ok (ps, rest) → IsAscending privilege_cmp ps → made ≡ ps → privileges_at bytes ≡ Ok (made, rest)
-privileges_made bytes ps made rest e above is = ap (λ (r : Read ℕ (List Privilege)). r >>= ascending bytes) e ∙ rw (ascend_of ps above) (ap (λ (qs : List Privilege). Ok (qs, rest)) (sym is))
+pub privileges_made : (bytes : List ℕ) (ps made : List Privilege) (rest : List ℕ) → each_privilege_at bytes ≡ Ok (ps, rest) → IsAscending privilege_cmp ps
+    → made ≡ ps → privileges_at bytes ≡ Ok (made, rest)
+privileges_made bytes ps made rest e above is = ap (λ (r : Read ℕ (List Privilege)). r >>= ascending bytes) e
+    ∙ rw (ascend_of ps above) (ap (λ (qs : List Privilege). Ok (qs, rest)) (sym is))
 
-pub privileges_low : (bytes : List ℕ) (ps : List Privilege) (rest : List ℕ) → each_privilege_at bytes ≡ Ok (ps, rest) → ¬ IsAscending privilege_cmp ps → privileges_at bytes ≡ Err (Low bytes)
+pub privileges_low : (bytes : List ℕ) (ps : List Privilege) (rest : List ℕ) → each_privilege_at bytes ≡ Ok (ps, rest) → ¬ IsAscending privilege_cmp ps
+    → privileges_at bytes ≡ Err (Low bytes)
 privileges_low bytes ps rest e never =
     elim (told (ascend ps)) [
       | inl h ↦ absurd (never (ascending_of ps h))

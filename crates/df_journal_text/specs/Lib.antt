@@ -1,3 +1,4 @@
+pub mod Ask
 pub mod Call
 pub mod Entry
 pub mod Fits

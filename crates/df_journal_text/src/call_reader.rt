@@ -7,6 +7,7 @@ ghost use Rattle.df_journal_text.specs.ReadCall.{act_at, braced_at, call_at, cha
 ghost use Rattle.df_journal_text.specs.ReadWords.{kinds_at, word_at};
 ghost use Rattle.df_journal_text.specs.code.Judging.{EndsCall, Tells, TellsAdded, call_text};
 
+use crate::ask::ask_at;
 use crate::line_fault::LineFault;
 use crate::name_reader::braced_at;
 use crate::value_word::read_value_word;
@@ -145,25 +146,10 @@ fn plain_call_at(alloc: Global, bytes: &[u8], at: usize) -> Result<(Call, usize)
     requires { at ≤ length bytes.now }
     ensures { Gives (λ c. c) bytes.now result (kinds_at plain_kinds (drop at bytes.now)) }
 {
-    if let Some(end) = keyword_at(bytes, at, b" get") {
-        return Ok((Call::Get, end));
+    match ask_at(bytes, at)? {
+        Some((ask, end)) => Ok((ask.call(), end)),
+        None => named_call_at(alloc, bytes, at),
     }
-    if let Some(end) = keyword_at(bytes, at, b" create") {
-        return Ok((Call::CreateEvent, end));
-    }
-    if let Some(start) = keyword_at(bytes, at, b" publish") {
-        let (h, end) = number_word(bytes, start)?;
-        return Ok((Call::Publish { h }, end));
-    }
-    if let Some(start) = keyword_at(bytes, at, b" release") {
-        let (h, end) = number_word(bytes, start)?;
-        return Ok((Call::Release { h }, end));
-    }
-    if let Some(start) = keyword_at(bytes, at, b" drop") {
-        let (h, end) = number_word(bytes, start)?;
-        return Ok((Call::DropEvent { h }, end));
-    }
-    named_call_at(alloc, bytes, at)
 }
 
 /// What an `add` before the place asks for, and the place behind it.

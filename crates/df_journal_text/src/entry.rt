@@ -1,5 +1,6 @@
 ghost use Rattle.std.specs.Prelude.{◌≡◌, ◌++◌, ◌∷◌, [], OnOk, Some, codes};
 ghost use Rattle.df_unit.specs.declared.call.Call.{Call};
+ghost use Rattle.df_unit.specs.declared.entry.Effect.{Effect};
 ghost use Rattle.df_unit.specs.declared.entry.Entry.TheVariants.{Done};
 ghost use Rattle.df_unit.specs.declared.name.UnitName.{UnitName};
 ghost use Rattle.df_unit.specs.declared.reply.Reply.TheVariants.{Handle};
@@ -142,6 +143,24 @@ pub fn append_entry(
         }
         Entry::Emitted(commit) => append_emitted(commit, to),
     }
+}
+
+/// Appends the lines of the entry of a call that has no effect, as `append_spelled` does. Without
+/// memory a part of the lines may have been appended.
+pub fn append_quiet(
+    front: &[u8],
+    reply: &Reply,
+    note: &Note,
+    to: &mut Vec<u8>,
+) -> Result<(), NoMemory>
+    ensures { (actor : UnitName) (call : Call) → front.now ≡ call_front actor call →
+        OnOk result (to.new.items ≡ to.old.items
+        ++ entry_text note.now (Done actor call reply.now Effect.Nothing)) }
+{
+    to.extend_from_slice(front)?;
+    append_answer(reply, to)?;
+    to.extend_from_slice(note.as_bytes())?;
+    append_reply_reads(reply, to)
 }
 
 /// Appends the lines of the entry of a call that is spelled already, with its actor's contamination

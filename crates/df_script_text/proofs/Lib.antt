@@ -1,3 +1,4 @@
+pub mod Called
 pub mod Calls
 pub mod Files
 pub mod Numbered
@@ -8,3 +9,4 @@ pub mod Splits
 pub mod Stops
 pub mod Values
 pub mod Words
+pub mod Commons

@@ -25,9 +25,8 @@ use Rattle.df_script_text.specs.declared.line.ScriptLine.{ScriptLine}
 
 line_first : (l : ScriptLine) (rest : List ℕ) → IsScriptLine l → begins_digit (script_line l ++ rest) ≡ true
 line_first l rest fits =
-    more_first (script_line l) rest
-    (more_first (unit_text l.actor ++ spaced (call_words l.call)) (10 ∷ [])
-    (more_first (unit_text l.actor) (spaced (call_words l.call)) (unit_first l.actor fits.0)))
+    let more : List ℕ = spaced (call_words l.call) ++ 10 ∷ rest in
+    ap begins_digit (line-rest (unit_text l.actor) (call_words l.call) rest) ∙ more_first (unit_text l.actor) more (unit_first l.actor fits.0)
 
 lines_are : Back begins_digit script_line IsScriptLine (λ rest. Unit {0}) script_line_at
 lines_are = record {
@@ -42,7 +41,8 @@ lines_are = record {
 
 -- ---- scripts
 
-pub script_back : (roots : List RootStart) (lines : List ScriptLine) (rest : List ℕ) → IsScript roots lines → begins_digit rest ≡ false → script_at (script_text roots lines ++ rest) ≡ Ok ((roots, lines), rest)
+pub script_back : (roots : List RootStart) (lines : List ScriptLine) (rest : List ℕ) → IsScript roots lines → begins_digit rest ≡ false
+    → script_at (script_text roots lines ++ rest) ≡ Ok ((roots, lines), rest)
 script_back roots lines rest fits end =
     let calls : List ℕ = flat_map script_line lines ++ rest in
     let whole : script_text roots lines ++ rest ≡ codes "defcon-script 1\n" ++ (start_text roots ++ (codes "run\n" ++ calls)) =
@@ -52,16 +52,19 @@ script_back roots lines rest fits end =
     let e2 = all_back lines_are lines rest (recursion_from_All IsScriptLine lines fits.1) tt end in
     ap script_at whole ∙ rw (e1, e2) refl
 
-pub script_is_one : (roots others : List RootStart) (lines more : List ScriptLine) → IsScript roots lines → IsScript others more → script_text roots lines ≡ script_text others more → (roots ≡ others) × (lines ≡ more)
+pub script_is_one : (roots others : List RootStart) (lines more : List ScriptLine) → IsScript roots lines → IsScript others more
+    → script_text roots lines ≡ script_text others more → (roots ≡ others) × (lines ≡ more)
 script_is_one roots others lines more fits fits' same =
     let one : (List RootStart × List ScriptLine) × List ℕ = ((roots, lines), []) in
     let two : (List RootStart × List ScriptLine) × List ℕ = ((others, more), []) in
-    let both : one ≡ two = ok_is one two (sym (script_back roots lines [] fits refl) ∙ ap (λ (u : List ℕ). script_at (u ++ [])) same ∙ script_back others more [] fits' refl) in
+    let both : one ≡ two = ok_is one two
+    (sym (script_back roots lines [] fits refl) ∙ ap (λ (u : List ℕ). script_at (u ++ [])) same ∙ script_back others more [] fits' refl) in
     (ap (λ (q : (List RootStart × List ScriptLine) × List ℕ). q.0.0) both, ap (λ (q : (List RootStart × List ScriptLine) × List ℕ). q.0.1) both)
 
 -- ---- what is answered
 
-pub only_script : (bytes : List ℕ) (read : List RootStart × List ScriptLine) → IsScript read.0 read.1 × (bytes ≡ script_text read.0 read.1) → (roots : List RootStart) (lines : List ScriptLine) → IsScript roots lines → bytes ≡ script_text roots lines → read ≡ (roots, lines)
+pub only_script : (bytes : List ℕ) (read : List RootStart × List ScriptLine) → IsScript read.0 read.1 × (bytes ≡ script_text read.0 read.1)
+    → (roots : List RootStart) (lines : List ScriptLine) → IsScript roots lines → bytes ≡ script_text roots lines → read ≡ (roots, lines)
 only_script bytes read found roots lines fits is =
     let same = script_is_one read.0 roots read.1 lines found.0 fits (sym found.1 ∙ is) in
     ap (λ (rs : List RootStart). (rs, read.1)) same.0 ∙ ap (λ (ls : List ScriptLine). (roots, ls)) same.1

@@ -50,4 +50,4 @@ made_parts l f = record { front = l.actor; middle = l.call; tail = tt; front_fit
 
 -- what is spelled has no value that is too large
 pub made_small : (line : List ℕ) (l : ScriptLine) → IsScriptLine l → ended line ≡ script_line l → ¬ IsLargeCalled line
-made_small = spelled_small unit_text IsUnit EndsWord unit_at call_text IsCall EndsCall IsLargeCall call_at nothing IsNothing nothing_at made script_line IsScriptLine made_parts
+made_small line = spelled_small made line made_parts

@@ -1,5 +1,5 @@
 -- Words: each of their bytes is above a space.
-use Rattle.std.proofs.Common.{◌≡◌, ℕ, ◌<◌, ◌^◌, Bool, true, false, ◌&&◌, nat_lt, List, [], ◌∷◌, ◌++◌, map, codes, decimal, ℤ, pos, negsuc, suc, refl, arith, lit<}
+use Rattle.std.proofs.Common.{◌≡◌, ℕ, ◌<◌, ◌^◌, Bool, true, nat_lt, List, [], ◌∷◌, ◌++◌, map, codes, decimal, ℤ, pos, negsuc, suc, refl, arith, lit<}
 use Rattle.std.specs.List.{list_all, AllByRecursion, join_with_byte}
 use Rattle.std.specs.Str.{all_ascii_digits}
 use Rattle.std.specs.Char.{is_ascii_digit}
@@ -7,7 +7,9 @@ use Rattle.std.specs.Str.Parse.{digits_value}
 use Rattle.std.specs.Fmt.{signed_decimal}
 use Rattle.std.proofs.lemmas.Fmt.{digits_decimal}
 use Rattle.std.proofs.lemmas.Str.Parse.{IsNumeralModel, numerals_by_value, tells_all_ascii_digits}
+use Rattle.std.proofs.lemmas.Bool.{and_parts}
 use Rattle.std.proofs.lemmas.Bool.Decides.{nat_tests}
+use Rattle.std.proofs.lemmas.List.Folds.{list_all-append}
 use Rattle.df_label.specs.declared.label.Label.{Label}
 use Rattle.df_label.specs.declared.privilege.Privilege.{Privilege}
 use Rattle.df_label.specs.declared.privilege.Right.{Right}
@@ -35,11 +37,6 @@ is_word text = list_all (λ b. nat_lt 32 b) text
 abbrev pub AreWords : List (List ℕ) → Type 0
 AreWords ws = AllByRecursion (λ w. is_word w ≡ true) ws
 
--- both tests pass
-pub both : (a b : Bool) → (a && b) ≡ true → (a ≡ true) × (b ≡ true)
-both true b h = (refl, h)
-both false b h = cc
-
 -- one more byte above a space
 pub above : (b : ℕ) (bs : List ℕ) → 32 < b → is_word bs ≡ true → is_word (b ∷ bs) ≡ true
 above b bs h t = let e : nat_lt 32 b ≡ true = grind (arith, nat_tests) in rw e t
@@ -60,7 +57,7 @@ letter_above b h = grind (arith, nat_tests)
 is_word-digits : (ds : List ℕ) → all_ascii_digits ds ≡ true → is_word ds ≡ true
 is_word-digits [] h = refl
 is_word-digits (d ∷ ds) h =
-    let p = both (is_ascii_digit d) (all_ascii_digits ds) h in
+    let p = and_parts (is_ascii_digit d) (all_ascii_digits ds) h in
     above d ds (digit_above d p.0) (is_word-digits ds p.1)
 
 -- digits and their value, as std reads them
@@ -80,23 +77,20 @@ is_word-signed (negsuc n) h = above 45 (decimal (suc n)) (lit< tt) (is_word-deci
 name_bytes : (bs : List ℕ) → list_all is_name_byte bs ≡ true → is_word bs ≡ true
 name_bytes [] h = refl
 name_bytes (b ∷ bs) h =
-    let p = both (is_name_byte b) (list_all is_name_byte bs) h in
+    let p = and_parts (is_name_byte b) (list_all is_name_byte bs) h in
     above b bs (name_byte_above b p.0) (name_bytes bs p.1)
 
 -- a name is a word
 pub is_word-name : (bs : List ℕ) → is_name bs ≡ true → is_word bs ≡ true
 is_word-name [] h = refl
 is_word-name (b ∷ bs) h =
-    let p = both (is_letter b) _ h in
-    let q = both _ (list_all is_name_byte bs) p.1 in
+    let p = and_parts (is_letter b) _ h in
+    let q = and_parts _ (list_all is_name_byte bs) p.1 in
     above b bs (letter_above b p.0) (name_bytes bs q.1)
 
 -- two words in a row are a word
 pub is_word-append : (xs ys : List ℕ) → is_word xs ≡ true → is_word ys ≡ true → is_word (xs ++ ys) ≡ true
-is_word-append [] ys h t = t
-is_word-append (x ∷ xs) ys h t =
-    let p = both (nat_lt 32 x) (is_word xs) h in
-    rw p.0 (is_word-append xs ys p.1 t)
+is_word-append xs ys h t = rw (list_all-append (λ b. nat_lt 32 b) xs ys, h, t) refl
 
 -- a number of 32 bits is a word
 pub number_word : (n : ℕ) → n < 2 ^ 32 → is_word (decimal n) ≡ true
@@ -114,10 +108,14 @@ AreWords-numbers : (ns : List ℕ) → AreNumbers ns → AreWords (map decimal n
 AreWords-numbers [] h = tt
 AreWords-numbers (n ∷ ns) h = (number_word n h.0, AreWords-numbers ns h.1)
 
+-- a path is a word
+is_word-path : (path : List ℕ) → IsTag path → is_word (path_text path) ≡ true
+is_word-path [] h = absurd h
+is_word-path (n ∷ ns) h = is_word-joined 46 (map decimal (n ∷ ns)) (lit< tt) (number_word n h.0, AreWords-numbers ns h.1)
+
 -- a tag is a word
 pub is_word-tag : (tag : List ℕ) → IsTag tag → is_word (tag_text tag) ≡ true
-is_word-tag [] h = absurd h
-is_word-tag (n ∷ ns) h = is_word-joined 46 (map decimal (n ∷ ns)) (lit< tt) (number_word n h.0, AreWords-numbers ns h.1)
+is_word-tag tag h = is_word-path tag h
 
 -- tags are words
 AreWords-tags : (tags : List (List ℕ)) → AreTags tags → AreWords (map tag_text tags)
@@ -130,8 +128,7 @@ is_word-tags tags h = is_word-joined 44 (map tag_text tags) (lit< tt) (AreWords-
 
 -- a label is a word
 pub is_word-label : (l : Label) → IsLabel l → is_word (label_text l) ≡ true
-is_word-label l h =
-    is_word-append (tags_text l.s ++ codes "|" ++ tags_text l.i) (codes "}") (is_word-append (tags_text l.s ++ codes "|") (tags_text l.i) (is_word-append (tags_text l.s) (codes "|") (is_word-tags l.s h.0) refl) (is_word-tags l.i h.1)) refl
+is_word-label l h = simp (list_all-append, is_word-tags l.s h.0, is_word-tags l.i h.1)
 
 -- a right is a word
 is_word-right : (right : Right) → is_word (right_text right) ≡ true
@@ -159,11 +156,6 @@ pub is_word-act : (act : Act) → is_word (act_text act) ≡ true
 is_word-act Add = refl
 is_word-act Del = refl
 
--- a path is a word
-is_word-path : (path : List ℕ) → IsTag path → is_word (path_text path) ≡ true
-is_word-path [] h = absurd h
-is_word-path (n ∷ ns) h = is_word-joined 46 (map decimal (n ∷ ns)) (lit< tt) (number_word n h.0, AreWords-numbers ns h.1)
-
 -- tags in braces are a word
 pub is_word-braced : (tags : List (List ℕ)) → IsTagSet tags → is_word (braced tags) ≡ true
 is_word-braced tags h = is_word-append (123 ∷ tags_text tags) (codes "}") (above 123 (tags_text tags) (lit< tt) (is_word-tags tags h)) refl
@@ -171,7 +163,4 @@ is_word-braced tags h = is_word-append (123 ∷ tags_text tags) (codes "}") (abo
 -- who makes a call is a word
 pub is_word-actor : (u : UnitName) → IsUnit u → is_word (unit_text u) ≡ true
 is_word-actor (Root path) h = is_word-path path h
-is_word-actor (Managed owner sub s) h =
-    let number = is_word-append (path_text owner ++ codes "/") (decimal sub) (is_word-append (path_text owner) (codes "/") (is_word-path owner h.0) refl) (number_word sub h.1) in
-    let tags = is_word-append (path_text owner ++ codes "/" ++ decimal sub ++ codes "{") (tags_text s) (is_word-append (path_text owner ++ codes "/" ++ decimal sub) (codes "{") number refl) (is_word-tags s h.2) in
-    is_word-append (path_text owner ++ codes "/" ++ decimal sub ++ codes "{" ++ tags_text s) (codes "}") tags refl
+is_word-actor (Managed owner sub s) h = simp (list_all-append, is_word-path owner h.0, number_word sub h.1, is_word-tags s h.2)

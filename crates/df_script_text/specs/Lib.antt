@@ -1,3 +1,5 @@
+pub mod Called
+pub mod Common
 pub mod ReadScript
 pub mod Reader
 pub mod Script

@@ -1,16 +1,20 @@
 //! Scripts that are read line by line.
 
-ghost use Rattle.std.specs.Prelude.{◌≡◌, ◌≤◌, ◌<◌, List, [], length, option_map, IfErr, IfOk, IfSome};
+ghost use Rattle.std.specs.Prelude.{◌≡◌, ◌≤◌, ◌<◌, ◌++◌, ◌∷◌, List, [], length, option_map, IfErr, IfNone, IfOk, IfSome};
 ghost use Rattle.df_lines.specs.Refused.{NamesBadLine};
 ghost use Rattle.df_lines.specs.code.Faults.{IsInside, NamesBadPlace};
 ghost use Rattle.df_start.specs.declared.start.RootStart.{RootStart};
 ghost use Rattle.df_journal_text.specs.Front.{call_front};
+ghost use Rattle.df_journal_text.specs.Ask.{asked};
+ghost use Rattle.df_unit.specs.declared.name.UnitName.TheVariants.{Root};
+ghost use Rattle.df_script_text.specs.Common.{common_line, root_call};
 ghost use Rattle.df_script_text.specs.Reader.{GoesOn, HasRead, HasReadUpTo};
 ghost use Rattle.df_script_text.specs.Script.{IsScriptText};
 ghost use Rattle.df_script_text.specs.TooLarge.{IsTooLargeIn};
 ghost use Rattle.df_script_text.specs.code.Stops.{IsFirstAt, StopsFirst};
 ghost use Rattle.df_script_text.specs.declared.line.ScriptLine.{ScriptLine};
 
+use crate::common::{CommonLine, RootLine, common_at, root_call_at};
 use crate::line::{ReadLine, fault_of, read_line, words_at};
 use crate::root::roots_at;
 use df_lines::{FileFault, FileRefused, file_refused, line_at};
@@ -81,6 +85,41 @@ impl<'a> ScriptReader<'a> {
             )),
             Err(fault) => Err(file_refused(bytes, fault)),
         }
+    }
+
+    /// The next call, where its line is a common one; else none, and nothing is read. When that is
+    /// is left open: `next_line` reads each line that this leaves, and tells what is bad.
+    pub fn next_common(&mut self) -> Option<CommonLine<'a>>
+        ensures next { IfSome result (λ c. (roots : List RootStart) (lines : List ScriptLine)
+            → HasRead roots lines self.old
+            → HasRead roots (lines ++ common_line c.root c.ask ∷ []) self.new) }
+        ensures words { IfSome result (λ c.
+            c.words.now ≡ call_front (Root (c.root ∷ [])) (asked c.ask)) }
+        ensures further { IfSome result (λ _. self.old.place < self.new.place) }
+        ensures within { self.new.place ≤ length self.new.bytes }
+        ensures bytes { self.new.bytes ≡ self.old.bytes }
+        ensures same { IfNone result (self.new ≡ self.old) }
+    {
+        let (line, next) = common_at(self.bytes, self.place)?;
+        self.place = next;
+        Some(line)
+    }
+
+    /// The next call, where a root makes it; else none, and nothing is read. None may also come where
+    /// memory is wanting. When it comes is left open: `next_line` reads each line that this leaves.
+    pub fn next_root(&mut self) -> Option<RootLine<'a>>
+        ensures next { IfSome result (λ r. (roots : List RootStart) (lines : List ScriptLine)
+            → HasRead roots lines self.old
+            → HasRead roots (lines ++ root_call r.root r.call ∷ []) self.new) }
+        ensures words { IfSome result (λ r. r.words.now ≡ call_front (Root (r.root ∷ [])) r.call) }
+        ensures further { IfSome result (λ _. self.old.place < self.new.place) }
+        ensures within { self.new.place ≤ length self.new.bytes }
+        ensures bytes { self.new.bytes ≡ self.old.bytes }
+        ensures same { IfNone result (self.new ≡ self.old) }
+    {
+        let (line, next) = root_call_at(self.alloc, self.bytes, self.place)?;
+        self.place = next;
+        Some(line)
     }
 
     /// The next call; none behind the last.

@@ -1,40 +1,30 @@
-use Rattle.std.proofs.Common.{◌∙◌, sym, ap, ℕ, List}
+use Rattle.std.proofs.Common.{◌∙◌, sym, ap}
 use Rattle.std.proofs.lemmas.Result.{err_from_is_err_and}
-use Rattle.df_value_text.specs.code.WordEnd.{EndsWord}
-use Rattle.df_unit.specs.declared.call.Call.{Call}
-use Rattle.df_unit.specs.declared.name.UnitName.{UnitName}
-use Rattle.df_unit.specs.declared.reply.Reply.{Reply}
-use Rattle.df_journal_text.specs.Entry.{call_line}
-use Rattle.df_journal_text.specs.Fits.{IsAnswer, IsCall, IsCalled, IsUnit}
-use Rattle.df_journal_text.specs.Large.{IsLargeCall}
-use Rattle.df_journal_text.specs.Name.{unit_text}
-use Rattle.df_journal_text.specs.ReadCall.{call_at}
-use Rattle.df_journal_text.specs.ReadName.{unit_at}
-use Rattle.df_journal_text.specs.code.Judging.{EndsCall, answer_at, call_text, ended}
+use Rattle.df_journal_text.specs.code.Judging.{ended}
 use Rattle.df_journal_text.proofs.Frames.{front_failed, middle_failed, tail_failed, tail_read}
-use Rattle.df_journal_text.proofs.LineTells.{answer_text, called, called_line, called_parts}
+use Rattle.df_journal_text.proofs.LineTells.{called, called_line, called_parts}
 use Rattle.df_journal_text.proofs.line_reader.read_call_line.Goals as goal
-
-abbrev text : UnitName × Call × Reply → List ℕ
-text w = call_line w.0 w.1 w.2
 
 pub returns-in_err-actor : goal.returns-in_err-actor
 returns-in_err-actor c =
     let p = err_from_is_err_and c.from_residual.result c.from_residual.ensures.1 in
-    rw (p.1, p.2) (front_failed unit_text IsUnit EndsWord unit_at call_text IsCall EndsCall IsLargeCall call_at answer_text IsAnswer answer_at called text IsCalled called_parts c.args.line.now c.in_err-actor.field-0.0 c.in_err-actor.ensures)
+    rw (p.1, p.2) (front_failed called c.args.line.now called_parts c.in_err-actor.field-0.0 c.in_err-actor.ensures)
 
 pub returns-in_err-call : goal.returns-in_err-call
 returns-in_err-call c =
     let p = err_from_is_err_and c.from_residual-in_err-call.result c.from_residual-in_err-call.ensures.1 in
-    rw (p.1, p.2) (middle_failed unit_text IsUnit EndsWord unit_at call_text IsCall EndsCall IsLargeCall call_at answer_text IsAnswer answer_at called text IsCalled called_parts c.args.line.now c.in_ok-actor.actor c.in_ok-actor.behind c.in_ok-actor.ensures.1 c.in_err-call.field-0.0 c.in_err-call.ensures)
+    rw (p.1, p.2) (middle_failed called c.args.line.now called_parts c.in_ok-actor.actor c.in_ok-actor.behind c.in_ok-actor.ensures.1 c.in_err-call.field-0.0
+    c.in_err-call.ensures)
 
 pub returns-in_err-reply : goal.returns-in_err-reply
 returns-in_err-reply c =
     let p = err_from_is_err_and c.from_residual-in_err-reply.result c.from_residual-in_err-reply.ensures.1 in
-    rw (p.1, p.2) (tail_failed unit_text IsUnit EndsWord unit_at call_text IsCall EndsCall IsLargeCall call_at answer_text IsAnswer answer_at called text IsCalled called_parts c.args.line.now c.in_ok-actor.actor c.in_ok-actor.behind c.in_ok-actor.ensures.1 c.in_ok-call.call c.in_ok-call.arrow c.in_ok-call.ensures c.answer_at.result c.answer_at.ensures c.in_err-reply.field-0.0 c.in_err-reply.ensures)
+    rw (p.1, p.2) (tail_failed called c.args.line.now called_parts c.in_ok-actor.actor c.in_ok-actor.behind c.in_ok-actor.ensures.1 c.in_ok-call.call
+    c.in_ok-call.arrow c.in_ok-call.ensures c.answer_at.result c.answer_at.ensures c.in_err-reply.field-0.0 c.in_err-reply.ensures)
 
 pub returns : goal.returns
 returns c =
     let line = c.args.line.now in
-    let t = tail_read unit_text IsUnit EndsWord unit_at call_text IsCall EndsCall IsLargeCall call_at answer_text IsAnswer answer_at called text IsCalled called_parts line c.in_ok-actor.actor c.in_ok-actor.behind c.in_ok-actor.ensures.1 c.in_ok-call.call c.in_ok-call.arrow c.in_ok-call.ensures c.answer_at.result c.answer_at.ensures c.in_ok-reply.reply c.in_ok-reply.ensures in
+    let t = tail_read called line called_parts c.in_ok-actor.actor c.in_ok-actor.behind c.in_ok-actor.ensures.1 c.in_ok-call.call c.in_ok-call.arrow
+    c.in_ok-call.ensures c.answer_at.result c.answer_at.ensures c.in_ok-reply.reply c.in_ok-reply.ensures in
     (t.0, ap ended t.1 ∙ sym (called_line c.in_ok-actor.actor c.in_ok-call.call c.in_ok-reply.reply))

@@ -1,35 +1,31 @@
 use Rattle.std.proofs.Common.{◌∙◌, sym, ap, Ok, refl}
 use Rattle.std.proofs.lemmas.Result.{err_from_is_err_and}
-use Rattle.df_value_text.specs.code.WordEnd.{EndsWord}
-use Rattle.df_journal_text.specs.Fits.{IsCall, IsUnit}
-use Rattle.df_journal_text.specs.Large.{IsLargeCall}
-use Rattle.df_journal_text.specs.Name.{unit_text}
-use Rattle.df_journal_text.specs.ReadCall.{call_at}
-use Rattle.df_journal_text.specs.ReadName.{unit_at}
-use Rattle.df_journal_text.specs.code.Judging.{EndsCall, call_text, ended}
+use Rattle.df_journal_text.specs.code.Judging.{ended}
 use Rattle.df_journal_text.specs.declared.line_fault.LineFault.TheVariants as fault
 use Rattle.df_journal_text.proofs.Frames.{front_failed, middle_failed, tail_failed, tail_read}
-use Rattle.df_script_text.specs.Script.{IsScriptLine, script_line}
-use Rattle.df_script_text.proofs.ScriptLines.{IsNothing, made, made_line, made_parts, nothing, nothing_at}
+use Rattle.df_script_text.proofs.ScriptLines.{made, made_line, made_parts}
 use Rattle.df_script_text.proofs.line.read_line.Goals as goal
 
 pub returns-in_err-actor : goal.returns-in_err-actor
 returns-in_err-actor c =
     let p = err_from_is_err_and c.from_residual.result c.from_residual.ensures.1 in
-    rw (p.1, p.2) (front_failed unit_text IsUnit EndsWord unit_at call_text IsCall EndsCall IsLargeCall call_at nothing IsNothing nothing_at made script_line IsScriptLine made_parts c.args.line.now c.in_err-actor.field-0.0 c.in_err-actor.ensures)
+    rw (p.1, p.2) (front_failed made c.args.line.now made_parts c.in_err-actor.field-0.0 c.in_err-actor.ensures)
 
 pub returns-in_err-call : goal.returns-in_err-call
 returns-in_err-call c =
     let p = err_from_is_err_and c.from_residual-in_err-call.result c.from_residual-in_err-call.ensures.1 in
-    rw (p.1, p.2) (middle_failed unit_text IsUnit EndsWord unit_at call_text IsCall EndsCall IsLargeCall call_at nothing IsNothing nothing_at made script_line IsScriptLine made_parts c.args.line.now c.in_ok-actor.actor c.in_ok-actor.behind c.in_ok-actor.ensures.1 c.in_err-call.field-0.0 c.in_err-call.ensures)
+    rw (p.1, p.2) (middle_failed made c.args.line.now made_parts c.in_ok-actor.actor c.in_ok-actor.behind c.in_ok-actor.ensures.1 c.in_err-call.field-0.0
+    c.in_err-call.ensures)
 
 pub returns-then-end-line : goal.returns-then-end-line
 returns-then-end-line c =
-    tail_failed unit_text IsUnit EndsWord unit_at call_text IsCall EndsCall IsLargeCall call_at nothing IsNothing nothing_at made script_line IsScriptLine made_parts c.args.line.now c.in_ok-actor.actor c.in_ok-actor.behind c.in_ok-actor.ensures.1 c.in_ok-call.call c.in_ok-call.end c.in_ok-call.ensures
+    tail_failed made c.args.line.now made_parts c.in_ok-actor.actor c.in_ok-actor.behind c.in_ok-actor.ensures.1 c.in_ok-call.call c.in_ok-call.end
+    c.in_ok-call.ensures
     (Ok (tt, c.in_ok-call.end)) (c.in_ok-call.ensures.0, refl) fault.Syntax (refl, c.if-end-line.true)
 
 pub returns : goal.returns
 returns c =
-    let t = tail_read unit_text IsUnit EndsWord unit_at call_text IsCall EndsCall IsLargeCall call_at nothing IsNothing nothing_at made script_line IsScriptLine made_parts c.args.line.now c.in_ok-actor.actor c.in_ok-actor.behind c.in_ok-actor.ensures.1 c.in_ok-call.call c.in_ok-call.end c.in_ok-call.ensures
+    let t = tail_read made c.args.line.now made_parts c.in_ok-actor.actor c.in_ok-actor.behind c.in_ok-actor.ensures.1 c.in_ok-call.call c.in_ok-call.end
+    c.in_ok-call.ensures
     (Ok (tt, c.in_ok-call.end)) (c.in_ok-call.ensures.0, refl) tt (refl, c.if-end-line.false) in
     ((t.0.0, t.0.1), ap ended t.1 ∙ sym (made_line (record { actor = c.in_ok-actor.actor; call = c.in_ok-call.call })))

@@ -1,0 +1,61 @@
+//! What is noted of units, by the places of their rows.
+
+ghost use Rattle.std.specs.Prelude.{◌≡◌, ◌<◌, IfOk, OnOk, option_copied, vec_len};
+
+use crate::note::Note;
+use df_label::{Label, NoMemory};
+use std::alloc::Global;
+
+/// The note that was written last of each unit, so that a contamination is spelled once for as
+/// long as it stands.
+#[derive(Drop)]
+pub struct Notes {
+    alloc: Global,
+    notes: Vec<Note>,
+    /// Of a unit that isn't there.
+    of_none: Note,
+}
+
+/// Makes place for the notes up to this place.
+#[inline(never)]
+fn reach(alloc: Global, notes: &mut Vec<Note>, place: usize) -> Result<(), NoMemory>
+    ensures { OnOk result (place < vec_len notes.new) }
+{
+    for _ in notes.len()..place {
+        notes.push(Note::new(alloc))?;
+    }
+    if notes.len() == place {
+        notes.push(Note::new(alloc))?;
+    }
+    Ok(())
+}
+
+impl Notes {
+    /// Nothing is noted yet. Takes no memory.
+    pub fn new(alloc: Global) -> Notes {
+        Notes {
+            alloc,
+            notes: Vec::new(alloc),
+            of_none: Note::new(alloc),
+        }
+    }
+
+    /// The note of this contamination, which the unit at a place has.
+    pub fn of(
+        &mut self,
+        place: Option<usize>,
+        contamination: Option<&Label>,
+    ) -> Result<&Note, NoMemory>
+        ensures { IfOk result (λ note. note.now ≡ option_copied contamination.entry) }
+    {
+        let Some(place) = place else {
+            self.of_none.set(contamination)?;
+            return Ok(&self.of_none);
+        };
+        if self.notes.len() <= place {
+            reach(self.alloc, &mut self.notes, place)?;
+        }
+        self.notes[place].set(contamination)?;
+        Ok(&self.notes[place])
+    }
+}

@@ -1,0 +1,45 @@
+//! Calls, with their words as they stand in the bytes that are read.
+
+ghost use Rattle.std.specs.Prelude.{◌≤◌, IfSome, length};
+ghost use Rattle.df_script_text.specs.Common.{common_line};
+ghost use Rattle.df_script_text.specs.Called.{IsCallAt};
+
+use crate::common::{CommonLine, between};
+use crate::line::{ReadLine, ScriptLine};
+use df_journal_text::{ask_at, read_call_at, unit_at};
+use df_value_text::short_at;
+use std::alloc::Global;
+
+/// A root's call at the place that names a handle at most, with its words, and the place behind
+/// them; none where another stands there.
+pub fn common_call_at(bytes: &[u8], at: usize) -> Option<(CommonLine<'_>, usize)>
+    requires { at ≤ length bytes.now }
+    ensures { IfSome result (λ read. IsCallAt bytes.now at
+        (common_line read.0.root read.0.ask) read.0.words.now read.1) }
+{
+    let Ok((root, behind)) = short_at(bytes, at) else {
+        return None;
+    };
+    let Ok(Some((ask, end))) = ask_at(bytes, behind) else {
+        return None;
+    };
+    let words = between(bytes, at, end);
+    Some((CommonLine { words, root, ask }, end))
+}
+
+/// The call at the place, with its words, and the place behind them; none where none can be read
+/// there.
+pub fn call_at(alloc: Global, bytes: &[u8], at: usize) -> Option<(ReadLine<'_>, usize)>
+    requires { at ≤ length bytes.now }
+    ensures { IfSome result (λ read. IsCallAt bytes.now at read.0.line read.0.words.now read.1) }
+{
+    let Ok((actor, behind)) = unit_at(alloc, bytes, at) else {
+        return None;
+    };
+    let Ok((call, end)) = read_call_at(alloc, bytes, behind) else {
+        return None;
+    };
+    let words = between(bytes, at, end);
+    let line = ScriptLine { actor, call };
+    Some((ReadLine { words, line }, end))
+}
