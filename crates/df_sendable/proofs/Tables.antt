@@ -9,6 +9,7 @@ use Rattle.df_roll.specs.contracts.chunk.Chunk as Chunk
 use Rattle.df_roll.specs.contracts.roll.Roll as Roll
 use Rattle.df_roll.specs.contracts.seat.Seat as Seat
 use Rattle.df_tables.specs.contracts.board.Board as Board
+use Rattle.df_tables.specs.contracts.event_places.EventPlaces as EventPlaces
 use Rattle.df_tables.specs.contracts.events.EventRow as EventRow
 use Rattle.df_tables.specs.contracts.events.Events as Events
 use Rattle.df_tables.specs.contracts.line.Line as Line
@@ -38,8 +39,11 @@ event_row_field_send = search (units, contents, sendable, crosses) depth 40 fits
 pub event_row_send : IsSend EventRow.the_row
 event_row_send = search (event_row_field_send, sendable) depth 40
 
+pub event_places_field_send : IsSend (EventPlaces.the_field).row
+event_places_field_send = search (units, maps, sendable, crosses) depth 40 fits 20000
+
 pub events_send : IsSend Events.the_row
-events_send = search (event_row_send, units, maps, sendable, crosses) depth 40 fits 20000
+events_send = search (event_row_send, event_places_field_send, units, maps, sendable, crosses) depth 40 fits 20000
 
 pub line_send : IsSend Line.the_row
 line_send = search (units, sendable, crosses) depth 40 fits 20000

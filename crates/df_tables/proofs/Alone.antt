@@ -14,7 +14,7 @@ use Rattle.df_label.specs.declared.label.Label.{Label}
 use Rattle.df_label.specs.declared.no_memory.NoMemory.{NoMemory}
 use Rattle.df_tables.specs.Agree.{FilterIndex, IsWhole}
 use Rattle.df_tables.specs.Board.{IsBoard, IsMade, IsMovedBoard, IsRenewed, MakesAlone, answer_from, place_on, row_by}
-use Rattle.df_tables.specs.Hand.{IsAnsweredAt, IsMadeAt}
+use Rattle.df_tables.specs.Hand.{IsAnsweredAt, IsMadeAt, modify}
 use Rattle.df_tables.specs.Labels.{AreLabels, inputs}
 use Rattle.df_tables.specs.Moves.{child_by, is_in_out, made_by, managed_sub_by}
 use Rattle.df_tables.specs.Table.{moved_row, names_of, place_of}
@@ -68,16 +68,21 @@ pub record IsBesideRows (old new : Board) : Type 0 where
   pub managed : new.managed ≡ old.managed
   pub told : new.marks.handed ≡ old.marks.handed
 
+-- where a row is moved, and nothing is enrolled
+pub moved_beside : (k : ℕ) (c : Call) (r : Reply) (f : Effect) (old new : Board) → IsBesideRows old new → new.rows.items ≡ modify k (moved_row rows c r f) old.rows.items
+    → IsMovedBoard k c r f None old new
+moved_beside k c r f old new beside moved = record {
+  rows = moved;
+  roll = beside.seats;
+  events = beside.events;
+  enrolled = ap (λ (x : FilterIndex). x.enrolled) beside.index ∙ sym (append-nil old.index.enrolled);
+  handed = ap (λ (x : FilterIndex). x.handed) beside.index;
+  told = beside.told;
+}
+
 module _ (a : UnitName) (k : ℕ) (c : Call) (old new : Board) (here : place_on old a ≡ Some k) (board : IsBoard old) (beside : IsBesideRows old new) where
   moved : (r : Reply) → IsMadeAt k c (Some r) old.rows.items new.rows.items → IsMovedBoard k c r Effect.Nothing None old new
-  moved r made = record {
-    rows = made.2;
-    roll = beside.seats;
-    events = beside.events;
-    enrolled = ap (λ (x : FilterIndex). x.enrolled) beside.index ∙ sym (append-nil old.index.enrolled);
-    handed = ap (λ (x : FilterIndex). x.handed) beside.index;
-    told = beside.told;
-  }
+  moved r made = moved_beside k c r Effect.Nothing old new beside made.2
 
   pub board_alone : (made : Option Reply) → IsMadeAt k c made old.rows.items new.rows.items → IsBoard new
   board_alone None same = record {

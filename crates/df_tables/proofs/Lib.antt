@@ -1,4 +1,6 @@
 pub mod Places
+pub mod Slots
+pub mod Keyed
 pub mod Opened
 pub mod Finds
 pub mod Newborn
@@ -37,3 +39,4 @@ pub mod Swapped
 pub mod FirstRoll
 pub mod Receiving
 pub mod Alone
+pub mod Gets

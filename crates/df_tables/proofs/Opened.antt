@@ -1,18 +1,16 @@
 -- The rows of events, and one more of them.
 use Rattle.std.proofs.Common.{◌≡◌, inl, inr, ℕ, zero, suc, ◌<◌, Bool, true, false, if◌then◌else◌, List, [], ◌∷◌, ◌++◌, length, set, get_or, Option, Some, None, option_map, refl, ap, sym, subst, ◌∙◌, arith}
-use Rattle.std.specs.BTreeMap as tree
-use Rattle.std.specs.BTreeMap.{BTreeMap}
-use Rattle.std.specs.Cmp.{both_tied, unsigned_ties}
-use Rattle.std.specs.Ordering.{nat_cmp}
 use Rattle.df_part.specs.declared.part.Part.{Part}
 use Rattle.df_unit.specs.Name.{same_event}
-use Rattle.df_unit.specs.UnitOrder.{unit_cmp}
-use Rattle.df_unit.specs.UnitOrderLaws.{unit_cmp_ties}
 use Rattle.df_unit.specs.declared.name.EventName.{EventName}
 use Rattle.df_unit.proofs.SameFacts.{same_event_decides}
-use Rattle.df_tables.specs.Events.{IsOpened, IsPlaced, Key, blank, event_place, key_cmp, key_of, place_by}
+use Rattle.df_tables.specs.EventPlaces.{key_of, place_at, same_key}
+use Rattle.df_tables.specs.Events.{IsOpened, IsPlaced, blank, event_place, place_by}
 use Rattle.df_tables.specs.Table.{parts_of}
+use Rattle.df_tables.specs.declared.event_places.EventPlaces.{EventPlaces}
+use Rattle.df_tables.specs.declared.event_places.Key.{Key}
 use Rattle.df_tables.specs.declared.events.EventRow.{EventRow}
+use Rattle.df_tables.proofs.Keyed.{keys_tie}
 use Rattle.df_tables.proofs.Places.{put_end}
 
 -- what stands at the end is the first that passes, where none did
@@ -52,10 +50,6 @@ within p (x ∷ xs) k h = by (p x) (place_by p xs) (λ j g. within p xs j g) h
 pub place_within : (event : EventName) (rows : List EventRow) (k : ℕ) → event_place event rows ≡ Some k → k < length rows
 place_within event rows k h = within (λ r. same_event r.event event) rows k h
 
--- events have one key exactly where they are one
-keys_tie : (a b : EventName) → same_event a b ≡ tree.is_at (key_cmp (key_of a)) (key_of b)
-keys_tie a b = both_tied _ _ (nat_cmp a.number b.number) (unit_cmp a.unit b.unit) (unsigned_ties a.number b.number) (unit_cmp_ties a.unit b.unit)
-
 -- the row of the event is the first
 pub opened_place : (event : EventName) (rows : List EventRow) → event_place event rows ≡ None → event_place event (rows ++ blank event ∷ []) ≡ Some (length rows)
 opened_place event rows none = end_none (λ r. same_event r.event event) rows (blank event) none ∙ ap (λ (b : Bool). if b then Some (length rows) else None) ((same_event_decides event event).1 refl)
@@ -71,11 +65,13 @@ place_more event rows e none = by (same_event event e) refl (event_place e rows)
     by false same None h = end_none (λ r. same_event r.event e) rows (blank event) h ∙ ap (λ (b : Bool). if b then Some (length rows) else None) same
     by false same (Some k) h = end_some (λ r. same_event r.event e) rows (blank event ∷ []) k h
 
--- one more row, and its place in the table
-pub placed_more : (rows : List EventRow) (table new : BTreeMap Key ℕ) (event : EventName) → event_place event rows ≡ None → ((q : Key) → tree.get key_cmp new q ≡ (if tree.is_at (key_cmp (key_of event)) q then Some (length rows) else tree.get key_cmp table q)) → IsPlaced rows table → IsPlaced (rows ++ blank event ∷ []) new
-placed_more rows table new event none updates placed e =
+-- one more row, and its place by its key
+pub placed_more : (rows : List EventRow) (old new : EventPlaces) (event : EventName) → event_place event rows ≡ None →
+    ((q : Key) → place_at new q ≡ (if same_key (key_of event) q then Some (length rows) else place_at old q)) →
+    IsPlaced rows old → IsPlaced (rows ++ blank event ∷ []) new
+placed_more rows old new event none updates placed e =
     updates (key_of e)
-    ∙ ap (λ (b : Bool). if b then Some (length rows) else tree.get key_cmp table (key_of e)) (sym (keys_tie event e))
+    ∙ ap (λ (b : Bool). if b then Some (length rows) else place_at old (key_of e)) (sym (keys_tie event e))
     ∙ ap (λ (o : Option ℕ). if same_event event e then Some (length rows) else o) (placed e)
     ∙ sym (place_more event rows e none)
 

@@ -9,6 +9,7 @@ use Rattle.df_part.specs.Part.{cut}
 use Rattle.df_part.specs.declared.part.Part.{Part}
 use Rattle.df_unit.specs.Rows.{after}
 use Rattle.df_unit.specs.declared.call.Call.{Call}
+use Rattle.df_unit.specs.declared.call.Call.TheVariants as Call
 use Rattle.df_unit.specs.declared.commit.Given.{Given}
 use Rattle.df_unit.specs.declared.entry.Effect.{Effect}
 use Rattle.df_unit.specs.declared.name.EventName.{EventName}
@@ -84,3 +85,13 @@ abbrev pub IsMadeAt : ℕ → Call → Option Reply → List Unit → List Unit 
 IsMadeAt k c None old new = new ≡ old
 IsMadeAt k c (Some r) old new = (is_alone c ≡ true) × IsAnsweredAt k c r Effect.Nothing old
     × (new ≡ modify k (moved_row rows c r Effect.Nothing) old)
+
+-- a unit's get is answered so, and its row is moved as that does
+pub record IsGiven (a : Reply × Effect) (old new : Unit) : Type 0 where
+  pub answered : IsAnswered Call.Get a.0 a.1 old
+  pub moved : new ≡ moved_row rows Call.Get a.0 a.1 old
+
+-- the same of the unit at a place
+pub record IsGivenAt (k : ℕ) (a : Reply × Effect) (old new : List Unit) : Type 0 where
+  pub answered : IsAnsweredAt k Call.Get a.0 a.1 old
+  pub moved : new ≡ modify k (moved_row rows Call.Get a.0 a.1) old

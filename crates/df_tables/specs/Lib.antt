@@ -2,6 +2,7 @@ pub mod Agree
 pub mod Births
 pub mod Calls
 pub mod Board
+pub mod EventPlaces
 pub mod Events
 pub mod Hand
 pub mod Labels

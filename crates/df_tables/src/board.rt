@@ -1,14 +1,15 @@
 //! The tables of the machine in one: the units, the events, and the index of subscriptions.
 
-ghost use Rattle.std.specs.Prelude.{◌≡◌, ℕ, ◌+◌, ◌<◌, [], false, List, None, Some, IfOk, IfSome, OnErr, OnOk, length, option_copied, slice_get, vec_len};
+ghost use Rattle.std.specs.Prelude.{◌≡◌, ◌↔◌, ◌∷◌, ℕ, ◌+◌, ◌<◌, [], false, IsTrue, List, None, Some, IfOk, IfSome, OnErr, OnOk, length, option_copied, slice_get, vec_len};
 ghost use Rattle.std.specs.List.{All};
 ghost use Rattle.std.specs.Option.{option_map};
 ghost use Rattle.df_label.specs.declared.label.Label.{Label};
 ghost use Rattle.df_label.specs.declared.privilege.Privilege.{Privilege};
 ghost use Rattle.df_rules.specs.Commits.{commit_in};
-ghost use Rattle.df_unit.specs.declared.call.Call.TheVariants.{Instantiate, Subscribe, SubscribeManaged};
+ghost use Rattle.df_unit.specs.declared.call.Call.TheVariants.{Get, Instantiate, Subscribe, SubscribeManaged};
 ghost use Rattle.df_unit.specs.declared.entry.Effect.{Effect};
 ghost use Rattle.df_unit.specs.declared.name.UnitName.{UnitName};
+ghost use Rattle.df_unit.specs.declared.name.UnitName.TheVariants.{Root};
 ghost use Rattle.df_unit.specs.declared.reply.Reply.{Reply};
 ghost use Rattle.df_unit.specs.declared.reply.Reply.TheVariants.{Sub};
 ghost use Rattle.df_unit.specs.UnitOrder.{unit_cmp};
@@ -23,7 +24,7 @@ ghost use Rattle.df_tables.specs.Table.{IsInOrder, rows_from};
 use crate::births::{Beside, Newborn, beside_of, child_of, count_child, make_room};
 use crate::events::Events;
 use crate::managing::subscribe_managed;
-use crate::moves::{make_at, move_at, subscribe};
+use crate::moves::{give_at, make_at, move_at, subscribe};
 use crate::units::{Unit, first_roll, labels_of, refresh};
 use df_filter::Filter;
 use df_index::Index;
@@ -47,6 +48,19 @@ pub struct Board {
     pub(crate) managed: Managed,
     pub(crate) marks: Marks,
     pub(crate) alloc: Global,
+}
+
+/// Whether the unit is the root of this number.
+fn is_root(name: &UnitName, number: u32) -> bool
+    ensures { IsTrue result ↔ (name.now ≡ Root (number ∷ [])) }
+{
+    let UnitName::Root(path) = name else {
+        return false;
+    };
+    let [first] = path.as_slice() else {
+        return false;
+    };
+    *first == number
 }
 
 /// Whether the call is one that changes the label at which its unit reads.
@@ -114,7 +128,22 @@ impl Board {
         })
     }
 
-    /// The place of a root's row, where that is the root's number, as it is of the first units.
+    /// The place of the row of the root of this number, where the place is the number, as it is of
+    /// the first units.
+    pub fn root(&self, number: u32) -> Option<usize>
+        requires { IsBoard self.now }
+        ensures { IfSome result (λ place. place_on self.now (Root (number ∷ [])) ≡ Some place) }
+    {
+        let place = number as usize;
+        let unit = self.rows.get(place)?;
+        if is_root(unit.local.name(), number) {
+            Some(place)
+        } else {
+            None
+        }
+    }
+
+    /// The place of a root's row, where that is the root's number.
     fn root_place(&self, name: &UnitName) -> Option<usize>
         requires { IsBoard self.now }
         ensures { IfSome result (λ place. place_on self.now name.now ≡ Some place) }
@@ -125,13 +154,7 @@ impl Board {
         let [number] = path.as_slice() else {
             return None;
         };
-        let place = *number as usize;
-        let unit = self.rows.get(place)?;
-        if unit.local.name().same(name) {
-            Some(place)
-        } else {
-            None
-        }
+        self.root(*number)
     }
 
     /// The place of a unit's row, where it has one.
@@ -446,7 +469,11 @@ impl Board {
 
     /// Makes a call that the unit at a place makes of its own state alone; None where it is
     /// another. Where memory is wanting, at most the labels are others.
-    fn make_alone(&mut self, place: Option<usize>, call: &Call) -> Result<Option<Reply>, NoMemory>
+    pub fn make_alone(
+        &mut self,
+        place: Option<usize>,
+        call: &Call,
+    ) -> Result<Option<Reply>, NoMemory>
         requires board { IsBoard self.old }
         requires seated { (actor : UnitName) × (place_on self.old actor ≡ place) }
         ensures board { IsBoard self.new }
@@ -459,10 +486,23 @@ impl Board {
         }
     }
 
+    /// Hands the unit at a place the first event that is left to it, and answers its get. Where
+    /// memory is wanting, nothing is another.
+    fn give(&mut self, place: usize) -> Result<Answer, NoMemory>
+        requires board { IsBoard self.old }
+        requires seated { (actor : UnitName) × (place_on self.old actor ≡ Some place) }
+        ensures board { IsBoard self.new }
+        ensures made { IfOk result (λ a. IsMade (Some place) Get (a.reply, a.effect)
+            self.old self.new) }
+        ensures same { OnErr result (IsRenewed self.old self.new) }
+    {
+        give_at(self.rows.as_mut_slice(), place)
+    }
+
     /// Makes a call of the unit whose place this is: works out its answer, and takes the entry in.
     /// Without memory the tables agree with the journal as before.
     #[inline(never)]
-    fn answer_and_book(&mut self, place: Option<usize>, call: &Call) -> Result<Answer, NoMemory>
+    pub fn answer_and_book(&mut self, place: Option<usize>, call: &Call) -> Result<Answer, NoMemory>
         requires board { IsBoard self.old }
         requires seated { (actor : UnitName) × (place_on self.old actor ≡ place) }
         ensures board { IsBoard self.new }
@@ -470,6 +510,9 @@ impl Board {
             self.old self.new) }
         ensures kept { OnErr result (IsKept self.old self.new) }
     {
+        if let (Some(place), Call::Get) = (place, call) {
+            return self.give(place);
+        }
         let answer = self.answer(place, call)?;
         self.book(place, call, &answer.reply, &answer.effect)?;
         Ok(answer)

@@ -1,17 +1,18 @@
-//! The parts that each event has. An event is found by its number and its unit in an ordered map.
+//! The parts that each event has.
 
 ghost use Rattle.std.specs.Prelude.{◌≡◌, ◌<◌, ◌∷◌, [], ◌++◌, if◌then◌else◌, length, IfOk, OnOk, OnErr, Some};
-ghost use Rattle.std.specs.BTreeMap as tree;
 ghost use Rattle.df_unit.specs.Name.{same_event};
 ghost use Rattle.df_unit.specs.declared.name.EventName.{EventName};
-ghost use Rattle.df_tables.specs.Events.{IsOpened, Key, blank, event_place, key_cmp, key_of};
+ghost use Rattle.df_tables.specs.EventPlaces.{place_at, same_key};
+ghost use Rattle.df_tables.specs.Events.{IsOpened, blank, event_place};
 ghost use Rattle.df_tables.specs.Table.{parts_of};
+ghost use Rattle.df_tables.specs.declared.event_places.Key.{Key};
 
+use crate::event_places::{EventPlaces, Key, key_of};
 use df_label::NoMemory;
 use df_part::Contents;
-use df_unit::{EventName, UnitName};
+use df_unit::EventName;
 use std::alloc::Global;
-use std::collections::BTreeMap;
 use std::marker::Model;
 
 /// The parts of an event.
@@ -25,7 +26,7 @@ pub struct EventRow {
 #[derive(Drop)]
 pub struct Events {
     rows: Vec<EventRow>,
-    places: BTreeMap<(u32, UnitName), usize>,
+    places: EventPlaces,
 }
 
 impl Model for Events {
@@ -44,40 +45,26 @@ impl Model for Events {
     ghost invariant = { λ e. IsPlaced e.rows.items e.places };
 }
 
-/// What a row is found by.
-fn key_of(event: &EventName) -> Result<(u32, UnitName), NoMemory>
-    ensures { IfOk result (λ key. key ≡ key_of event.now) }
-{
-    Ok((event.number, event.unit.copy()?))
-}
-
-fn place_at(places: &BTreeMap<(u32, UnitName), usize>, key: &(u32, UnitName)) -> Option<usize>
-    ensures { result ≡ tree.get key_cmp places.now key.now }
-{
-    places.get(key).copied()
-}
-
 /// One more row, without parts.
 fn add_row(
     alloc: Global,
     rows: &mut Vec<EventRow>,
-    places: &mut BTreeMap<(u32, UnitName), usize>,
-    key: (u32, UnitName),
+    places: &mut EventPlaces,
+    key: Key,
     event: &EventName,
 ) -> Result<usize, NoMemory>
     ensures place { IfOk result (λ k. k ≡ length rows.old.items) }
     ensures rows { OnOk result (rows.new.items ≡ rows.old.items ++ blank event.now ∷ []) }
-    ensures places { OnOk result ((q : Key) → tree.get key_cmp places.new q
-        ≡ (if tree.is_at (key_cmp key) q then Some (length rows.old.items)
-        else tree.get key_cmp places.old q)) }
+    ensures places { OnOk result ((q : Key) → place_at places.new q
+        ≡ (if same_key key q then Some (length rows.old.items) else place_at places.old q)) }
     ensures same_rows { OnErr result (rows.new.items ≡ rows.old.items) }
-    ensures same_places { OnErr result ((q : Key) → tree.get key_cmp places.new q
-        ≡ tree.get key_cmp places.old q) }
+    ensures same_places { OnErr result ((q : Key) → place_at places.new q
+        ≡ place_at places.old q) }
 {
     rows.reserve(1)?;
     let event = event.copy()?;
     let place = rows.len();
-    places.insert(key, place)?;
+    places.put(key, place)?;
     rows.push_reserved(EventRow {
         event,
         contents: Contents::new(alloc),
@@ -92,7 +79,7 @@ impl Events {
     {
         Events {
             rows: Vec::new(alloc),
-            places: BTreeMap::new(alloc),
+            places: EventPlaces::new(alloc),
         }
     }
 
@@ -103,7 +90,7 @@ impl Events {
         ensures unchanged { OnErr result (self.new ≡ self.old) }
     {
         let key = key_of(event)?;
-        if let Some(place) = place_at(&self.places, &key) {
+        if let Some(place) = self.places.find(&key) {
             return Ok(place);
         }
         let alloc = *self.rows.allocator();

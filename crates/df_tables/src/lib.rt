@@ -6,6 +6,7 @@ mod births;
 mod board;
 mod calling;
 mod commits;
+mod event_places;
 mod events;
 mod handing;
 mod line;

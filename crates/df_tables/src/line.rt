@@ -65,10 +65,11 @@ impl Line {
     }
 
     /// Takes the first delivery that is left.
-    pub fn pop(&mut self)
-        ensures { self.new ≡ record self.old { left = drop 1 self.old.left } }
+    pub fn pop(&mut self) -> Option<Given>
+        ensures first { result ≡ slice_get self.old.left 0 }
+        ensures left { self.new ≡ record self.old { left = drop 1 self.old.left } }
     {
-        let _first = self.left.pop_front();
+        self.left.pop_front()
     }
 
     /// Makes one more ready, with all the memory that it needs.

@@ -5,8 +5,8 @@ ghost use Rattle.df_rules.specs.Start.{rows};
 ghost use Rattle.df_unit.specs.declared.call.Call.TheVariants.{Subscribe};
 ghost use Rattle.df_unit.specs.declared.entry.Effect.{Effect};
 ghost use Rattle.df_unit.specs.declared.reply.Reply.TheVariants.{Sub};
-ghost use Rattle.df_tables.specs.Hand.{IsAnsweredAt, IsMadeAt, modify};
-ghost use Rattle.df_tables.specs.Moves.{IsAnswered};
+ghost use Rattle.df_tables.specs.Hand.{IsAnsweredAt, IsGiven, IsGivenAt, IsMadeAt, modify};
+ghost use Rattle.df_tables.specs.Moves.{IsAnswered, is_event};
 ghost use Rattle.df_tables.specs.Table.{moved_row, taken};
 
 use crate::line::Line;
@@ -14,6 +14,7 @@ use crate::units::Unit;
 use df_filter::Filter;
 use df_index::Index;
 use df_label::NoMemory;
+use df_local::Answer;
 use df_unit::{Call, Effect, Reply};
 
 /// The line without the delivery that is handed over.
@@ -21,7 +22,7 @@ fn take_from(line: &mut Line, effect: &Effect)
     ensures { line.new ≡ taken effect.now line.old }
 {
     if let Effect::Given(_) = effect {
-        line.pop();
+        drop(line.pop());
     }
 }
 
@@ -70,6 +71,60 @@ pub fn make_at(units: &mut [Unit], place: usize, call: &Call) -> Result<Option<R
     let unit = &mut units[place];
     match unit.local.make_alone(call) {
         Ok(made) => Ok(made),
+        Err(refused) => Err(refused),
+    }
+}
+
+/// An answer without effect.
+fn quiet(reply: Reply) -> Answer
+    ensures reply { result.reply ≡ reply }
+    ensures effect { result.effect ≡ Effect.Nothing }
+{
+    Answer {
+        reply,
+        effect: Effect::Nothing,
+    }
+}
+
+/// Whether the reply tells of an event that is handed over.
+fn is_event(reply: &Reply) -> bool
+    ensures { result ≡ is_event reply.now }
+{
+    matches!(reply, Reply::Event { .. })
+}
+
+/// Hands the first delivery that is left over to its unit, which asks for it, and answers that.
+/// Where memory is wanting, the row is as before.
+fn give(unit: &mut Unit) -> Result<Answer, NoMemory>
+    ensures given { IfOk result (λ a. IsGiven (a.reply, a.effect) unit.old unit.new) }
+    ensures unchanged { OnErr result (unit.new ≡ unit.old) }
+{
+    let Some(given) = unit.line.first() else {
+        return Ok(quiet(Reply::Nothing));
+    };
+    let Ok(reply) = unit.local.take_in(given) else {
+        return Err(NoMemory);
+    };
+    if !is_event(&reply) {
+        return Ok(quiet(reply));
+    }
+    let effect = match unit.line.pop() {
+        Some(given) => Effect::Given(given),
+        None => Effect::Nothing,
+    };
+    Ok(Answer { reply, effect })
+}
+
+/// Hands the first delivery that is left to the unit at a place over to it, and answers its get.
+/// Where memory is wanting, the table is as before.
+pub fn give_at(units: &mut [Unit], place: usize) -> Result<Answer, NoMemory>
+    requires within { place < length units.old }
+    ensures given { IfOk result (λ a. IsGivenAt place (a.reply, a.effect) units.old units.new) }
+    ensures unchanged { OnErr result (units.new ≡ units.old) }
+{
+    let unit = &mut units[place];
+    match give(unit) {
+        Ok(answer) => Ok(answer),
         Err(refused) => Err(refused),
     }
 }
