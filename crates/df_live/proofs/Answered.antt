@@ -16,7 +16,8 @@ use Rattle.df_script_text.specs.Script.{IsScript, IsScriptLine, script_line, scr
 use Rattle.df_script_text.specs.code.Lines.{call_line, head_lines}
 use Rattle.df_script_text.specs.declared.line.ScriptLine.{ScriptLine}
 use Rattle.df_start.specs.declared.start.RootStart.{RootStart}
-use Rattle.df_steps.proofs.Journals.{IsWritten, written_more}
+use Rattle.df_steps.proofs.Journals.{written_more}
+use Rattle.df_steps.specs.code.Written.{IsWritten}
 use Rattle.df_steps.proofs.Sound.{journal_is_sound, journal_is_unaided}
 use Rattle.df_steps.specs.Steps.{AppendsStep, Records, RecordsScript, journal_of}
 use Rattle.df_live.proofs.Parts.{consumes-consumes, consumes-none}

@@ -8,9 +8,10 @@ ghost use Rattle.df_live.specs.code.Stops.{AnswersCall, StopsAnswer};
 
 use crate::status::LiveStatus;
 use df_io::{Sink, write_all};
+use df_journal_text::Notes;
 use df_machine::Tables;
 use df_script_text::{ReadLine, ScriptLine};
-use df_steps::{Notes, append_step};
+use df_steps::append_step;
 
 /// Makes a call, of which these are the words, and writes its entry.
 pub fn answer<W: Sink>(

@@ -13,11 +13,10 @@ use crate::head::take_start;
 use crate::lines::Lines;
 use crate::status::LiveStatus;
 use df_io::{Sink, write_all};
-use df_journal_text::write_head;
+use df_journal_text::{Notes, write_head};
 use df_label::NoMemory;
 use df_machine::Tables;
 use df_start::Start;
-use df_steps::Notes;
 use std::alloc::Global;
 
 /// The tables behind the lines that were taken, and the number of the next line.

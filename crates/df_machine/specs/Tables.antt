@@ -1,9 +1,12 @@
 -- When the tables of a machine agree with its state.
-use Rattle.std.specs.Prelude.{ℕ, Option, map}
+use Rattle.std.specs.Prelude.{◌≡◌, ℕ, Option, None, Some, map}
 use Rattle.df_start.specs.Begun.{begun}
 use Rattle.df_tables.specs.Board.{IsBoard, TellsOf, place_on}
+use Rattle.df_unit.specs.declared.call.Call.{Call}
+use Rattle.df_unit.specs.declared.entry.Effect.{Effect}
 use Rattle.df_unit.specs.declared.name.UnitName.{UnitName}
-use Rattle.df_machine.specs.Journal.{State}
+use Rattle.df_unit.specs.declared.reply.Reply.{Reply}
+use Rattle.df_machine.specs.Journal.{State, answer_in, appended}
 use Rattle.df_machine.specs.declared.tables.Tables.{Tables}
 
 -- the tables are those of a machine with this start and this journal
@@ -14,3 +17,19 @@ pub record AgreesWith (core : State) (tables : Tables) : Type 0 where
 -- the place of a unit's row, where it has one
 abbrev pub place_in : Tables → UnitName → Option ℕ
 place_in tables actor = place_on tables.board actor
+
+-- a unit's call is answered so, and the tables agree with it and its entry
+pub record IsStep (core : State) (actor : UnitName) (call : Call) (told : Reply × Effect)
+    (tables : Tables) : Type 0 where
+  pub answer : answer_in core actor call ≡ told
+  pub entry : AgreesWith (appended actor call core) tables
+
+-- a call that its unit makes of its own state alone is a step; at any other the tables agree with
+-- what they agreed with, and rows stand where they stood
+abbrev pub StepsAlone : Option ℕ → Call → Option Reply → Tables → Tables → Type 0
+StepsAlone place call (Some reply) old new = (core : State) (actor : UnitName) →
+    AgreesWith core old → place ≡ place_in old actor →
+    IsStep core actor call (reply, Effect.Nothing) new
+StepsAlone place call None old new =
+    ((core : State) → AgreesWith core old → AgreesWith core new)
+    × ((actor : UnitName) → place_in new actor ≡ place_in old actor)

@@ -5,14 +5,15 @@ ghost use Rattle.df_start.specs.Begun.{begun};
 ghost use Rattle.df_tables.specs.Table.{rows_from};
 ghost use Rattle.df_unit.specs.declared.entry.Entry.TheVariants.{Emitted};
 ghost use Rattle.df_unit.specs.declared.name.UnitName.{UnitName};
+ghost use Rattle.df_unit.specs.declared.name.UnitName.TheVariants.{Root};
 ghost use Rattle.df_machine.specs.Journal.{State, answer_in, appended, contamination_in};
-ghost use Rattle.df_machine.specs.Tables.{AgreesWith, place_in};
+ghost use Rattle.df_machine.specs.Tables.{AgreesWith, IsStep, StepsAlone, place_in};
 
 use df_label::{Label, NoMemory};
 use df_local::Answer;
 use df_start::{RootStart, Start};
 use df_tables::{Board, Unit, first_unit};
-use df_unit::{Call, Commit, UnitName};
+use df_unit::{Call, Commit, Path, Reply, UnitName};
 use std::alloc::Global;
 
 /// The tables of a machine. The journal of which they tell is kept by the caller, or by nobody.
@@ -53,6 +54,17 @@ impl Tables {
         self.board.place(unit)
     }
 
+    /// The place of the row of the root of this number, where it has one.
+    pub fn root(&self, number: u32) -> Option<usize>
+        requires { (core : State) × AgreesWith core self.now }
+        ensures { result ≡ place_in self.now (Root (number ∷ [])) }
+    {
+        match self.board.root(number) {
+            Some(place) => Some(place),
+            None => self.board.place(&UnitName::Root(Path::root(number))),
+        }
+    }
+
     /// The contamination of the unit whose row is at a place; none where there isn't one.
     pub fn contamination(&self, place: Option<usize>) -> Option<&Label>
         ensures { (core : State) (unit : UnitName) → AgreesWith core self.now →
@@ -81,6 +93,38 @@ impl Tables {
             AgreesWith core self.new) }
     {
         self.board.make(place, call)
+    }
+
+    /// Makes a call that the unit at a place makes of its own state alone, and answers it; none,
+    /// and nothing is made, where the call is another or there is no such row. Which calls are made
+    /// here is left open: `step_other` makes any. Without memory the tables agree with what they
+    /// agreed with.
+    pub fn step_alone(
+        &mut self,
+        place: Option<usize>,
+        call: &Call,
+    ) -> Result<Option<Reply>, NoMemory>
+        requires agrees { (core : State) × AgreesWith core self.old }
+        requires seated { (actor : UnitName) × (place ≡ place_in self.old actor) }
+        ensures made { IfOk result (λ made. StepsAlone place call.now made self.old self.new) }
+        ensures kept { OnErr result ((core : State) → AgreesWith core self.old →
+            AgreesWith core self.new) }
+    {
+        self.board.make_alone(place, call)
+    }
+
+    /// Makes any call, as `step` does, but doesn't ask first whether it is one of the unit's own
+    /// state alone.
+    pub fn step_other(&mut self, place: Option<usize>, call: &Call) -> Result<Answer, NoMemory>
+        requires agrees { (core : State) × AgreesWith core self.old }
+        requires seated { (actor : UnitName) × (place ≡ place_in self.old actor) }
+        ensures step { IfOk result (λ answer. (core : State) (actor : UnitName) →
+            AgreesWith core self.old → place ≡ place_in self.old actor →
+            IsStep core actor call.now (answer.reply, answer.effect) self.new) }
+        ensures kept { OnErr result ((core : State) → AgreesWith core self.old →
+            AgreesWith core self.new) }
+    {
+        self.board.answer_and_book(place, call)
     }
 
     /// Takes in an emitted commit. Whatever journal the tables agreed with, they agree with it and

@@ -1,4 +1,4 @@
-ghost use Rattle.std.specs.Prelude.{◌≡◌, [], IfOk, IfErr, OnOk};
+ghost use Rattle.std.specs.Prelude.{◌≡◌, ◌<◌, ◌≤◌, [], IfOk, IfErr, List, OnOk, length, true};
 ghost use Rattle.df_journal_text.specs.Front.{call_front};
 ghost use Rattle.df_lines.specs.Refused.{NamesBadLine};
 ghost use Rattle.df_machine.specs.Journal.{State};
@@ -6,15 +6,18 @@ ghost use Rattle.df_machine.specs.Tables.{AgreesWith};
 ghost use Rattle.df_script_text.specs.Reader.{HasRead};
 ghost use Rattle.df_script_text.specs.Script.{IsScriptText};
 ghost use Rattle.df_script_text.specs.TooLarge.{IsTooLargeIn};
+ghost use Rattle.df_script_text.specs.declared.line.ScriptLine.{ScriptLine};
+ghost use Rattle.df_start.specs.declared.start.RootStart.{RootStart};
 ghost use Rattle.df_steps.specs.Steps.{AppendsStep, RecordsScript};
+ghost use Rattle.df_steps.specs.code.Written.{IsWritten, WritesOn};
 
-use df_journal_text::write_head;
+use df_journal_text::{Notes, write_head};
 use df_label::NoMemory;
 use df_lines::FileRefused;
 use df_machine::Tables;
 use df_script_text::{ReadLine, ScriptReader};
 use df_start::Start;
-use df_steps::{Notes, append_step};
+use df_steps::{append_common, append_step};
 use std::alloc::Global;
 
 /// The text of the journal of a script's calls.
@@ -44,10 +47,38 @@ fn journal_of(
     write_head(&start, &mut text)?;
     let mut tables = Tables::begin(alloc, &start)?;
     let mut notes = Notes::new(alloc);
-    'lines: while let Some(read) = reader.next_line()? {
-        append(&mut tables, &mut notes, read, &mut text)?;
-    }
+    'lines: while append_next(reader, &mut tables, &mut notes, &mut text)? {}
     Ok(text)
+}
+
+/// Makes the next call that is left to a reader, and appends its entry: whether there was one.
+fn append_next(
+    reader: &mut ScriptReader<'_>,
+    tables: &mut Tables,
+    notes: &mut Notes,
+    text: &mut Vec<u8>,
+) -> Result<bool, FileRefused>
+    requires { (roots : List RootStart) × (lines : List ScriptLine)
+        × HasRead roots lines reader.old × IsWritten roots lines tables.old text.old.items }
+    ensures written { IfOk result (λ more. (roots : List RootStart) (lines : List ScriptLine) →
+        HasRead roots lines reader.old → IsWritten roots lines tables.old text.old.items →
+        WritesOn roots lines more reader.new tables.new text.new.items) }
+    ensures further { IfOk result (λ more. more ≡ true → reader.old.place < reader.new.place) }
+    ensures within { reader.new.place ≤ length reader.new.bytes }
+    ensures bytes { reader.new.bytes ≡ reader.old.bytes }
+    ensures refused { IfErr result (λ e. (roots : List RootStart) (lines : List ScriptLine) →
+        HasRead roots lines reader.old →
+        NamesBadLine IsScriptText IsTooLargeIn reader.old.bytes e) }
+{
+    if let Some(line) = reader.next_common() {
+        append_common(tables, notes, line, text)?;
+        return Ok(true);
+    }
+    let Some(read) = reader.next_line()? else {
+        return Ok(false);
+    };
+    append(tables, notes, read, text)?;
+    Ok(true)
 }
 
 /// Makes a call that was read, and appends its entry.

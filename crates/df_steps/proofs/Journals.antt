@@ -17,17 +17,13 @@ use Rattle.df_journal_text.specs.Entry.{noted_text}
 use Rattle.df_journal_text.specs.Start.{head_text}
 use Rattle.df_script_text.specs.declared.line.ScriptLine.{ScriptLine}
 use Rattle.df_steps.specs.Steps.{AppendsStep, called, journal_of}
+use Rattle.df_steps.specs.code.Written.{IsWritten}
 
 -- the journal of one more line
 pub journal_more : (roots : List RootStart) (ls : List ScriptLine) (l : ScriptLine)
     → journal_of roots (ls ++ l ∷ []) ≡ answered rows (firsts roots) (journal_of roots ls) l.actor l.call ∷ journal_of roots ls
 journal_more roots ls l = ap (λ (cs : List (UnitName × Call)). run rows (firsts roots) (reverse cs)) (map-append called ls (l ∷ []))
     ∙ ap (run rows (firsts roots)) (reverse-append (map called ls) (called l ∷ []))
-
--- what was made and written so far: the tables of these lines' journal, and its text
-pub record IsWritten (roots : List RootStart) (ls : List ScriptLine) (tables : Tables) (written : List ℕ) : Type 0 where
-  pub made : AgreesWith (roots, journal_of roots ls) tables
-  pub text : written ≡ head_text roots ++ flat_map noted_text (noted roots (journal_of roots ls))
 
 -- the text of a journal of no line
 pub written_none : (roots : List RootStart) (tables : Tables) (text : List ℕ) → AgreesWith (roots, []) tables → text ≡ [] ++ head_text roots

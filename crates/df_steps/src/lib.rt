@@ -1,8 +1,6 @@
 //! A script's calls, made one after another, and the text of their journal.
 #![tactic(auto)]
 
-mod notes;
 mod step;
 
-pub use notes::Notes;
-pub use step::append_step;
+pub use step::{append_common, append_root, append_step};

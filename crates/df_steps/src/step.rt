@@ -1,14 +1,69 @@
-ghost use Rattle.std.specs.Prelude.{◌≡◌, OnOk};
+ghost use Rattle.std.specs.Prelude.{◌≡◌, ◌∷◌, [], OnOk};
+ghost use Rattle.df_journal_text.specs.Ask.{asked};
 ghost use Rattle.df_journal_text.specs.Front.{call_front};
 ghost use Rattle.df_machine.specs.Journal.{State};
-ghost use Rattle.df_machine.specs.Tables.{AgreesWith};
+ghost use Rattle.df_machine.specs.Tables.{AgreesWith, place_in};
+ghost use Rattle.df_script_text.specs.Common.{common_line, root_call};
+ghost use Rattle.df_unit.specs.declared.name.UnitName.{UnitName};
+ghost use Rattle.df_unit.specs.declared.name.UnitName.TheVariants.{Root};
 ghost use Rattle.df_steps.specs.Steps.{AppendsStep};
+ghost use Rattle.df_steps.specs.code.Noting.{AppendsEntry};
 
-use crate::notes::Notes;
-use df_journal_text::append_spelled;
+use df_journal_text::{Note, Notes, append_quiet, append_spelled};
 use df_label::NoMemory;
 use df_machine::Tables;
-use df_script_text::ReadLine;
+use df_script_text::{CommonLine, ReadLine, RootLine};
+use df_unit::Call;
+
+/// Makes a call that isn't known to be one of its unit's own state alone, and appends its entry
+/// with this note.
+#[inline(never)]
+fn append_other(
+    tables: &mut Tables,
+    place: Option<usize>,
+    note: &Note,
+    words: &[u8],
+    call: &Call,
+    text: &mut Vec<u8>,
+) -> Result<(), NoMemory>
+    requires state { (core : State) × AgreesWith core tables.old }
+    requires seated { (actor : UnitName) × (place ≡ place_in tables.old actor) }
+    ensures { (core : State) (actor : UnitName) → AgreesWith core tables.old →
+        place ≡ place_in tables.old actor → words.now ≡ call_front actor call.now →
+        OnOk result (AppendsEntry actor call.now note.now core tables.new text.old.items
+        text.new.items) }
+{
+    let answer = tables.step_other(place, call)?;
+    append_spelled(words, &answer.reply, &answer.effect, note, text)
+}
+
+/// Makes a call of the unit at a place, and appends its entry with the unit's contamination before
+/// it.
+fn append_at(
+    tables: &mut Tables,
+    notes: &mut Notes,
+    place: Option<usize>,
+    words: &[u8],
+    call: &Call,
+    text: &mut Vec<u8>,
+) -> Result<(), NoMemory>
+    requires state { (core : State) × AgreesWith core tables.old }
+    requires seated { (actor : UnitName) × (place ≡ place_in tables.old actor) }
+    ensures { (core : State) (actor : UnitName) → AgreesWith core tables.old →
+        place ≡ place_in tables.old actor → words.now ≡ call_front actor call.now → OnOk result
+        (AppendsStep (record { actor = actor; call = call.now }) core tables.new text.old.items
+        text.new.items) }
+{
+    let note = notes.of(place, tables.contamination(place))?;
+    match tables.step_alone(place, call)? {
+        Some(reply) => {
+            let appended = append_quiet(words, &reply, note, text);
+            drop(reply);
+            appended
+        }
+        None => append_other(tables, place, note, words, call, text),
+    }
+}
 
 /// Makes a call, and appends its entry with the actor's contamination before it. The words of the
 /// call are those that were read; nothing keeps the entry.
@@ -24,7 +79,41 @@ pub fn append_step(
         AppendsStep read.now.line core tables.new text.old.items text.new.items) }
 {
     let place = tables.place(&read.line.actor);
-    let note = notes.of(place, tables.contamination(place))?;
-    let answer = tables.step(place, &read.line.call)?;
-    append_spelled(read.words, &answer.reply, &answer.effect, note, text)
+    append_at(tables, notes, place, read.words, &read.line.call, text)
+}
+
+/// Makes the call of a common line, and appends its entry with the root's contamination before it.
+pub fn append_common(
+    tables: &mut Tables,
+    notes: &mut Notes,
+    line: CommonLine<'_>,
+    text: &mut Vec<u8>,
+) -> Result<(), NoMemory>
+    requires words { line.words.now ≡ call_front (Root (line.root ∷ [])) (asked line.ask) }
+    requires state { (core : State) × AgreesWith core tables.old }
+    ensures { OnOk result ((core : State) → AgreesWith core tables.old →
+        AppendsStep (common_line line.entry.root line.entry.ask) core tables.new text.old.items
+        text.new.items) }
+{
+    let place = tables.root(line.root);
+    append_at(tables, notes, place, line.words, &line.ask.call(), text)
+}
+
+/// Makes a root's call, and appends its entry with the root's contamination before it.
+pub fn append_root(
+    tables: &mut Tables,
+    notes: &mut Notes,
+    line: RootLine<'_>,
+    text: &mut Vec<u8>,
+) -> Result<(), NoMemory>
+    requires words { line.words.now ≡ call_front (Root (line.root ∷ [])) line.call }
+    requires state { (core : State) × AgreesWith core tables.old }
+    ensures { OnOk result ((core : State) → AgreesWith core tables.old →
+        AppendsStep (root_call line.entry.root line.entry.call) core tables.new text.old.items
+        text.new.items) }
+{
+    let place = tables.root(line.root);
+    let appended = append_at(tables, notes, place, line.words, &line.call, text);
+    drop(line);
+    appended
 }

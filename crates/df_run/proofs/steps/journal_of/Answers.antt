@@ -4,9 +4,8 @@ use Rattle.df_journal_text.specs.Start.{head_text}
 use Rattle.df_lines.specs.Refused.{NamesBadLine}
 use Rattle.df_script_text.specs.Script.{IsScriptText}
 use Rattle.df_script_text.specs.TooLarge.{IsTooLargeIn}
-use Rattle.df_steps.proofs.Journals.{written_more, written_none}
+use Rattle.df_steps.proofs.Journals.{written_none}
 use Rattle.df_steps.proofs.Sound.{journal_is_sound, journal_is_unaided}
-use Rattle.df_steps.specs.Steps.{journal_of}
 use Rattle.df_run.proofs.steps.journal_of.Goals as goal
 
 pub lines-init : goal.lines-init
@@ -18,37 +17,31 @@ lines-init c = (
   refl,
 )
 
-pub append-requires-clause-state : goal.append-requires-clause-state
-append-requires-clause-state c = ((c.args.start, journal_of c.args.start c.lines.invariant.0), c.lines.invariant.2.made)
+pub append_next-requires : goal.append_next-requires
+append_next-requires c = (c.args.start, c.lines.invariant.0, c.lines.invariant.1, c.lines.invariant.2)
 
 pub lines-preserved : goal.lines-preserved
 lines-preserved c =
     let past = c.lines.invariant.0 in
-    let line = c.in-Some.read.line in (
-      past ++ line ∷ [],
-      (rw c.in-Some.is at (c.in_ok-read.ensures.next c.args.start past c.lines.invariant.1)),
-      written_more c.args.start past line c.lines.tables c.append.new.tables c.lines.text.items c.append.new.text.items c.lines.invariant.2
-          (c.in_ok-append.ensures (c.args.start, journal_of c.args.start past) c.lines.invariant.2.made),
-      c.in_ok-read.ensures.bytes ∙ c.lines.invariant.3,
-    )
-
-pub returns-in_err-read-clause-refuses : goal.returns-in_err-read-clause-refuses
-returns-in_err-read-clause-refuses c =
-    let p = err_from_is_err_and c.from_residual-in_err-read.result c.from_residual-in_err-read.ensures.1 in
-    rw (p.1, p.2)
-    (subst (λ (bytes : List ℕ). NamesBadLine IsScriptText IsTooLargeIn bytes c.in_err-read.field-0.0) c.lines.invariant.3
-    (c.in_err-read.ensures.refused c.args.start c.lines.invariant.0 c.lines.invariant.1))
+    let on = rw c.if-branch.true at (c.in_ok-append_next.ensures.written c.args.start past c.lines.invariant.1 c.lines.invariant.2) in
+    (past ++ on.0 ∷ [], on.1, on.2, c.append_next.ensures.bytes ∙ c.lines.invariant.3)
 
 pub returns-clause-records : goal.returns-clause-records
 returns-clause-records c =
     let lines = c.lines.invariant.0 in
-    let all = (rw c.in_default.is at (c.in_ok-read.ensures.next c.args.start lines c.lines.invariant.1)) in (
+    let all = rw c.if-branch.false at (c.in_ok-append_next.ensures.written c.args.start lines c.lines.invariant.1 c.lines.invariant.2) in (
       c.args.start,
       lines,
       all.0,
-      sym (c.in_ok-read.ensures.bytes ∙ c.lines.invariant.3)
-          ∙ all.1,
-      c.lines.invariant.2.text,
+      sym (c.append_next.ensures.bytes ∙ c.lines.invariant.3) ∙ all.1,
+      all.2.text,
       journal_is_unaided c.args.start lines,
       journal_is_sound c.args.start lines,
     )
+
+pub returns-in_err-append_next-clause-refuses : goal.returns-in_err-append_next-clause-refuses
+returns-in_err-append_next-clause-refuses c =
+    let p = err_from_is_err_and c.from_residual-in_err-append_next.result c.from_residual-in_err-append_next.ensures.1 in
+    rw (p.1, p.2)
+    (subst (λ (bytes : List ℕ). NamesBadLine IsScriptText IsTooLargeIn bytes c.in_err-append_next.field-0.0) c.lines.invariant.3
+    (c.in_err-append_next.ensures.refused c.args.start c.lines.invariant.0 c.lines.invariant.1))
