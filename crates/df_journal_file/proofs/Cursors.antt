@@ -1,8 +1,10 @@
 -- A journal that is gone over, as far as it was read.
-use Rattle.std.proofs.Common.{ℕ, Bool, true, false, List, [], ◌∷◌, ◌++◌, drop, map, sym, ap, ◌∙◌, append_assoc}
-use Rattle.std.specs.List.{flat_map}
-use Rattle.std.proofs.lemmas.List.{flat_map_more}
+use Rattle.std.proofs.Common.{◌≡◌, ℕ, ◌+◌, ◌≤◌, Bool, true, false, List, [], ◌∷◌, ◌++◌, ◌-◌, IsTrue, take, drop, eqb, length, map, refl, sym, ap, ◌∙◌, append_assoc, arith, ◌↔◌}
+use Rattle.std.specs.List.{flat_map, starts_with}
+use Rattle.std.proofs.lemmas.Bool.Decides.{Decides-eqb}
+use Rattle.std.proofs.lemmas.List.{drop-drop, flat_map_more, length-drop, take_all}
 use Rattle.std.proofs.lemmas.List.Elements.{All-from_recursion, All-nil, All-push, recursion_from_All}
+use Rattle.std.proofs.lemmas.Slice.Eq.{starts_is}
 use Rattle.df_lines.specs.Lines.{ended}
 use Rattle.df_start.specs.declared.start.RootStart.{RootStart}
 use Rattle.df_unit.specs.declared.entry.Noted.{Noted}
@@ -19,6 +21,19 @@ use Rattle.df_journal_file.proofs.Texts.{entry_of, noted_flat, noted_whole, regr
 
 abbrev pub cursor_at : Bool → List ℕ → ℕ → CursorState
 cursor_at has bytes place = record { bytes = bytes; has_notes = has; place = place }
+
+-- all that stands behind a place
+pub all_behind : (place : ℕ) (bytes : List ℕ) → take (length bytes - place) (drop place bytes) ≡ drop place bytes
+all_behind place bytes = take_all (length bytes - place) (drop place bytes) (omega (arith, length-drop place bytes))
+
+-- whether these lines stand at the place
+abbrev pub StandIf : Bool → List ℕ → CursorState → Type 0
+StandIf stand lines c = IsTrue stand ↔ ((rest : List ℕ) × (drop c.place c.bytes ≡ lines ++ rest))
+
+pub lines_stand : (bytes lines : List ℕ) (stand : Bool) → stand ≡ starts_with eqb bytes lines → IsTrue stand ↔ ((rest : List ℕ) × (bytes ≡ lines ++ rest))
+lines_stand bytes lines stand is =
+    let told = starts_is Decides-eqb bytes lines stand is in
+    ((λ t. (drop (length lines) bytes, told.0 t)), λ here. told.1 here.0 here.1)
 
 module _ (has : Bool) (bytes : List ℕ) where
   -- what stands before the entries was read
@@ -49,6 +64,20 @@ module _ (has : Bool) (bytes : List ℕ) where
             ∙ sym (append_assoc (front ++ flat_map noted_text notes) (noted_text noted) (drop next bytes))
             ∙ ap (λ (u : List ℕ). u ++ drop next bytes) (flat_map_more noted_text front notes noted);
       }
+
+  -- an entry's lines were passed
+  pub passed_lines : (roots : List RootStart) (notes : List Noted) (noted : Noted) (place : ℕ) (lines : List ℕ) → HasPassed roots notes (cursor_at has bytes place)
+      → IsWholeBy has noted → lines ≡ noted_text noted → length lines ≤ length (drop place bytes) → true ≡ starts_with eqb (drop place bytes) lines
+      → HasPassed roots (notes ++ noted ∷ []) (cursor_at has bytes (place + length lines))
+  passed_lines roots notes noted place lines p whole spelled short is =
+      let inside = p.inside in
+      let within : place + length lines ≤ length bytes = omega (arith, inside, short, length-drop place bytes) in
+      let stands : drop place bytes ≡ lines ++ drop (length lines) (drop place bytes) = (starts_is Decides-eqb (drop place bytes) lines true is).0 refl in
+      let next = place + length lines in
+      let rest = drop next bytes in
+      let lie : drop place bytes ≡ lines ++ rest = stands ∙ ap (λ (u : List ℕ). lines ++ u) (drop-drop (length lines) place bytes) in
+      let here : drop place bytes ≡ noted_text noted ++ rest = lie ∙ ap (λ (u : List ℕ). u ++ rest) spelled in
+      passed_on roots notes noted place next p (whole, omega arith, within, here)
 
 -- where an end stands, what was read is the whole journal
 pub all_read : (has : Bool) (bytes : List ℕ) (roots : List RootStart) (notes : List Noted) (place : ℕ) → HasPassed roots notes (cursor_at has bytes place)

@@ -1,16 +1,23 @@
 //! Journals that are gone over entry by entry.
-ghost use Rattle.std.specs.Prelude.{◌≡◌, ◌≤◌, ◌<◌, List, [], length, IfErr, IfOk, IfSome};
+ghost use Rattle.std.specs.Prelude.{◌≡◌, ◌≤◌, ◌<◌, ◌+◌, ◌++◌, ◌∷◌, ◌↔◌, false, List, ℕ, [], drop, length, IfErr, IfOk, IfSome, IsTrue};
 ghost use Rattle.df_start.specs.declared.start.RootStart.{RootStart};
 ghost use Rattle.df_unit.specs.declared.entry.Noted.{Noted};
+ghost use Rattle.df_unit.specs.declared.name.UnitName.TheVariants.{Root};
+ghost use Rattle.df_journal_text.specs.Ask.{asked};
+ghost use Rattle.df_journal_text.specs.Entry.{noted_text};
+ghost use Rattle.df_journal_text.specs.Front.{call_front};
+ghost use Rattle.df_script_text.specs.Common.{common_line};
+ghost use Rattle.df_script_text.specs.Script.{IsScriptLine};
 ghost use Rattle.df_journal_file.specs.Cursor.{GoesOn, HasPassed};
 ghost use Rattle.df_journal_file.specs.Either.{IsEitherText};
+ghost use Rattle.df_journal_file.specs.code.Entries.{IsWholeBy};
 ghost use Rattle.df_journal_file.specs.code.Languages.{EntriesFrom};
 ghost use Rattle.df_journal_file.specs.code.Stops.{StopsIn};
 
 use crate::entry::entry_at;
 use crate::file::{is_end, version_at};
 use df_lines::FileFault;
-use df_script_text::roots_at;
+use df_script_text::{CommonLine, ReadLine, call_at, common_call_at, roots_at};
 use df_start::Start;
 use df_unit::Noted;
 use std::alloc::Global;
@@ -64,6 +71,47 @@ impl<'a> JournalCursor<'a> {
         ensures { result ≡ self.now.has_notes }
     {
         self.has_notes
+    }
+
+    /// The call with which the next entry begins, where its line is a common one.
+    pub fn common(&self) -> Option<CommonLine<'a>>
+        ensures words { IfSome result (λ c.
+            c.words.now ≡ call_front (Root (c.root ∷ [])) (asked c.ask)) }
+        ensures fits { IfSome result (λ c. IsScriptLine (common_line c.root c.ask)) }
+    {
+        let (line, _) = common_call_at(self.bytes, self.place)?;
+        Some(line)
+    }
+
+    /// The call with which the next entry begins, where one can be read.
+    pub fn call(&self) -> Option<ReadLine<'a>>
+        ensures words { IfSome result (λ r.
+            r.words.now ≡ call_front r.line.actor r.line.call) }
+        ensures fits { IfSome result (λ r. IsScriptLine r.line) }
+    {
+        let (read, _) = call_at(self.alloc, self.bytes, self.place)?;
+        Some(read)
+    }
+
+    /// Passes these bytes, where they are the next: whether they are. An entry whose lines they are
+    /// is then read.
+    pub fn pass(&mut self, lines: &[u8]) -> bool
+        ensures stands { IsTrue result ↔ ((rest : List ℕ)
+            × (drop self.old.place self.old.bytes ≡ lines.now ++ rest)) }
+        ensures passed { IsTrue result → (roots : List RootStart) (notes : List Noted)
+            (noted : Noted) → HasPassed roots notes self.old → IsWholeBy self.old.has_notes noted
+            → lines.now ≡ noted_text noted → HasPassed roots (notes ++ noted ∷ []) self.new }
+        ensures further { IsTrue result → self.new.place ≡ self.old.place + length lines.now }
+        ensures within { self.new.place ≤ length self.new.bytes }
+        ensures bytes { self.new.bytes ≡ self.old.bytes }
+        ensures version { self.new.has_notes ≡ self.old.has_notes }
+        ensures same { result ≡ false → self.new ≡ self.old }
+    {
+        if !self.bytes[self.place..].starts_with(lines) {
+            return false;
+        }
+        self.place += lines.len();
+        true
     }
 
     /// The next entry, which is no longer kept here; none behind the last.

@@ -17,7 +17,7 @@ pub(crate) fn echo_of(
     ensures { IfOk result (λ shown. shown ≡ echo label.now (commit_of entry.now)) }
 {
     match commit_of(entry) {
-        Some(commit) => shown(alloc, label, commit),
+        Some(commit) => shown_of(alloc, label, commit),
         None => Ok(None),
     }
 }
@@ -36,7 +36,7 @@ fn commit_of(entry: &Entry) -> Option<&Commit>
 }
 
 /// What a label shows of a commit, if it is anything.
-fn shown(alloc: Global, label: &Label, commit: &Commit) -> Result<Option<Commit>, NoMemory>
+pub fn shown_of(alloc: Global, label: &Label, commit: &Commit) -> Result<Option<Commit>, NoMemory>
     ensures { IfOk result (λ shown. shown ≡ echo label.now (Some commit.now)) }
 {
     let deleted = shown_spots(alloc, label, commit.edit.deleted())?;

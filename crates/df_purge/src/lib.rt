@@ -5,5 +5,6 @@ mod echo;
 mod noted;
 mod purged;
 
+pub use echo::shown_of;
 pub use noted::{purge_noted, push_left};
 pub use purged::purge;

@@ -1,14 +1,15 @@
 -- The answers of the rows belong together.
-use Rattle.std.proofs.Common.{◌<◌, ◌+◌, ℕ, List, [], ◌∷◌, Bool, true, false, ◌&&◌, length, refl, cond, Option, Some, None, arith}
+use Rattle.std.proofs.Common.{◌<◌, ◌+◌, ℕ, List, [], ◌∷◌, Bool, true, false, ◌&&◌, length, refl, cond, IfSome, Option, Some, None, arith, subst}
+use Rattle.std.specs.Option.{option_map}
 use Rattle.std.specs.Prelude.{⊤}
-use Rattle.df_journal_file.specs.Journal.{ChangesSome, EditsSome, ShowsSome, IsWholeEntry}
-use Rattle.df_journal_text.specs.Fits.{IsEffectOf}
+use Rattle.df_journal_file.specs.Journal.{ChangesSome, EditsSome, HasNote, IsWholeEntry, IsWholeNoted, ShowsSome}
+use Rattle.df_journal_text.specs.Fits.{IsCall, IsEffectOf, IsNoteOf, IsReply, IsUnit}
 use Rattle.df_label.specs.declared.label.Label.{Label}
 use Rattle.df_label.specs.declared.privilege.Privilege.{Privilege}
 use Rattle.df_part.specs.declared.edit.Spot.{Spot}
 use Rattle.df_part.specs.declared.part.Part.{Part}
 use Rattle.df_rules.specs.Deliveries.{deliveries}
-use Rattle.df_rules.specs.Legal.{answer_of, answered, left}
+use Rattle.df_rules.specs.Legal.{answer, answer_of, answered, left}
 use Rattle.df_rules.specs.Own.{own}
 use Rattle.df_rules.specs.Start.{rows}
 use Rattle.df_spelled.specs.Spelled.{IsJoined, IsOutput, IsWorded, TellsGiven}
@@ -26,6 +27,7 @@ use Rattle.df_unit.specs.declared.entry.Entry.TheVariants.{Done, Emitted}
 use Rattle.df_unit.specs.declared.handle.Handle.{Handle}
 use Rattle.df_unit.specs.declared.name.UnitName.{UnitName}
 use Rattle.df_unit.specs.declared.reply.Reply.{Reply}
+use Rattle.df_value_text.specs.Fits.{IsLabel}
 
 -- an entry whose words are literals and that belongs together is whole
 
@@ -39,52 +41,57 @@ pub whole_of : (entry : Entry) → IsWorded entry → IsJoined entry → IsWhole
 whole_of (Done actor call r f) words joined = ((words.0, words.1, words.2, effect_of f r words.3 joined.0), (joined.1, joined.2))
 whole_of (Emitted commit) words joined = (words, joined)
 
--- which replies show a part, or need show none
+-- which replies show a part, or need show none, and are those of a unit that exists
+
+abbrev Exists : Reply → Type 0
+Exists Reply.NoSuchUnit = ⊥
+Exists _ = ⊤
 
 record Shows (r : Reply) : Type 0 where
   it : ShowsSome r
+  exists : Exists r
 
 shows_if : (b : Bool) (p q : Reply) → Shows p → Shows q → Shows (cond b p q)
 shows_if true p q h k = h
 shows_if false p q h k = k
 
 shows_at : (o : Option Handle) (f : Handle → Reply) → ((d : Handle) → Shows (f d)) → Shows (at_handle o f)
-shows_at None f h = record { it = tt }
+shows_at None f h = record { it = tt; exists = tt }
 shows_at (Some d) f h = h d
 
 -- what needs no part is shown as it is
 ok : Shows Reply.Ok
-ok = record { it = tt }
+ok = record { it = tt; exists = tt }
 
 no_part : Shows Reply.NoSuchPart
-no_part = record { it = tt }
+no_part = record { it = tt; exists = tt }
 
 not_managed : Shows Reply.NotInManaged
-not_managed = record { it = tt }
+not_managed = record { it = tt; exists = tt }
 
 full : Shows Reply.TooManyHandles
-full = record { it = tt }
+full = record { it = tt; exists = tt }
 
 exhausted : Shows Reply.Exhausted
-exhausted = record { it = tt }
+exhausted = record { it = tt; exists = tt }
 
 handle : (h : ℕ) → Shows (Reply.Handle h)
-handle h = record { it = tt }
+handle h = record { it = tt; exists = tt }
 
 many : (n : ℕ) → Shows (Reply.TooManyParts n)
-many n = record { it = tt }
+many n = record { it = tt; exists = tt }
 
 lacks : (q : Privilege) → Shows (Reply.Lacks q)
-lacks q = record { it = tt }
+lacks q = record { it = tt; exists = tt }
 
 unwritten : (out part : Label) → Shows (Reply.CannotWrite out part)
-unwritten out part = record { it = tt }
+unwritten out part = record { it = tt; exists = tt }
 
 shows_held : (st : OwnState) (q : Privilege) → Shows (where_held st q Reply.Ok)
 shows_held st q = shows_if _ _ _ ok (lacks q)
 
 shows_unless : (o : Option Privilege) (n : ℕ) → Shows (unless_lacking o (Reply.Unit n))
-shows_unless None n = record { it = tt }
+shows_unless None n = record { it = tt; exists = tt }
 shows_unless (Some q) n = lacks q
 
 shows_write : (out : Label) (o : Option Spot) → Shows (refused_write out o)
@@ -92,8 +99,8 @@ shows_write out None = ok
 shows_write out (Some d) = unwritten out d.label
 
 shows_sub : (n : ℕ) (b : Bool) → Shows (cond b Reply.TooManySubs (Reply.Sub n))
-shows_sub n true = record { it = tt }
-shows_sub n false = record { it = tt }
+shows_sub n true = record { it = tt; exists = tt }
+shows_sub n false = record { it = tt; exists = tt }
 
 shows_subscribed : (u : UnitName) (st : OwnState) → Shows (subscribed u st)
 shows_subscribed u st = shows_if _ _ _ not_managed (shows_sub st.subs _)
@@ -101,33 +108,33 @@ shows_subscribed u st = shows_if _ _ _ not_managed (shows_sub st.subs _)
 -- a read shows what it finds
 shows_read : (parts : List Part) → Shows (cond (is_nil parts) Reply.NoSuchPart (Reply.Parts (shown parts)))
 shows_read [] = no_part
-shows_read (p ∷ ps) = record { it = omega arith }
+shows_read (p ∷ ps) = record { it = omega arith; exists = tt }
 
 shows_event : (h sub : ℕ) (b : Bool) → Shows (cond b Reply.TooManyHandles (Reply.Event h sub))
 shows_event h sub true = full
-shows_event h sub false = record { it = tt }
+shows_event h sub false = record { it = tt; exists = tt }
 
 shows_handed : (st : OwnState) (ds : List Given) → Shows (handed st ds)
-shows_handed st [] = record { it = tt }
+shows_handed st [] = record { it = tt; exists = tt }
 shows_handed st (d ∷ ds) = shows_event (least_free st.handles) d.sub (is_full st.handles)
 
 shows_tag : (t : List ℕ) (b : Bool) → Shows (cond b Reply.Exhausted (Reply.Tag t))
 shows_tag t true = exhausted
-shows_tag t false = record { it = tt }
+shows_tag t false = record { it = tt; exists = tt }
 
 shows_published : (view none : Bool) → Shows (cond view Reply.NotDraft (cond none Reply.EmptyEvent Reply.Ok))
-shows_published true none = record { it = tt }
-shows_published false true = record { it = tt }
+shows_published true none = record { it = tt; exists = tt }
+shows_published false true = record { it = tt; exists = tt }
 shows_published false false = ok
 
 shows_released : (b : Bool) (out : Label) (o : Option Spot) → Shows (cond b Reply.NotReceived (refused_write out o))
-shows_released true out o = record { it = tt }
+shows_released true out o = record { it = tt; exists = tt }
 shows_released false out o = shows_write out o
 
 shows_made : (deep many : Bool) (o : Option Privilege) (n : ℕ)
     → Shows (cond deep Reply.TooDeep (cond many Reply.TooManyUnits (unless_lacking o (Reply.Unit n))))
-shows_made true many o n = record { it = tt }
-shows_made false true o n = record { it = tt }
+shows_made true many o n = record { it = tt; exists = tt }
+shows_made false true o n = record { it = tt; exists = tt }
 shows_made false false o n = shows_unless o n
 
 shows : (u : UnitName) (st : OwnState) (ds : List Given) (call : Call) → Shows (reply u st ds call)
@@ -242,5 +249,29 @@ joined_of u (Some st) ds call h =
     let both = belongs u st (left st ds) call (shown_drop st.given ds h) in
     (both.0, (shows u st (left st ds) call).it, both.1)
 
+-- what is noted of it
+
+-- the contamination of a unit, where it exists
+abbrev pub contamination_by : Option OwnState → Option Label
+contamination_by o = option_map (λ st. st.contamination) o
+
+noted_of : (u : UnitName) (o : Option OwnState) (ds : List Given) (call : Call) → HasNote (answer_of rows u o ds call).0 (contamination_by o)
+noted_of u None ds call = refl
+noted_of u (Some st) ds call = λ none. let absent : Exists Reply.NoSuchUnit = subst Exists none (shows u st (left st ds) call).exists in absurd absent
+
+note_fits : (u : UnitName) (call : Call) (r : Reply) (f : Effect) (note : Option Label) → IfSome note IsLabel → IsNoteOf (Done u call r f) note
+note_fits u call r f None fits = tt
+note_fits u call r f (Some label) fits = fits
+
 pub answered_joined : (s : List OwnState) (past : List Entry) (u : UnitName) (call : Call) → IsJoined (answered rows s past u call)
 answered_joined s past u call = joined_of u (own rows s past u) (deliveries rows s past u) call (deliveries_shown rows s past u)
+
+-- the entry of a call whose words are literals, with the contamination of its unit, has a spelling
+pub answered_whole : (s : List OwnState) (past : List Entry) (u : UnitName) (call : Call) → IsUnit u × IsCall call → IsReply (answer rows s past u call).0
+    → IsOutput (answer rows s past u call).1 → IfSome (contamination_by (own rows s past u)) IsLabel
+    → IsWholeNoted (record { entry = answered rows s past u call; contamination = contamination_by (own rows s past u) })
+answered_whole s past u call fits reply output label =
+    let told = answer rows s past u call in
+    let note = contamination_by (own rows s past u) in
+    let whole = whole_of (Done u call told.0 told.1) (fits.0, fits.1, reply, output) (answered_joined s past u call) in
+    ((whole.0, note_fits u call told.0 told.1 note label), whole.1, noted_of u (own rows s past u) (deliveries rows s past u) call)

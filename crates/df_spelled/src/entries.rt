@@ -161,6 +161,15 @@ fn effect_is_spelled(effect: &Effect)
     }
 }
 
+/// The words of an answer are literals.
+pub fn answer_is_spelled(reply: &Reply, effect: &Effect)
+    ensures reply { IsReply reply.now }
+    ensures effect { IsOutput effect.now }
+{
+    reply_is_spelled(reply);
+    effect_is_spelled(effect);
+}
+
 /// The words of an entry are literals.
 fn entry_is_worded(entry: &Entry)
     ensures { IsWorded entry.now }
@@ -174,8 +183,7 @@ fn entry_is_worded(entry: &Entry)
         } => {
             unit_is_spelled(actor);
             call_is_spelled(call);
-            reply_is_spelled(reply);
-            effect_is_spelled(effect);
+            answer_is_spelled(reply, effect);
         }
         Entry::Emitted(commit) => commit_is_spelled(commit),
     }

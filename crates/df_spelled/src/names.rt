@@ -1,5 +1,5 @@
 //! Tags, labels, privileges, units and events have a spelling, as their types give it.
-ghost use Rattle.std.specs.Prelude.{◌≡◌, ◌<◌, ◌^◌, length, true};
+ghost use Rattle.std.specs.Prelude.{◌≡◌, ◌<◌, ◌^◌, IfSome, length, option_copied, true};
 ghost use Rattle.df_frozen.specs.Name.{is_name};
 ghost use Rattle.df_journal_text.specs.Fits.{ArePrivileges, IsEvent, IsUnit};
 ghost use Rattle.df_value_text.specs.Fits.{AreNumbers, AreTags, IsLabel, IsPrivilege, IsTag, IsTagSet};
@@ -56,6 +56,15 @@ pub(crate) fn label_is_spelled(label: &Label)
 {
     tag_set_is_spelled(&label.s);
     tag_set_is_spelled(&label.i);
+}
+
+/// A contamination has a spelling, where there is one.
+pub fn contamination_is_spelled(contamination: Option<&Label>)
+    ensures { IfSome (option_copied contamination.entry) IsLabel }
+{
+    if let Some(label) = contamination {
+        label_is_spelled(label);
+    }
 }
 
 /// A privilege has a spelling.
