@@ -8,13 +8,10 @@ use Rattle.df_io.specs.Limits.{longest_file}
 use Rattle.df_io.specs.Pieces.{HasAll, HasFront}
 use Rattle.df_keep.specs.Kept.{BeginsWith, followed}
 use Rattle.df_keep.specs.Script.{IsToldScript, NamesNothing, NamesScript, ReadsScript, WasRead}
-use Rattle.df_keep.specs.declared.status.BadKind.{BadKind}
-use Rattle.df_keep.specs.declared.status.BadKind.TheVariants.{Syntax, TooLarge}
 use Rattle.df_keep.specs.declared.status.KeepStatus.{KeepStatus}
 use Rattle.df_keep.specs.declared.status.KeepStatus.TheVariants as status
+use Rattle.df_lines.specs.Kinds.{refused_line}
 use Rattle.df_lines.specs.Refused.{NamesBadLine}
-use Rattle.df_lines.specs.declared.refused.FileRefused.{FileRefused}
-use Rattle.df_lines.specs.declared.refused.FileRefused.TheVariants as refused
 use Rattle.df_machine.specs.Journal.{State}
 use Rattle.df_script_text.specs.Script.{IsScriptText}
 use Rattle.df_script_text.specs.TooLarge.{IsTooLargeIn}
@@ -43,11 +40,6 @@ IsCutOff result = (result ≡ status.ReadFault) ⊎ (result ≡ status.NoMemory)
 -- the run was cut off, or the disk failed
 abbrev pub IsStopped : KeepStatus → Type 0
 IsStopped result = (result ≡ status.DiskFault) ⊎ IsCutOff result
-
--- a line that is refused, in the words of the reader of scripts
-abbrev pub refused_line : ℕ → BadKind → FileRefused
-refused_line line Syntax = refused.Syntax line
-refused_line line TooLarge = refused.TooLarge line
 
 -- BadInput blames the script, which was read whole, and its first bad line
 abbrev pub BadInputIsDue : Option (List ℕ) → KeepStatus → Type 0

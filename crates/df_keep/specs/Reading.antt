@@ -2,13 +2,14 @@
 use Rattle.std.specs.Prelude.{◌≡◌, ⊤, ℕ, ◌<◌, List, length, Option, IfSome, Result, Ok, Err}
 use Rattle.df_io.specs.Faults.{Rose}
 use Rattle.df_io.specs.Limits.{longest_file}
-use Rattle.df_keep.specs.Outcome.{IsCutOff, refused_line}
+use Rattle.df_keep.specs.Outcome.{IsCutOff}
 use Rattle.df_keep.specs.Script.{WasRead}
 use Rattle.df_keep.specs.declared.script.Script.{Script}
-use Rattle.df_keep.specs.declared.status.BadKind.TheVariants.{Syntax, TooLarge}
 use Rattle.df_keep.specs.declared.status.KeepStatus.{KeepStatus}
 use Rattle.df_keep.specs.declared.status.KeepStatus.TheVariants as status
+use Rattle.df_lines.specs.Kinds.{refused_line}
 use Rattle.df_lines.specs.Refused.{NamesBadLine}
+use Rattle.df_lines.specs.declared.refused.BadKind.TheVariants.{Syntax, TooLarge}
 use Rattle.df_lines.specs.declared.refused.FileRefused.{FileRefused}
 use Rattle.df_lines.specs.declared.refused.FileRefused.TheVariants as refused
 use Rattle.df_script_text.specs.Script.{IsScriptText}

@@ -1,9 +1,8 @@
 -- What is told of a run when it has ended: the code with which the program ends, and a line.
 use Rattle.std.specs.Prelude.{ℕ, List, ◌++◌, codes, decimal}
-use Rattle.df_keep.specs.declared.status.BadKind.{BadKind}
-use Rattle.df_keep.specs.declared.status.BadKind.TheVariants.{Syntax, TooLarge}
 use Rattle.df_keep.specs.declared.status.KeepStatus.{KeepStatus}
 use Rattle.df_keep.specs.declared.status.KeepStatus.TheVariants.{Done, Usage, BadInput, ReadFault, WriteFault, NoMemory, TooLong, DiskFault, Damaged, StartDiffers}
+use Rattle.df_lines.specs.Kinds.{kind_text}
 
 -- the code of a status
 abbrev pub code_of : KeepStatus → ℕ
@@ -17,11 +16,6 @@ code_of (TooLong input) = 8
 code_of DiskFault = 20
 code_of (Damaged place) = 21
 code_of StartDiffers = 22
-
--- the word for what is wrong with a script
-abbrev pub kind_text : BadKind → List ℕ
-kind_text Syntax = codes "syntax"
-kind_text TooLarge = codes "too large"
 
 -- the line of a status, without its line feed; that of Done is not printed
 abbrev pub status_text : KeepStatus → List ℕ

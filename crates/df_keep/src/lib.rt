@@ -10,4 +10,4 @@ mod store;
 
 pub use program::run_program;
 pub use run::run_keep;
-pub use status::{BadKind, KeepStatus};
+pub use status::KeepStatus;

@@ -7,9 +7,9 @@ ghost use Rattle.df_script_text.specs.Script.{IsScript, script_text};
 ghost use Rattle.df_script_text.specs.declared.line.ScriptLine.{ScriptLine};
 ghost use Rattle.df_start.specs.declared.start.RootStart.{RootStart};
 
-use crate::{BadKind, KeepStatus};
+use crate::KeepStatus;
 use df_io::{NotRead, Shelf, read_file};
-use df_lines::FileRefused;
+use df_lines::{BadKind, FileRefused};
 use df_script_text::{ScriptLine, read_script};
 use df_start::Start;
 use std::alloc::Global;

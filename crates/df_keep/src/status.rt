@@ -1,14 +1,8 @@
 ghost use Rattle.std.specs.Prelude.{◌≡◌};
 ghost use Rattle.df_keep.specs.Status.{code_of};
 
+use df_lines::BadKind;
 use std::fmt;
-
-/// What is wrong with a script.
-#[derive(Clone, Copy, Debug, PartialEq, Eq)]
-pub enum BadKind {
-    Syntax,
-    TooLarge,
-}
 
 /// How a run ended.
 #[derive(Clone, Copy, Debug, PartialEq, Eq)]
@@ -52,20 +46,6 @@ impl KeepStatus {
             KeepStatus::DiskFault => 20,
             KeepStatus::Damaged { .. } => 21,
             KeepStatus::StartDiffers => 22,
-        }
-    }
-}
-
-impl fmt::Display for BadKind {
-    ghost use Rattle.std.specs.Prelude.{Some};
-    ghost use Rattle.df_keep.specs.Status.{kind_text};
-
-    ghost output = { λ kind. Some (kind_text kind) };
-
-    fn fmt<W: fmt::Write>(&self, f: &mut fmt::Formatter<W>) -> fmt::Result {
-        match self {
-            BadKind::Syntax => f.write_str("syntax"),
-            BadKind::TooLarge => f.write_str("too large"),
         }
     }
 }

@@ -1,4 +1,5 @@
 pub mod FirstBad
+pub mod Kinds
 pub mod Lines
 pub mod Refused
 pub mod code

@@ -7,4 +7,4 @@ mod refused;
 
 pub use fault::FileFault;
 pub use lines::{file_refused, line_at};
-pub use refused::FileRefused;
+pub use refused::{BadKind, FileRefused};

@@ -38,3 +38,24 @@ impl fmt::Display for FileRefused {
 }
 
 impl Error for FileRefused {}
+
+/// What is wrong with a line that is refused.
+#[derive(Clone, Copy, Debug, PartialEq, Eq)]
+pub enum BadKind {
+    Syntax,
+    TooLarge,
+}
+
+impl fmt::Display for BadKind {
+    ghost use Rattle.std.specs.Prelude.{Some};
+    ghost use Rattle.df_lines.specs.Kinds.{kind_text};
+
+    ghost output = { λ kind. Some (kind_text kind) };
+
+    fn fmt<W: fmt::Write>(&self, f: &mut fmt::Formatter<W>) -> fmt::Result {
+        match self {
+            BadKind::Syntax => f.write_str("syntax"),
+            BadKind::TooLarge => f.write_str("too large"),
+        }
+    }
+}

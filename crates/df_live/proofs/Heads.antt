@@ -6,6 +6,7 @@ use Rattle.std.proofs.lemmas.List.Elements.{All-push}
 use Rattle.df_journal_text.specs.Fits.{AreRoots, IsRoot}
 use Rattle.df_journal_text.specs.Start.{root_text}
 use Rattle.df_lines.specs.Lines.{ended, lines_text}
+use Rattle.df_lines.specs.declared.refused.BadKind.{BadKind}
 use Rattle.df_script_text.proofs.Numbered.{numbered-push}
 use Rattle.df_script_text.specs.code.Lines.{head_lines}
 use Rattle.df_script_text.specs.code.Stops.{IsHeadLine}
@@ -14,7 +15,6 @@ use Rattle.df_live.proofs.Parts.{consumes-consumes}
 use Rattle.df_live.proofs.Starts.{due_first, due_root, first, head_is, start_lines}
 use Rattle.df_live.proofs.Taking.{ended_part}
 use Rattle.df_live.specs.code.Stops.{IsBadHead, IsLineDue, IsReading, StopsHead, StopsLine, TakesRoot, TakesStart}
-use Rattle.df_live.specs.declared.status.BadKind.{BadKind}
 use Rattle.df_live.specs.declared.status.LiveStatus.{LiveStatus}
 use Rattle.df_live.specs.declared.status.LiveStatus.TheVariants as status
 

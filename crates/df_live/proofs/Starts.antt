@@ -12,10 +12,13 @@ use Rattle.df_journal_text.specs.Line.{line}
 use Rattle.df_journal_text.specs.Start.{root_text, start_text}
 use Rattle.df_lines.proofs.FirstBad.{names_line}
 use Rattle.df_lines.proofs.Splits.{number-line}
+use Rattle.df_lines.specs.Kinds.{refused_line}
 use Rattle.df_lines.specs.Lines.{IsLine, ended, lines_text}
 use Rattle.df_lines.specs.Refused.{NamesBadLine}
 use Rattle.df_lines.specs.code.Faults.{NamesBadPlace}
 use Rattle.df_lines.specs.declared.fault.FileFault.TheVariants as fault
+use Rattle.df_lines.specs.declared.refused.BadKind.{BadKind}
+use Rattle.df_lines.specs.declared.refused.BadKind.TheVariants.{Syntax, TooLarge}
 use Rattle.df_lines.specs.declared.refused.FileRefused.TheVariants as refused
 use Rattle.df_script_text.proofs.Files.{AreLines-head, AreLines-script, roots_text-numbered, script_text-lines}
 use Rattle.df_script_text.proofs.Numbered.{length-numbered}
@@ -27,11 +30,9 @@ use Rattle.df_script_text.specs.code.Lines.{call_line, head_lines, numbered, scr
 use Rattle.df_script_text.specs.code.Stops.{ArePassed, IsCallLine, IsFirstAt, IsHeadLine, StopsAt}
 use Rattle.df_script_text.specs.declared.line.ScriptLine.{ScriptLine}
 use Rattle.df_start.specs.declared.start.RootStart.{RootStart}
-use Rattle.df_live.specs.Live.{HasLongLine, IsDue, IsTooLong, refusal_of}
+use Rattle.df_live.specs.Live.{HasLongLine, IsDue, IsTooLong}
 use Rattle.df_live.proofs.Parts.{consumes-none}
 use Rattle.df_live.specs.code.Stops.{IsBadCall, IsBadHead, IsKind, IsLineDue}
-use Rattle.df_live.specs.declared.status.BadKind.{BadKind}
-use Rattle.df_live.specs.declared.status.BadKind.TheVariants.{Syntax, TooLarge}
 use Rattle.df_live.specs.declared.status.LiveStatus.{LiveStatus}
 use Rattle.df_live.specs.declared.status.LiveStatus.TheVariants as status
 
@@ -162,7 +163,7 @@ length-script_lines roots lines =
 
 calls_name : (bytes rest : List ℕ) (roots : List RootStart) (lines : List ScriptLine) (n : ℕ) (kind : BadKind) → IsScript roots lines
     → bytes ≡ script_text roots lines ++ rest → n ≡ length roots + length lines + 3 → IsBadCall rest kind
-    → IfSome (Some bytes) (λ bs. NamesBadLine IsScriptText IsTooLargeIn bs (refusal_of n kind))
+    → IfSome (Some bytes) (λ bs. NamesBadLine IsScriptText IsTooLargeIn bs (refused_line n kind))
 calls_name bytes rest roots lines n kind script whole is bad = by kind bad.1.2
   where
     front : List ℕ
@@ -189,7 +190,7 @@ calls_name bytes rest roots lines n kind script whole is bad = by kind bad.1.2
     count : n ≡ length (script_lines (roots, lines)) + 1
     count = omega (arith, is, length-script_lines roots lines)
 
-    by : (k : BadKind) → IsKind bad.1.0 k → NamesBadLine IsScriptText IsTooLargeIn bytes (refusal_of n k)
+    by : (k : BadKind) → IsKind bad.1.0 k → NamesBadLine IsScriptText IsTooLargeIn bytes (refused_line n k)
     by Syntax small = named bytes (length front) n (script_lines (roots, lines)) in_front are count
         (calls_stop bytes roots lines (length front) (fault.Bad (length front)) read (refl, some, (bad.1.0, stop, small)))
     by TooLarge large = named_large bytes (length front) n (script_lines (roots, lines)) in_front are count

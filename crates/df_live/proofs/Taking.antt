@@ -5,6 +5,7 @@ use Rattle.std.specs.Io.KnownBytes.{Consumes}
 use Rattle.df_io.specs.Faults.{Rose}
 use Rattle.df_io.specs.Limits.{longest_file}
 use Rattle.df_lines.specs.Lines.{IsLine, ended}
+use Rattle.df_lines.specs.declared.refused.BadKind.{BadKind}
 use Rattle.df_script_text.specs.code.Stops.{IsCallLine, StopsAt}
 use Rattle.df_script_text.specs.declared.line.ScriptLine.{ScriptLine}
 use Rattle.df_live.specs.Lines.{TakesAs}
@@ -14,7 +15,6 @@ use Rattle.df_live.specs.declared.lines.NotTaken.{NotTaken}
 use Rattle.df_live.specs.declared.lines.NotTaken.TheVariants as why
 use Rattle.df_live.specs.declared.lines.Taken.{Taken}
 use Rattle.df_live.specs.declared.lines.Taken.TheVariants as taken
-use Rattle.df_live.specs.declared.status.BadKind.{BadKind}
 use Rattle.df_live.specs.declared.status.LiveStatus.{LiveStatus}
 use Rattle.df_live.specs.declared.status.LiveStatus.TheVariants as status
 use Rattle.df_start.specs.declared.start.RootStart.{RootStart}

@@ -7,16 +7,13 @@ use Rattle.df_io.specs.Pieces.{HasAll}
 use Rattle.df_journal_text.specs.Fits.{AreRoots}
 use Rattle.df_journal_text.specs.Line.{line}
 use Rattle.df_journal_text.specs.Start.{start_text}
+use Rattle.df_lines.specs.Kinds.{refused_line}
 use Rattle.df_lines.specs.Lines.{IsLine, ended}
 use Rattle.df_lines.specs.Refused.{NamesBadLine}
-use Rattle.df_lines.specs.declared.refused.FileRefused.{FileRefused}
-use Rattle.df_lines.specs.declared.refused.FileRefused.TheVariants as refused
 use Rattle.df_script_text.specs.Script.{IsScriptText}
 use Rattle.df_script_text.specs.TooLarge.{IsTooLargeIn}
 use Rattle.df_start.specs.declared.start.RootStart.{RootStart}
 use Rattle.df_steps.specs.Steps.{RecordsScript}
-use Rattle.df_live.specs.declared.status.BadKind.{BadKind}
-use Rattle.df_live.specs.declared.status.BadKind.TheVariants.{Syntax, TooLarge}
 use Rattle.df_live.specs.declared.status.LiveStatus.{LiveStatus}
 use Rattle.df_live.specs.declared.status.LiveStatus.TheVariants as status
 
@@ -84,11 +81,6 @@ Leaves before after old new _ = AnswersAll before after old new
 
 -- ---- causes
 
--- a refusal of the line, as `steps` tells it
-abbrev pub refusal_of : ℕ → BadKind → FileRefused
-refusal_of line Syntax = refused.Syntax line
-refusal_of line TooLarge = refused.TooLarge line
-
 -- a line of these bytes is too long
 pub record HasLongLine (bytes : List ℕ) : Type 0 where
   pub before : List ℕ
@@ -106,7 +98,7 @@ IsTooLong bytes = HasLongLine bytes ⊎ (2 ^ 64 ≤ length bytes + 1)
 -- their first bad line; they are too long; or a count of faults rose
 abbrev pub IsDue : Option (List ℕ) → ℕ → ℕ → ℕ → ℕ → LiveStatus → Type 0
 IsDue bytes read read' written written' (status.BadInput line kind) = IfSome bytes (λ bs.
-    NamesBadLine IsScriptText IsTooLargeIn bs (refusal_of line kind))
+    NamesBadLine IsScriptText IsTooLargeIn bs (refused_line line kind))
 IsDue bytes read read' written written' status.TooLong = IfSome bytes IsTooLong
 IsDue bytes read read' written written' status.ReadFault = Rose read read'
 IsDue bytes read read' written written' status.WriteFault = Rose written written'

@@ -1,7 +1,6 @@
 -- What is told of a run when it has ended: the code with which the program ends, and a line.
 use Rattle.std.specs.Prelude.{ℕ, List, ◌++◌, codes, decimal}
-use Rattle.df_live.specs.declared.status.BadKind.{BadKind}
-use Rattle.df_live.specs.declared.status.BadKind.TheVariants.{Syntax, TooLarge}
+use Rattle.df_lines.specs.Kinds.{kind_text}
 use Rattle.df_live.specs.declared.status.LiveStatus.{LiveStatus}
 use Rattle.df_live.specs.declared.status.LiveStatus.TheVariants.{Done, Usage, BadInput, ReadFault, WriteFault, NoMemory, TooLong}
 
@@ -14,11 +13,6 @@ code_of ReadFault = 5
 code_of WriteFault = 6
 code_of NoMemory = 7
 code_of TooLong = 8
-
--- the word for what is wrong with a line
-abbrev pub kind_text : BadKind → List ℕ
-kind_text Syntax = codes "syntax"
-kind_text TooLarge = codes "too large"
 
 -- the line of a status, without its line feed; that of Done is not printed
 abbrev pub status_text : LiveStatus → List ℕ

@@ -2,15 +2,16 @@
 
 ghost use Rattle.std.specs.Prelude.{◌≡◌, ◌≤◌, IfErr, IfOk};
 ghost use Rattle.df_lines.specs.Lines.{IsLine};
+ghost use Rattle.df_lines.specs.declared.refused.BadKind.TheVariants as kind;
 ghost use Rattle.df_live.specs.code.Stops.{IsBadCall, ReadsCall, RefusesCall, StopsLine, TakesCall, unread};
 ghost use Rattle.df_live.specs.declared.lines.Taken.TheVariants as taken;
-ghost use Rattle.df_live.specs.declared.status.BadKind.TheVariants as kind;
 ghost use Rattle.df_live.specs.declared.status.LiveStatus.TheVariants as status;
 
 use crate::head::take_line;
 use crate::lines::{Lines, Taken};
-use crate::status::{BadKind, LiveStatus};
+use crate::status::LiveStatus;
 use df_journal_text::LineFault;
+use df_lines::BadKind;
 use df_script_text::{ScriptLine, read_line};
 use std::alloc::Global;
 

@@ -3,15 +3,16 @@
 ghost use Rattle.std.specs.Prelude.{◌≡◌, ◌+◌, ◌<◌, ◌≤◌, ◌^◌, IfErr, IfOk, OnOk, codes};
 ghost use Rattle.std.specs.Io.KnownBytes.{Consumes};
 ghost use Rattle.df_lines.specs.Lines.{IsLine, ended};
+ghost use Rattle.df_lines.specs.declared.refused.BadKind.TheVariants as kind;
 ghost use Rattle.df_script_text.specs.code.Stops.{IsHeadLine};
 ghost use Rattle.df_live.specs.Lines.{Takes};
 ghost use Rattle.df_live.specs.code.Stops.{IsBadHead, IsTakenAs, ReadsRoot, RefusesHead, StopsHead, StopsLine, StopsTaking, TakesRoot, TakesStart, not_taken};
-ghost use Rattle.df_live.specs.declared.status.BadKind.TheVariants as kind;
 ghost use Rattle.df_live.specs.declared.status.LiveStatus.TheVariants as status;
 
 use crate::lines::{Lines, NotTaken, Taken};
-use crate::status::{BadKind, LiveStatus};
+use crate::status::LiveStatus;
 use df_journal_text::LineFault;
+use df_lines::BadKind;
 use df_script_text::read_root;
 use df_start::{RootStart, Start};
 use std::alloc::Global;

@@ -15,4 +15,4 @@ pub use lines::{Lines, NotTaken, Taken};
 pub use program::run_program;
 pub use read_lines::ReadLines;
 pub use run::run_live;
-pub use status::{BadKind, LiveStatus};
+pub use status::LiveStatus;

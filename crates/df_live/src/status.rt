@@ -1,14 +1,8 @@
 ghost use Rattle.std.specs.Prelude.{◌≡◌};
 ghost use Rattle.df_live.specs.Status.{code_of};
 
+use df_lines::BadKind;
 use std::fmt;
-
-/// What is wrong with a line.
-#[derive(Clone, Copy, Debug, PartialEq, Eq)]
-pub enum BadKind {
-    Syntax,
-    TooLarge,
-}
 
 /// How a run ended.
 #[derive(Clone, Copy, Debug, PartialEq, Eq)]
@@ -38,20 +32,6 @@ impl LiveStatus {
             LiveStatus::WriteFault => 6,
             LiveStatus::NoMemory => 7,
             LiveStatus::TooLong => 8,
-        }
-    }
-}
-
-impl fmt::Display for BadKind {
-    ghost use Rattle.std.specs.Prelude.{Some};
-    ghost use Rattle.df_live.specs.Status.{kind_text};
-
-    ghost output = { λ kind. Some (kind_text kind) };
-
-    fn fmt<W: fmt::Write>(&self, f: &mut fmt::Formatter<W>) -> fmt::Result {
-        match self {
-            BadKind::Syntax => f.write_str("syntax"),
-            BadKind::TooLarge => f.write_str("too large"),
         }
     }
 }

@@ -2,7 +2,8 @@
 use crate::stores::{Seen, disk_of, found_on, put};
 use df_disk::MemoryDisk;
 use df_io::{MemoryShelf, MemorySink};
-use df_keep::{BadKind, KeepStatus, run_keep};
+use df_keep::{KeepStatus, run_keep};
+use df_lines::BadKind;
 use std::alloc::Global;
 use std::test::Fail;
 

@@ -10,6 +10,8 @@ use Rattle.df_journal_text.specs.Start.{root_text}
 use Rattle.df_journal_text.specs.declared.line_fault.LineFault.{LineFault}
 use Rattle.df_journal_text.specs.declared.line_fault.LineFault.TheVariants as fault
 use Rattle.df_lines.specs.Lines.{IsLine, ended}
+use Rattle.df_lines.specs.declared.refused.BadKind.{BadKind}
+use Rattle.df_lines.specs.declared.refused.BadKind.TheVariants.{Syntax, TooLarge}
 use Rattle.df_machine.specs.Journal.{State}
 use Rattle.df_machine.specs.Tables.{AgreesWith}
 use Rattle.df_machine.specs.declared.tables.Tables.{Tables}
@@ -25,8 +27,6 @@ use Rattle.df_live.specs.declared.lines.NotTaken.TheVariants as why
 use Rattle.df_live.specs.declared.lines.Taken.{Taken}
 use Rattle.df_live.specs.declared.lines.Taken.TheVariants as taken
 use Rattle.df_live.specs.declared.run.Progress.{Progress}
-use Rattle.df_live.specs.declared.status.BadKind.{BadKind}
-use Rattle.df_live.specs.declared.status.BadKind.TheVariants.{Syntax, TooLarge}
 use Rattle.df_live.specs.declared.status.LiveStatus.{LiveStatus}
 use Rattle.df_live.specs.declared.status.LiveStatus.TheVariants as status
 
