@@ -1,8 +1,9 @@
 -- In which chunk a unit's seat is, or would be.
 use Rattle.std.proofs.Common.{◌≡◌, ℕ, zero, suc, ◌+◌, ◌<◌, ◌≤◌, List, [], ◌∷◌, ◌++◌, take, drop, get_or, length, Option, Some, None, Err, if◌then◌else◌, refl, ap, sym, subst, ◌∙◌, arith}
-use Rattle.std.proofs.lemmas.List.{length-map, map-append}
+use Rattle.std.proofs.lemmas.List.{get_or-append-add, get_or_append_left, length-append, length-map, map-append}
 use Rattle.std.specs.List.{insert}
 use Rattle.std.specs.List.Sorted.{IsBinarySearchResult, IsNonDecreasingBy, IsPartitionPoint}
+use Rattle.std.specs.Cmp.{tied_itself}
 use Rattle.std.specs.Ordering.{is_eq, ordering_index}
 use Rattle.std.specs.declared.cmp.Ordering.TheVariants.{Less, Equal, Greater}
 use Rattle.df_label.proofs.SetFacts.{below_trans, reversed}
@@ -16,7 +17,7 @@ use Rattle.df_roll.specs.Chunks.{AreFilled, AreOrdered, IsAbove, first_cmp, join
 use Rattle.df_roll.specs.Roll.{names_in, seat_of}
 use Rattle.df_roll.specs.declared.seat.Seat.{Seat}
 use Rattle.df_roll.proofs.Joining.{insert-middle, joined-parts}
-use Rattle.df_roll.proofs.Seating.{below_at, rises}
+use Rattle.df_roll.proofs.Seating.{below_at, found_at, rises}
 
 -- what is said of lists behind one another
 
@@ -168,6 +169,21 @@ module _ (a : UnitName) where
         ap (seat_of a) (joined-parts cs k d within)
         ∙ seat_of-above (joined (take k cs)) (get_or cs k d ++ joined (drop (k + 1) cs)) spot.lower
         ∙ seat_of-before (get_or cs k d) (joined (drop (k + 1) cs)) (seat_of-below (joined (drop (k + 1) cs)) spot.higher)
+
+  -- the seat at a place of a chunk is its unit's among all
+  pub seat_there : (cs : List (List Seat)) (k i : ℕ) (d : List Seat) (s : Seat) → AreOrdered cs → k < length cs → i < length (get_or cs k d)
+      → (get_or (get_or cs k d) i s).unit ≡ a → seat_of a (joined cs) ≡ Some (get_or (get_or cs k d) i s).place
+  seat_there cs k i d s o within fits is =
+      let before = joined (take k cs) in
+      let mine = get_or cs k d in
+      let all : joined cs ≡ before ++ (mine ++ joined (drop (k + 1) cs)) = joined-parts cs k d within in
+      let at : get_or (before ++ (mine ++ joined (drop (k + 1) cs))) (length before + i) s ≡ get_or mine i s =
+      get_or-append-add before (mine ++ joined (drop (k + 1) cs)) i s ∙ get_or_append_left mine (joined (drop (k + 1) cs)) s i fits in
+      ap (seat_of a) all
+      ∙ found_at a (before ++ (mine ++ joined (drop (k + 1) cs))) (length before + i) s (subst (λ (l : List Seat). IsAscending unit_cmp (names_in l)) all o.order)
+      (omega (arith, length-append before (mine ++ joined (drop (k + 1) cs)), length-append mine (joined (drop (k + 1) cs)), fits))
+      (ap (λ (t : Seat). unit_cmp t.unit a) at ∙ ap (λ (n : UnitName). unit_cmp n a) is ∙ tied_itself unit_cmp_exact.total a)
+      ∙ ap (λ (t : Seat). Some t.place) at
 
   below_put : (n : UnitName) (xs ys : List UnitName) (i : ℕ) → unit_cmp n a ≡ Less → IsBelow unit_cmp n (xs ++ ys) → IsBelow unit_cmp n (insert xs i a ++ ys)
   below_put n xs ys zero less b = (less, b)

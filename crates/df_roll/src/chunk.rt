@@ -12,7 +12,7 @@ use std::marker::Model;
 const MOST: usize = 32;
 
 /// How many stay when a full chunk is halved.
-const HALF: usize = MOST / 2;
+pub const HALF: usize = MOST / 2;
 
 /// Seats in a row, with room for as many as a chunk has at most.
 #[derive(Drop)]

@@ -8,7 +8,7 @@ ghost use Rattle.df_roll.specs.Chunks.{AreFilled, AreOrdered, IsAbove, IsPut, fi
 ghost use Rattle.df_roll.specs.Roll.{names_in, seat_of};
 ghost use Rattle.df_roll.specs.declared.seat.Seat.{Seat};
 
-use crate::chunk::Chunk;
+use crate::chunk::{Chunk, HALF};
 use crate::seat::{Seat, seat_at};
 use df_label::NoMemory;
 use df_unit::UnitName;
@@ -48,8 +48,48 @@ fn chunk_at(chunks: &[Chunk], name: &UnitName) -> usize
     }
 }
 
+/// The root's number, where the unit is a root.
+fn root_number(name: &UnitName) -> Option<usize> {
+    let UnitName::Root(path) = name else {
+        return None;
+    };
+    let [root] = path.as_slice() else {
+        return None;
+    };
+    Some(*root as usize)
+}
+
+/// The seat that is a root's where only roots came, in their order, so that all chunks but the last
+/// are half full. Else it may be another unit's.
+fn guessed<'a>(chunks: &'a [Chunk], name: &UnitName) -> Option<&'a Seat>
+    ensures { AreOrdered chunks.now → IfSome result (λ seat.
+        seat_of seat.now.unit (joined chunks.now) ≡ Some seat.now.place) }
+{
+    let root = root_number(name)?;
+    let last = chunks.len().checked_sub(1)?;
+    let chunk = last.min(root / HALF);
+    let at = root - chunk * HALF;
+    let seats = chunks[chunk].as_slice();
+    if at < seats.len() {
+        Some(&seats[at])
+    } else {
+        None
+    }
+}
+
 /// The place of a unit's row.
 pub fn place_of(chunks: &[Chunk], name: &UnitName) -> Option<usize>
+    requires { AreOrdered chunks.now }
+    ensures { result ≡ seat_of name.now (joined chunks.now) }
+{
+    match guessed(chunks, name) {
+        Some(seat) if seat.unit.same(name) => Some(seat.place),
+        _ => searched_place(chunks, name),
+    }
+}
+
+/// The place of a unit's row, found by the order of units.
+fn searched_place(chunks: &[Chunk], name: &UnitName) -> Option<usize>
     requires { AreOrdered chunks.now }
     ensures { result ≡ seat_of name.now (joined chunks.now) }
 {

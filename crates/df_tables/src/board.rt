@@ -143,29 +143,12 @@ impl Board {
         }
     }
 
-    /// The place of a root's row, where that is the root's number.
-    fn root_place(&self, name: &UnitName) -> Option<usize>
-        requires { IsBoard self.now }
-        ensures { IfSome result (λ place. place_on self.now name.now ≡ Some place) }
-    {
-        let UnitName::Root(path) = name else {
-            return None;
-        };
-        let [number] = path.as_slice() else {
-            return None;
-        };
-        self.root(*number)
-    }
-
     /// The place of a unit's row, where it has one.
     pub fn place(&self, name: &UnitName) -> Option<usize>
         requires { IsBoard self.now }
         ensures { result ≡ place_on self.now name.now }
     {
-        match self.root_place(name) {
-            Some(place) => Some(place),
-            None => self.roll.place(name),
-        }
+        self.roll.place(name)
     }
 
     /// The row at a place, if there is one.

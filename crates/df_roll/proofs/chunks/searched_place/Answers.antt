@@ -4,7 +4,7 @@ use Rattle.df_unit.specs.UnitOrder.{unit_cmp}
 use Rattle.df_roll.specs.Roll.{names_in, seat_of}
 use Rattle.df_roll.specs.declared.seat.Seat.{Seat}
 use Rattle.df_roll.proofs.Spots.{IsSpot, chunk_ordered, seat_of-joined}
-use Rattle.df_roll.proofs.chunks.place_of.Goals as goal
+use Rattle.df_roll.proofs.chunks.searched_place.Goals as goal
 
 pub seat_at-requires : goal.seat_at-requires
 seat_at-requires c =
