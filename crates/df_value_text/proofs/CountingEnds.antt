@@ -1,7 +1,7 @@
 -- Behind the whole value nothing counts.
 use Rattle.df_value_text.proofs.Names.{◌≡◌, ℕ, ◌+◌, ◌<◌, ◌≤◌, max, Bool, true, false, cond, List, [], ◌∷◌, ◌++◌, length, take, drop, refl, sym, ap, subst}
 use Rattle.df_value_text.proofs.Names.{◌∙◌, append_assoc, arith, inl, inr, ltb-true, append-nil, length-take-le, is_ascii_digit, goes_on, IsWithinLimits}
-use Rattle.df_value_text.proofs.Names.{Plain, int, bytes, node_count, byte_count, depth, value_text, IsSpelled, Place, Walk, closed, closes, walked, start}
+use Rattle.df_value_text.proofs.Names.{Plain, int, node_count, byte_count, depth, value_text, IsSpelled, Place, Walk, closed, closes, walked, start}
 use Rattle.df_value_text.proofs.Names.{counts_of, AreWithin, IsOver, FirstOver, NeverOver}
 use Rattle.std.proofs.Common.{ltb}
 use Rattle.std.specs.Prelude.{◌↔◌}

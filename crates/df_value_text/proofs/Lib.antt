@@ -10,6 +10,7 @@ pub mod CountingTexts
 pub mod CountingValues
 pub mod CountingFronts
 pub mod CountingSmall
+pub mod CountingLight
 pub mod CountingEnds
 pub mod CountingExamples
 pub mod CountingSteps

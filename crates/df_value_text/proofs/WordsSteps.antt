@@ -2,8 +2,9 @@
 use Rattle.df_value_text.proofs.Names.{◌≡◌, ℕ, zero, suc, ◌+◌, ◌-◌, ◌<◌, ◌≤◌, Bool, true, false, not, ◌&&◌, ◌||◌, cond, eqb, List, [], ◌∷◌, ◌++◌, length}
 use Rattle.df_value_text.proofs.Names.{length-append, take, drop, get_or, Ok, Err, refl, sym, ap, ◌∙◌, append_assoc, add-one, arith, nat_le, nat_lt, concat}
 use Rattle.df_value_text.proofs.Names.{drop-cons, and_parts, ltb-true, append-nil, drop_all, drop-drop, Stop, Read, ◌>>=◌, many_at, many_of, with_front}
-use Rattle.df_value_text.proofs.Names.{ok_is, err_is, not_both, onto, is_plain, is_quoted, char_at, begins_char, starts, chars_at}
+use Rattle.df_value_text.proofs.Names.{list_all, ok_is, err_is, not_both, onto, is_plain, is_quoted, char_at, begins_char, starts, chars_at}
 use Rattle.std.proofs.lemmas.Bool.{lt-ltb}
+use Rattle.std.proofs.lemmas.List.{length-drop}
 use Rattle.df_format.proofs.Laws.{bind_same}
 use Rattle.df_value_text.specs.code.Short.{plain_run}
 use Rattle.df_value_text.proofs.CharLaws.{char_format, char_starts, plain_begins}
@@ -141,3 +142,20 @@ run_broken bytes place lt h = ap plain_run (drop-cons bytes place 0 lt) ∙ rw h
 pub run_on : (bytes : List ℕ) (place : ℕ) → place < length bytes → is_plain (get_or bytes place 0) ≡ true
     → plain_run (drop place bytes) ≡ suc (plain_run (drop (place + 1) bytes))
 run_on bytes place lt h = rw (add-one) (ap plain_run (drop-cons bytes place 0 lt) ∙ rw h refl)
+
+-- so many bytes in front stand for themselves
+runs_on : (k : ℕ) (bytes : List ℕ) → k ≤ length bytes → list_all is_plain (take k bytes) ≡ true → plain_run bytes ≡ k + plain_run (drop k bytes)
+runs_on zero bytes le h = omega arith
+runs_on (suc k) [] le h = absurd (omega (arith, le))
+runs_on (suc k) (c ∷ cs) le h =
+    let both = and_parts (is_plain c) (list_all is_plain (take k cs)) h in
+    let rest : plain_run cs ≡ k + plain_run (drop k cs) = runs_on k cs (omega (arith, le)) both.1 in
+    rw (both.0) (omega (arith, rest))
+
+pub group_on : (bytes : List ℕ) (place stop : ℕ) → place ≤ stop → stop ≤ length bytes → list_all is_plain (take (stop - place) (drop place bytes)) ≡ true
+    → plain_run (drop place bytes) ≡ (stop - place) + plain_run (drop stop bytes)
+group_on bytes place stop onward within h =
+    let k : ℕ = stop - place in
+    let is : place + k ≡ stop = omega (arith, onward) in
+    runs_on k (drop place bytes) (omega (arith, onward, within, length-drop place bytes)) h
+    ∙ ap (λ (u : List ℕ). k + plain_run u) (drop-drop k place bytes ∙ ap (λ (n : ℕ). drop n bytes) is)

@@ -1,11 +1,13 @@
 //! Counting a value's nodes, bytes and depth from left to right.
-ghost use Rattle.std.specs.Prelude.{◌≡◌, ◌<◌, ◌≤◌, ◌+◌, length, MatchBool, true};
+ghost use Rattle.std.specs.Prelude.{◌≡◌, ◌<◌, ◌≤◌, ◌+◌, length, drop, MatchBool, true};
 ghost use Rattle.df_value_text.specs.Counting.{AreWithin, IsCounted, IsOver, NeverOver, TellsOver, closed, nested, start, walk};
 ghost use Rattle.df_value_text.specs.code.Short.{open_count};
 ghost use Rattle.df_value_text.specs.declared.place.Place.TheVariants as place;
 
 use crate::brackets::Brackets;
+use crate::number_reader::byte_stands;
 use crate::place::{Place, begins, closes, next, weight};
+use crate::words_reader::plain_end;
 use df_frozen::{MOST_BYTES, MOST_DEPTH, MOST_NODES};
 
 /// A walk over bytes, and what it has counted.
@@ -106,13 +108,34 @@ fn is_small(text: &[u8]) -> bool
     text.len() as u64 <= MOST_NODES && (open_count(text) as u64) < MOST_DEPTH
 }
 
+/// Whether a number stands at the place: no count is passed in it.
+fn is_number(bytes: &[u8], at: usize) -> bool
+    requires { at ≤ length bytes.now }
+    ensures { result ≡ true → NeverOver (drop at bytes.now) }
+{
+    at < bytes.len() && (bytes[at].is_ascii_digit() || bytes[at] == b'-')
+}
+
+/// Whether words stand at the place whose bytes stand for themselves, and are so few that no count
+/// is passed.
+fn are_few_words(bytes: &[u8], at: usize) -> bool
+    requires { at ≤ length bytes.now }
+    ensures { result ≡ true → NeverOver (drop at bytes.now) }
+{
+    if !byte_stands(bytes, at, b'"') {
+        return false;
+    }
+    let quote = plain_end(bytes, at + 1);
+    byte_stands(bytes, quote, b'"') && (quote - at) as u64 <= MOST_BYTES
+}
+
 /// The place of the first byte, from the place on, by which a count of freezing is passed; none
 /// where no count is passed up to the end of the value or of the bytes.
 pub(crate) fn over_at(bytes: &[u8], at: usize) -> Option<usize>
     requires { at ≤ length bytes.now }
     ensures { TellsOver bytes.now at result }
 {
-    if is_small(&bytes[at..]) {
+    if is_number(bytes, at) || are_few_words(bytes, at) || is_small(&bytes[at..]) {
         return None;
     }
     let mut walk = Walk::start();

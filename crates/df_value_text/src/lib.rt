@@ -34,7 +34,7 @@ pub use number_reader::{byte_at, byte_stands, number_at, short_at, whole_at};
 pub use privilege::append_privilege;
 pub use readers::{read_label, read_privilege, read_tag, read_value};
 pub use refused::{Fault, TextRefused};
-pub use tag_reader::{numbers_at, tag_at, tags_at};
+pub use tag_reader::{between, numbers_at, tag_at, tags_at};
 pub use value::{append_value, append_words};
 pub use words_reader::words_at;
 pub use writers::{write_label, write_privilege, write_tag, write_value};

@@ -138,7 +138,7 @@ fn some_tags_at(alloc: Global, bytes: &[u8], at: usize) -> Result<(Vec<Tag>, usi
 }
 
 /// What stands between two places.
-fn between(bytes: &[u8], at: usize, end: usize) -> &[u8]
+pub fn between(bytes: &[u8], at: usize, end: usize) -> &[u8]
     requires order { at ≤ end }
     requires inside { end ≤ length bytes.now }
     ensures { result.now ≡ take (end - at) (drop at bytes.now) }

@@ -1,7 +1,9 @@
 //! Reading words.
 ghost use Rattle.std.specs.Prelude.{◌≡◌, ◌≤◌, ◌<◌, ◌+◌, length, drop, IfOk};
+ghost use Rattle.std.specs.List.{list_all};
 ghost use Rattle.df_format.specs.Reading.{with_front};
 ghost use Rattle.df_value_text.specs.code.Answer.{Gives};
+ghost use Rattle.df_value_text.specs.ReadEscape.{is_plain};
 ghost use Rattle.df_value_text.specs.ReadWords.{chars_at, words_at};
 ghost use Rattle.df_value_text.specs.code.Short.{plain_run};
 
@@ -12,13 +14,42 @@ use df_frozen::Words;
 use df_label::NoMemory;
 use std::alloc::Global;
 
+/// How many bytes are looked at together.
+const GROUP: usize = 16;
+
+/// Whether each of these bytes stands for itself. It looks at all of them, so that a machine may
+/// compare them at once.
+fn are_plain(group: &[u8]) -> bool
+    ensures { result ≡ list_all is_plain group.now }
+{
+    let mut plain = true;
+    for byte in group {
+        plain &= is_plain(*byte);
+    }
+    plain
+}
+
+/// The place behind the whole groups from the place on whose bytes stand for themselves.
+fn groups_end(bytes: &[u8], at: usize) -> usize
+    requires { at ≤ length bytes.now }
+    ensures within { result ≤ length bytes.now }
+    ensures value { result + plain_run (drop result bytes.now)
+        ≡ at + plain_run (drop at bytes.now) }
+{
+    let mut end = at;
+    while bytes.len() - end >= GROUP && are_plain(&bytes[end..end + GROUP]) {
+        end += GROUP;
+    }
+    end
+}
+
 /// The place behind the bytes from the place on that stand for themselves.
-fn plain_end(bytes: &[u8], at: usize) -> usize
+pub(crate) fn plain_end(bytes: &[u8], at: usize) -> usize
     requires { at ≤ length bytes.now }
     ensures within { result ≤ length bytes.now }
     ensures value { result ≡ at + plain_run (drop at bytes.now) }
 {
-    let mut end = at;
+    let mut end = groups_end(bytes, at);
     while end < bytes.len() && is_plain(bytes[end]) {
         end += 1;
     }

@@ -1,9 +1,5 @@
 use Rattle.std.proofs.Common.{[], drop}
 use Rattle.std.proofs.lemmas.Result.{err_from_is_err_and}
-use Rattle.df_format.proofs.Laws.{never}
-use Rattle.df_value_text.specs.Fits.{IsLabel}
-use Rattle.df_value_text.specs.Label.{label_text}
-use Rattle.df_value_text.specs.Order.{IsLowTag}
 use Rattle.df_value_text.specs.ReadLabel.{label_at}
 use Rattle.df_value_text.proofs.LabelLaws.{label_format}
 use Rattle.df_value_text.proofs.Answering.{found_by, only_found, only_refused, names_either, not_found_low, refused_low}

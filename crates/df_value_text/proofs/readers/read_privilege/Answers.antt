@@ -1,11 +1,7 @@
 use Rattle.std.proofs.Common.{[], ◌∷◌, arith}
 use Rattle.std.proofs.lemmas.Result.{err_from_is_err_and}
 use Rattle.df_label.specs.declared.privilege.Right.TheVariants.{Plus}
-use Rattle.df_value_text.specs.Fits.{IsPrivilege}
-use Rattle.df_value_text.specs.Label.{privilege_text}
-use Rattle.df_value_text.specs.ReadLabel.{privilege_at}
-use Rattle.df_value_text.proofs.TagLaws.{nowhere}
-use Rattle.df_value_text.proofs.LabelLaws.{privilege_goes, privilege_format}
+use Rattle.df_value_text.proofs.LabelLaws.{privilege_format}
 use Rattle.df_value_text.proofs.Answering.{found_by, only_found, only_refused, names_bad}
 use Rattle.df_value_text.proofs.readers.read_privilege.Goals as goal
 

@@ -1,9 +1,6 @@
 use Rattle.std.proofs.Common.{[], ◌∷◌, arith}
 use Rattle.std.proofs.lemmas.Result.{err_from_is_err_and}
-use Rattle.df_value_text.specs.Fits.{IsTag}
-use Rattle.df_value_text.specs.Label.{tag_text}
-use Rattle.df_value_text.specs.ReadTag.{tag_at}
-use Rattle.df_value_text.proofs.TagLaws.{nowhere, nowhere_is_local, tag_goes, tag_format}
+use Rattle.df_value_text.proofs.TagLaws.{nowhere, nowhere_is_local, tag_format}
 use Rattle.df_value_text.proofs.Answering.{found_by, only_found, only_refused, names_bad}
 use Rattle.df_value_text.proofs.readers.read_tag.Goals as goal
 
