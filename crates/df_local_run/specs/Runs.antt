@@ -1,26 +1,16 @@
 -- Runs of local calls of one unit.
-use Rattle.std.specs.Prelude.{◌≡◌, ◌++◌, Bool, false, true, List, [], ◌∷◌}
+use Rattle.std.specs.Prelude.{◌≡◌, ◌++◌, Bool, true, List, [], ◌∷◌}
 use Rattle.df_unit.specs.Rows.{after}
 use Rattle.df_unit.specs.declared.call.Call.{Call}
-use Rattle.df_unit.specs.declared.call.Call.TheVariants.{AddPart, AttachPrivilege, ChangeOutLabel, CloneEvent, CreateEvent, CreateTag, DelPart, DropEvent, ReadPart}
 use Rattle.df_unit.specs.declared.entry.Entry.{Entry}
 use Rattle.df_unit.specs.declared.entry.Entry.TheVariants.{Done, Emitted}
-use Rattle.df_local.specs.Locally.{row_answer, with_own}
+use Rattle.df_local.specs.Locally.{is_alone, row_answer, with_own}
 use Rattle.df_local.specs.code.LocalState.{LocalState}
 use Rattle.df_local_run.specs.RunState.{RunState}
 
--- the calls that concern no other unit
+-- the calls that concern no other unit, which a unit makes of its own state alone
 abbrev pub is_local : Call → Bool
-is_local CreateEvent = true
-is_local (AddPart h label name value) = true
-is_local (DelPart h label name) = true
-is_local (ReadPart h name) = true
-is_local (CloneEvent h label) = true
-is_local (AttachPrivilege h label name p) = true
-is_local (ChangeOutLabel half act tag) = true
-is_local CreateTag = true
-is_local (DropEvent h) = true
-is_local _ = false
+is_local call = is_alone call
 
 -- the entry is a local call of the unit, with the answer of its row
 abbrev pub IsLocalEntry : LocalState → Entry → Type 0

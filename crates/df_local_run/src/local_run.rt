@@ -1,12 +1,11 @@
 //! Runs of local calls of one unit, apart from all others.
 
 ghost use Rattle.std.specs.Prelude.{◌≡◌, ◌<◌, [], IfErr, IfOk, OnErr, OnOk, true, vec_capacity, vec_len};
-ghost use Rattle.df_unit.specs.Rows.{effect, reply};
 ghost use Rattle.df_unit.specs.declared.entry.Entry.{Entry};
 
 use df_label::NoMemory;
-use df_local::{Answer, Local};
-use df_unit::{Call, Entry, UnitName};
+use df_local::Local;
+use df_unit::{Call, Effect, Entry, UnitName};
 use std::alloc::Global;
 use std::marker::Model;
 
@@ -68,20 +67,22 @@ impl LocalRun {
         ensures unchanged { OnErr result (self.new ≡ self.old) }
         ensures back { IfErr result (λ refused. refused.call ≡ call) }
     {
-        let Ok(ready) = prepare(&self.present, &call, &mut self.entries) else {
+        let Ok(actor) = prepare(&self.present, &mut self.entries) else {
             return Err(NotCalled { call });
         };
-        let answer = ready.answer;
-        let Ok(()) = self.present.take(&call, &answer.reply, &answer.effect) else {
-            return Err(NotCalled { call });
-        };
-        self.entries.push_reserved(Entry::Done {
-            actor: ready.actor,
-            call,
-            reply: answer.reply,
-            effect: answer.effect,
-        });
-        Ok(())
+        match self.present.make_alone(&call) {
+            Ok(Some(reply)) => {
+                let effect = Effect::Nothing;
+                self.entries.push_reserved(Entry::Done {
+                    actor,
+                    call,
+                    reply,
+                    effect,
+                });
+                Ok(())
+            }
+            _ => Err(NotCalled { call }),
+        }
     }
 
     pub fn base(&self) -> &Local
@@ -133,27 +134,14 @@ impl LocalRun {
     }
 }
 
-/// What an entry needs beside its call.
-#[derive(Drop)]
-struct Ready {
-    actor: UnitName,
-    answer: Answer,
-}
-
-/// The answer to a local call, and room for its entry.
-fn prepare(unit: &Local, call: &Call, entries: &mut Vec<Entry>) -> Result<Ready, NoMemory>
-    ensures actor { IfOk result (λ ready. ready.actor ≡ unit.now.unit) }
-    ensures reply { IfOk result (λ ready.
-        ready.answer.reply ≡ reply unit.now.unit unit.now.own [] call.now) }
-    ensures effect { IfOk result (λ ready.
-        ready.answer.effect ≡ effect unit.now.unit unit.now.own [] call.now) }
+/// The unit's name, and room for its entry.
+fn prepare(unit: &Local, entries: &mut Vec<Entry>) -> Result<UnitName, NoMemory>
+    ensures actor { IfOk result (λ actor. actor ≡ unit.now.unit) }
     ensures entries { entries.new.items ≡ entries.old.items }
     ensures room { OnOk result (vec_len entries.new < vec_capacity entries.new) }
 {
     entries.reserve(1)?;
-    let answer = unit.answer(None, call)?;
-    let actor = unit.name().copy()?;
-    Ok(Ready { actor, answer })
+    unit.name().copy()
 }
 
 ghost use Rattle.df_local_run.specs.Runs as runs;
