@@ -1,7 +1,6 @@
 -- The brains of a crew agree with its journal, before and after a turn.
 use Rattle.std.proofs.Common.{◌≡◌, ◌⊎◌, inl, inr, ℕ, suc, ◌+◌, ◌-◌, ◌<◌, List, [], ◌∷◌, ◌++◌, Bool, true, false, refl, sym, ◌∙◌, ap, subst, cond, Option, Some, None, length, reverse, arith, length-append}
 use Rattle.std.proofs.lemmas.List.{length-reverse}
-use Rattle.std.specs.Prelude.{IfSome}
 use Rattle.std.specs.Option.{option_map}
 use Rattle.df_brain.specs.Brain.{want_of}
 use Rattle.df_brain.specs.declared.want.Want.{Want as Wish}
@@ -24,7 +23,6 @@ use Rattle.df_kept.specs.Kept.{KeptState, kept_at}
 use Rattle.df_local.specs.Locally.{with_own}
 use Rattle.df_local.specs.code.LocalState.{LocalState}
 use Rattle.df_local_run.specs.RunState.{RunState}
-use Rattle.df_local_run.specs.Runs.{is_local}
 use Rattle.df_machine.specs.Booking as machine
 use Rattle.df_machine.specs.Journal.{State, answer_in, appended, firsts, has_delivery_in, local_of}
 use Rattle.df_rules.specs.Follows.{Brain, Calls, Last, Replied, Wait, Want, began_with, replies_of, root_began, wanted}
@@ -326,19 +324,6 @@ behind_is x (rest.Long l) shared None = refl
 behind_is x rest.Called None None = refl
 behind_is x rest.Called (Some c) None = refl
 behind_is x rest.Waits shared None = refl
-
--- the shared call of a turn that has ended is no local one
-pub shared_apart : {B : Type 0} (brain : Brain B) (m : B × Last) (g : Going B) → IsGoing brain m g → IsEnded g → (due : Bool) → IfSome (shared_by due g.stage) (λ (c : Call). is_local c ≡ false)
-shared_apart brain m g going ended due = by g.stage refl
-  where
-    get : (b : Bool) → IfSome (cond b (Some Get) None) (λ (c : Call). is_local c ≡ false)
-    get true = refl
-    get false = tt
-
-    by : (s : Stage) → g.stage ≡ s → IfSome (shared_by due g.stage) (λ (c : Call). is_local c ≡ false)
-    by (Told l) e = subst (λ (s : Stage). IfSome (shared_by due s) (λ (c : Call). is_local c ≡ false)) (sym e) tt
-    by (Wants (wish.Call c)) e = subst (λ (s : Stage). IfSome (shared_by due s) (λ (c : Call). is_local c ≡ false)) (sym e) (not_local brain m g going ended (wish.Call c) e)
-    by (Wants wish.Wait) e = subst (λ (s : Stage). IfSome (shared_by due s) (λ (c : Call). is_local c ≡ false)) (sym e) (get due)
 
 -- how much longer the journal is
 pub longer : (run : RunState) (core : State) (shared : Option Call) (n : ℕ) → n ≡ length run.entries + count_of shared → length (machine.booked run shared core).1 ≡ n + length core.1

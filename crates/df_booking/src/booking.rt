@@ -1,9 +1,8 @@
 //! A turn is booked in the machine, and the brain behind it.
 
-ghost use Rattle.std.specs.Prelude.{◌≡◌, ◌+◌, IfErr, IfOk, IfSome, IsSome, None, OnErr, OnOk, false, length};
+ghost use Rattle.std.specs.Prelude.{◌≡◌, ◌+◌, IfErr, IfOk, None, OnErr, OnOk, false, length};
 ghost use Rattle.df_booking.specs.code.Renewal.{is_rest, left_by, mind_behind, shared_of};
 ghost use Rattle.df_booking.specs.code.Seeding.{back_of, behind, count_of, shared_by};
-ghost use Rattle.df_local_run.specs.Runs.{is_local};
 ghost use Rattle.df_brain.specs.declared.want.Want.TheVariants.{Wait};
 ghost use Rattle.df_machine.specs.Booking.{booked, reply_booked};
 ghost use Rattle.df_machine.specs.Journal.{local_of};
@@ -90,8 +89,7 @@ pub(crate) struct Booked<B: Brain> {
 /// Books the local calls of a turn, and then the shared call that is wanted, or a get where the
 /// turn waits and a delivery is left, as is told.
 fn book_calls<B: Brain>(core: &mut Core, going: Going<B>, due: bool) -> Result<Booked<B>, Going<B>>
-    requires shared { IfSome (shared_by due going.stage) (λ c. is_local c ≡ false) }
-    requires exists { IsSome (local_of core.old going.run.base.unit) }
+    requires current { local_of core.old going.run.base.unit ≡ Some going.run.base }
     ensures entries { OnOk result (core.new
         ≡ booked going.run (shared_by due going.stage) core.old) }
     ensures mind { IfOk result (λ b. b.mind ≡ left_by going.state going.stage
@@ -103,7 +101,7 @@ fn book_calls<B: Brain>(core: &mut Core, going: Going<B>, due: bool) -> Result<B
     let Going { run, state, stage } = going;
     let (shared, rest) = parted(stage, due);
     let count = run.entries().len() as u64 + count_of(&shared);
-    match core.book(run, shared) {
+    match core.book_current(run, shared) {
         Ok(reply) => Ok(Booked {
             mind: behind(state, rest, reply),
             count,
@@ -126,7 +124,7 @@ fn book_rest<B: Brain>(
 ) -> Result<Booked<B>, Going<B>>
     requires going { IsGoing (brain_of B.next B.instance) base.now going }
     requires waits { going.stage ≡ Wants Wait }
-    requires exists { IsSome (local_of core.old going.run.base.unit) }
+    requires current { local_of core.old going.run.base.unit ≡ Some going.run.base }
     ensures entries { OnOk result (core.new ≡ booked going.run None core.old) }
     ensures mind { IfOk result (λ b.
         b.mind ≡ now_of (brain_of B.next B.instance) base.now going) }
@@ -139,7 +137,7 @@ fn book_rest<B: Brain>(
     };
     let Going { run, state, stage } = going;
     let count = run.entries().len() as u64;
-    match core.book(run, None) {
+    match core.book_current(run, None) {
         Ok(_) => Ok(Booked { mind, count }),
         Err(refused) => {
             let run = refused.run;
@@ -158,7 +156,7 @@ pub(crate) fn book_going<B: Brain>(
 ) -> Result<Booked<B>, Going<B>>
     requires going { IsGoing (brain_of B.next B.instance) base.now going }
     requires ended { IsEnded going }
-    requires exists { IsSome (local_of core.old going.run.base.unit) }
+    requires current { local_of core.old going.run.base.unit ≡ Some going.run.base }
     ensures entries { OnOk result (core.new
         ≡ booked going.run (shared_of going core.old) core.old) }
     ensures mind { IfOk result (λ b.

@@ -193,6 +193,24 @@ impl Core {
             let cause = BookCause::Stale;
             return Err(NotBooked { run, shared, cause });
         }
+        self.book_current(run, shared)
+    }
+
+    /// Appends the entries of a run, and then that of the unit's shared call, as `book` does, where
+    /// the unit's own state is known to be the one from which the run began: it isn't compared.
+    pub fn book_current(
+        &mut self,
+        run: LocalRun,
+        shared: Option<Call>,
+    ) -> Result<Option<Reply>, NotBooked>
+        requires { IsCurrent run self.old }
+        ensures entries { OnOk result (self.new ≡ booked run shared self.old) }
+        ensures reply { IfOk result (λ r. r ≡ reply_booked run shared self.old) }
+        ensures cause { IfErr result (λ e. e.cause ≡ BookCause.NoMemory) }
+        ensures unchanged { OnErr result (self.new ≡ self.old) }
+        ensures back { IfErr result (λ e. e.run ≡ run) }
+        ensures call_back { IfErr result (λ e. e.shared ≡ shared) }
+    {
         match shared {
             Some(call) => self.book_call(run, call),
             None => self.book_run(run),
