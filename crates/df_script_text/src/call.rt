@@ -1,13 +1,13 @@
 //! Calls, with their words as they stand in the bytes that are read.
 
 ghost use Rattle.std.specs.Prelude.{◌≤◌, IfSome, length};
-ghost use Rattle.df_script_text.specs.Common.{common_line};
+ghost use Rattle.df_script_text.specs.Common.{common_line, root_call};
 ghost use Rattle.df_script_text.specs.Called.{IsCallAt};
 
-use crate::common::{CommonLine, between};
+use crate::common::{CommonLine, RootLine};
 use crate::line::{ReadLine, ScriptLine};
 use df_journal_text::{ask_at, read_call_at, unit_at};
-use df_value_text::short_at;
+use df_value_text::{between, short_at};
 use std::alloc::Global;
 
 /// A root's call at the place that names a handle at most, with its words, and the place behind
@@ -25,6 +25,23 @@ pub fn common_call_at(bytes: &[u8], at: usize) -> Option<(CommonLine<'_>, usize)
     };
     let words = between(bytes, at, end);
     Some((CommonLine { words, root, ask }, end))
+}
+
+/// A root's call at the place, with its words, and the place behind them; none where another
+/// stands there, or memory is wanting.
+pub fn root_call_at(alloc: Global, bytes: &[u8], at: usize) -> Option<(RootLine<'_>, usize)>
+    requires { at ≤ length bytes.now }
+    ensures { IfSome result (λ read. IsCallAt bytes.now at
+        (root_call read.0.root read.0.call) read.0.words.now read.1) }
+{
+    let Ok((root, behind)) = short_at(bytes, at) else {
+        return None;
+    };
+    let Ok((call, end)) = read_call_at(alloc, bytes, behind) else {
+        return None;
+    };
+    let words = between(bytes, at, end);
+    Some((RootLine { words, root, call }, end))
 }
 
 /// The call at the place, with its words, and the place behind them; none where none can be read

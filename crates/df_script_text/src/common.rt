@@ -1,11 +1,12 @@
 //! The lines of roots' calls, which are read where they stand.
 
-ghost use Rattle.std.specs.Prelude.{◌≡◌, ◌≤◌, ◌-◌, IfSome, drop, length, take};
+ghost use Rattle.std.specs.Prelude.{◌≤◌, IfSome, length};
 ghost use Rattle.df_script_text.specs.code.Common.{IsCommonAt, IsRootCallAt};
 
-use df_journal_text::{Ask, ask_at, read_call_at};
+use crate::call::{common_call_at, root_call_at};
+use df_journal_text::Ask;
 use df_unit::Call;
-use df_value_text::{byte_at, short_at};
+use df_value_text::byte_at;
 use std::alloc::Global;
 
 /// A root's call that is `get`, `create`, `publish`, `release` or `drop`, and the words of its line
@@ -26,51 +27,30 @@ pub struct RootLine<'a> {
     pub call: Call,
 }
 
-/// What stands between two places.
-pub fn between(bytes: &[u8], at: usize, end: usize) -> &[u8]
-    requires order { at ≤ end }
-    requires inside { end ≤ length bytes.now }
-    ensures { result.now ≡ take (end - at) (drop at bytes.now) }
-{
-    &bytes[at..end]
-}
-
 /// The common line at the place, and the place behind it; none where another stands there.
 pub fn common_at(bytes: &[u8], at: usize) -> Option<(CommonLine<'_>, usize)>
     requires { at ≤ length bytes.now }
     ensures { IfSome result (λ read.
         IsCommonAt bytes.now at read.0.root read.0.ask read.0.words.now read.1) }
 {
-    let Ok((root, behind)) = short_at(bytes, at) else {
-        return None;
-    };
-    let Ok(Some((ask, end))) = ask_at(bytes, behind) else {
-        return None;
-    };
+    let (line, end) = common_call_at(bytes, at)?;
     let Ok((_, next)) = byte_at(bytes, end, b'\n') else {
         return None;
     };
-    let words = between(bytes, at, end);
-    Some((CommonLine { words, root, ask }, next))
+    Some((line, next))
 }
 
 /// The line of a root's call at the place, and the place behind it; none where another stands
 /// there, or memory is wanting.
-pub fn root_call_at(alloc: Global, bytes: &[u8], at: usize) -> Option<(RootLine<'_>, usize)>
+pub fn call_line_at(alloc: Global, bytes: &[u8], at: usize) -> Option<(RootLine<'_>, usize)>
     requires { at ≤ length bytes.now }
     ensures { IfSome result (λ read.
         IsRootCallAt bytes.now at read.0.root read.0.call read.0.words.now read.1) }
 {
-    let Ok((root, behind)) = short_at(bytes, at) else {
-        return None;
-    };
-    let Ok((call, end)) = read_call_at(alloc, bytes, behind) else {
-        return None;
-    };
+    let (line, end) = root_call_at(alloc, bytes, at)?;
     let Ok((_, next)) = byte_at(bytes, end, b'\n') else {
-        drop(call);
+        drop(line);
         return None;
     };
-    let words = between(bytes, at, end);
-    Some((RootLine { words, root, call }, next))
+    Some((line, next))
 }

@@ -14,7 +14,7 @@ ghost use Rattle.df_script_text.specs.TooLarge.{IsTooLargeIn};
 ghost use Rattle.df_script_text.specs.code.Stops.{IsFirstAt, StopsFirst};
 ghost use Rattle.df_script_text.specs.declared.line.ScriptLine.{ScriptLine};
 
-use crate::common::{CommonLine, RootLine, common_at, root_call_at};
+use crate::common::{CommonLine, RootLine, call_line_at, common_at};
 use crate::line::{ReadLine, fault_of, read_line, words_at};
 use crate::root::roots_at;
 use df_lines::{FileFault, FileRefused, file_refused, line_at};
@@ -105,8 +105,9 @@ impl<'a> ScriptReader<'a> {
         Some(line)
     }
 
-    /// The next call, where a root makes it; else none, and nothing is read. None may also come where
-    /// memory is wanting. When it comes is left open: `next_line` reads each line that this leaves.
+    /// The next call, where a root makes it; else none, and nothing is read. None may also come
+    /// where memory is wanting. When it comes is left open: `next_line` reads each line that this
+    /// leaves.
     pub fn next_root(&mut self) -> Option<RootLine<'a>>
         ensures next { IfSome result (λ r. (roots : List RootStart) (lines : List ScriptLine)
             → HasRead roots lines self.old
@@ -117,7 +118,7 @@ impl<'a> ScriptReader<'a> {
         ensures bytes { self.new.bytes ≡ self.old.bytes }
         ensures same { IfNone result (self.new ≡ self.old) }
     {
-        let (line, next) = root_call_at(self.alloc, self.bytes, self.place)?;
+        let (line, next) = call_line_at(self.alloc, self.bytes, self.place)?;
         self.place = next;
         Some(line)
     }

@@ -1,24 +1,23 @@
+use Rattle.df_journal_text.specs.Ask.{asked}
 use Rattle.df_script_text.specs.Common.{common_line}
-use Rattle.df_script_text.specs.code.Lines.{call_line}
-use Rattle.df_script_text.proofs.Called.{call_found, common_fits, common_stands, onward}
+use Rattle.df_script_text.proofs.Called.{call_found, onward, plain_stands, root_stands}
 use Rattle.df_script_text.proofs.call.common_call_at.Goals as goal
 
 pub between-words-requires-clause-order : goal.between-words-requires-clause-order
 between-words-requires-clause-order c =
     let second = rw c.in-Ok-Some.field-0-is at c.in-Ok-Some.ensures in
-    let root = c.in-Ok.root in
-    let ask = c.in-Ok-Some.ask in
-    onward c.args.bytes.now c.args.at c.in-Ok-Some.end c.requires second.0 (call_line (common_line root ask))
-    (common_stands c.args.bytes.now c.args.at c.in-Ok.behind c.in-Ok-Some.end root ask c.in-Ok.ensures.exact.1 second.1)
+    let bytes = c.args.bytes.now in
+    let line = common_line c.in-Ok.root c.in-Ok-Some.ask in
+    onward bytes c.args.at c.in-Ok.behind c.in-Ok-Some.end line c.requires second.0
+    (root_stands bytes c.args.at c.in-Ok.behind c.in-Ok.root c.in-Ok.ensures.exact.1)
+    (plain_stands bytes c.in-Ok.behind c.in-Ok-Some.end (asked c.in-Ok-Some.ask) second.1)
 
 pub returns : goal.returns
 returns c =
     let second = rw c.in-Ok-Some.field-0-is at c.in-Ok-Some.ensures in
-    let root = c.in-Ok.root in
-    let ask = c.in-Ok-Some.ask in
     let bytes = c.args.bytes.now in
-    let behind = c.in-Ok.behind in
-    let end = c.in-Ok-Some.end in
+    let line = common_line c.in-Ok.root c.in-Ok-Some.ask in
     rw c.between-words.ensures
-    (call_found bytes c.args.at end (common_line root ask) c.requires second.0 (common_fits bytes c.args.at behind end root ask c.in-Ok.ensures.exact.1 second.1)
-    (common_stands bytes c.args.at behind end root ask c.in-Ok.ensures.exact.1 second.1))
+    (call_found bytes c.args.at c.in-Ok.behind c.in-Ok-Some.end line c.requires second.0
+    (root_stands bytes c.args.at c.in-Ok.behind c.in-Ok.root c.in-Ok.ensures.exact.1)
+    (plain_stands bytes c.in-Ok.behind c.in-Ok-Some.end (asked c.in-Ok-Some.ask) second.1))
