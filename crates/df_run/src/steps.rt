@@ -17,7 +17,7 @@ use df_lines::FileRefused;
 use df_machine::Tables;
 use df_script_text::{ReadLine, ScriptReader};
 use df_start::Start;
-use df_steps::{append_common, append_step};
+use df_steps::{append_common, append_root, append_step};
 use std::alloc::Global;
 
 /// The text of the journal of a script's calls.
@@ -72,6 +72,10 @@ fn append_next(
 {
     if let Some(line) = reader.next_common() {
         append_common(tables, notes, line, text)?;
+        return Ok(true);
+    }
+    if let Some(line) = reader.next_root() {
+        append_root(tables, notes, line, text)?;
         return Ok(true);
     }
     let Some(read) = reader.next_line()? else {
