@@ -1,9 +1,9 @@
 -- A journal that is gone over, as far as it was read.
-use Rattle.std.proofs.Common.{◌≡◌, ℕ, ◌+◌, ◌≤◌, Bool, true, false, List, [], ◌∷◌, ◌++◌, ◌-◌, IsTrue, take, drop, eqb, length, map, refl, sym, ap, ◌∙◌, append_assoc, arith, ◌↔◌}
+use Rattle.std.proofs.Common.{◌≡◌, ℕ, ◌+◌, ◌≤◌, Bool, true, List, [], ◌∷◌, ◌++◌, ◌-◌, IsTrue, take, drop, eqb, length, refl, sym, ap, ◌∙◌, append_assoc, arith, ◌↔◌}
 use Rattle.std.specs.List.{flat_map, starts_with}
 use Rattle.std.proofs.lemmas.Bool.Decides.{Decides-eqb}
 use Rattle.std.proofs.lemmas.List.{drop-drop, flat_map_more, length-drop, take_all}
-use Rattle.std.proofs.lemmas.List.Elements.{All-from_recursion, All-nil, All-push, recursion_from_All}
+use Rattle.std.proofs.lemmas.List.Elements.{All-nil, All-push}
 use Rattle.std.proofs.lemmas.Slice.Eq.{starts_is}
 use Rattle.df_lines.specs.Lines.{ended}
 use Rattle.df_start.specs.declared.start.RootStart.{RootStart}
@@ -11,13 +11,13 @@ use Rattle.df_unit.specs.declared.entry.Noted.{Noted}
 use Rattle.df_journal_text.specs.Entry.{noted_text}
 use Rattle.df_journal_text.specs.Start.{start_text}
 use Rattle.df_script_text.specs.code.Stops.{AreRootsAt}
+use Rattle.df_script_text.proofs.Files.{roots_text-numbered}
 use Rattle.df_journal_file.specs.Cursor.{CursorState, HasPassed, front_text}
 use Rattle.df_journal_file.specs.Either.{IsJournalOf, journal_by}
-use Rattle.df_journal_file.specs.Journal.{EndsFile, IsWholeEntry}
+use Rattle.df_journal_file.specs.Journal.{EndsFile}
 use Rattle.df_journal_file.specs.code.Entries.{IsHere, IsWholeBy}
 use Rattle.df_journal_file.specs.code.Files.{IsFirstAt, first_of}
-use Rattle.df_journal_file.proofs.Roots.{roots_numbered}
-use Rattle.df_journal_file.proofs.Texts.{entry_of, noted_flat, noted_whole, regroup, run_line}
+use Rattle.df_journal_file.proofs.Texts.{journal_is, regroup, run_line}
 
 abbrev pub cursor_at : Bool → List ℕ → ℕ → CursorState
 cursor_at has bytes place = record { bytes = bytes; has_notes = has; place = place }
@@ -37,7 +37,8 @@ lines_stand bytes lines stand is =
 
 module _ (has : Bool) (bytes : List ℕ) where
   -- what stands before the entries was read
-  pub begun : (at : ℕ) (roots : List RootStart) (place : ℕ) → IsFirstAt (first_of has) bytes at → AreRootsAt bytes at roots place → HasPassed roots [] (cursor_at has bytes place)
+  pub begun : (at : ℕ) (roots : List RootStart) (place : ℕ) → IsFirstAt (first_of has) bytes at → AreRootsAt bytes at roots place
+      → HasPassed roots [] (cursor_at has bytes place)
   begun at roots place i r = record {
     inside = r.inside;
     begun = (r.passed.few, r.passed.fit);
@@ -45,7 +46,7 @@ module _ (has : Bool) (bytes : List ℕ) where
     text =
         i.1
         ∙ ap (λ (v : List ℕ). ended (first_of has) ++ v)
-        (r.passed.text ∙ ap (λ (v : List ℕ). v ++ drop r.place bytes) (sym (roots_numbered 0 roots)) ∙ ap (λ (v : List ℕ). start_text roots ++ v) r.run)
+        (r.passed.text ∙ ap (λ (v : List ℕ). v ++ drop r.place bytes) (sym (roots_text-numbered 0 roots)) ∙ ap (λ (v : List ℕ). start_text roots ++ v) r.run)
         ∙ sym (regroup (ended (first_of has)) (start_text roots) run_line [] (drop place bytes));
   }
 
@@ -66,7 +67,8 @@ module _ (has : Bool) (bytes : List ℕ) where
       }
 
   -- an entry's lines were passed
-  pub passed_lines : (roots : List RootStart) (notes : List Noted) (noted : Noted) (place : ℕ) (lines : List ℕ) → HasPassed roots notes (cursor_at has bytes place)
+  pub passed_lines : (roots : List RootStart) (notes : List Noted) (noted : Noted) (place : ℕ) (lines : List ℕ)
+      → HasPassed roots notes (cursor_at has bytes place)
       → IsWholeBy has noted → lines ≡ noted_text noted → length lines ≤ length (drop place bytes) → true ≡ starts_with eqb (drop place bytes) lines
       → HasPassed roots (notes ++ noted ∷ []) (cursor_at has bytes (place + length lines))
   passed_lines roots notes noted place lines p whole spelled short is =
@@ -80,11 +82,6 @@ module _ (has : Bool) (bytes : List ℕ) where
       passed_on roots notes noted place next p (whole, omega arith, within, here)
 
 -- where an end stands, what was read is the whole journal
-pub all_read : (has : Bool) (bytes : List ℕ) (roots : List RootStart) (notes : List Noted) (place : ℕ) → HasPassed roots notes (cursor_at has bytes place)
-    → EndsFile (drop place bytes) → IsJournalOf (journal_by has roots notes) bytes
-all_read true bytes roots notes place p ends = ((p.begun, p.fit), (drop place bytes, ends, p.text))
-all_read false bytes roots notes place p ends =
-    let fits = recursion_from_All (IsWholeBy false) notes p.fit in (
-      (p.begun, All-from_recursion IsWholeEntry (map entry_of notes) (noted_whole notes fits)),
-      (drop place bytes, ends, p.text ∙ ap (λ (u : List ℕ). front_text false roots ++ u ++ drop place bytes) (sym (noted_flat notes fits))),
-    )
+pub all_read : (has : Bool) (bytes : List ℕ) (roots : List RootStart) (notes : List Noted) (place : ℕ)
+    → HasPassed roots notes (cursor_at has bytes place) → EndsFile (drop place bytes) → IsJournalOf (journal_by has roots notes) bytes
+all_read has bytes roots notes place p ends = journal_is has bytes roots notes ((p.begun, p.fit), (drop place bytes, ends, p.text))

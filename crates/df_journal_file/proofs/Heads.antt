@@ -41,7 +41,8 @@ pub entries_begin : (has : Bool) (s : List ℕ) → EntriesFrom has s → (m : �
 entries_begin has s t m none = open_begins has s (opened has s t) m none
 
 -- nor another than those of effects in front of an effect
-pub effect_begins : (has : Bool) (r : Reply) (s : List ℕ) → EffectFrom has r s → (m : ℕ) → is_ascii_digit m ≡ false → eqb 61 m ≡ false → eqb 60 m ≡ false → begins_pair m 32 s ≡ false
+pub effect_begins : (has : Bool) (r : Reply) (s : List ℕ) → EffectFrom has r s → (m : ℕ) → is_ascii_digit m ≡ false → eqb 61 m ≡ false → eqb 60 m ≡ false
+    → begins_pair m 32 s ≡ false
 effect_begins has r s (inl t) m none a b = entries_begin has s t m none
 effect_begins has r s (inr (inl t)) m none a b = ap (begins_pair m 32) t.4 ∙ rw a refl
 effect_begins has r s (inr (inr t)) m none a b = ap (begins_pair m 32) t.1.4 ∙ rw b refl
@@ -50,7 +51,8 @@ effect_begins has r s (inr (inr t)) m none a b = ap (begins_pair m 32) t.1.4 ∙
 pub adds_begin : (has : Bool) (n : ℕ) (s : List ℕ) → AddsFrom has n s → begins_pair 45 32 s ≡ false
 adds_begin has n s t = none t.0 t.1 t.3 t.4
   where
-    none : (xs : List Part) (rest : List ℕ) → BehindSome (EntriesFrom has) (n + length xs) rest → s ≡ flat_map (part_line (codes "+")) xs ++ rest → begins_pair 45 32 s ≡ false
+    none : (xs : List Part) (rest : List ℕ) → BehindSome (EntriesFrom has) (n + length xs) rest → s ≡ flat_map (part_line (codes "+")) xs ++ rest
+        → begins_pair 45 32 s ≡ false
     none [] rest r e = ap (begins_pair 45 32) e ∙ entries_begin has rest r.1 45 refl
     none (x ∷ xs) rest r e = ap (begins_pair 45 32) e
 
@@ -88,7 +90,8 @@ read_fits label f = (f, zero_fits, no_privileges)
 pub entries_some : (has : Bool) → Begins (EntriesFrom has) []
 entries_some has = ([], none_left has [] (inl refl))
 
-pub many_begins : {X : Type 0} (text : X → List ℕ) (Fits : X → Type 0) (Rest : ℕ → List ℕ → Type 0) (x : X) → Fits x → ((n : ℕ) → Rest (n + 1) []) → (n : ℕ) → Begins (Many text Fits Rest n) []
+pub many_begins : {X : Type 0} (text : X → List ℕ) (Fits : X → Type 0) (Rest : ℕ → List ℕ → Type 0) (x : X) → Fits x → ((n : ℕ) → Rest (n + 1) []) → (n : ℕ)
+    → Begins (Many text Fits Rest n) []
 many_begins text Fits Rest x f r n = (flat_map text (x ∷ []) ++ [], (x ∷ [], [], All-cons Fits x [] f (All-nil Fits), r n, refl))
 
 abbrev a_part : Part
@@ -106,11 +109,20 @@ given_some has = many_begins (part_line (codes ".")) IsPart (BehindSome (Entries
 pub edit_some : (has : Bool) (n : ℕ) → Begins (EditFrom has n) []
 edit_some has n =
     let spot : Spot = record { name = codes "a"; label = no_label } in
-    let rest : List ℕ = [] in
-    (flat_map spot_line (spot ∷ []) ++ rest, (spot ∷ [], rest, All-cons IsSpot spot [] (refl, label_fits) (All-nil IsSpot), ([], [], All-nil IsPart, (omega arith, none_left has [] (inl refl)), refl), refl))
+    let rest : List ℕ = [] in (
+      flat_map spot_line (spot ∷ []) ++ rest,
+      (
+        spot ∷ [],
+        rest,
+        All-cons IsSpot spot [] (refl, label_fits) (All-nil IsSpot),
+        ([], [], All-nil IsPart, (omega arith, none_left has [] (inl refl)), refl),
+        refl,
+      ),
+    )
 
 pub read_some : (has : Bool) (n : ℕ) → Begins (ReadFrom has n) []
-read_some has = many_begins read_line IsPartRead (BehindSome (EffectFrom has (reply.Parts []))) (read_with no_label) (read_fits no_label label_fits) (λ n. (omega arith, inl (none_left has [] (inl refl))))
+read_some has = many_begins read_line IsPartRead (BehindSome (EffectFrom has (reply.Parts []))) (read_with no_label) (read_fits no_label label_fits)
+    (λ n. (omega arith, inl (none_left has [] (inl refl))))
 
 pub shown_some : (has : Bool) (bare : Reply) → IsAnswer bare → Begins (ShownFrom has bare) []
 shown_some has bare f =
@@ -122,7 +134,8 @@ shown_some has bare f =
       | inr none ↦ ([], inl (none, inl (none_left has [] (inl refl))))
     ]
 
-pub then_some : {X : Type 0} (text : X → List ℕ) (Fits : X → Type 0) (Rest : List ℕ → Type 0) (x : X) → Fits x → Begins Rest [] → Begins (Then text Fits Rest) []
+pub then_some : {X : Type 0} (text : X → List ℕ) (Fits : X → Type 0) (Rest : List ℕ → Type 0) (x : X) → Fits x → Begins Rest []
+    → Begins (Then text Fits Rest) []
 then_some text Fits Rest x f b = (text x ++ b.0, (x, b.0, f, b.1, refl))
 
 abbrev an_event : EventName

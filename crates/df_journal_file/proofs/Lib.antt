@@ -5,12 +5,14 @@ pub mod Entries
 pub mod Fronts
 pub mod Ontos
 pub mod Feeds
+pub mod LineKinds
 pub mod Runs
 pub mod Opens
 pub mod Heads
 pub mod Values
 pub mod Steps
 pub mod Roots
+pub mod Refusals
 pub mod Texts
 pub mod Loops
 pub mod Eithers

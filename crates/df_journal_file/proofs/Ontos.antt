@@ -13,123 +13,145 @@ use Rattle.df_script_text.specs.code.Stops.{StopsAt}
 use Rattle.df_journal_file.specs.TooLarge.{IsLargeIn, IsValueFront}
 use Rattle.df_journal_file.specs.code.Places.{IsSpelled, StopsLine}
 use Rattle.df_journal_file.specs.code.Stops.{IsStop, Onto, StopsIn}
+use Rattle.df_journal_file.proofs.Feeds.{IsFed}
 use Rattle.df_journal_file.proofs.Fronts.{Alike, SameFirst, alike_line, alike_long, alike_same, first_alike, first_line, lines_join, not_open, same_line}
 
 -- what stands in front of a value has two bytes
-pub front_long : (front : List ℕ) → IsValueFront front → 1 < length front
+front_long : (front : List ℕ) → IsValueFront front → 1 < length front
 front_long front (inl c) =
-    omega (arith, ap length c.6, length-append (unit_text c.0) (word (codes "add") ++ (word (decimal c.1) ++ (word (label_text c.2.0) ++ word c.2.1))))
+    let words : List ℕ = word (codes "add") ++ (word (decimal c.1) ++ (word (label_text c.2.0) ++ word c.2.1)) in
+    omega (arith, ap length c.6, length-append (unit_text c.0) words)
 front_long front (inr (inl s)) = omega (arith, ap length s.2)
 front_long front (inr (inr (inl p))) = omega (arith, ap length p.2)
 front_long front (inr (inr (inr p))) = omega (arith, ap length p.2)
 
 -- ---- behind lines
 
-module _ (IsText IsRest : List ℕ → Type 0) (bytes : List ℕ) (at place : ℕ) (front : List (List ℕ)) (lines : All IsLine front) (is : drop at bytes ≡ lines_text front ++ drop place bytes)
-    (from : (u : List ℕ) → Alike u (drop place bytes) → IsText (lines_text front ++ u) → IsRest u) (to : (u : List ℕ) → IsRest u → IsText (lines_text front ++ u)) where
-  -- what begins with the same lines and the bad one
-  alike_dead : (before : List (List ℕ)) (bad behind more rest : List ℕ) → drop place bytes ≡ lines_text before ++ (bad ++ behind) → behind ≡ 10 ∷ more → Alike (lines_text before ++ (bad ++ 10 ∷ rest)) (drop place bytes)
-  alike_dead before bad behind more rest e feed =
-      let t : drop place bytes ≡ (lines_text before ++ bad) ++ 10 ∷ more = e ∙ ap (λ (u : List ℕ). lines_text before ++ (bad ++ u)) feed ∙ sym (append_assoc (lines_text before) bad (10 ∷ more)) in
-      subst (λ (u : List ℕ). Alike u (drop place bytes)) (append_assoc (lines_text before) bad (10 ∷ rest))
-      (subst (λ (u : List ℕ). Alike ((lines_text before ++ bad) ++ 10 ∷ rest) u) (sym t) (alike_line (lines_text before ++ bad) rest more))
+-- what begins alike behind the same lines
+alike_behind : (here : List ℕ) (before : List (List ℕ)) (w x y : List ℕ) → here ≡ lines_text before ++ (w ++ y)
+    → Alike ((lines_text before ++ w) ++ x) ((lines_text before ++ w) ++ y) → Alike (lines_text before ++ (w ++ x)) here
+alike_behind here before w x y e like =
+    subst (λ (u : List ℕ). Alike u here) (append_assoc (lines_text before) w x)
+    (subst (Alike ((lines_text before ++ w) ++ x)) (sym (e ∙ sym (append_assoc (lines_text before) w y))) like)
 
-  -- what begins with the same lines and the same front
-  alike_front : (before : List (List ℕ)) (fr rest behind more : List ℕ) → 1 < length fr → drop place bytes ≡ lines_text before ++ ((fr ++ rest) ++ behind) → Alike (lines_text before ++ (fr ++ more)) (drop place bytes)
-  alike_front before fr rest behind more long e =
-      let head : List ℕ = lines_text before ++ fr in
-      let t : drop place bytes ≡ head ++ (rest ++ behind) = e ∙ ap (λ (u : List ℕ). lines_text before ++ u) (append_assoc fr rest behind) ∙ sym (append_assoc (lines_text before) fr (rest ++ behind)) in
-      subst (λ (u : List ℕ). Alike u (drop place bytes)) (append_assoc (lines_text before) fr more)
-      (subst (λ (u : List ℕ). Alike (head ++ more) u) (sym t) (alike_long head more (rest ++ behind) (omega (arith, long, length-append (lines_text before) fr))))
+-- what begins with the same lines and the bad one
+alike_dead : (here : List ℕ) (before : List (List ℕ)) (bad behind more rest : List ℕ) → here ≡ lines_text before ++ (bad ++ behind)
+    → behind ≡ 10 ∷ more → Alike (lines_text (before ++ bad ∷ []) ++ rest) here
+alike_dead here before bad behind more rest e feed =
+    let last : lines_text (before ++ bad ∷ []) ++ rest ≡ lines_text before ++ (bad ++ 10 ∷ rest) =
+    sym (lines_join before (bad ∷ []) rest)
+    ∙ ap (λ (u : List ℕ). lines_text before ++ u) (ap (λ (u : List ℕ). u ++ rest) (append-nil (ended bad)) ∙ append_assoc bad (10 ∷ []) rest) in
+    subst (λ (u : List ℕ). Alike u here) (sym last)
+    (alike_behind here before bad (10 ∷ rest) (10 ∷ more) (e ∙ ap (λ (u : List ℕ). lines_text before ++ (bad ++ u)) feed)
+    (alike_line (lines_text before ++ bad) rest more))
 
-  last_line : (before : List (List ℕ)) (bad rest : List ℕ) → lines_text (before ++ bad ∷ []) ++ rest ≡ lines_text before ++ (bad ++ 10 ∷ rest)
-  last_line before bad rest =
-      sym (lines_join before (bad ∷ []) rest) ∙ ap (λ (u : List ℕ). lines_text before ++ u) (ap (λ (u : List ℕ). u ++ rest) (append-nil (ended bad)) ∙ append_assoc bad (10 ∷ []) rest)
+-- what begins with the same lines and the same front of a value
+alike_front : (here : List ℕ) (before : List (List ℕ)) (front rest behind more : List ℕ) → IsValueFront front
+    → here ≡ lines_text before ++ ((front ++ rest) ++ behind) → Alike (lines_text before ++ (front ++ more)) here
+alike_front here before front rest behind more wanting e =
+    let long : 1 < length (lines_text before ++ front) = omega (arith, front_long front wanting, length-append (lines_text before) front) in
+    alike_behind here before front more (rest ++ behind) (e ∙ ap (λ (u : List ℕ). lines_text before ++ u) (append_assoc front rest behind))
+    (alike_long (lines_text before ++ front) more (rest ++ behind) long)
 
-  first_behind : (before : List (List ℕ)) (bad : List ℕ) → IsFirstBad IsRest (drop place bytes) before bad → IsFirstBad IsText (drop at bytes) (front ++ before) bad
+-- Behind these lines, which stand from one place to the other, one language goes on as the other.
+module _ (IsText IsRest : List ℕ → Type 0) (bytes : List ℕ) (at place : ℕ) (front : List (List ℕ)) (lines : All IsLine front)
+    (is : drop at bytes ≡ lines_text front ++ drop place bytes)
+    (from : (u : List ℕ) → Alike u (drop place bytes) → IsText (lines_text front ++ u) → IsRest u)
+    (to : (u : List ℕ) → IsRest u → IsText (lines_text front ++ u)) where
+  -- more lines behind them
+  joined : (before : List (List ℕ)) (rest : List ℕ) → drop place bytes ≡ lines_text before ++ rest → drop at bytes ≡ lines_text (front ++ before) ++ rest
+  joined before rest e = is ∙ ap (λ (u : List ℕ). lines_text front ++ u) e ∙ lines_join front before rest
+
+  first_behind : (before : List (List ℕ)) (bad : List ℕ) → IsFirstBad IsRest (drop place bytes) before bad
+      → IsFirstBad IsText (drop at bytes) (front ++ before) bad
   first_behind before bad f = record {
     behind = f.behind;
-    parts = is ∙ ap (λ (u : List ℕ). lines_text front ++ u) f.parts ∙ lines_join front before (bad ++ f.behind);
+    parts = joined before (bad ++ f.behind) f.parts;
     lines = All-append IsLine front before lines f.lines;
     line = f.line;
     end = f.end;
     viable = (f.viable.0, subst IsText (lines_join front before f.viable.0) (to (lines_text before ++ f.viable.0) f.viable.1));
     dead = λ more feed b.
-        let whole : lines_text ((front ++ before) ++ bad ∷ []) ++ b.0 ≡ lines_text front ++ (lines_text (before ++ bad ∷ []) ++ b.0) =
+        let rest : List ℕ = lines_text (before ++ bad ∷ []) ++ b.0 in
+        let whole : lines_text ((front ++ before) ++ bad ∷ []) ++ b.0 ≡ lines_text front ++ rest =
         ap (λ (ls : List (List ℕ)). lines_text ls ++ b.0) (append_assoc front before (bad ∷ [])) ∙ sym (lines_join front (before ++ bad ∷ []) b.0) in
-        let like : Alike (lines_text (before ++ bad ∷ []) ++ b.0) (drop place bytes) =
-        subst (λ (u : List ℕ). Alike u (drop place bytes)) (sym (last_line before bad b.0)) (alike_dead before bad f.behind more b.0 f.parts feed) in
-        f.dead more feed (b.0, from (lines_text (before ++ bad ∷ []) ++ b.0) like (subst IsText whole b.1));
+        let like = alike_dead (drop place bytes) before bad f.behind more b.0 f.parts feed in
+        f.dead more feed (b.0, from rest like (subst IsText whole b.1));
     none = λ r. f.none (from (drop place bytes) (alike_same (drop place bytes) (drop place bytes) refl) (subst IsText is r));
   }
 
-  stop_behind : (here : ℕ) (before : List (List ℕ)) (bad : List ℕ) → IsStop IsRest bytes place here before bad → IsStop IsText bytes at here (front ++ before) bad
-  stop_behind here before bad s = record {
-    inside = s.inside;
-    parts = is ∙ ap (λ (u : List ℕ). lines_text front ++ u) s.parts ∙ lines_join front before (drop here bytes);
-    first = first_behind before bad s.first;
-  }
+  stop_behind : (here : ℕ) (before : List (List ℕ)) (bad : List ℕ) → IsStop IsRest bytes place here before bad
+      → IsStop IsText bytes at here (front ++ before) bad
+  stop_behind here before bad s = record { inside = s.inside; parts = joined before (drop here bytes) s.parts; first = first_behind before bad s.first }
+
+  -- the front of a value, behind all lines
+  grouped : (before : List (List ℕ)) (value more : List ℕ)
+      → lines_text front ++ (lines_text before ++ (value ++ more)) ≡ (lines_text (front ++ before) ++ value) ++ more
+  grouped before value more = lines_join front before (value ++ more) ∙ sym (append_assoc (lines_text (front ++ before)) value more)
 
   large_behind : (before : List (List ℕ)) (bad : List ℕ) → IsLargeIn IsRest before bad → IsLargeIn IsText (front ++ before) bad
-  large_behind before bad l = record {
-    front = l.front;
-    rest = l.rest;
-    parts = l.parts;
-    wanting = l.wanting;
-    large = l.large;
-    viable = (
-      l.viable.0,
-      subst IsText (ap (λ (u : List ℕ). lines_text front ++ u) (append_assoc (lines_text before) l.front l.viable.0) ∙ lines_join front before (l.front ++ l.viable.0) ∙ sym (append_assoc (lines_text (front ++ before)) l.front l.viable.0))
-          (to ((lines_text before ++ l.front) ++ l.viable.0) l.viable.1),
-    );
-  }
-
-  large_from : (before : List (List ℕ)) (bad behind : List ℕ) → drop place bytes ≡ lines_text before ++ (bad ++ behind) → IsLargeIn IsText (front ++ before) bad → IsLargeIn IsRest before bad
-  large_from before bad behind e l =
+  large_behind before bad l =
       let more : List ℕ = l.viable.0 in
-      let t : drop place bytes ≡ lines_text before ++ ((l.front ++ l.rest) ++ behind) = e ∙ ap (λ (b : List ℕ). lines_text before ++ (b ++ behind)) l.parts in
-      let whole : (lines_text (front ++ before) ++ l.front) ++ more ≡ lines_text front ++ (lines_text before ++ (l.front ++ more)) =
-      append_assoc (lines_text (front ++ before)) l.front more ∙ sym (lines_join front before (l.front ++ more)) in
+      let behind : IsRest (lines_text before ++ (l.front ++ more)) = subst IsRest (append_assoc (lines_text before) l.front more) l.viable.1 in
       record {
         front = l.front;
         rest = l.rest;
         parts = l.parts;
         wanting = l.wanting;
         large = l.large;
-        viable = (
-          more,
-          subst IsRest (sym (append_assoc (lines_text before) l.front more))
-              (from (lines_text before ++ (l.front ++ more)) (alike_front before l.front l.rest behind more (front_long l.front l.wanting) t) (subst IsText whole l.viable.1)),
-        );
+        viable = (more, subst IsText (grouped before l.front more) (to (lines_text before ++ (l.front ++ more)) behind));
       }
 
+  large_from : (before : List (List ℕ)) (bad behind : List ℕ) → drop place bytes ≡ lines_text before ++ (bad ++ behind)
+      → IsLargeIn IsText (front ++ before) bad → IsLargeIn IsRest before bad
+  large_from before bad behind e l =
+      let more : List ℕ = l.viable.0 in
+      let rest : List ℕ = lines_text before ++ (l.front ++ more) in
+      let like : Alike rest (drop place bytes) = alike_front (drop place bytes) before l.front l.rest behind more l.wanting
+      (e ∙ ap (λ (b : List ℕ). lines_text before ++ (b ++ behind)) l.parts) in
+      let viable : IsRest rest = from rest like (subst IsText (sym (grouped before l.front more)) l.viable.1) in
+      record {
+        front = l.front;
+        rest = l.rest;
+        parts = l.parts;
+        wanting = l.wanting;
+        large = l.large;
+        viable = (more, subst IsRest (sym (append_assoc (lines_text before) l.front more)) viable);
+      }
+
+  -- where reading stops behind the lines, it stops as well in front of them
   pub onto : Onto IsText bytes at IsRest place
   onto stop.NoMemory s = tt
   onto (stop.Bad here) s = (front ++ s.0, s.1, stop_behind here s.0 s.1 s.2, λ l. s.3 (large_from s.0 s.1 s.2.first.behind s.2.first.parts l))
   onto (stop.TooLarge here) s = (front ++ s.0, s.1, stop_behind here s.0 s.1 s.2, large_behind s.0 s.1 s.3)
 
 -- the same place
-pub onto_here : (IsText IsRest : List ℕ → Type 0) (bytes : List ℕ) (at : ℕ) → ((u : List ℕ) → Alike u (drop at bytes) → IsText u → IsRest u) → ((u : List ℕ) → IsRest u → IsText u) → Onto IsText bytes at IsRest at
+pub onto_here : (IsText IsRest : List ℕ → Type 0) (bytes : List ℕ) (at : ℕ) → ((u : List ℕ) → Alike u (drop at bytes) → IsText u → IsRest u)
+    → ((u : List ℕ) → IsRest u → IsText u) → Onto IsText bytes at IsRest at
 onto_here IsText IsRest bytes at from to = onto IsText IsRest bytes at at [] (All-nil IsLine) refl from to
 
 -- behind one line
-pub onto_line : (IsText IsRest : List ℕ → Type 0) (bytes : List ℕ) (at place : ℕ) (l : List ℕ) → IsLine l → drop at bytes ≡ ended l ++ drop place bytes → ((u : List ℕ) → IsText (ended l ++ u) → IsRest u) → ((u : List ℕ) → IsRest u → IsText (ended l ++ u))
+pub onto_fed : {text : List ℕ} → IsFed text → (IsText IsRest : List ℕ → Type 0) (bytes : List ℕ) (at place : ℕ)
+    → drop at bytes ≡ text ++ drop place bytes → ((u : List ℕ) → IsText (text ++ u) → IsRest u) → ((u : List ℕ) → IsRest u → IsText (text ++ u))
     → Onto IsText bytes at IsRest place
-onto_line IsText IsRest bytes at place l line is from to =
-    let one : (u : List ℕ) → ended l ++ u ≡ lines_text (l ∷ []) ++ u = λ u. ap (λ (v : List ℕ). v ++ u) (sym (append-nil (ended l))) in
-    onto IsText IsRest bytes at place (l ∷ []) (All-cons IsLine l [] line (All-nil IsLine)) (is ∙ one (drop place bytes))
+onto_fed {text} l IsText IsRest bytes at place is from to =
+    let one : (u : List ℕ) → text ++ u ≡ lines_text (l.line ∷ []) ++ u = λ u. ap (λ (v : List ℕ). v ++ u) (l.is ∙ sym (append-nil (ended l.line))) in
+    onto IsText IsRest bytes at place (l.line ∷ []) (All-cons IsLine l.line [] l.free (All-nil IsLine)) (is ∙ one (drop place bytes))
     (λ u like t. from u (subst IsText (sym (one u)) t)) (λ u r. subst IsText (one u) (to u r))
 
 -- ---- at a line
 
-module _ (IsText : List ℕ → Type 0) (Is : List ℕ → Type 0) (bytes : List ℕ) (at : ℕ) (inside : at ≤ length bytes) (some : Begins IsText [])
-    (goes : (u : List ℕ) → SameFirst u (drop at bytes) → IsText u → (l : List ℕ) × (rest : List ℕ) × IsLine l × Is l × (u ≡ l ++ 10 ∷ rest)) where
+-- Each text that begins like the bytes at this place begins with one of these lines.
+module _ (IsText Is : List ℕ → Type 0) (bytes : List ℕ) (at : ℕ) (inside : at ≤ length bytes) (some : Begins IsText [])
+    (goes : (u : List ℕ) → SameFirst u (drop at bytes) → IsText u
+    → (l : List ℕ) × (rest : List ℕ) × IsLine l × Is l × (u ≡ l ++ 10 ∷ rest)) where
   no_dead : (bad : List ℕ) (s : StopsAt Is (drop at bytes) bad) (more : List ℕ) → s.behind ≡ 10 ∷ more → (u : List ℕ) → ¬ IsText (bad ++ 10 ∷ u)
   no_dead bad s more feed u t =
       let g = goes (bad ++ 10 ∷ u) (inr (bad, u, more, s.line, refl, s.parts ∙ ap (λ (v : List ℕ). bad ++ v) feed)) t in
       s.refused more feed (subst Is (sym (same_line bad g.0 u g.1 s.line g.2 g.4)) g.3)
 
-  no_text : (bad behind : List ℕ) → IsLine bad → EndsLine behind → ((more : List ℕ) → behind ≡ 10 ∷ more → ¬ Is bad) → drop at bytes ≡ bad ++ behind → ¬ IsText (drop at bytes)
+  no_text : (bad behind : List ℕ) → IsLine bad → EndsLine behind → ((more : List ℕ) → behind ≡ 10 ∷ more → ¬ Is bad)
+      → drop at bytes ≡ bad ++ behind → ¬ IsText (drop at bytes)
   no_text bad [] line end refused e t =
       let g = goes (drop at bytes) (inl refl) t in
       not_open bad g.0 g.1 line g.2 (sym e ∙ g.4)
@@ -138,6 +160,7 @@ module _ (IsText : List ℕ → Type 0) (Is : List ℕ → Type 0) (bytes : List
       let fed : drop at bytes ≡ bad ++ 10 ∷ bs = e ∙ ap (λ (c : ℕ). bad ++ c ∷ bs) end in
       refused bs (ap (λ (c : ℕ). c ∷ bs) end) (subst Is (sym (same_line bad g.0 bs g.1 line g.2 (sym fed ∙ g.4))) g.3)
 
+  -- a line that is none of them is the first bad one
   pub stop_here : (bad : List ℕ) → StopsAt Is (drop at bytes) bad → IsStop IsText bytes at at [] bad
   stop_here bad s = record {
     inside = inside;
@@ -149,39 +172,60 @@ module _ (IsText : List ℕ → Type 0) (Is : List ℕ → Type 0) (bytes : List
       line = s.line;
       end = s.end;
       viable = some;
-      dead = λ more feed b. no_dead bad s more feed b.0 (subst IsText (ap (λ (u : List ℕ). u ++ b.0) (append-nil (ended bad)) ∙ append_assoc bad (10 ∷ []) b.0) b.1);
+      dead = λ more feed b.
+          let whole = ap (λ (u : List ℕ). u ++ b.0) (append-nil (ended bad)) ∙ append_assoc bad (10 ∷ []) b.0 in
+          no_dead bad s more feed b.0 (subst IsText whole b.1);
       none = no_text bad s.behind s.line s.end s.refused s.parts;
     };
   }
 
--- where the line of something is to stand
-module _ {X : Type 0} (text : X → List ℕ) (Fits : X → Type 0) (feeds : (x : X) → Fits x → (l : List ℕ) × IsLine l × (text x ≡ ended l)) (IsLarge : List ℕ → Type 0) (IsText : List ℕ → Type 0) (bytes : List ℕ) (at : ℕ) (inside : at ≤ length bytes) (some : Begins IsText [])
-    (goes : (u : List ℕ) → SameFirst u (drop at bytes) → IsText u → (x : X) × Fits x × ((rest : List ℕ) × (u ≡ text x ++ rest)))
-    (small : (bad behind : List ℕ) → drop at bytes ≡ bad ++ behind → IsLargeIn IsText [] bad → IsLarge bad) (large : (bad : List ℕ) → IsLarge bad → IsLargeIn IsText [] bad) where
-  spelled_first : (u : List ℕ) → SameFirst u (drop at bytes) → IsText u → (l : List ℕ) × (rest : List ℕ) × IsLine l × IsSpelled text Fits l × (u ≡ l ++ 10 ∷ rest)
-  spelled_first u like t =
-      let g = goes u like t in
-      let l = feeds g.0 g.1 in
-      (l.0, g.2.0, l.1, (g.0, g.1, sym l.2), g.2.1 ∙ ap (λ (v : List ℕ). v ++ g.2.0) l.2 ∙ append_assoc l.0 (10 ∷ []) g.2.0)
+  -- and told so, where no value may stand
+  pub bad_here : ((bad : List ℕ) → ¬ IsLargeIn IsText [] bad) → (place : ℕ)
+      → (place ≡ at) × ((bad : List ℕ) × StopsAt Is (drop at bytes) bad) → StopsIn IsText bytes at (stop.Bad place)
+  bad_here small place s = subst (λ (p : ℕ). StopsIn IsText bytes at (stop.Bad p)) (sym s.0) ([], s.1.0, stop_here s.1.0 s.1.1, small s.1.0)
 
+-- The line of something is to stand here: each text that begins like these bytes begins with one, and a value in it is too
+-- large in the text as in the line.
+pub record Awaits {X : Type 0} (text : X → List ℕ) (Fits : X → Type 0) (IsLarge IsText : List ℕ → Type 0) (here : List ℕ) : Type 0 where
+  pub feeds : (x : X) → Fits x → IsFed (text x)
+  pub some : Begins IsText []
+  pub goes : (u : List ℕ) → SameFirst u here → IsText u → (x : X) × Fits x × ((rest : List ℕ) × (u ≡ text x ++ rest))
+  pub small : (bad behind : List ℕ) → here ≡ bad ++ behind → IsLargeIn IsText [] bad → IsLarge bad
+  pub large : (bad : List ℕ) → IsLarge bad → IsLargeIn IsText [] bad
+
+module _ {X : Type 0} {text : X → List ℕ} {Fits : X → Type 0} {IsLarge IsText : List ℕ → Type 0} (bytes : List ℕ) (at : ℕ)
+    (inside : at ≤ length bytes) (a : Awaits text Fits IsLarge IsText (drop at bytes)) where
+  spelled_first : (u : List ℕ) → SameFirst u (drop at bytes) → IsText u
+      → (l : List ℕ) × (rest : List ℕ) × IsLine l × IsSpelled text Fits l × (u ≡ l ++ 10 ∷ rest)
+  spelled_first u like t =
+      let g = a.goes u like t in
+      let l = a.feeds g.0 g.1 in
+      let rest = g.2.0 in
+      (l.line, rest, l.free, (g.0, g.1, sym l.is), g.2.1 ∙ ap (λ (v : List ℕ). v ++ rest) l.is ∙ append_assoc l.line (10 ∷ []) rest)
+
+  -- where no such line is read, reading stops
   pub line_stop : (f : FileFault) → StopsLine text Fits IsLarge bytes at f → StopsIn IsText bytes at f
   line_stop stop.NoMemory s = tt
   line_stop (stop.Bad place) s =
+      let first = stop_here IsText (IsSpelled text Fits) bytes at inside a.some spelled_first s.1.0 s.1.1 in
       subst (λ (p : ℕ). StopsIn IsText bytes at (stop.Bad p)) (sym s.0)
-      ([], s.1.0, stop_here IsText (IsSpelled text Fits) bytes at inside some spelled_first s.1.0 s.1.1, λ l. s.1.2 (small s.1.0 s.1.1.behind s.1.1.parts l))
+      ([], s.1.0, first, λ l. s.1.2 (a.small s.1.0 s.1.1.behind s.1.1.parts l))
   line_stop (stop.TooLarge place) s =
-      subst (λ (p : ℕ). StopsIn IsText bytes at (stop.TooLarge p)) (sym s.0)
-      ([], s.1.0, stop_here IsText (IsSpelled text Fits) bytes at inside some spelled_first s.1.0 s.1.1, large s.1.0 s.1.2)
+      let first = stop_here IsText (IsSpelled text Fits) bytes at inside a.some spelled_first s.1.0 s.1.1 in
+      subst (λ (p : ℕ). StopsIn IsText bytes at (stop.TooLarge p)) (sym s.0) ([], s.1.0, first, a.large s.1.0 s.1.2)
 
 -- where no text that begins alike may stand
-pub never_stop : (IsText : List ℕ → Type 0) (bytes : List ℕ) (at : ℕ) → at ≤ length bytes → Begins IsText [] → ((u : List ℕ) → Alike u (drop at bytes) → ¬ IsText u) → StopsIn IsText bytes at (stop.Bad at)
+pub never_stop : (IsText : List ℕ → Type 0) (bytes : List ℕ) (at : ℕ) → at ≤ length bytes → Begins IsText []
+    → ((u : List ℕ) → Alike u (drop at bytes) → ¬ IsText u) → StopsIn IsText bytes at (stop.Bad at)
 never_stop IsText bytes at inside some never =
     let f = first_line (drop at bytes) in
-    let at_line : StopsAt (λ _. ⊥) (drop at bytes) f.bad = record { behind = f.behind; parts = f.parts; line = f.line; end = f.end; refused = λ more feed h. h } in (
+    let at_line : StopsAt (λ _. ⊥) (drop at bytes) f.bad =
+    record { behind = f.behind; parts = f.parts; line = f.line; end = f.end; refused = λ more feed h. h } in (
       [],
       f.bad,
       stop_here IsText (λ _. ⊥) bytes at inside some (λ u same t. absurd (never u (first_alike u (drop at bytes) same) t)) f.bad at_line,
       λ l.
-          let t : drop at bytes ≡ l.front ++ (l.rest ++ f.behind) = f.parts ∙ ap (λ (b : List ℕ). b ++ f.behind) l.parts ∙ append_assoc l.front l.rest f.behind in
-          never (l.front ++ l.viable.0) (subst (λ (u : List ℕ). Alike (l.front ++ l.viable.0) u) (sym t) (alike_long l.front l.viable.0 (l.rest ++ f.behind) (front_long l.front l.wanting))) l.viable.1,
+          never (l.front ++ l.viable.0)
+          (alike_front (drop at bytes) [] l.front l.rest f.behind l.viable.0 l.wanting (f.parts ∙ ap (λ (b : List ℕ). b ++ f.behind) l.parts))
+          l.viable.1,
     )

@@ -34,7 +34,8 @@ use Rattle.df_journal_text.proofs.JournalBacks.{more_first, unit_first}
 use Rattle.df_journal_file.specs.Below.{event_line}
 use Rattle.df_journal_file.specs.Journal.{ChangesSome, EditsSome, EndsFile, HasNote, ShowsSome}
 use Rattle.df_journal_file.specs.code.Entries.{IsNoteBy, IsShownBy, IsSomeCommit, IsSomeEffectOf, IsWholeBy, commit_lines}
-use Rattle.df_journal_file.specs.code.Languages.{CommitFrom, DoneFrom, EditFrom, EffectFrom, EntriesFrom, NoteFrom, ShownFrom, ShowsNone}
+use Rattle.df_journal_file.specs.code.Languages.{CommitFrom, DoneFrom, EditFrom, EffectFrom, EntriesFrom, GivenFrom, NoteFrom, ShownFrom, ShowsNone}
+use Rattle.df_journal_file.proofs.Feeds.{CallTold, told_line}
 use Rattle.df_journal_file.proofs.Entries.{alone, done_of, done_spelled, done_whole, no_note, some_note}
 
 -- ---- the first bytes
@@ -51,10 +52,11 @@ digit_begins m [] digit none = absurd cc
 digit_begins m (c ∷ cs) digit none = let e = digit_other c m digit none in (e, rw e refl)
 
 -- a call's line begins with a digit
-pub called_begins : (c : UnitName × Call × Reply) (rest : List ℕ) → IsCalled c → begins_digit (call_line c.0 c.1 c.2 ++ rest) ≡ true
+pub called_begins : (c : CallTold) (rest : List ℕ) → IsCalled c → begins_digit (told_line c ++ rest) ≡ true
 called_begins c rest fits =
     let words : List (List ℕ) = call_words c.1 ++ codes "->" ∷ reply_words c.2 in
-    more_first (call_line c.0 c.1 c.2) rest (more_first (unit_text c.0 ++ spaced words) (10 ∷ []) (more_first (unit_text c.0) (spaced words) (unit_first c.0 fits.0)))
+    more_first (told_line c) rest
+    (more_first (unit_text c.0 ++ spaced words) (10 ∷ []) (more_first (unit_text c.0) (spaced words) (unit_first c.0 fits.0)))
 
 -- ---- replies
 
@@ -71,15 +73,16 @@ bare_for r f some =
     ]
 
 -- what is noted of the reply is noted of its line's
-note_by : (bare r : Reply) (note : Option Label) → IsShownBy bare r → HasNote r note → ((label : Label) → note ≡ Some label → IsLabel label) → IsNoteBy true bare note
+note_by : (bare r : Reply) (note : Option Label) → IsShownBy bare r → HasNote r note → ((label : Label) → note ≡ Some label → IsLabel label)
+    → IsNoteBy true bare note
 note_by bare r (Some label) f n fits =
     (fits label refl, elim f.2 [ inl same ↦ λ none. n (same ∙ none) | inr s ↦ λ none. let no : reply.Parts [] ≡ reply.NoSuchUnit = sym s.0 ∙ none in cc ])
-note_by bare r None f n fits =
-    elim f.2 [ inl same ↦ sym same ∙ n | inr s ↦ absurd (let no : reply.Parts s.1.0 ≡ reply.NoSuchUnit = sym s.1.1 ∙ n in cc) ]
+note_by bare r None f n fits = elim f.2 [ inl same ↦ sym same ∙ n | inr s ↦ absurd (let no : reply.Parts s.1.0 ≡ reply.NoSuchUnit = sym s.1.1 ∙ n in cc) ]
 
 -- ---- from entries
 
-edit_from : (has : Bool) (edit : List Spot × List Part) (tail : List ℕ) → IsEdit edit → EditsSome edit → EntriesFrom has tail → EditFrom has 0 (edit_text edit ++ tail)
+edit_from : (has : Bool) (edit : List Spot × List Part) (tail : List ℕ) → IsEdit edit → EditsSome edit → EntriesFrom has tail
+    → EditFrom has 0 (edit_text edit ++ tail)
 edit_from has edit tail f some t = (
   edit.0,
   flat_map (part_line (codes "+")) edit.1 ++ tail,
@@ -88,16 +91,25 @@ edit_from has edit tail f some t = (
   append_assoc (flat_map spot_line edit.0) (flat_map (part_line (codes "+")) edit.1) tail,
 )
 
-commit_from : (has : Bool) (mark : List ℕ) (commit : Commit) (tail : List ℕ) → IsCommit commit → EditsSome commit.edit → EntriesFrom has tail → CommitFrom has mark (commit_lines mark commit ++ tail)
-commit_from has mark commit tail f some t =
-    (commit.event, edit_text commit.edit ++ tail, f.0, edit_from has commit.edit tail f.1 some t, append_assoc (event_line mark commit.event) (edit_text commit.edit) tail)
+commit_from : (has : Bool) (mark : List ℕ) (commit : Commit) (tail : List ℕ) → IsCommit commit → EditsSome commit.edit → EntriesFrom has tail
+    → CommitFrom has mark (commit_lines mark commit ++ tail)
+commit_from has mark commit tail f some t = (
+  commit.event,
+  edit_text commit.edit ++ tail,
+  f.0,
+  edit_from has commit.edit tail f.1 some t,
+  append_assoc (event_line mark commit.event)
+      (edit_text commit.edit) tail,
+)
 
-effect_from : (has : Bool) (r : Reply) (e : Effect) (tail : List ℕ) → IsEffectOf e r → ChangesSome e → EntriesFrom has tail → EffectFrom has r (effect_text e ++ tail)
+effect_from : (has : Bool) (r : Reply) (e : Effect) (tail : List ℕ) → IsEffectOf e r → ChangesSome e → EntriesFrom has tail
+    → EffectFrom has r (effect_text e ++ tail)
 effect_from has r effect.Nothing tail f some t = inl t
 effect_from has r (effect.Commit commit) tail f some t = inr (inl (commit_from has (codes "=") commit tail f some t))
 effect_from has (reply.Event h sub) (effect.Given given) tail f some t =
     let parts : List ℕ = flat_map (part_line (codes ".")) given.parts in
-    inr (inr ((h, sub, refl), (given.event, parts ++ tail, f.1, (given.parts, tail, f.2, (omega (arith, some), t), refl), append_assoc (event_line (codes "<") given.event) parts tail)))
+    let below : GivenFrom has 0 (parts ++ tail) = (given.parts, tail, f.2, (omega (arith, some), t), refl) in
+    inr (inr ((h, sub, refl), (given.event, parts ++ tail, f.1, below, append_assoc (event_line (codes "<") given.event) parts tail)))
 effect_from has _ (effect.Given given) tail f some t = absurd f
 
 -- which parts are shown makes no effect another
@@ -106,7 +118,8 @@ effect_parts has ps qs s (inl t) = inl t
 effect_parts has ps qs s (inr (inl t)) = inr (inl t)
 effect_parts has ps qs s (inr (inr t)) = absurd (let no = t.0.2 in cc)
 
-shown_from : (has : Bool) (bare r : Reply) (rest : List ℕ) → IsAnswer bare → IsShownBy bare r → EffectFrom has r rest → ShownFrom has bare (reads_text r ++ rest)
+shown_from : (has : Bool) (bare r : Reply) (rest : List ℕ) → IsAnswer bare → IsShownBy bare r → EffectFrom has r rest
+    → ShownFrom has bare (reads_text r ++ rest)
 shown_from has bare r rest answer (f, some, inl same) t =
     elim (shows_or_not r) [
       | inl p ↦
@@ -114,7 +127,8 @@ shown_from has bare r rest answer (f, some, inl same) t =
           let filled : 0 < length p.0 = subst ShowsSome p.1 some in omega (arith, filled, ap length none))
       | inr none ↦
           let empty = (alone r none).1 in
-          inl (subst ShowsNone same none, subst (λ (u : List ℕ). EffectFrom has bare (u ++ rest)) (sym empty) (subst (λ (q : Reply). EffectFrom has q rest) same t))
+          let behind = subst (λ (q : Reply). EffectFrom has q rest) same t in
+          inl (subst ShowsNone same none, subst (λ (u : List ℕ). EffectFrom has bare (u ++ rest)) (sym empty) behind)
     ]
 shown_from has bare r rest answer (f, some, inr (b, (parts, is))) t =
     let filled : 0 < length parts = subst ShowsSome is some in
@@ -122,7 +136,8 @@ shown_from has bare r rest answer (f, some, inr (b, (parts, is))) t =
     let behind : EffectFrom has (reply.Parts []) rest = effect_parts has parts [] rest (subst (λ (q : Reply). EffectFrom has q rest) is t) in
     inr (b, (parts, rest, fit, (omega (arith, filled), behind), ap (λ (q : Reply). reads_text q ++ rest) is))
 
-note_from : (has : Bool) (bare : Reply) (note : Option Label) (rest : List ℕ) → IsNoteBy has bare note → ShownFrom has bare rest → NoteFrom has bare (note_text note ++ rest)
+note_from : (has : Bool) (bare : Reply) (note : Option Label) (rest : List ℕ) → IsNoteBy has bare note → ShownFrom has bare rest
+    → NoteFrom has bare (note_text note ++ rest)
 note_from true bare (Some label) rest n t = inr (refl, n.1, (label, rest, n.0, t, refl))
 note_from true bare None rest n t = inl (inr n, t)
 note_from false bare (Some label) rest n t = absurd cc
@@ -131,24 +146,28 @@ note_from false bare None rest n t = inl (inl refl, t)
 abbrev pub AtHead : Bool → List ℕ → Type 0
 AtHead has s = DoneFrom has s ⊎ CommitFrom has (codes "emitted") s
 
-unit_head : (has : Bool) (actor : UnitName) (call : Call) (r : Reply) (e : Effect) (note : Option Label) (tail : List ℕ) → IsEntry (Done actor call r e) → ShowsSome r → ChangesSome e → ((bare : Reply) → IsShownBy bare r → IsNoteBy has bare note) → EntriesFrom has tail
-    → DoneFrom has (entry_text note (Done actor call r e) ++ tail)
+unit_head : (has : Bool) (actor : UnitName) (call : Call) (r : Reply) (e : Effect) (note : Option Label) (tail : List ℕ)
+    → IsEntry (Done actor call r e) → ShowsSome r → ChangesSome e → ((bare : Reply) → IsShownBy bare r → IsNoteBy has bare note)
+    → EntriesFrom has tail → DoneFrom has (entry_text note (Done actor call r e) ++ tail)
 unit_head has actor call r e note tail f shows changes notes t =
     let bare = bare_for r f.2 shows in
     let change : List ℕ = effect_text e ++ tail in
     let shown : List ℕ = reads_text r ++ change in
     let below : List ℕ = note_text note ++ shown in
-    let behind = note_from has bare.0 note shown (notes bare.0 bare.2) (shown_from has bare.0 r change bare.1 bare.2 (effect_from has r e tail f.3 changes t)) in (
+    let showing = shown_from has bare.0 r change bare.1 bare.2 (effect_from has r e tail f.3 changes t) in
+    let behind = note_from has bare.0 note shown (notes bare.0 bare.2) showing in (
       (actor, call, bare.0),
       below,
       (f.0, f.1, bare.1),
       behind,
-      sym (done_spelled actor call bare.0 r note e (call_line actor call bare.0 ++ below) below shown change tail refl refl refl refl bare.2),
+      sym (done_spelled (actor, call, bare.0) r note e (call_line actor call bare.0 ++ below) below shown change tail refl refl refl refl bare.2),
     )
 
-entry_head : (has : Bool) (entry : Entry) (note : Option Label) (tail : List ℕ) → IsWholeBy has (record { entry = entry; contamination = note }) → EntriesFrom has tail → AtHead has (entry_text note entry ++ tail)
+entry_head : (has : Bool) (entry : Entry) (note : Option Label) (tail : List ℕ) → IsWholeBy has (record { entry = entry; contamination = note })
+    → EntriesFrom has tail → AtHead has (entry_text note entry ++ tail)
 entry_head true (Done actor call r e) (Some label) tail w t =
-    inl (unit_head true actor call r e (Some label) tail w.0.0 w.1.0 w.1.1 (λ bare f. note_by bare r (Some label) f w.2 (λ l is. subst (λ (o : Option Label). IsNoteOf (Done actor call r e) o) is w.0.1)) t)
+    let fits : (l : Label) → Some label ≡ Some l → IsLabel l = λ l is. subst (λ (o : Option Label). IsNoteOf (Done actor call r e) o) is w.0.1 in
+    inl (unit_head true actor call r e (Some label) tail w.0.0 w.1.0 w.1.1 (λ bare f. note_by bare r (Some label) f w.2 fits) t)
 entry_head true (Done actor call r e) None tail w t =
     inl (unit_head true actor call r e None tail w.0.0 w.1.0 w.1.1 (λ bare f. note_by bare r None f w.2 (λ l is. absurd cc)) t)
 entry_head true (Emitted commit) (Some label) tail w t = absurd w.0.1
@@ -166,7 +185,8 @@ opened has s t = cut t.0 t.1 t.2 t.3 t.4
     cut (n ∷ ns) end f ends e =
         let tail : List ℕ = flat_map noted_text ns ++ end in
         let whole : s ≡ noted_text n ++ tail = e ∙ append_assoc (noted_text n) (flat_map noted_text ns) end in
-        inr (subst (AtHead has) (sym whole) (entry_head has n.entry n.contamination tail (All-head (IsWholeBy has) n ns f) (ns, end, All-tail (IsWholeBy has) n ns f, ends, refl)))
+        inr (subst (AtHead has) (sym whole)
+        (entry_head has n.entry n.contamination tail (All-head (IsWholeBy has) n ns f) (ns, end, All-tail (IsWholeBy has) n ns f, ends, refl)))
 
 -- ---- to entries
 
@@ -185,7 +205,9 @@ commit_to has mark s t =
       tail,
       ((t.2, (t.3.2, t.3.3.2)), omega (arith, t.3.3.3.0)),
       t.3.3.3.1,
-      t.4 ∙ ap (λ (u : List ℕ). event_line mark t.0 ++ u) (t.3.4 ∙ ap (λ (u : List ℕ). deleted ++ u) t.3.3.4 ∙ sym (append_assoc deleted added tail)) ∙ sym (append_assoc (event_line mark t.0) (deleted ++ added) tail),
+      t.4 ∙ ap (λ (u : List ℕ). event_line mark t.0 ++ u)
+          (t.3.4 ∙ ap (λ (u : List ℕ). deleted ++ u) t.3.3.4 ∙ sym (append_assoc deleted added tail))
+          ∙ sym (append_assoc (event_line mark t.0) (deleted ++ added) tail),
     )
 
 effect_to : (has : Bool) (r : Reply) (s : List ℕ) → EffectFrom has r s → Split effect_text (IsSomeEffectOf r) (λ _. EntriesFrom has) s
@@ -196,7 +218,8 @@ effect_to has r s (inr (inr ((h, sub, is), t))) =
     let given : Given = record { event = t.0; sub = sub; parts = parts } in
     let fits : IsSomeEffectOf (reply.Event h sub) (effect.Given given) = ((refl, t.2, t.3.2), omega (arith, t.3.3.0)) in
     let text : List ℕ = flat_map (part_line (codes ".")) parts in
-    (effect.Given given, t.3.1, subst (λ (q : Reply). IsSomeEffectOf q (effect.Given given)) (sym is) fits, t.3.3.1, t.4 ∙ ap (λ (u : List ℕ). event_line (codes "<") t.0 ++ u) t.3.4 ∙ sym (append_assoc (event_line (codes "<") t.0) text t.3.1))
+    let whole = t.4 ∙ ap (λ (u : List ℕ). event_line (codes "<") t.0 ++ u) t.3.4 ∙ sym (append_assoc (event_line (codes "<") t.0) text t.3.1) in
+    (effect.Given given, t.3.1, subst (λ (q : Reply). IsSomeEffectOf q (effect.Given given)) (sym is) fits, t.3.3.1, whole)
 
 shown_to : (has : Bool) (bare : Reply) (s : List ℕ) → IsAnswer bare → ShownFrom has bare s → Split reads_text (IsShownBy bare) (EffectFrom has) s
 shown_to has bare s f (inl (none, t)) =
@@ -210,8 +233,14 @@ note_to has bare s (inr (h, exists, t)) = (Some t.0, t.1, some_note has bare t.0
 
 -- one more entry
 pub cons_entry : (has : Bool) (n : Noted) (s tail : List ℕ) → IsWholeBy has n → EntriesFrom has tail → s ≡ noted_text n ++ tail → EntriesFrom has s
-cons_entry has n s tail w t e =
-    (n ∷ t.0, t.1, All-cons (IsWholeBy has) n t.0 w t.2, t.3, e ∙ ap (λ (u : List ℕ). noted_text n ++ u) t.4 ∙ sym (append_assoc (noted_text n) (flat_map noted_text t.0) t.1))
+cons_entry has n s tail w t e = (
+  n ∷ t.0,
+  t.1,
+  All-cons (IsWholeBy has) n t.0 w t.2,
+  t.3,
+  e ∙ ap (λ (u : List ℕ). noted_text n ++ u) t.4
+      ∙ sym (append_assoc (noted_text n) (flat_map noted_text t.0) t.1),
+)
 
 pub done_to : (has : Bool) (s : List ℕ) → DoneFrom has s → EntriesFrom has s
 done_to has s d =
@@ -219,7 +248,8 @@ done_to has s d =
     let n = note_to has c.2 d.1 d.3 in
     let m = shown_to has c.2 n.1 d.2.2 n.3 in
     let e = effect_to has m.0 m.1 m.3 in
-    cons_entry has (done_of c.0 c.1 m.0 e.0 n.0) s e.1 (done_whole has c.0 c.1 c.2 m.0 n.0 e.0 d.2 n.2 m.2 e.2) e.3 (done_spelled c.0 c.1 c.2 m.0 n.0 e.0 s d.1 n.1 m.1 e.1 d.4 n.4 m.4 e.4 m.2)
+    cons_entry has (done_of c m.0 e.0 n.0) s e.1 (done_whole has c m.0 n.0 e.0 d.2 n.2 m.2 e.2) e.3
+    (done_spelled c m.0 n.0 e.0 s d.1 n.1 m.1 e.1 d.4 n.4 m.4 e.4 m.2)
 
 emitted_whole : (has : Bool) (commit : Commit) → IsSomeCommit commit → IsWholeBy has (record { entry = Emitted commit; contamination = None })
 emitted_whole true commit f = ((f.0, tt), f.1, refl)

@@ -1,125 +1,187 @@
--- Lines with the same mark, and what may stand behind them.
-use Rattle.std.proofs.Common.{◌≡◌, ℕ, ◌+◌, true, false, eqb, List, [], ◌∷◌, ◌++◌, length, drop, refl, sym, ap, subst, ◌∙◌, arith, append_assoc, length-append}
+-- One line and what may stand behind it; lines with the same mark, as many as there are, and what may stand behind them.
+use Rattle.std.proofs.Common.{◌≡◌, ℕ, suc, ◌+◌, ◌<◌, ◌≤◌, true, false, eqb, List, [], ◌∷◌, ◌++◌, length, drop, refl, sym, ap, subst, ◌∙◌, arith, append_assoc, length-append, ◌⊎◌, inl, inr}
 use Rattle.std.specs.List.{All, AllByRecursion, flat_map}
 use Rattle.std.proofs.lemmas.List.Concat.{flat_map-append}
 use Rattle.std.proofs.lemmas.List.Elements.{All-append, All-cons, All-head, All-nil, All-tail, recursion_from_All}
 use Rattle.df_lines.specs.FirstBad.{Begins}
 use Rattle.df_lines.specs.Lines.{IsLine, ended, lines_text}
 use Rattle.df_lines.specs.declared.fault.FileFault.{FileFault}
+use Rattle.df_lines.specs.declared.fault.FileFault.TheVariants as stop
+use Rattle.df_value_text.specs.Number.{begins_with}
 use Rattle.df_journal_text.specs.ReadWords.{begins_pair}
 use Rattle.df_journal_file.specs.TooLarge.{IsLargeIn}
-use Rattle.df_journal_file.specs.code.Languages.{Many, Then}
-use Rattle.df_journal_file.specs.code.Places.{ArePassed, MarkedStop}
+use Rattle.df_journal_file.specs.code.Languages.{BehindSome, Many, Then}
+use Rattle.df_journal_file.specs.code.Places.{AreMarked, ArePassed, MarkedStop, StopsLine}
 use Rattle.df_journal_file.specs.code.Stops.{Onto, StopsIn}
-use Rattle.df_journal_file.proofs.Feeds.{Feeds}
-use Rattle.df_journal_file.proofs.Fronts.{first_alike, same_rest}
-use Rattle.df_journal_file.proofs.Ontos.{line_stop, onto, onto_line}
-
--- two texts that begin with lines go on alike
-pub fed_rest : {X Y : Type 0} (text : X → List ℕ) (spell : Y → List ℕ) (x : X) (y : Y) → Feeds text x → Feeds spell y → (u v : List ℕ) → text x ++ u ≡ spell y ++ v → u ≡ v
-fed_rest text spell x y l m u v e =
-    let left : l.0 ++ 10 ∷ u ≡ text x ++ u = sym (append_assoc l.0 (10 ∷ []) u) ∙ ap (λ (w : List ℕ). w ++ u) (sym l.2) in
-    let right : spell y ++ v ≡ m.0 ++ 10 ∷ v = ap (λ (w : List ℕ). w ++ v) m.2 ∙ append_assoc m.0 (10 ∷ []) v in
-    same_rest l.0 m.0 u v l.1 m.1 (left ∙ e ∙ right)
+use Rattle.df_journal_file.proofs.Feeds.{IsFed, fed_rest}
+use Rattle.df_journal_file.proofs.Fronts.{first_alike, one_result}
+use Rattle.df_journal_file.proofs.Ontos.{line_stop, never_stop, onto, onto_fed, onto_here}
+use Rattle.df_journal_file.proofs.Values.{BeginsNoValue, never_large}
 
 -- ---- one line
 
-module _ {X : Type 0} (text : X → List ℕ) (Fits : X → Type 0) (feeds : (x : X) → Fits x → Feeds text x) (Rest : List ℕ → Type 0) where
-  pub then_from : (x : X) (u : List ℕ) → Fits x → Then text Fits Rest (text x ++ u) → Rest u
-  then_from x u fits t = subst Rest (sym (fed_rest text text x t.0 (feeds x fits) (feeds t.0 t.2) u t.1 t.4)) t.3
+-- a kind of line that has no value: each begins with this byte
+pub record IsBareKind {X : Type 0} (text : X → List ℕ) (Fits : X → Type 0) : Type 0 where
+  pub feeds : (x : X) → Fits x → IsFed (text x)
+  pub byte : ℕ
+  pub other : BeginsNoValue byte
+  pub begins : (x : X) (rest : List ℕ) → begins_with byte (text x ++ rest) ≡ true
 
-  pub then_to : (x : X) (u : List ℕ) → Fits x → Rest u → Then text Fits Rest (text x ++ u)
-  then_to x u fits r = (x, u, fits, r, refl)
-
+module _ {X : Type 0} {text : X → List ℕ} {Fits : X → Type 0} (kind : IsBareKind text Fits) (Rest : List ℕ → Type 0) where
+  -- behind one that was read
   pub then_onto : (bytes : List ℕ) (at place : ℕ) (x : X) → Fits x → drop at bytes ≡ text x ++ drop place bytes → Onto (Then text Fits Rest) bytes at Rest place
   then_onto bytes at place x fits is =
-      let l = feeds x fits in
-      let fed : (u : List ℕ) → text x ++ u ≡ ended l.0 ++ u = λ u. ap (λ (w : List ℕ). w ++ u) l.2 in
-      onto_line (Then text Fits Rest) Rest bytes at place l.0 l.1 (is ∙ fed (drop place bytes))
-      (λ u t. then_from x u fits (subst (Then text Fits Rest) (sym (fed u)) t)) (λ u r. subst (Then text Fits Rest) (fed u) (then_to x u fits r))
+      onto_fed (kind.feeds x fits) (Then text Fits Rest) Rest bytes at place is
+      (λ u t. subst Rest (sym (fed_rest u t.1 (kind.feeds x fits) (kind.feeds t.0 t.2) t.4)) t.3) (λ u r. (x, u, fits, r, refl))
+
+  -- where none is read
+  pub then_stop : Begins (Then text Fits Rest) [] → (bytes : List ℕ) (at : ℕ) → at ≤ length bytes → (f : FileFault) → StopsLine text Fits (λ _. ⊥) bytes at f
+      → StopsIn (Then text Fits Rest) bytes at f
+  then_stop some bytes at inside f s =
+      line_stop bytes at inside (record {
+        feeds = kind.feeds;
+        some = some;
+        goes = λ u same t. (t.0, t.2, (t.1, t.4));
+        small = λ bad behind is l.
+            never_large (Then text Fits Rest) kind.byte kind.other (λ u t. ap (begins_with kind.byte) t.4 ∙ kind.begins t.0 t.1) bad l;
+        large = λ bad none. absurd none;
+      }) f s
 
 -- ---- as many lines as there are
 
-module _ {X : Type 0} (text : X → List ℕ) (Fits : X → Type 0) (feeds : (x : X) → Fits x → Feeds text x) (mark : ℕ) (free : eqb 10 mark ≡ false) (marks : (x : X) (u : List ℕ) → begins_pair mark 32 (text x ++ u) ≡ true) (Rest : ℕ → List ℕ → Type 0)
-    (ends : (n : ℕ) (u : List ℕ) → Rest n u → begins_pair mark 32 u ≡ false) where
-  -- a line in front of others
-  many_from : (n : ℕ) (x : X) (u : List ℕ) → Fits x → Many text Fits Rest n (text x ++ u) → Many text Fits Rest (n + 1) u
-  many_from n x u fits m = cut m.0 m.1 m.2 m.3 m.4
+-- A kind of line, its mark, and what may stand behind as many as there are, which has another mark. A value in a line is too
+-- large where one of a text may stand that is.
+pub record IsRun {X : Type 0} (text : X → List ℕ) (Fits : X → Type 0) (mark : ℕ) (IsLarge : List ℕ → Type 0) (Rest : ℕ → List ℕ → Type 0)
+    : Type 0 where
+  pub feeds : (x : X) → Fits x → IsFed (text x)
+  pub free : eqb 10 mark ≡ false
+  pub marks : (x : X) (u : List ℕ) → begins_pair mark 32 (text x ++ u) ≡ true
+  pub ends : (n : ℕ) (u : List ℕ) → Rest n u → begins_pair mark 32 u ≡ false
+  pub some : (n : ℕ) → Begins (Many text Fits Rest n) []
+  pub small : (n : ℕ) (bad behind : List ℕ) → begins_pair mark 32 (bad ++ behind) ≡ true → IsLargeIn (Many text Fits Rest n) [] bad → IsLarge bad
+  pub large : (n : ℕ) (bad : List ℕ) → IsLarge bad → IsLargeIn (Many text Fits Rest n) [] bad
+
+module _ {X : Type 0} {text : X → List ℕ} {Fits : X → Type 0} {mark : ℕ} {IsLarge : List ℕ → Type 0} {Rest : ℕ → List ℕ → Type 0}
+    (run : IsRun text Fits mark IsLarge Rest) where
+  -- what may stand behind n lines
+  abbrev From : ℕ → List ℕ → Type 0
+  From n u = Many text Fits Rest n u
+
+  -- a count of lines, written otherwise
+  recount : (n k : ℕ) (u : List ℕ) → n ≡ k → Rest n u → Rest k u
+  recount n k u is r = subst (λ (k : ℕ). Rest k u) is r
+
+  -- one of them stands in front, or none
+  split : (n : ℕ) (u : List ℕ) → From n u → Rest n u ⊎ ((x : X) × Fits x × ((rest : List ℕ) × (u ≡ text x ++ rest)))
+  split n u m = cut m.0 m.1 m.2 m.3 m.4
     where
-      cut : (xs : List X) (rest : List ℕ) → All Fits xs → Rest (n + length xs) rest → text x ++ u ≡ flat_map text xs ++ rest → Many text Fits Rest (n + 1) u
-      cut [] rest f r e = absurd (let no : true ≡ false = sym (marks x u) ∙ ap (begins_pair mark 32) e ∙ ends (n + 0) rest r in cc)
+      cut : (xs : List X) (rest : List ℕ) → All Fits xs → Rest (n + length xs) rest → u ≡ flat_map text xs ++ rest
+          → Rest n u ⊎ ((x : X) × Fits x × ((rest : List ℕ) × (u ≡ text x ++ rest)))
+      cut [] rest f r e = inl (subst (Rest n) (sym e) (recount (n + 0) n rest (omega arith) r))
+      cut (y ∷ ys) rest f r e = inr (y, All-head Fits y ys f, (flat_map text ys ++ rest, e ∙ append_assoc (text y) (flat_map text ys) rest))
+
+  -- none, where the mark doesn't stand there
+  pub run_none : (n : ℕ) (u : List ℕ) → begins_pair mark 32 u ≡ false → From n u → Rest n u
+  run_none n u unmarked m =
+      elim (split n u m) [
+        | inl r ↦ r
+        | inr s ↦ one_result (ap (begins_pair mark 32) s.2.1 ∙ run.marks s.0 s.2.0) unmarked
+      ]
+
+  -- one, where it does
+  some_here : (n : ℕ) (u : List ℕ) → begins_pair mark 32 u ≡ true → From n u → (x : X) × Fits x × ((rest : List ℕ) × (u ≡ text x ++ rest))
+  some_here n u marked m = elim (split n u m) [ inl r ↦ one_result marked (run.ends n u r) | inr s ↦ s ]
+
+  -- behind one of them
+  behind_one : (n : ℕ) (x : X) (u : List ℕ) → Fits x → From n (text x ++ u) → From (n + 1) u
+  behind_one n x u fits m = cut m.0 m.1 m.2 m.3 m.4
+    where
+      cut : (xs : List X) (rest : List ℕ) → All Fits xs → Rest (n + length xs) rest → text x ++ u ≡ flat_map text xs ++ rest → From (n + 1) u
+      cut [] rest f r e = one_result (sym (ap (begins_pair mark 32) e) ∙ run.marks x u) (run.ends (n + 0) rest r)
       cut (y ∷ ys) rest f r e =
-          let same : u ≡ flat_map text ys ++ rest =
-          fed_rest text text x y (feeds x fits) (feeds y (All-head Fits y ys f)) u (flat_map text ys ++ rest) (e ∙ append_assoc (text y) (flat_map text ys) rest) in
-          (ys, rest, All-tail Fits y ys f, subst (λ (k : ℕ). Rest k rest) (omega arith) r, same)
+          let tail : List ℕ = flat_map text ys ++ rest in
+          let same : u ≡ tail = fed_rest u tail (run.feeds x fits) (run.feeds y (All-head Fits y ys f))
+          (e ∙ append_assoc (text y) (flat_map text ys) rest) in
+          (ys, rest, All-tail Fits y ys f, recount (n + suc (length ys)) (n + 1 + length ys) rest (omega arith) r, same)
 
-  many_from_all : (n : ℕ) (xs : List X) (u : List ℕ) → AllByRecursion Fits xs → Many text Fits Rest n (flat_map text xs ++ u) → Many text Fits Rest (n + length xs) u
-  many_from_all n [] u fits m = subst (λ (k : ℕ). Many text Fits Rest k u) (omega arith) m
-  many_from_all n (x ∷ xs) u fits m =
-      let one : Many text Fits Rest (n + 1) (flat_map text xs ++ u) = many_from n x (flat_map text xs ++ u) fits.0 (subst (Many text Fits Rest n) (append_assoc (text x) (flat_map text xs) u) m) in
-      subst (λ (k : ℕ). Many text Fits Rest k u) (omega arith) (many_from_all (n + 1) xs u fits.1 one)
+  -- behind some of them
+  behind_all : (n : ℕ) (xs : List X) (u : List ℕ) → AllByRecursion Fits xs → From n (flat_map text xs ++ u) → From (n + length xs) u
+  behind_all n [] u fits m = subst (λ (k : ℕ). From k u) (omega arith) m
+  behind_all n (x ∷ xs) u fits m =
+      let whole : From n (text x ++ (flat_map text xs ++ u)) = subst (From n) (append_assoc (text x) (flat_map text xs) u) m in
+      let tail : From (n + 1) (flat_map text xs ++ u) = behind_one n x (flat_map text xs ++ u) fits.0 whole in
+      subst (λ (k : ℕ). From k u) (omega arith) (behind_all (n + 1) xs u fits.1 tail)
 
-  many_to_all : (n : ℕ) (xs : List X) (u : List ℕ) → All Fits xs → Many text Fits Rest (n + length xs) u → Many text Fits Rest n (flat_map text xs ++ u)
-  many_to_all n xs u fits m = (
+  -- and in front of more of them
+  front_all : (n : ℕ) (xs : List X) (u : List ℕ) → All Fits xs → From (n + length xs) u → From n (flat_map text xs ++ u)
+  front_all n xs u fits m = (
     xs ++ m.0,
     m.1,
     All-append Fits xs m.0 fits m.2,
-    subst (λ (k : ℕ). Rest k m.1) (omega (arith, length-append xs m.0)) m.3,
-    ap (λ (v : List ℕ). flat_map text xs ++ v) m.4 ∙ sym (append_assoc (flat_map text xs) (flat_map text m.0) m.1) ∙ ap (λ (v : List ℕ). v ++ m.1) (sym (flat_map-append text xs m.0)),
+    recount (n + length xs + length m.0) (n + length (xs ++ m.0)) m.1 (omega (arith, length-append xs m.0)) m.3,
+    ap (λ (v : List ℕ). flat_map text xs ++ v) m.4 ∙ sym (append_assoc (flat_map text xs) (flat_map text m.0) m.1)
+        ∙ ap (λ (v : List ℕ). v ++ m.1) (sym (flat_map-append text xs m.0)),
   )
-
-  -- where no line with the mark stands, none of them does
-  pub many_none : (n : ℕ) (u : List ℕ) → begins_pair mark 32 u ≡ false → Many text Fits Rest n u → Rest n u
-  many_none n u unmarked m = none m.0 m.1 m.3 m.4
-    where
-      none : (xs : List X) (rest : List ℕ) → Rest (n + length xs) rest → u ≡ flat_map text xs ++ rest → Rest n u
-      none [] rest r e = subst (Rest n) (sym e) (subst (λ (k : ℕ). Rest k rest) (omega arith) r)
-      none (y ∷ ys) rest r e =
-          absurd (let no : true ≡ false = sym (marks y (flat_map text ys ++ rest)) ∙ ap (begins_pair mark 32) (sym (append_assoc (text y) (flat_map text ys) rest) ∙ sym e) ∙ unmarked in cc)
-
-  -- where a line with the mark stands, one of them does
-  many_some : (n : ℕ) (u : List ℕ) → begins_pair mark 32 u ≡ true → Many text Fits Rest n u → (x : X) × Fits x × ((rest : List ℕ) × (u ≡ text x ++ rest))
-  many_some n u marked m = some m.0 m.1 m.2 m.3 m.4
-    where
-      some : (xs : List X) (rest : List ℕ) → All Fits xs → Rest (n + length xs) rest → u ≡ flat_map text xs ++ rest → (x : X) × Fits x × ((rest : List ℕ) × (u ≡ text x ++ rest))
-      some [] rest f r e = absurd (let no : true ≡ false = sym marked ∙ ap (begins_pair mark 32) e ∙ ends (n + 0) rest r in cc)
-      some (y ∷ ys) rest f r e = (y, All-head Fits y ys f, (flat_map text ys ++ rest, e ∙ append_assoc (text y) (flat_map text ys) rest))
 
   -- the lines of these
   lines_of : (xs : List X) → AllByRecursion Fits xs → (ls : List (List ℕ)) × All IsLine ls × (flat_map text xs ≡ lines_text ls)
   lines_of [] f = ([], All-nil IsLine, refl)
   lines_of (x ∷ xs) f =
-      let l = feeds x f.0 in
-      let ls = lines_of xs f.1 in
-      (l.0 ∷ ls.0, All-cons IsLine l.0 ls.0 l.1 ls.1, ap (λ (u : List ℕ). u ++ flat_map text xs) l.2 ∙ ap (λ (u : List ℕ). ended l.0 ++ u) ls.2)
+      let l = run.feeds x f.0 in
+      let ls = lines_of xs f.1 in (
+        l.line ∷ ls.0,
+        All-cons IsLine l.line ls.0 l.free ls.1,
+        ap (λ (u : List ℕ). u ++ flat_map text xs) l.is ∙ ap (λ (u : List ℕ). ended l.line ++ u) ls.2,
+      )
 
-  module _ (bytes : List ℕ) (at place : ℕ) (xs : List X) (n : ℕ) (passed : ArePassed text Fits bytes at xs place) where
-    -- further lines may stand behind these
-    more_onto : Onto (Many text Fits Rest n) bytes at (Many text Fits Rest (n + length xs)) place
-    more_onto =
-        let fits = recursion_from_All Fits xs passed.fit in
-        let ls = lines_of xs fits in
-        let fed : (u : List ℕ) → flat_map text xs ++ u ≡ lines_text ls.0 ++ u = λ u. ap (λ (w : List ℕ). w ++ u) ls.2 in
-        onto (Many text Fits Rest n) (Many text Fits Rest (n + length xs)) bytes at place ls.0 ls.1 (passed.parts ∙ fed (drop place bytes))
-        (λ u like m. many_from_all n xs u fits (subst (Many text Fits Rest n) (sym (fed u)) m)) (λ u m. subst (Many text Fits Rest n) (fed u) (many_to_all n xs u passed.fit m))
+  -- further lines may stand behind these
+  more_onto : (bytes : List ℕ) (at place : ℕ) (xs : List X) (n : ℕ) → ArePassed text Fits bytes at xs place
+      → Onto (From n) bytes at (From (n + length xs)) place
+  more_onto bytes at place xs n passed =
+      let fits = recursion_from_All Fits xs passed.fit in
+      let ls = lines_of xs fits in
+      let fed : (u : List ℕ) → flat_map text xs ++ u ≡ lines_text ls.0 ++ u = λ u. ap (λ (w : List ℕ). w ++ u) ls.2 in
+      onto (From n) (From (n + length xs)) bytes at place ls.0 ls.1 (passed.parts ∙ fed (drop place bytes))
+      (λ u like m. behind_all n xs u fits (subst (From n) (sym (fed u)) m)) (λ u m. subst (From n) (fed u) (front_all n xs u passed.fit m))
 
-    -- no further line with the mark stands behind these
-    pub all_onto : begins_pair mark 32 (drop place bytes) ≡ false → Onto (Many text Fits Rest n) bytes at (Rest (n + length xs)) place
-    all_onto unmarked =
-        let fits = recursion_from_All Fits xs passed.fit in
-        let ls = lines_of xs fits in
-        let fed : (u : List ℕ) → flat_map text xs ++ u ≡ lines_text ls.0 ++ u = λ u. ap (λ (w : List ℕ). w ++ u) ls.2 in
-        onto (Many text Fits Rest n) (Rest (n + length xs)) bytes at place ls.0 ls.1 (passed.parts ∙ fed (drop place bytes))
-        (λ u like m. many_none (n + length xs) u ((like mark).1 free ∙ unmarked) (many_from_all n xs u fits (subst (Many text Fits Rest n) (sym (fed u)) m)))
-        (λ u r. (xs, u, passed.fit, r, sym (fed u)))
+  -- no further line with the mark stands behind these
+  pub run_onto : (bytes : List ℕ) (at place : ℕ) (xs : List X) (n : ℕ) → AreMarked text Fits mark bytes at xs place
+      → Onto (From n) bytes at (Rest (n + length xs)) place
+  run_onto bytes at place xs n m = λ f s.
+      let k : ℕ = n + length xs in
+      more_onto bytes at place xs n m.0 f
+      (onto_here (From k) (Rest k) bytes place (λ u like t. run_none k u ((like mark).1 run.free ∙ m.1) t)
+      (λ u r. ([], u, All-nil Fits, recount k (k + 0) u (omega arith) r, refl)) f s)
 
   -- a line with the mark that isn't read
-  pub many_stop : (IsLarge : List ℕ → Type 0) → ((n : ℕ) → Begins (Many text Fits Rest n) []) → ((n : ℕ) (bad behind : List ℕ) → begins_pair mark 32 (bad ++ behind) ≡ true → IsLargeIn (Many text Fits Rest n) [] bad → IsLarge bad)
-      → ((n : ℕ) (bad : List ℕ) → IsLarge bad → IsLargeIn (Many text Fits Rest n) [] bad) → (bytes : List ℕ) (at n : ℕ) (f : FileFault) → MarkedStop text Fits IsLarge mark bytes at f → StopsIn (Many text Fits Rest n) bytes at f
-  many_stop IsLarge some small large bytes at n f s =
-      let xs = s.0 in
+  pub run_stop : (bytes : List ℕ) (at n : ℕ) (f : FileFault) → MarkedStop text Fits IsLarge mark bytes at f → StopsIn (From n) bytes at f
+  run_stop bytes at n f s =
       let place = s.1 in
-      let k : ℕ = n + length xs in
-      more_onto bytes at place xs n s.2 f
-      (line_stop text Fits feeds IsLarge (Many text Fits Rest k) bytes place s.2.inside (some k) (λ u same m. many_some k u ((first_alike u (drop place bytes) same mark).1 free ∙ s.3) m)
-      (λ bad behind is l. small k bad behind (ap (begins_pair mark 32) (sym is) ∙ s.3) l) (large k) f s.4)
+      let k : ℕ = n + length s.0 in
+      more_onto bytes at place s.0 n s.2 f
+      (line_stop bytes place s.2.inside (record {
+        feeds = run.feeds;
+        some = run.some k;
+        goes = λ u same m. some_here k u ((first_alike u (drop place bytes) same mark).1 run.free ∙ s.3) m;
+        small = λ bad behind is l. run.small k bad behind (ap (begins_pair mark 32) (sym is) ∙ s.3) l;
+        large = run.large k;
+      }) f s.4)
+
+-- ---- where one line at least is to stand
+
+module _ {X : Type 0} {text : X → List ℕ} {Fits : X → Type 0} {mark : ℕ} {IsLarge : List ℕ → Type 0} (Behind : List ℕ → Type 0)
+    (run : IsRun text Fits mark IsLarge (BehindSome Behind)) (bytes : List ℕ) (at place : ℕ) (xs : List X)
+    (m : AreMarked text Fits mark bytes at xs place) where
+  -- some do
+  pub filled_onto : (n : ℕ) → 0 < n + length xs → Onto (Many text Fits (BehindSome Behind) n) bytes at Behind place
+  filled_onto n some = λ f s.
+      run_onto run bytes at place xs n m f
+      (onto_here (BehindSome Behind (n + length xs)) Behind bytes place (λ u like t. t.1) (λ u t. (some, t)) f s)
+
+  -- none does
+  pub empty_stop : at ≤ length bytes → xs ≡ [] → StopsIn (Many text Fits (BehindSome Behind) 0) bytes at (stop.Bad at)
+  empty_stop inside none =
+      let here : drop at bytes ≡ drop place bytes = m.0.parts ∙ ap (λ (ys : List X). flat_map text ys ++ drop place bytes) none in
+      let unmarked : begins_pair mark 32 (drop at bytes) ≡ false = ap (begins_pair mark 32) here ∙ m.1 in
+      never_stop (Many text Fits (BehindSome Behind) 0) bytes at inside (run.some 0)
+      (λ u like t. let some = run_none run 0 u ((like mark).1 run.free ∙ unmarked) t in omega (arith, some.0))

@@ -39,7 +39,8 @@ note_whole = record {
 }
 
 event_finds : Finds event_text IsEvent event_at
-event_finds = finds_as event_of (finds_then unit_finds (finds_behind (33 ∷ []) short_finds)) event_text IsEvent (λ x f. (append_assoc (unit_text x.0) (codes "!") (decimal x.1), f))
+event_finds = finds_as event_of (finds_then unit_finds (finds_behind (33 ∷ []) short_finds)) event_text IsEvent
+    (λ x f. (append_assoc (unit_text x.0) (codes "!") (decimal x.1), f))
 
 abbrev pub event_words : List ℕ → EventName → List ℕ
 event_words mark event = mark ++ word (event_text event)
@@ -47,7 +48,8 @@ event_words mark event = mark ++ word (event_text event)
 pub event_whole : (mark : List ℕ) → WholeLine (event_line mark) (event_words mark) IsEvent (behind_at mark (word_at event_at))
 event_whole mark = record {
   found = (finds_behind mark (finds_word event_finds)).found;
-  back = λ event fits. behind_back mark (word_at event_at) (word (event_text event)) ∙ ap event_at (sym (append-nil (event_text event))) ∙ event_word.back event [] fits tt;
+  back = λ event fits. behind_back mark (word_at event_at) (word (event_text event)) ∙ ap event_at (sym (append-nil (event_text event)))
+      ∙ event_word.back event [] fits tt;
   same = λ event. one_word mark (event_text event);
 }
 
@@ -59,7 +61,8 @@ spot_finds = finds_as spot_of named_finds (λ (s : Spot). word (label_text s.lab
 
 spot_back : (spot : Spot) → IsSpot spot → deleted_at (word (label_text spot.label) ++ word spot.name) ≡ Ok (spot, [])
 spot_back spot f =
-    let e1 : label_at (label_text spot.label ++ word spot.name) ≡ Ok (spot.label, word spot.name) = label_word.back spot.label (word spot.name) f.1 (inl refl) in
+    let e1 : label_at (label_text spot.label ++ word spot.name) ≡ Ok (spot.label, word spot.name) = label_word.back spot.label (word spot.name) f.1
+    (inl refl) in
     let e2 : name_at spot.name ≡ Ok (spot.name, []) = ap name_at (sym (append-nil spot.name)) ∙ name_word.back spot.name [] f.0 tt in
     rw (e1, e2) refl
 

@@ -6,18 +6,27 @@ use Rattle.df_journal_file.proofs.entry.effect_at.Goals as goal
 pub returns-in_err-commit-clause-stops : goal.returns-in_err-commit-clause-stops
 returns-in_err-commit-clause-stops c = λ has.
     let p = err_from_is_err_and c.from_residual.result c.from_residual.ensures.1 in
-    rw (p.1, p.2) (commit_onto has c.args.bytes.now c.args.reply.now c.args.at (sym c.mark_stands.ensures ∙ c.if-mark_stands.true) c.in_err-commit.field-0.0 (c.in_err-commit.ensures.stops has (inl refl)))
+    let marked = sym c.mark_stands.ensures ∙ c.if-mark_stands.true in
+    rw (p.1, p.2) (commit_onto has c.args.bytes.now c.args.at c.args.reply.now marked c.in_err-commit.field-0.0
+    (c.in_err-commit.ensures.stops has (inl refl)))
 
 pub returns-then-mark_stands-clause-onto : goal.returns-then-mark_stands-clause-onto
-returns-then-mark_stands-clause-onto c = λ has f s. commit_onto has c.args.bytes.now c.args.reply.now c.args.at (sym c.mark_stands.ensures ∙ c.if-mark_stands.true) f (c.in_ok-commit.ensures.onto has (inl refl) f s)
+returns-then-mark_stands-clause-onto c = λ has f s.
+    let marked = sym c.mark_stands.ensures ∙ c.if-mark_stands.true in
+    commit_onto has c.args.bytes.now c.args.at c.args.reply.now marked f (c.in_ok-commit.ensures.onto has (inl refl) f s)
 
 pub returns-in_default-clause-onto : goal.returns-in_default-clause-onto
-returns-in_default-clause-onto c = λ has. nothing_onto has c.args.bytes.now c.args.reply.now c.args.at (sym c.mark_stands.ensures ∙ c.if-mark_stands.false) c.in_default.ensures
+returns-in_default-clause-onto c = λ has.
+    nothing_onto has c.args.bytes.now c.args.at c.args.reply.now (sym c.mark_stands.ensures ∙ c.if-mark_stands.false) c.in_default.ensures
 
 pub returns-in_err-given-clause-stops : goal.returns-in_err-given-clause-stops
 returns-in_err-given-clause-stops c = λ has.
     let p = err_from_is_err_and c.from_residual-in_err-given.result c.from_residual-in_err-given.ensures.1 in
-    rw (p.1, p.2) (handed_onto has c.args.bytes.now c.args.reply.now c.args.at (c.in-Some.ensures.0.0, c.in-Some.sub, c.in-Some.ensures.0.1) c.in-Some.ensures.1 c.in_err-given.field-0.0 (c.in_err-given.ensures.stops has))
+    let some = c.in-Some.ensures in
+    rw (p.1, p.2) (handed_onto has c.args.bytes.now c.args.at c.args.reply.now (some.0.0, c.in-Some.sub, some.0.1) some.1
+    c.in_err-given.field-0.0 (c.in_err-given.ensures.stops has))
 
 pub returns-clause-onto : goal.returns-clause-onto
-returns-clause-onto c = λ has f s. handed_onto has c.args.bytes.now c.args.reply.now c.args.at (c.in-Some.ensures.0.0, c.in-Some.sub, c.in-Some.ensures.0.1) c.in-Some.ensures.1 f (c.in_ok-given.ensures.onto has f s)
+returns-clause-onto c = λ has f s.
+    let some = c.in-Some.ensures in
+    handed_onto has c.args.bytes.now c.args.at c.args.reply.now (some.0.0, c.in-Some.sub, some.0.1) some.1 f (c.in_ok-given.ensures.onto has f s)

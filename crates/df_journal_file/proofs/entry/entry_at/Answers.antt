@@ -1,6 +1,6 @@
-use Rattle.df_journal_file.proofs.Entries.{emitted_read}
 use Rattle.std.proofs.Common.{inr, refl, sym, ◌∙◌}
 use Rattle.std.proofs.lemmas.Result.{err_from_is_err_and}
+use Rattle.df_journal_file.proofs.Entries.{emitted_read}
 use Rattle.df_journal_file.proofs.Steps.{emitted_onto}
 use Rattle.df_journal_file.proofs.entry.entry_at.Goals as goal
 
@@ -25,7 +25,11 @@ returns-then-not-byte_stands-clause-stops c = λ none. c.done_at.ensures.stops (
 pub returns-in_err-commit-clause-stops : goal.returns-in_err-commit-clause-stops
 returns-in_err-commit-clause-stops c = λ none.
     let p = err_from_is_err_and c.from_residual.result c.from_residual.ensures.1 in
-    rw (p.1, p.2) (emitted_onto c.args.has_notes c.args.bytes.now c.args.at (sym c.byte_stands.ensures ∙ c.if-not-byte_stands.false) c.in_err-commit.field-0.0 (c.in_err-commit.ensures.stops c.args.has_notes (inr refl)))
+    let marked = sym c.byte_stands.ensures ∙ c.if-not-byte_stands.false in
+    rw (p.1, p.2) (emitted_onto c.args.has_notes c.args.bytes.now c.args.at marked c.in_err-commit.field-0.0
+    (c.in_err-commit.ensures.stops c.args.has_notes (inr refl)))
 
 pub returns-clause-onto : goal.returns-clause-onto
-returns-clause-onto c = λ f s. emitted_onto c.args.has_notes c.args.bytes.now c.args.at (sym c.byte_stands.ensures ∙ c.if-not-byte_stands.false) f (c.in_ok-commit.ensures.onto c.args.has_notes (inr refl) f s)
+returns-clause-onto c = λ f s.
+    let marked = sym c.byte_stands.ensures ∙ c.if-not-byte_stands.false in
+    emitted_onto c.args.has_notes c.args.bytes.now c.args.at marked f (c.in_ok-commit.ensures.onto c.args.has_notes (inr refl) f s)

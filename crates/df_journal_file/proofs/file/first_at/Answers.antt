@@ -8,4 +8,5 @@ returns-in_default-clause-stops c = (refl, (c.args.bytes.now, open_stop (λ line
 
 pub returns-clause-read : goal.returns-clause-read
 returns-clause-read c =
-    (c.in-Some.ensures.2, first_is c.args.bytes.now c.in-Some.line.now c.args.first.now c.in-Some.next (c.is_line.ensures.0 c.if-not-is_line.false) c.in-Some.ensures.3)
+    let same = c.is_line.ensures.0 c.if-not-is_line.false in
+    (c.in-Some.ensures.2, first_is c.args.bytes.now c.in-Some.line.now c.args.first.now c.in-Some.next same c.in-Some.ensures.3)

@@ -5,7 +5,9 @@ use Rattle.df_journal_file.proofs.file.is_end.Goals as goal
 
 pub returns-in-Some : goal.returns-in-Some
 returns-in-Some c =
-    let l = line_ends (drop c.args.place c.args.bytes.now) c.in-Some.line.now (drop c.in-Some.field-0-1 c.args.bytes.now) c.in-Some.ensures.0 c.in-Some.ensures.3 in
+    let bytes = c.args.bytes.now in
+    let line = c.in-Some.ensures in
+    let l = line_ends (drop c.args.place bytes) c.in-Some.line.now (drop c.in-Some.field-0-1 bytes) line.0 line.3 in
     (λ is. l.0 (c.is_line.ensures.0 is), λ ends. c.is_line.ensures.1 (l.1 ends))
 
 pub returns-in-None : goal.returns-in-None

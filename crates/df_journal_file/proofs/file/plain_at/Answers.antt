@@ -14,8 +14,10 @@ returns-in_err-start-clause-stops c =
 pub returns-in_err-entries-clause-stops : goal.returns-in_err-entries-clause-stops
 returns-in_err-entries-clause-stops c =
     let p = err_from_is_err_and c.from_residual-in_err-entries.result c.from_residual-in_err-entries.ensures.1 in
-    rw (p.1, p.2) (roots_onto false c.args.bytes.now c.args.at c.in_ok-start.start c.in_ok-start.place c.in_ok-start.ensures.read c.in_err-entries.field-0.0 c.in_err-entries.ensures.stops)
+    rw (p.1, p.2) (roots_onto false c.args.bytes.now c.args.at c.in_ok-start.start c.in_ok-start.place c.in_ok-start.ensures.read
+    c.in_err-entries.field-0.0 c.in_err-entries.ensures.stops)
 
 pub returns-clause-read : goal.returns-clause-read
 returns-clause-read c =
-    behind_roots plain_entry IsWholeEntry c.args.bytes.now c.args.at c.in_ok-start.start c.in_ok-start.place c.in_ok-entries.entries.items c.in_ok-start.ensures.read c.in_ok-entries.ensures.read
+    behind_roots plain_entry IsWholeEntry c.args.bytes.now c.args.at c.in_ok-start.start c.in_ok-start.place c.in_ok-entries.entries.items
+    c.in_ok-start.ensures.read c.in_ok-entries.ensures.read

@@ -1,6 +1,8 @@
 use Rattle.std.proofs.Common.{false}
 use Rattle.std.proofs.lemmas.Result.{err_from_is_err_and}
-use Rattle.df_journal_file.proofs.Texts.{first_onto, first_stop, plain_read}
+use Rattle.df_journal_file.specs.Journal.{IsWholeEntry}
+use Rattle.df_journal_file.specs.code.Files.{first_of, plain_entry}
+use Rattle.df_journal_file.proofs.Texts.{behind_first, first_onto, first_stop}
 use Rattle.df_journal_file.proofs.file.plain_whole.Goals as goal
 
 pub returns-in_err-at-clause-stops : goal.returns-in_err-at-clause-stops
@@ -14,4 +16,6 @@ returns-in_err-start-clause-stops c =
     rw (p.1, p.2) (first_onto false c.args.bytes.now c.in_ok-at.at c.in_ok-at.ensures.read c.in_err-start.field-0.0 c.in_err-start.ensures.stops)
 
 pub returns-clause-read : goal.returns-clause-read
-returns-clause-read c = plain_read c.args.bytes.now c.in_ok-at.at c.in_ok-start.start c.in_ok-start.entries.items c.in_ok-at.ensures.read c.in_ok-start.ensures.read
+returns-clause-read c =
+    behind_first plain_entry IsWholeEntry (first_of false) c.args.bytes.now c.in_ok-at.at c.in_ok-start.start c.in_ok-start.entries.items
+    c.in_ok-at.ensures.read c.in_ok-start.ensures.read

@@ -14,8 +14,10 @@ returns-in_err-start-clause-stops c =
 pub returns-in_err-noted-clause-stops : goal.returns-in_err-noted-clause-stops
 returns-in_err-noted-clause-stops c =
     let p = err_from_is_err_and c.from_residual-in_err-noted.result c.from_residual-in_err-noted.ensures.1 in
-    rw (p.1, p.2) (roots_onto true c.args.bytes.now c.args.at c.in_ok-start.start c.in_ok-start.place c.in_ok-start.ensures.read c.in_err-noted.field-0.0 c.in_err-noted.ensures.stops)
+    rw (p.1, p.2) (roots_onto true c.args.bytes.now c.args.at c.in_ok-start.start c.in_ok-start.place c.in_ok-start.ensures.read
+    c.in_err-noted.field-0.0 c.in_err-noted.ensures.stops)
 
 pub returns-clause-read : goal.returns-clause-read
 returns-clause-read c =
-    behind_roots noted_text IsWholeNoted c.args.bytes.now c.args.at c.in_ok-start.start c.in_ok-start.place c.in_ok-noted.noted.items c.in_ok-start.ensures.read c.in_ok-noted.ensures.read
+    behind_roots noted_text IsWholeNoted c.args.bytes.now c.args.at c.in_ok-start.start c.in_ok-start.place c.in_ok-noted.noted.items
+    c.in_ok-start.ensures.read c.in_ok-noted.ensures.read

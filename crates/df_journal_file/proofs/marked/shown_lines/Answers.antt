@@ -6,4 +6,5 @@ use Rattle.df_journal_file.proofs.marked.shown_lines.Goals as goal
 
 pub lines-preserved : goal.lines-preserved
 lines-preserved c =
-    more_passed read_line IsPartRead IsLargeShown c.args.bytes.now c.args.at c.lines.place c.lines.shown.items c.push.new.self.items c.in_ok-part.part c.in_ok-part.next c.lines.invariant c.in_ok-part.ensures c.in_ok-push.ensures.items
+    more_passed read_line IsPartRead IsLargeShown c.args.bytes.now c.args.at c.lines.place c.lines.shown.items c.push.new.self.items
+    c.in_ok-part.part c.in_ok-part.next c.lines.invariant c.in_ok-part.ensures c.in_ok-push.ensures.items

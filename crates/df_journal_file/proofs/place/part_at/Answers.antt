@@ -1,13 +1,14 @@
-use Rattle.std.proofs.Common.{sym, subst}
 use Rattle.df_journal_text.specs.Entry.{part_line}
 use Rattle.df_journal_text.specs.Fits.{IsPart}
 use Rattle.df_journal_text.specs.Large.{IsLargePart}
 use Rattle.df_journal_file.proofs.Apart.{part_small}
-use Rattle.df_journal_file.specs.code.Places.{TellsAt}
 use Rattle.df_journal_file.proofs.Places.{told_at}
 use Rattle.df_journal_file.proofs.place.part_at.Goals as goal
 
 pub returns : goal.returns
 returns c =
-    subst (λ r. TellsAt (part_line c.args.mark.now) IsPart (IsLargePart c.args.mark.now) c.args.bytes.now c.args.at r) (sym c.finished.ensures)
-    (told_at (part_line c.args.mark.now) IsPart (IsLargePart c.args.mark.now) (part_small c.args.mark.now) c.args.bytes.now c.args.at c.line_here-next.result.0.now c.line_here-next.result.1 c.line_here-next.ensures c.read_part_line.result c.read_part_line.ensures)
+    let here = c.line_here-next.result in
+    rw c.finished.ensures
+    (told_at (part_line c.args.mark.now) IsPart (IsLargePart c.args.mark.now) (part_small c.args.mark.now) c.args.bytes.now c.args.at here.0.now here.1
+    c.line_here-next.ensures
+    c.read_part_line.result c.read_part_line.ensures)

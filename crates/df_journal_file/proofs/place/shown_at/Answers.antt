@@ -1,13 +1,12 @@
-use Rattle.std.proofs.Common.{sym, subst}
 use Rattle.df_journal_text.specs.Entry.{read_line}
 use Rattle.df_journal_text.specs.Fits.{IsPartRead}
 use Rattle.df_journal_text.specs.Large.{IsLargeShown}
 use Rattle.df_journal_file.proofs.Apart.{shown_small}
-use Rattle.df_journal_file.specs.code.Places.{TellsAt}
 use Rattle.df_journal_file.proofs.Places.{told_at}
 use Rattle.df_journal_file.proofs.place.shown_at.Goals as goal
 
 pub returns : goal.returns
 returns c =
-    subst (λ r. TellsAt read_line IsPartRead IsLargeShown c.args.bytes.now c.args.at r) (sym c.finished.ensures)
-    (told_at read_line IsPartRead IsLargeShown shown_small c.args.bytes.now c.args.at c.line_here-next.result.0.now c.line_here-next.result.1 c.line_here-next.ensures c.read_shown_line.result c.read_shown_line.ensures)
+    let here = c.line_here-next.result in
+    rw c.finished.ensures (told_at read_line IsPartRead IsLargeShown shown_small c.args.bytes.now c.args.at here.0.now here.1 c.line_here-next.ensures
+    c.read_shown_line.result c.read_shown_line.ensures)

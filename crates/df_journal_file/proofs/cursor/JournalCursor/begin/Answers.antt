@@ -20,4 +20,5 @@ returns-in_err-start-clause-stops c =
 
 pub returns-clause-read : goal.returns-clause-read
 returns-clause-read c =
-    begun c.in_ok-has_notes.has_notes c.args.bytes.now c.in_ok-has_notes.at c.in_ok-start.start c.in_ok-start.place c.in_ok-has_notes.ensures.read c.in_ok-start.ensures.read
+    begun c.in_ok-has_notes.has_notes c.args.bytes.now c.in_ok-has_notes.at c.in_ok-start.start c.in_ok-start.place
+    c.in_ok-has_notes.ensures.read c.in_ok-start.ensures.read
