@@ -19,6 +19,7 @@ use Rattle.df_journal_file.specs.code.Entries.{IsHere, IsWholeBy}
 use Rattle.df_journal_file.specs.code.Files.{IsFirstAt, first_of}
 use Rattle.df_journal_file.proofs.Texts.{journal_is, regroup, run_line}
 
+-- the cursor at a place
 abbrev pub cursor_at : Bool → List ℕ → ℕ → CursorState
 cursor_at has bytes place = record { bytes = bytes; has_notes = has; place = place }
 
@@ -30,6 +31,7 @@ all_behind place bytes = take_all (length bytes - place) (drop place bytes) (ome
 abbrev pub StandIf : Bool → List ℕ → CursorState → Type 0
 StandIf stand lines c = IsTrue stand ↔ ((rest : List ℕ) × (drop c.place c.bytes ≡ lines ++ rest))
 
+-- the test tells it
 pub lines_stand : (bytes lines : List ℕ) (stand : Bool) → stand ≡ starts_with eqb bytes lines → IsTrue stand ↔ ((rest : List ℕ) × (bytes ≡ lines ++ rest))
 lines_stand bytes lines stand is =
     let told = starts_is Decides-eqb bytes lines stand is in

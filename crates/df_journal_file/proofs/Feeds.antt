@@ -122,6 +122,7 @@ IsLine-reply r f = (spoken (get_or (reply_words r) 0 []) refl, tt)
 abbrev pub CallTold : Type 0
 CallTold = UnitName × Call × Reply
 
+-- the line
 abbrev pub told_line : CallTold → List ℕ
 told_line c = call_line c.0 c.1 c.2
 

@@ -27,10 +27,12 @@ use Rattle.df_journal_file.proofs.Opens.{AtHead, called_begins, digit_begins, no
 
 -- ---- first bytes
 
+-- no mark stands in front of an end
 end_begins : (s : List ℕ) → EndsFile s → (m : ℕ) → begins_pair m 32 s ≡ false
 end_begins s (inl e) m = ap (begins_pair m 32) e
 end_begins s (inr e) m = ap (begins_pair m 32) e.1 ∙ and_false (eqb 45 m)
 
+-- nor in front of an entry
 open_begins : (has : Bool) (s : List ℕ) → EndsFile s ⊎ AtHead has s → (m : ℕ) → is_ascii_digit m ≡ false → begins_pair m 32 s ≡ false
 open_begins has s (inl e) m none = end_begins s e m
 open_begins has s (inr (inl d)) m none = (digit_begins m s (subst (λ (u : List ℕ). begins_digit u ≡ true) (sym d.4) (called_begins d.0 d.1 d.2)) none).1
@@ -58,19 +60,24 @@ adds_begin has n s t = none t.0 t.1 t.3 t.4
 
 -- ---- texts that may stand there
 
+-- a label without tags
 no_label : Label
 no_label = record { s = []; i = [] }
 
+-- it fits
 label_fits : IsLabel no_label
 unfolding no_label
 label_fits = ((tt, tt), (tt, tt))
 
+-- no privileges fit
 no_privileges : ArePrivileges []
 no_privileges = (All-nil IsPrivilege, tt)
 
+-- a value
 abbrev pub zero_value : Plain
 zero_value = int (pos 0)
 
+-- it fits
 pub zero_fits : IsValue zero_value
 zero_fits = (lit< tt, record { nodes = lit≤ tt; bytes = lit≤ tt; flat = lit≤ tt })
 
@@ -78,34 +85,44 @@ zero_fits = (lit< tt, record { nodes = lit≤ tt; bytes = lit≤ tt; flat = lit�
 abbrev pub part_with : Label → List ℕ → Part
 part_with label name = record { name = name; label = label; value = zero_value; privileges = [] }
 
+-- it fits
 pub part_fits : (label : Label) (name : List ℕ) → IsLabel label → is_name name ≡ true → IsPart (part_with label name)
 part_fits label name f h = (h, f, zero_fits, no_privileges)
 
+-- what a read shows of such a part
 abbrev pub read_with : Label → PartRead
 read_with label = record { label = label; value = zero_value; privileges = [] }
 
+-- it fits
 pub read_fits : (label : Label) → IsLabel label → IsPartRead (read_with label)
 read_fits label f = (f, zero_fits, no_privileges)
 
+-- no entries
 pub entries_some : (has : Bool) → Begins (EntriesFrom has) []
 entries_some has = ([], none_left has [] (inl refl))
 
-pub many_begins : {X : Type 0} (text : X → List ℕ) (Fits : X → Type 0) (Rest : ℕ → List ℕ → Type 0) (x : X) → Fits x → ((n : ℕ) → Rest (n + 1) []) → (n : ℕ)
+-- one line, and nothing behind it
+many_begins : {X : Type 0} (text : X → List ℕ) (Fits : X → Type 0) (Rest : ℕ → List ℕ → Type 0) (x : X) → Fits x → ((n : ℕ) → Rest (n + 1) []) → (n : ℕ)
     → Begins (Many text Fits Rest n) []
 many_begins text Fits Rest x f r n = (flat_map text (x ∷ []) ++ [], (x ∷ [], [], All-cons Fits x [] f (All-nil Fits), r n, refl))
 
+-- a part
 abbrev a_part : Part
 a_part = part_with no_label (codes "a")
 
+-- it fits
 a_part_fits : IsPart a_part
 a_part_fits = part_fits no_label (codes "a") label_fits refl
 
+-- a part that is added
 pub adds_some : (has : Bool) (n : ℕ) → Begins (AddsFrom has n) []
 adds_some has = many_begins (part_line (codes "+")) IsPart (BehindSome (EntriesFrom has)) a_part a_part_fits (λ n. (omega arith, none_left has [] (inl refl)))
 
+-- a part that is handed over
 pub given_some : (has : Bool) (n : ℕ) → Begins (GivenFrom has n) []
 given_some has = many_begins (part_line (codes ".")) IsPart (BehindSome (EntriesFrom has)) a_part a_part_fits (λ n. (omega arith, none_left has [] (inl refl)))
 
+-- a part that is deleted
 pub edit_some : (has : Bool) (n : ℕ) → Begins (EditFrom has n) []
 edit_some has n =
     let spot : Spot = record { name = codes "a"; label = no_label } in
@@ -120,11 +137,13 @@ edit_some has n =
       ),
     )
 
+-- a part that is shown
 pub read_some : (has : Bool) (n : ℕ) → Begins (ReadFrom has n) []
 read_some has = many_begins read_line IsPartRead (BehindSome (EffectFrom has (reply.Parts []))) (read_with no_label) (read_fits no_label label_fits)
     (λ n. (omega arith, inl (none_left has [] (inl refl))))
 
-pub shown_some : (has : Bool) (bare : Reply) → IsAnswer bare → Begins (ShownFrom has bare) []
+-- or none, where the reply shows none
+shown_some : (has : Bool) (bare : Reply) → IsAnswer bare → Begins (ShownFrom has bare) []
 shown_some has bare f =
     elim (shows_or_not bare) [
       | inl p ↦
@@ -134,19 +153,24 @@ shown_some has bare f =
       | inr none ↦ ([], inl (none, inl (none_left has [] (inl refl))))
     ]
 
-pub then_some : {X : Type 0} (text : X → List ℕ) (Fits : X → Type 0) (Rest : List ℕ → Type 0) (x : X) → Fits x → Begins Rest []
+-- a line, and what may stand behind it
+then_some : {X : Type 0} (text : X → List ℕ) (Fits : X → Type 0) (Rest : List ℕ → Type 0) (x : X) → Fits x → Begins Rest []
     → Begins (Then text Fits Rest) []
 then_some text Fits Rest x f b = (text x ++ b.0, (x, b.0, f, b.1, refl))
 
+-- an event
 abbrev an_event : EventName
 an_event = record { unit = Root (0 ∷ []); number = 0 }
 
+-- a commit
 pub commit_some : (has : Bool) (mark : List ℕ) → Begins (CommitFrom has mark) []
 commit_some has mark = then_some (event_line mark) IsEvent (EditFrom has 0) an_event ((lit< tt, tt), lit< tt) (edit_some has 0)
 
+-- an event that is handed over
 pub handed_some : (has : Bool) → Begins (HandedFrom has) []
 handed_some has = then_some (event_line (codes "<")) IsEvent (GivenFrom has 0) an_event ((lit< tt, tt), lit< tt) (given_some has 0)
 
+-- a contamination that is noted
 pub note_some : (has : Bool) (bare : Reply) → IsAnswer bare → Begins (Then note_line IsLabel (ShownFrom has bare)) []
 note_some has bare f = then_some note_line IsLabel (ShownFrom has bare) no_label label_fits (shown_some has bare f)
 

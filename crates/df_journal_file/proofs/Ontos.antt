@@ -62,6 +62,7 @@ module _ (IsText IsRest : List ℕ → Type 0) (bytes : List ℕ) (at place : �
   joined : (before : List (List ℕ)) (rest : List ℕ) → drop place bytes ≡ lines_text before ++ rest → drop at bytes ≡ lines_text (front ++ before) ++ rest
   joined before rest e = is ∙ ap (λ (u : List ℕ). lines_text front ++ u) e ∙ lines_join front before rest
 
+  -- the first bad line behind them
   first_behind : (before : List (List ℕ)) (bad : List ℕ) → IsFirstBad IsRest (drop place bytes) before bad
       → IsFirstBad IsText (drop at bytes) (front ++ before) bad
   first_behind before bad f = record {
@@ -80,6 +81,7 @@ module _ (IsText IsRest : List ℕ → Type 0) (bytes : List ℕ) (at place : �
     none = λ r. f.none (from (drop place bytes) (alike_same (drop place bytes) (drop place bytes) refl) (subst IsText is r));
   }
 
+  -- its place
   stop_behind : (here : ℕ) (before : List (List ℕ)) (bad : List ℕ) → IsStop IsRest bytes place here before bad
       → IsStop IsText bytes at here (front ++ before) bad
   stop_behind here before bad s = record { inside = s.inside; parts = joined before (drop here bytes) s.parts; first = first_behind before bad s.first }
@@ -89,6 +91,7 @@ module _ (IsText IsRest : List ℕ → Type 0) (bytes : List ℕ) (at place : �
       → lines_text front ++ (lines_text before ++ (value ++ more)) ≡ (lines_text (front ++ before) ++ value) ++ more
   grouped before value more = lines_join front before (value ++ more) ∙ sym (append_assoc (lines_text (front ++ before)) value more)
 
+  -- a value that is too large behind them
   large_behind : (before : List (List ℕ)) (bad : List ℕ) → IsLargeIn IsRest before bad → IsLargeIn IsText (front ++ before) bad
   large_behind before bad l =
       let more : List ℕ = l.viable.0 in
@@ -102,6 +105,7 @@ module _ (IsText IsRest : List ℕ → Type 0) (bytes : List ℕ) (at place : �
         viable = (more, subst IsText (grouped before l.front more) (to (lines_text before ++ (l.front ++ more)) behind));
       }
 
+  -- is too large with them
   large_from : (before : List (List ℕ)) (bad behind : List ℕ) → drop place bytes ≡ lines_text before ++ (bad ++ behind)
       → IsLargeIn IsText (front ++ before) bad → IsLargeIn IsRest before bad
   large_from before bad behind e l =
@@ -145,11 +149,13 @@ onto_fed {text} l IsText IsRest bytes at place is from to =
 module _ (IsText Is : List ℕ → Type 0) (bytes : List ℕ) (at : ℕ) (inside : at ≤ length bytes) (some : Begins IsText [])
     (goes : (u : List ℕ) → SameFirst u (drop at bytes) → IsText u
     → (l : List ℕ) × (rest : List ℕ) × IsLine l × Is l × (u ≡ l ++ 10 ∷ rest)) where
+  -- no text goes on with the bad line
   no_dead : (bad : List ℕ) (s : StopsAt Is (drop at bytes) bad) (more : List ℕ) → s.behind ≡ 10 ∷ more → (u : List ℕ) → ¬ IsText (bad ++ 10 ∷ u)
   no_dead bad s more feed u t =
       let g = goes (bad ++ 10 ∷ u) (inr (bad, u, more, s.line, refl, s.parts ∙ ap (λ (v : List ℕ). bad ++ v) feed)) t in
       s.refused more feed (subst Is (sym (same_line bad g.0 u g.1 s.line g.2 g.4)) g.3)
 
+  -- nor is this one
   no_text : (bad behind : List ℕ) → IsLine bad → EndsLine behind → ((more : List ℕ) → behind ≡ 10 ∷ more → ¬ Is bad)
       → drop at bytes ≡ bad ++ behind → ¬ IsText (drop at bytes)
   no_text bad [] line end refused e t =
@@ -161,7 +167,7 @@ module _ (IsText Is : List ℕ → Type 0) (bytes : List ℕ) (at : ℕ) (inside
       refused bs (ap (λ (c : ℕ). c ∷ bs) end) (subst Is (sym (same_line bad g.0 bs g.1 line g.2 (sym fed ∙ g.4))) g.3)
 
   -- a line that is none of them is the first bad one
-  pub stop_here : (bad : List ℕ) → StopsAt Is (drop at bytes) bad → IsStop IsText bytes at at [] bad
+  stop_here : (bad : List ℕ) → StopsAt Is (drop at bytes) bad → IsStop IsText bytes at at [] bad
   stop_here bad s = record {
     inside = inside;
     parts = refl;
@@ -195,6 +201,7 @@ pub record Awaits {X : Type 0} (text : X → List ℕ) (Fits : X → Type 0) (Is
 
 module _ {X : Type 0} {text : X → List ℕ} {Fits : X → Type 0} {IsLarge IsText : List ℕ → Type 0} (bytes : List ℕ) (at : ℕ)
     (inside : at ≤ length bytes) (a : Awaits text Fits IsLarge IsText (drop at bytes)) where
+  -- the line is spelled so
   spelled_first : (u : List ℕ) → SameFirst u (drop at bytes) → IsText u
       → (l : List ℕ) × (rest : List ℕ) × IsLine l × IsSpelled text Fits l × (u ≡ l ++ 10 ∷ rest)
   spelled_first u like t =

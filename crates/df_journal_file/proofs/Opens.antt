@@ -40,6 +40,7 @@ use Rattle.df_journal_file.proofs.Entries.{alone, done_of, done_spelled, done_wh
 
 -- ---- the first bytes
 
+-- a digit is another byte
 digit_other : (c m : ℕ) → is_ascii_digit c ≡ true → is_ascii_digit m ≡ false → eqb c m ≡ false
 digit_other c m digit none =
     elim (told (eqb c m)) [
@@ -47,6 +48,7 @@ digit_other c m digit none =
       | inr h ↦ h
     ]
 
+-- what begins with a digit begins with no other byte or mark
 pub digit_begins : (m : ℕ) (u : List ℕ) → begins_digit u ≡ true → is_ascii_digit m ≡ false → (begins_with m u ≡ false) × (begins_pair m 32 u ≡ false)
 digit_begins m [] digit none = absurd cc
 digit_begins m (c ∷ cs) digit none = let e = digit_other c m digit none in (e, rw e refl)
@@ -60,6 +62,7 @@ called_begins c rest fits =
 
 -- ---- replies
 
+-- a reply shows parts, or none
 pub shows_or_not : (r : Reply) → ((parts : List PartRead) × (r ≡ reply.Parts parts)) ⊎ ShowsNone r
 shows_or_not (reply.Parts parts) = inl (parts, refl)
 shows_or_not _ = inr (λ parts e. cc)
@@ -81,6 +84,7 @@ note_by bare r None f n fits = elim f.2 [ inl same ↦ sym same ∙ n | inr s �
 
 -- ---- from entries
 
+-- the lines of an edit
 edit_from : (has : Bool) (edit : List Spot × List Part) (tail : List ℕ) → IsEdit edit → EditsSome edit → EntriesFrom has tail
     → EditFrom has 0 (edit_text edit ++ tail)
 edit_from has edit tail f some t = (
@@ -91,6 +95,7 @@ edit_from has edit tail f some t = (
   append_assoc (flat_map spot_line edit.0) (flat_map (part_line (codes "+")) edit.1) tail,
 )
 
+-- those of a commit
 commit_from : (has : Bool) (mark : List ℕ) (commit : Commit) (tail : List ℕ) → IsCommit commit → EditsSome commit.edit → EntriesFrom has tail
     → CommitFrom has mark (commit_lines mark commit ++ tail)
 commit_from has mark commit tail f some t = (
@@ -102,6 +107,7 @@ commit_from has mark commit tail f some t = (
       (edit_text commit.edit) tail,
 )
 
+-- those of an effect
 effect_from : (has : Bool) (r : Reply) (e : Effect) (tail : List ℕ) → IsEffectOf e r → ChangesSome e → EntriesFrom has tail
     → EffectFrom has r (effect_text e ++ tail)
 effect_from has r effect.Nothing tail f some t = inl t
@@ -118,6 +124,7 @@ effect_parts has ps qs s (inl t) = inl t
 effect_parts has ps qs s (inr (inl t)) = inr (inl t)
 effect_parts has ps qs s (inr (inr t)) = absurd (let no = t.0.2 in cc)
 
+-- those of what a read shows
 shown_from : (has : Bool) (bare r : Reply) (rest : List ℕ) → IsAnswer bare → IsShownBy bare r → EffectFrom has r rest
     → ShownFrom has bare (reads_text r ++ rest)
 shown_from has bare r rest answer (f, some, inl same) t =
@@ -136,6 +143,7 @@ shown_from has bare r rest answer (f, some, inr (b, (parts, is))) t =
     let behind : EffectFrom has (reply.Parts []) rest = effect_parts has parts [] rest (subst (λ (q : Reply). EffectFrom has q rest) is t) in
     inr (b, (parts, rest, fit, (omega (arith, filled), behind), ap (λ (q : Reply). reads_text q ++ rest) is))
 
+-- the line of a note
 note_from : (has : Bool) (bare : Reply) (note : Option Label) (rest : List ℕ) → IsNoteBy has bare note → ShownFrom has bare rest
     → NoteFrom has bare (note_text note ++ rest)
 note_from true bare (Some label) rest n t = inr (refl, n.1, (label, rest, n.0, t, refl))
@@ -143,9 +151,11 @@ note_from true bare None rest n t = inl (inr n, t)
 note_from false bare (Some label) rest n t = absurd cc
 note_from false bare None rest n t = inl (inl refl, t)
 
+-- the entry of a unit, or of what the world emitted
 abbrev pub AtHead : Bool → List ℕ → Type 0
 AtHead has s = DoneFrom has s ⊎ CommitFrom has (codes "emitted") s
 
+-- the lines of the entry of a unit
 unit_head : (has : Bool) (actor : UnitName) (call : Call) (r : Reply) (e : Effect) (note : Option Label) (tail : List ℕ)
     → IsEntry (Done actor call r e) → ShowsSome r → ChangesSome e → ((bare : Reply) → IsShownBy bare r → IsNoteBy has bare note)
     → EntriesFrom has tail → DoneFrom has (entry_text note (Done actor call r e) ++ tail)
@@ -163,6 +173,7 @@ unit_head has actor call r e note tail f shows changes notes t =
       sym (done_spelled (actor, call, bare.0) r note e (call_line actor call bare.0 ++ below) below shown change tail refl refl refl refl bare.2),
     )
 
+-- those of any entry
 entry_head : (has : Bool) (entry : Entry) (note : Option Label) (tail : List ℕ) → IsWholeBy has (record { entry = entry; contamination = note })
     → EntriesFrom has tail → AtHead has (entry_text note entry ++ tail)
 entry_head true (Done actor call r e) (Some label) tail w t =
@@ -194,6 +205,7 @@ opened has s t = cut t.0 t.1 t.2 t.3 t.4
 abbrev pub Split : {X : Type 0} → (X → List ℕ) → (X → Type 0) → (X → List ℕ → Type 0) → List ℕ → Type 0
 Split {X} text Fits Rest s = (x : X) × (rest : List ℕ) × Fits x × Rest x rest × (s ≡ text x ++ rest)
 
+-- a commit
 commit_to : (has : Bool) (mark s : List ℕ) → CommitFrom has mark s → Split (commit_lines mark) IsSomeCommit (λ _. EntriesFrom has) s
 commit_to has mark s t =
     let spots = t.3.0 in
@@ -210,6 +222,7 @@ commit_to has mark s t =
           ∙ sym (append_assoc (event_line mark t.0) (deleted ++ added) tail),
     )
 
+-- an effect
 effect_to : (has : Bool) (r : Reply) (s : List ℕ) → EffectFrom has r s → Split effect_text (IsSomeEffectOf r) (λ _. EntriesFrom has) s
 effect_to has r s (inl t) = (effect.Nothing, s, (tt, tt), t, refl)
 effect_to has r s (inr (inl t)) = let c = commit_to has (codes "=") s t in (effect.Commit c.0, c.1, c.2, c.3, c.4)
@@ -221,18 +234,20 @@ effect_to has r s (inr (inr ((h, sub, is), t))) =
     let whole = t.4 ∙ ap (λ (u : List ℕ). event_line (codes "<") t.0 ++ u) t.3.4 ∙ sym (append_assoc (event_line (codes "<") t.0) text t.3.1) in
     (effect.Given given, t.3.1, subst (λ (q : Reply). IsSomeEffectOf q (effect.Given given)) (sym is) fits, t.3.3.1, whole)
 
+-- what a read shows
 shown_to : (has : Bool) (bare : Reply) (s : List ℕ) → IsAnswer bare → ShownFrom has bare s → Split reads_text (IsShownBy bare) (EffectFrom has) s
 shown_to has bare s f (inl (none, t)) =
     let a = alone bare none in
     (bare, s, (f.0, a.0, inl refl), t, ap (λ (u : List ℕ). u ++ s) (sym a.1))
 shown_to has bare s f (inr (b, m)) = (reply.Parts m.0, m.1, (m.2, omega (arith, m.3.0), inr (b, (m.0, refl))), effect_parts has [] m.0 m.1 m.3.1, m.4)
 
+-- a note
 note_to : (has : Bool) (bare : Reply) (s : List ℕ) → NoteFrom has bare s → Split note_text (IsNoteBy has bare) (λ _. ShownFrom has bare) s
 note_to has bare s (inl (none, t)) = (None, s, no_note has bare none, t, refl)
 note_to has bare s (inr (h, exists, t)) = (Some t.0, t.1, some_note has bare t.0 h exists t.2, t.3, t.4)
 
 -- one more entry
-pub cons_entry : (has : Bool) (n : Noted) (s tail : List ℕ) → IsWholeBy has n → EntriesFrom has tail → s ≡ noted_text n ++ tail → EntriesFrom has s
+cons_entry : (has : Bool) (n : Noted) (s tail : List ℕ) → IsWholeBy has n → EntriesFrom has tail → s ≡ noted_text n ++ tail → EntriesFrom has s
 cons_entry has n s tail w t e = (
   n ∷ t.0,
   t.1,
@@ -242,6 +257,7 @@ cons_entry has n s tail w t e = (
       ∙ sym (append_assoc (noted_text n) (flat_map noted_text t.0) t.1),
 )
 
+-- the entry of a unit
 pub done_to : (has : Bool) (s : List ℕ) → DoneFrom has s → EntriesFrom has s
 done_to has s d =
     let c = d.0 in
@@ -251,10 +267,12 @@ done_to has s d =
     cons_entry has (done_of c m.0 e.0 n.0) s e.1 (done_whole has c m.0 n.0 e.0 d.2 n.2 m.2 e.2) e.3
     (done_spelled c m.0 n.0 e.0 s d.1 n.1 m.1 e.1 d.4 n.4 m.4 e.4 m.2)
 
+-- an entry of what the world emitted is whole
 emitted_whole : (has : Bool) (commit : Commit) → IsSomeCommit commit → IsWholeBy has (record { entry = Emitted commit; contamination = None })
 emitted_whole true commit f = ((f.0, tt), f.1, refl)
 emitted_whole false commit f = ((f.0, f.1), refl)
 
+-- and is an entry
 pub emitted_to : (has : Bool) (s : List ℕ) → CommitFrom has (codes "emitted") s → EntriesFrom has s
 emitted_to has s t =
     let c = commit_to has (codes "emitted") s t in

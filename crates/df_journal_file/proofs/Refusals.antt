@@ -24,11 +24,13 @@ module _ (IsText : List ℕ → Type 0) (bytes : List ℕ) where
     line = All-nil (λ b. eqb b 10 ≡ false);
   }
 
+  -- a fault has its place inside
   pub inside : (f : FileFault) → StopsIn IsText bytes 0 f → IsInside bytes f
   inside stop.NoMemory s = tt
   inside (stop.Bad place) s = s.2.inside
   inside (stop.TooLarge place) s = s.2.inside
 
+  -- and names the first bad line
   names : (f : FileFault) → StopsIn IsText bytes 0 f → NamesBadPlace IsText (IsLargeIn IsText) bytes f
   names stop.NoMemory s = tt
   names (stop.Bad place) s = (s.0, s.1, bad_place place s.0 s.1 s.2, s.3)
@@ -42,16 +44,20 @@ module _ (IsText : List ℕ → Type 0) (bytes : List ℕ) where
 
   -- what callers are told of a fault
   module _ (f : FileFault) (s : StopsIn IsText bytes 0 f) (r : FileRefused) (is : r ≡ refusal bytes f) where
+    -- that of a journal is want of memory
     pub only_memory : IsText bytes → r ≡ refused.NoMemory
     only_memory t = is ∙ only_fault f s t
 
+    -- any other names the first bad line
     pub names_bad : NamesBadLine IsText (IsLargeIn IsText) bytes r
     names_bad = subst (λ (r : FileRefused). NamesBadLine IsText (IsLargeIn IsText) bytes r) (sym is) (names_line IsText (IsLargeIn IsText) bytes f (names f s))
 
+    -- as one that is spelled otherwise
     pub bad_syntax : (before : List (List ℕ)) (bad : List ℕ) → IsFirstBad IsText bytes before bad → ¬ IsLargeIn IsText before bad
         → IsRefused {X = Unit {0}} (refused.Syntax (length before + 1)) (Err r)
     bad_syntax before bad first small = refused_syntax {X = Unit {0}} IsText (IsLargeIn IsText) bytes (Err r) tt names_bad before bad first small
 
+    -- or has a value that is too large
     pub too_large : (before : List (List ℕ)) (bad : List ℕ) → IsFirstBad IsText bytes before bad → IsLargeIn IsText before bad
         → IsRefused {X = Unit {0}} (refused.TooLarge (length before + 1)) (Err r)
     too_large before bad first large = refused_too_large {X = Unit {0}} IsText (IsLargeIn IsText) bytes (Err r) tt names_bad before bad first large

@@ -85,12 +85,14 @@ module _ (has : Bool) where
       let whole = append_assoc (ended (root_text n r)) lines u ∙ ap (λ (v : List ℕ). ended (root_text n r) ++ v) more.5 ∙ sym (split n r more.0 more.1) in
       (r ∷ more.0, more.1, omega (arith, more.2), All-cons IsRoot r more.0 f.0 more.3, more.4, whole)
 
+  -- behind roots more may stand
   passed_onto : (bytes : List ℕ) (at : ℕ) (rs : List RootStart) (place : ℕ) → ArePassed bytes at rs place → Onto (From 0) bytes at (From (0 + length rs)) place
   passed_onto bytes at rs place p =
       let fits = recursion_from_All IsRoot rs p.fit in
       onto (From 0) (From (0 + length rs)) bytes at place (numbered root_text 0 rs) (AreLines-roots rs p.few p.fit) p.text
       (λ u like h. behind_all 0 rs u fits (omega (arith, p.few)) h) (λ u h. front_all 0 rs u fits h)
 
+  -- behind the line `run` entries stand
   run_onto : (n : ℕ) (bytes : List ℕ) (place end : ℕ) → n < 2 ^ 32 → drop place bytes ≡ ended run ++ drop end bytes
       → Onto (From n) bytes place (EntriesFrom has) end
   run_onto n bytes place end few is =
@@ -102,6 +104,7 @@ module _ (has : Bool) where
       cut u [] rest few t e = subst (EntriesFrom has) (sym (append_cancel_left (ended run) u rest e)) t
       cut u (s ∷ ss) rest few t e = one_result refl (ap (begins_with 114) e)
 
+  -- behind both
   pub roots_onto : (bytes : List ℕ) (at : ℕ) (rs : List RootStart) (end : ℕ) → AreRootsAt bytes at rs end → Onto (From 0) bytes at (EntriesFrom has) end
   roots_onto bytes at rs end r = λ f s.
       passed_onto bytes at rs r.place r.passed f
@@ -109,9 +112,11 @@ module _ (has : Bool) where
 
   -- ---- where reading roots stops
 
+  -- there is a text without roots
   pub head_some : (n : ℕ) → n < 2 ^ 32 → Begins (From n) []
   head_some n few = (ended run ++ [], ([], [], omega (arith, few), All-nil IsRoot, none_left has [] (inl refl), refl))
 
+  -- one begins with a line
   head_goes : (n : ℕ) (u : List ℕ) → From n u → (l : List ℕ) × (rest : List ℕ) × IsLine l × IsHeadLine n l × (u ≡ l ++ 10 ∷ rest)
   unfolding run_feeds root_feeds
   head_goes n u h = cut h.0 h.1 h.2 h.3 h.5
@@ -133,12 +138,14 @@ module _ (has : Bool) where
       cut [] rest e = one_result (ap (begins_with 114) e) (front_begins l.front l.viable.0 l.wanting 114 (refl, refl, refl, refl))
       cut (s ∷ ss) rest e = one_result (ap (begins_with 117) e) (front_begins l.front l.viable.0 l.wanting 117 (refl, refl, refl, refl))
 
+  -- a line that is none of them is bad
   root_stop : (n : ℕ) → n < 2 ^ 32 → (bytes : List ℕ) (at : ℕ) → at ≤ length bytes → (f : FileFault) → StopsRoot n bytes at f → StopsIn (From n) bytes at f
   root_stop n few bytes at inside stop.NoMemory s = tt
   root_stop n few bytes at inside (stop.Bad place) s =
       bad_here (From n) (IsHeadLine n) bytes at inside (head_some n few) (λ u same h. head_goes n u h) (head_small n) place s
   root_stop n few bytes at inside (stop.TooLarge place) s = absurd s
 
+  -- behind roots too
   pub roots_stop : (bytes : List ℕ) (at : ℕ) (f : FileFault) → RootsStop bytes at f → StopsIn (From 0) bytes at f
   roots_stop bytes at f s =
       let few : length s.0 < 2 ^ 32 = s.2.few in

@@ -63,6 +63,7 @@ module _ (has : Bool) (bytes : List ℕ) (at : ℕ) where
       let some = run_none (adds_run has) 0 u no_part (run_none (spots_run has) 0 u no_spot t) in
       omega (arith, some.0)
 
+  -- so reading stops
   pub no_edit_stop : (behind end : ℕ) (spots : List Spot) (added : List Part) → at ≤ length bytes
       → AreMarked spot_line IsSpot 45 bytes at spots behind → AreMarked (part_line (codes "+")) IsPart 43 bytes behind added end
       → ¬ EditsSome (spots, added) → StopsIn (EditFrom has 0) bytes at (stop.Bad at)
@@ -134,6 +135,7 @@ module _ (has : Bool) (bytes : List ℕ) (at : ℕ) where
 
   -- ---- what is noted
 
+  -- nothing
   pub unnoted_onto : (bare : Reply) → NotesNone has bare → Onto (NoteFrom has bare) bytes at (ShownFrom has bare) at
   unnoted_onto bare none = onto_here (NoteFrom has bare) (ShownFrom has bare) bytes at (λ u like t. cut none u t) (λ u t. inl (none, t))
     where
@@ -142,6 +144,7 @@ module _ (has : Bool) (bytes : List ℕ) (at : ℕ) where
       cut (inl h) u (inr t) = one_result t.0 h
       cut (inr h) u (inr t) = absurd (t.1 h)
 
+  -- a contamination
   pub noted_onto : (bare : Reply) → has ≡ true → bare ≢ reply.NoSuchUnit → Onto (NoteFrom has bare) bytes at (Then note_line IsLabel (ShownFrom has bare)) at
   noted_onto bare h exists =
       onto_here (NoteFrom has bare) (Then note_line IsLabel (ShownFrom has bare)) bytes at (λ u like t. cut u t) (λ u t. inr (h, exists, t))
@@ -153,6 +156,7 @@ module _ (has : Bool) (bytes : List ℕ) (at : ℕ) where
 
   -- ---- calls
 
+  -- behind the line of a call
   pub called_onto : (next : ℕ) (c : CallTold) → TellsAt told_line IsCalled IsLargeCalled bytes at (Ok (c, next))
       → Onto (EntriesFrom has) bytes at (NoteFrom has c.2) next
   called_onto next c t =
@@ -168,6 +172,7 @@ module _ (has : Bool) (bytes : List ℕ) (at : ℕ) where
           subst (NoteFrom has c.2) (sym rest) (subst (λ (r : Reply). NoteFrom has r d.1) (sym same) d.3)
       cut u (inr (inr m)) = one_result (called_begins c u t.0) (ap begins_digit m.4)
 
+  -- a line that is none is bad
   pub called_stop : at ≤ length bytes → IsUnitHere (drop at bytes) → (f : FileFault) → StopsLine told_line IsCalled IsLargeCalled bytes at f
       → StopsIn (EntriesFrom has) bytes at f
   called_stop inside here f s =

@@ -55,6 +55,7 @@ PlainRead bytes roots es = IsReadAs plain_entry IsWholeEntry (first_of false) by
 abbrev pub NotedRead : List ℕ → List RootStart → List Noted → Type 0
 NotedRead bytes roots ns = IsReadAs noted_text IsWholeNoted (first_of true) bytes roots ns
 
+-- in this version
 abbrev pub ReadBy : Bool → List ℕ → List RootStart → List Noted → Type 0
 ReadBy has bytes roots ns = IsReadAs noted_text (IsWholeBy has) (first_of has) bytes roots ns
 
@@ -83,16 +84,20 @@ behind_first text Fits first bytes at roots xs i b =
 
 -- ---- entries of which nothing is noted
 
+-- an entry without a note
 abbrev pub bare_noted : Entry → Noted
 bare_noted entry = record { entry = entry; contamination = None }
 
+-- an entry without its note
 abbrev pub entry_of : Noted → Entry
 entry_of n = n.entry
 
+-- the text is the same
 plain_flat : (es : List Entry) → flat_map noted_text (map bare_noted es) ≡ flat_map plain_entry es
 plain_flat [] = refl
 plain_flat (e ∷ es) = ap (λ (u : List ℕ). entry_text None e ++ u) (plain_flat es)
 
+-- and so it is without them
 noted_flat : (ns : List Noted) → AllByRecursion (IsWholeBy false) ns → flat_map plain_entry (map entry_of ns) ≡ flat_map noted_text ns
 noted_flat [] f = refl
 noted_flat (n ∷ ns) f =
@@ -112,6 +117,7 @@ plain_by bytes roots es r =
     let text = same_text plain_entry noted_text (first_of false) bytes roots es (map bare_noted es) r.1.0 (sym (plain_flat es)) r.1.2 in
     ((r.0.0, fits), (r.1.0, r.1.1, text))
 
+-- and back
 by_plain : (bytes : List ℕ) (roots : List RootStart) (ns : List Noted) → ReadBy false bytes roots ns → PlainRead bytes roots (map entry_of ns)
 by_plain bytes roots ns r =
     let fits = All-map IsWholeEntry entry_of ns (All-weaker (IsWholeBy false) (λ n. IsWholeEntry n.entry) (λ n w. w.0) ns r.0.1) in
@@ -131,13 +137,16 @@ journal_is false bytes roots ns r = by_plain bytes roots ns r
 pub plain_text_of : (bytes : List ℕ) (roots : List RootStart) (es : List Entry) → PlainRead bytes roots es → IsPlainText bytes
 plain_text_of bytes roots es r = (roots, es, r.1.0, r.0, r.1.1, r.1.2)
 
+-- in the second version too
 pub noted_text_of : (bytes : List ℕ) (roots : List RootStart) (ns : List Noted) → NotedRead bytes roots ns → IsNotedText bytes
 noted_text_of bytes roots ns r = (roots, ns, r.1.0, r.0, r.1.1, r.1.2)
 
+-- the bytes are a journal in this version
 abbrev pub IsTextBy : Bool → List ℕ → Type 0
 IsTextBy true bytes = IsNotedText bytes
 IsTextBy false bytes = IsPlainText bytes
 
+-- what was read in a version is a text in it
 text_by : (has : Bool) (bytes : List ℕ) (roots : List RootStart) (ns : List Noted) → ReadBy has bytes roots ns → IsTextBy has bytes
 text_by true bytes roots ns r = noted_text_of bytes roots ns r
 text_by false bytes roots ns r = plain_text_of bytes roots (map entry_of ns) (by_plain bytes roots ns r)
@@ -158,6 +167,7 @@ headed has bytes t =
       r.1.2 ∙ regroup (ended (first_of has)) (start_text b.0) run_line (flat_map noted_text b.1) r.1.0,
     )
 
+-- and behind the first line they are a journal
 with_first : (has : Bool) (rest : List ℕ) → HeadFrom has 0 rest → IsTextBy has (ended (first_of has) ++ rest)
 with_first has rest h =
     let t = h.4 in
@@ -169,10 +179,12 @@ with_first has rest h =
 
 -- ---- the first line
 
+-- the first line is a line
 first_feeds : (has : Bool) → IsFed (ended (first_of has))
 first_feeds true = record { line = codes "defcon-journal 2"; free = spoken (codes "defcon-journal 2") refl; is = refl }
 first_feeds false = record { line = codes "defcon-journal 1"; free = spoken (codes "defcon-journal 1") refl; is = refl }
 
+-- without its line feed too
 first_line : (has : Bool) → IsLine (first_of has)
 unfolding first_feeds
 first_line true = (first_feeds true).free
@@ -184,10 +196,12 @@ behind_this has u t =
     let h = headed has (ended (first_of has) ++ u) t in
     subst (HeadFrom has 0) (sym (append_cancel_left (ended (first_of has)) u h.0 h.2)) h.1
 
+-- what stands behind it
 pub first_onto : (has : Bool) (bytes : List ℕ) (place : ℕ) → IsFirstAt (first_of has) bytes place → Onto (IsTextBy has) bytes 0 (HeadFrom has 0) place
 first_onto has bytes place i =
     onto_fed (first_feeds has) (IsTextBy has) (HeadFrom has 0) bytes 0 place i.1 (λ u t. behind_this has u t) (λ u h. with_first has u h)
 
+-- there is a journal
 text_some : (has : Bool) → Begins (IsTextBy has) []
 text_some has = let h = head_some has 0 (lit< tt) in (ended (first_of has) ++ h.0, with_first has h.0 h.1)
 
@@ -195,10 +209,12 @@ text_some has = let h = head_some has 0 (lit< tt) in (ended (first_of has) ++ h.
 goes : (has : Bool) (u : List ℕ) → IsTextBy has u → (rest : List ℕ) × IsLine (first_of has) × (u ≡ first_of has ++ 10 ∷ rest)
 goes has u t = let h = headed has u t in (h.0, first_line has, h.2 ∙ append_assoc (first_of has) (10 ∷ []) h.0)
 
+-- it begins with a letter
 begins : (has : Bool) (u : List ℕ) → IsTextBy has u → begins_with 100 u ≡ true
 begins true u t = ap (begins_with 100) (headed true u t).2
 begins false u t = ap (begins_with 100) (headed false u t).2
 
+-- another line is bad
 pub first_stop : (has : Bool) (bytes : List ℕ) (f : FileFault) → StopsFirst (λ line. line ≡ first_of has) bytes f → StopsIn (IsTextBy has) bytes 0 f
 first_stop has bytes stop.NoMemory s = tt
 first_stop has bytes (stop.Bad place) s =
@@ -224,6 +240,7 @@ not_both bytes roots others es ns r s =
     let k = headed true bytes (noted_text_of bytes others ns s) in
     apart h.0 k.0 (sym h.2 ∙ k.2)
 
+-- what stands behind the first line
 pub either_onto : (has : Bool) (bytes : List ℕ) (place : ℕ) → IsFirstAt (first_of has) bytes place → Onto IsEitherText bytes 0 (HeadFrom has 0) place
 either_onto true bytes place i =
     onto_fed (first_feeds true) IsEitherText (HeadFrom true 0) bytes 0 place i.1 (λ u t. cut u t) (λ u h. inr (with_first true u h))
@@ -238,14 +255,17 @@ either_onto false bytes place i =
     cut u (inl t) = behind_this false u t
     cut u (inr t) = let h = headed true (ended (first_of false) ++ u) t in absurd (apart u h.0 h.2)
 
+-- that is a line of one version
 either_goes : (u : List ℕ) → IsEitherText u → (l : List ℕ) × (rest : List ℕ) × IsLine l × IsEitherFirst l × (u ≡ l ++ 10 ∷ rest)
 either_goes u (inl t) = let g = goes false u t in (first_of false, g.0, g.1, inl refl, g.2)
 either_goes u (inr t) = let g = goes true u t in (first_of true, g.0, g.1, inr refl, g.2)
 
+-- it begins with a letter
 either_begins : (u : List ℕ) → IsEitherText u → begins_with 100 u ≡ true
 either_begins u (inl t) = begins false u t
 either_begins u (inr t) = begins true u t
 
+-- another line is bad
 pub either_stop : (bytes : List ℕ) (f : FileFault) → StopsFirst IsEitherFirst bytes f → StopsIn IsEitherText bytes 0 f
 either_stop bytes stop.NoMemory s = tt
 either_stop bytes (stop.Bad place) s =
@@ -256,6 +276,7 @@ either_stop bytes (stop.TooLarge place) s = absurd s
 
 -- ---- a text is that of one journal
 
+-- an end is the end of a journal
 ends_journal : (end : List ℕ) → EndsFile end → EndsJournal end
 ends_journal end (inl e) =
     let none : IsUnmarked [] = record { note = refl; shown = refl; commit = refl; given = refl; deleted = refl; added = refl; part = refl } in
@@ -265,10 +286,12 @@ ends_journal end (inr e) = subst EndsJournal (sym e.1) (record {
   last = refl;
 })
 
+-- nothing may be noted of any entry
 not_noted : (e : Entry) → IsNoteOf e None
 not_noted (Done actor call r effect) = tt
 not_noted (Emitted commit) = tt
 
+-- a whole entry fits with its note
 is_noted : (has : Bool) (n : Noted) → IsWholeBy has n → IsNoted n
 is_noted true n w = w.0
 is_noted false n w = (w.0.0, subst (λ (note : Option Label). IsNoteOf n.entry note) (sym w.1) (not_noted n.entry))
@@ -281,6 +304,7 @@ tail_back has bytes roots ns r =
     ap journal_at (sym (regroup (ended (first_of true)) (start_text roots) run_line (flat_map noted_text ns) r.1.0))
     ∙ journal_back roots ns r.1.0 fits (ends_journal r.1.0 r.1.1)
 
+-- in this version
 one_by : (has : Bool) (bytes : List ℕ) (roots others : List RootStart) (ns ms : List Noted) → ReadBy has bytes roots ns
     → ReadBy has bytes others ms → (roots ≡ others) × (ns ≡ ms)
 one_by has bytes roots others ns ms r s =
@@ -292,14 +316,17 @@ one_by has bytes roots others ns ms r s =
     (sym (tail_back has bytes roots ns r) ∙ ap (λ (v : List ℕ). journal_at (ended (first_of true) ++ v)) same ∙ tail_back has bytes others ms s) in
     (ap (λ (q : (List RootStart × List Noted) × List ℕ). q.0.0) both, ap (λ (q : (List RootStart × List Noted) × List ℕ). q.0.1) both)
 
+-- in the second version
 pub one_noted : (bytes : List ℕ) (roots others : List RootStart) (ns ms : List Noted) → NotedRead bytes roots ns → NotedRead bytes others ms
     → (roots ≡ others) × (ns ≡ ms)
 one_noted = one_by true
 
+-- entries without notes
 bare_entries : (es : List Entry) → map entry_of (map bare_noted es) ≡ es
 bare_entries [] = refl
 bare_entries (e ∷ es) = ap (λ (l : List Entry). e ∷ l) (bare_entries es)
 
+-- in the first version
 pub one_plain : (bytes : List ℕ) (roots others : List RootStart) (es ds : List Entry) → PlainRead bytes roots es → PlainRead bytes others ds
     → (roots ≡ others) × (es ≡ ds)
 one_plain bytes roots others es ds r s =

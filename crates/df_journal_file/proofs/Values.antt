@@ -32,6 +32,7 @@ use Rattle.df_journal_file.proofs.Opens.{digit_begins, done_to, none_left}
 abbrev pub BeginsNoValue : ℕ → Type 0
 BeginsNoValue m = (is_ascii_digit m ≡ false) × (eqb 58 m ≡ false) × (eqb 43 m ≡ false) × (eqb 46 m ≡ false)
 
+-- a call begins with a digit
 call_first : (front more : List ℕ) → IsCallFront front → begins_digit (front ++ more) ≡ true
 call_first front more c =
     let rest : List ℕ = word (codes "add") ++ (word (decimal c.1) ++ (word (label_text c.2.0) ++ word c.2.1)) in
@@ -53,18 +54,21 @@ no_call m front more c none b = one_result b (digit_begins m (front ++ more) (ca
 no_mark : {A : Type 0} (m : ℕ) (front text more : List ℕ) → front ≡ text → begins_pair m 32 (text ++ more) ≡ false → begins_pair m 32 (front ++ more) ≡ true → A
 no_mark m front text more is none b = one_result b (ap (λ (f : List ℕ). begins_pair m 32 (f ++ more)) is ∙ none)
 
+-- what begins with the mark of a read is what a read shows
 shown_front : (front more : List ℕ) → IsValueFront front → begins_pair 58 32 (front ++ more) ≡ true → IsShownFront front
 shown_front front more (inl c) b = no_call 58 front more c refl b
 shown_front front more (inr (inl s)) b = s
 shown_front front more (inr (inr (inl p))) b = no_mark 58 front _ more p.2 refl b
 shown_front front more (inr (inr (inr p))) b = no_mark 58 front _ more p.2 refl b
 
+-- with that of an addition, a part that is added
 added_front : (front more : List ℕ) → IsValueFront front → begins_pair 43 32 (front ++ more) ≡ true → IsPartFront (codes "+") front
 added_front front more (inl c) b = no_call 43 front more c refl b
 added_front front more (inr (inl s)) b = no_mark 43 front _ more s.2 refl b
 added_front front more (inr (inr (inl p))) b = p
 added_front front more (inr (inr (inr p))) b = no_mark 43 front _ more p.2 refl b
 
+-- with that of what was given, a part that was
 given_front : (front more : List ℕ) → IsValueFront front → begins_pair 46 32 (front ++ more) ≡ true → IsPartFront (codes ".") front
 given_front front more (inl c) b = no_call 46 front more c refl b
 given_front front more (inr (inl s)) b = no_mark 46 front _ more s.2 refl b
@@ -87,6 +91,7 @@ pub never_large : (IsText : List ℕ → Type 0) (m : ℕ) → BeginsNoValue m �
     → ¬ IsLargeIn IsText [] bad
 never_large IsText m other begins bad l = one_result (begins (l.front ++ l.viable.0) l.viable.1) (front_begins l.front l.viable.0 l.wanting m other)
 
+-- a mark with a space begins with the mark
 pair_with : (m : ℕ) (u : List ℕ) → begins_pair m 32 u ≡ true → begins_with m u ≡ true
 pair_with m [] h = absurd cc
 pair_with m (c ∷ cs) h = elim (eqb c m) as (λ b. (b && begins_with 32 cs) ≡ true → b ≡ true) [ true ↦ λ h. refl | false ↦ λ h. h ] h
@@ -94,6 +99,7 @@ pair_with m (c ∷ cs) h = elim (eqb c m) as (λ b. (b && begins_with 32 cs) ≡
 -- ---- where one is
 
 module _ (IsText : List ℕ → Type 0) (bad behind : List ℕ) (l : IsLargeIn IsText [] bad) where
+  -- the bad line begins with the front of the value
   fronted : bad ++ behind ≡ l.front ++ (l.rest ++ behind)
   fronted = ap (λ (u : List ℕ). u ++ behind) l.parts ∙ append_assoc l.front l.rest behind
 
@@ -101,16 +107,19 @@ module _ (IsText : List ℕ → Type 0) (bad behind : List ℕ) (l : IsLargeIn I
   pub marked_large : (m : ℕ) → BeginsNoValue m → begins_pair m 32 (bad ++ behind) ≡ true → ⊥
   marked_large m other b = one_result (pair_with m (bad ++ behind) b) (ap (begins_with m) fronted ∙ front_begins l.front (l.rest ++ behind) l.wanting m other)
 
+  -- it is too large as the line of what a read shows
   pub shown_small : begins_pair 58 32 (bad ++ behind) ≡ true → IsLargeShown bad
   shown_small b =
       let s = shown_front l.front (l.rest ++ behind) l.wanting (ap (begins_pair 58 32) (sym fronted) ∙ b) in
       (s.0, l.rest, s.1, l.parts ∙ ap (λ (f : List ℕ). f ++ l.rest) s.2, l.large)
 
+  -- as that of a part that is added
   pub added_small : begins_pair 43 32 (bad ++ behind) ≡ true → IsLargePart (codes "+") bad
   added_small b =
       let p = added_front l.front (l.rest ++ behind) l.wanting (ap (begins_pair 43 32) (sym fronted) ∙ b) in
       (p.0, l.rest, p.1, l.parts ∙ ap (λ (f : List ℕ). f ++ l.rest) p.2, l.large)
 
+  -- as that of a part that was given
   pub given_small : begins_pair 46 32 (bad ++ behind) ≡ true → IsLargePart (codes ".") bad
   given_small b =
       let p = given_front l.front (l.rest ++ behind) l.wanting (ap (begins_pair 46 32) (sym fronted) ∙ b) in
@@ -124,10 +133,12 @@ add_front actor h n = unit_text actor ++ (word (codes "add") ++ (word (decimal h
 five_words : (u a h l n rest : List ℕ) → (u ++ (a ++ (h ++ (l ++ n)))) ++ rest ≡ u ++ (a ++ (h ++ (l ++ (n ++ rest))))
 five_words u a h l n rest = simp append_assoc
 
+-- these words and more
 add_joined : (actor : UnitName) (h : ℕ) (n : Label × List ℕ) (rest : List ℕ) → add_front actor h n ++ rest
     ≡ unit_text actor ++ (word (codes "add") ++ (word (decimal h) ++ (word (label_text n.0) ++ (word n.1 ++ rest))))
 add_joined actor h n rest = five_words (unit_text actor) (word (codes "add")) (word (decimal h)) (word (label_text n.0)) (word n.1) rest
 
+-- a line that is too large among entries is that of a call
 pub called_small : (has : Bool) (bad : List ℕ) → IsLargeIn (EntriesFrom has) [] bad → IsLargeCalled bad
 called_small has bad l =
     let c = entry_front l.front l.viable.0 has l.wanting l.viable.1 in
@@ -152,12 +163,15 @@ called_small has bad l =
 abbrev zero_word : List ℕ
 zero_word = word (value_text zero_value) ++ 10 ∷ []
 
+-- texts in other groups
 read_group : (m l v f : List ℕ) → (m ++ l) ++ (v ++ f) ≡ (((m ++ (l ++ (v ++ []))) ++ f) ++ []) ++ []
 read_group m l v f = simp (append_assoc, append-nil)
 
+-- the line of such a part
 shown_text : (label : Label) → (codes ":" ++ word (label_text label)) ++ zero_word ≡ flat_map read_line (read_with label ∷ []) ++ []
 shown_text label = read_group (codes ":") (word (label_text label)) (word (value_text zero_value)) (10 ∷ [])
 
+-- a line of a read that is too large may be too large there
 pub shown_large : (has : Bool) (n : ℕ) (bad : List ℕ) → IsLargeShown bad → IsLargeIn (ReadFrom has n) [] bad
 shown_large has n bad l = record {
   front = codes ":" ++ word (label_text l.0);
@@ -170,13 +184,16 @@ shown_large has n bad l = record {
       (zero_word, (read_with l.0 ∷ [], [], fits, (omega arith, inl (none_left has [] (inl refl))), shown_text l.0));
 }
 
+-- texts in other groups
 part_group : (m l n v f : List ℕ) → (m ++ (l ++ n)) ++ (v ++ f) ≡ (((m ++ (l ++ (n ++ (v ++ [])))) ++ f) ++ []) ++ []
 part_group m l n v f = simp (append_assoc, append-nil)
 
+-- the line of such a part
 part_text : (mark : List ℕ) (label : Label) (name : List ℕ)
     → (mark ++ (word (label_text label) ++ word name)) ++ zero_word ≡ flat_map (part_line mark) (part_with label name ∷ []) ++ []
 part_text mark label name = part_group mark (word (label_text label)) (word name) (word (value_text zero_value)) (10 ∷ [])
 
+-- so may that of a part
 pub part_large : (mark : List ℕ) → ((front : List ℕ) → IsPartFront mark front → IsValueFront front) → (has : Bool) (n : ℕ) (bad : List ℕ)
     → IsLargePart mark bad → IsLargeIn (Many (part_line mark) IsPart (BehindSome (EntriesFrom has)) n) [] bad
 part_large mark marks has n bad l =
@@ -200,16 +217,19 @@ part_large mark marks has n bad l =
 abbrev ok_words : List ℕ → List ℕ
 ok_words rest = word (value_text zero_value) ++ (word (codes "->") ++ (word (codes "ok") ++ 10 ∷ rest))
 
+-- texts in other groups
 add_group : (u a h l n v w k f rest : List ℕ) → (u ++ (a ++ (h ++ (l ++ n)))) ++ (v ++ (w ++ (k ++ (f ++ rest))))
     ≡ ((u ++ (a ++ (h ++ (l ++ (n ++ (v ++ (w ++ (k ++ [])))))))) ++ f) ++ rest
 add_group u a h l n v w k f rest = simp (append_assoc, append-nil)
 
+-- the line of such a call
 add_text : (actor : UnitName) (h : ℕ) (n : Label × List ℕ) (rest : List ℕ)
     → add_front actor h n ++ ok_words rest ≡ call_line actor (AddPart h n.0 n.1 zero_value) reply.Ok ++ rest
 add_text actor h n rest =
     add_group (unit_text actor) (word (codes "add")) (word (decimal h)) (word (label_text n.0)) (word n.1) (word (value_text zero_value))
     (word (codes "->")) (word (codes "ok")) (10 ∷ []) rest
 
+-- so may that of a call
 pub called_large : (has : Bool) (bad : List ℕ) → IsLargeCalled bad → IsLargeIn (EntriesFrom has) [] bad
 called_large has bad l =
     let call = l.4 in
