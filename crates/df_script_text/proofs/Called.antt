@@ -41,26 +41,32 @@ plain_stands bytes at end call e = kinds_found call_text IsCall plain_kinds plai
 front_of : (xs ys : List ℕ) → take (length xs) (xs ++ ys) ≡ xs
 front_of xs ys = take-append-le (length xs) xs ys (omega arith) ∙ take_all (length xs) xs (omega arith)
 
+-- what stands from a place up to another
+module _ (bytes : List ℕ) (at end : ℕ) (inside : at ≤ length bytes) (within : end ≤ length bytes) (text : List ℕ)
+    (stands : drop at bytes ≡ text ++ drop end bytes) where
+  size : length bytes - at ≡ length text + (length bytes - end)
+  size =
+      sym (length-drop at bytes) ∙ ap length stands ∙ length-append text (drop end bytes)
+      ∙ ap (λ (n : ℕ). length text + n) (length-drop end bytes)
+
+  pub onward : at ≤ end
+  onward = omega (arith, size, inside, within)
+
+  between : take (end - at) (drop at bytes) ≡ text
+  between =
+      let e : end - at ≡ length text = omega (arith, size, inside, within) in
+      ap (λ (n : ℕ). take n (drop at bytes)) e ∙ ap (take (length text)) stands ∙ front_of text (drop end bytes)
+
 -- a unit's name and its call, one behind the other
 module _ (bytes : List ℕ) (at behind end : ℕ) (line : ScriptLine) (inside : at ≤ length bytes) (within : end ≤ length bytes)
     (first : UnitStands bytes at behind line.actor) (second : CallStands bytes behind end line.call) where
   stands : drop at bytes ≡ call_line line ++ drop end bytes
   stands = first.0 ∙ ap (λ (u : List ℕ). unit_text line.actor ++ u) second.0 ∙ sym (append_assoc (unit_text line.actor) (call_text line.call) (drop end bytes))
 
-  size : length bytes - at ≡ length (call_line line) + (length bytes - end)
-  size =
-      sym (length-drop at bytes) ∙ ap length stands ∙ length-append (call_line line) (drop end bytes)
-      ∙ ap (λ (n : ℕ). length (call_line line) + n) (length-drop end bytes)
-
-  pub onward : at ≤ end
-  onward = omega (arith, size, inside, within)
-
-  words : take (end - at) (drop at bytes) ≡ call_line line
-  words =
-      let e : end - at ≡ length (call_line line) = omega (arith, size, inside, within) in
-      ap (λ (n : ℕ). take n (drop at bytes)) e ∙ ap (take (length (call_line line))) stands ∙ front_of (call_line line) (drop end bytes)
+  pub call_onward : at ≤ end
+  call_onward = onward bytes at end inside within (call_line line) stands
 
   pub call_found : IsCallAt bytes at line (take (end - at) (drop at bytes)) end
   call_found =
-      subst (λ (ws : List ℕ). IsCallAt bytes at line ws end) (sym words)
+      subst (λ (ws : List ℕ). IsCallAt bytes at line ws end) (sym (between bytes at end inside within (call_line line) stands))
       (record { fits = (first.1, second.1); spelled = refl; inside = within; stands = stands })

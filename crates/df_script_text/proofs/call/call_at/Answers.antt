@@ -1,5 +1,5 @@
 use Rattle.df_script_text.specs.declared.line.ScriptLine.{ScriptLine}
-use Rattle.df_script_text.proofs.Called.{call_found, onward, unit_stands}
+use Rattle.df_script_text.proofs.Called.{call_found, call_onward, unit_stands}
 use Rattle.df_script_text.proofs.call.call_at.Goals as goal
 
 pub between-words-requires-clause-order : goal.between-words-requires-clause-order
@@ -7,7 +7,7 @@ between-words-requires-clause-order c =
     let line : ScriptLine = record { actor = c.in-Ok.actor; call = c.in-Ok-read_call_at.call } in
     let told = c.in-Ok-read_call_at.ensures in
     let bytes = c.args.bytes.now in
-    onward bytes c.args.at c.in-Ok.behind c.in-Ok-read_call_at.end line c.requires told.0
+    call_onward bytes c.args.at c.in-Ok.behind c.in-Ok-read_call_at.end line c.requires told.0
     (unit_stands bytes c.args.at c.in-Ok.behind c.in-Ok.actor c.in-Ok.ensures.1) (told.2, told.1)
 
 pub returns : goal.returns

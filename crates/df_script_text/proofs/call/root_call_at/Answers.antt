@@ -1,5 +1,5 @@
 use Rattle.df_script_text.specs.Common.{root_call}
-use Rattle.df_script_text.proofs.Called.{call_found, onward, root_stands}
+use Rattle.df_script_text.proofs.Called.{call_found, call_onward, root_stands}
 use Rattle.df_script_text.proofs.call.root_call_at.Goals as goal
 
 pub between-words-requires-clause-order : goal.between-words-requires-clause-order
@@ -7,7 +7,7 @@ between-words-requires-clause-order c =
     let told = c.in-Ok-read_call_at.ensures in
     let bytes = c.args.bytes.now in
     let line = root_call c.in-Ok.root c.in-Ok-read_call_at.call in
-    onward bytes c.args.at c.in-Ok.behind c.in-Ok-read_call_at.end line c.requires told.0
+    call_onward bytes c.args.at c.in-Ok.behind c.in-Ok-read_call_at.end line c.requires told.0
     (root_stands bytes c.args.at c.in-Ok.behind c.in-Ok.root c.in-Ok.ensures.exact.1) (told.2, told.1)
 
 pub returns : goal.returns
