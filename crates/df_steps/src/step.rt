@@ -82,6 +82,24 @@ pub fn append_step(
     append_at(tables, notes, place, read.words, &read.line.call, text)
 }
 
+/// Makes a call of a root, and appends its entry with the root's contamination before it.
+fn append_of_root(
+    tables: &mut Tables,
+    notes: &mut Notes,
+    root: u32,
+    words: &[u8],
+    call: &Call,
+    text: &mut Vec<u8>,
+) -> Result<(), NoMemory>
+    requires state { (core : State) × AgreesWith core tables.old }
+    ensures { (core : State) → AgreesWith core tables.old →
+        words.now ≡ call_front (Root (root ∷ [])) call.now → OnOk result
+        (AppendsStep (root_call root call.now) core tables.new text.old.items text.new.items) }
+{
+    let place = tables.root(root);
+    append_at(tables, notes, place, words, call, text)
+}
+
 /// Makes the call of a common line, and appends its entry with the root's contamination before it.
 pub fn append_common(
     tables: &mut Tables,
@@ -95,8 +113,7 @@ pub fn append_common(
         AppendsStep (common_line line.entry.root line.entry.ask) core tables.new text.old.items
         text.new.items) }
 {
-    let place = tables.root(line.root);
-    append_at(tables, notes, place, line.words, &line.ask.call(), text)
+    append_of_root(tables, notes, line.root, line.words, &line.ask.call(), text)
 }
 
 /// Makes a root's call, and appends its entry with the root's contamination before it.
@@ -112,8 +129,7 @@ pub fn append_root(
         AppendsStep (root_call line.entry.root line.entry.call) core tables.new text.old.items
         text.new.items) }
 {
-    let place = tables.root(line.root);
-    let appended = append_at(tables, notes, place, line.words, &line.call, text);
+    let appended = append_of_root(tables, notes, line.root, line.words, &line.call, text);
     drop(line);
     appended
 }
