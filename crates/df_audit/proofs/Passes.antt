@@ -25,10 +25,9 @@ use Rattle.df_purge.proofs.ByNotes.{purged_by_notes}
 use Rattle.df_journal_text.specs.Entry.{noted_text}
 use Rattle.df_journal_text.specs.Start.{head_text}
 use Rattle.df_journal_file.specs.Cursor.{CursorState, HasPassed}
-use Rattle.df_journal_file.specs.Either.{First, IsJournalOf, Journal, Second, journal_by}
-use Rattle.df_audit.specs.Audit.{IsCheckOf, IsPurgeOf, IsRightJournal, IsUpgradeOf, OfJournal, past_in, roots_in, valid_text}
+use Rattle.df_journal_file.specs.Either.{IsJournalOf, Journal, journal_by}
+use Rattle.df_audit.specs.Audit.{IsPurgeOf, IsRightJournal, IsUpgradeOf, OfJournal, past_in, roots_in}
 use Rattle.df_audit.specs.code.Passing.{ComesTo, EndsRight, HasComeTo, IsMade, IsSoFar, IsJudged, PassesOne, TakesKept, TakesNote, TakesOne, front_of, wanted_of, wanted_text}
-use Rattle.df_audit.specs.declared.audit.Finding.TheVariants.{Right}
 use Rattle.df_audit.specs.declared.pass.Passed.{Passed}
 use Rattle.df_audit.specs.declared.pass.Passed.TheVariants as found
 use Rattle.df_audit.specs.declared.pass.Wanted.{Wanted}
@@ -63,8 +62,9 @@ module _ (roots : List RootStart) (read : List Noted) (kept : Noted) where
       subst (Legal rows (firsts roots)) (sym (past_push read kept)) (right, is_right roots (past_of read) kept.entry same)
 
   module _ (old new : CursorState) (before after : Tables) (come : HasComeTo roots read old before) where
-    pub passes_one : (given : Noted) (contamination : Option Label) → HasPassed roots (read ++ kept ∷ []) new → AgreesWith (replayed (roots, past_of read) kept.entry) after
-        → entry_for (roots, past_of read) kept.entry ≡ kept.entry → contamination ≡ contamination_of (roots, past_of read) kept.entry
+    pub passes_one : (given : Noted) (contamination : Option Label) → HasPassed roots (read ++ kept ∷ []) new
+        → AgreesWith (replayed (roots, past_of read) kept.entry) after → entry_for (roots, past_of read) kept.entry ≡ kept.entry
+        → contamination ≡ contamination_of (roots, past_of read) kept.entry
         → given ≡ with_note kept.entry contamination → (new.has_notes ≡ true → contamination ≡ kept.contamination)
         → new.has_notes ≡ old.has_notes → old.place < new.place → new.bytes ≡ old.bytes → PassesOne roots read given old new after
     passes_one given contamination passed made same told is note version further bytes =
@@ -109,17 +109,6 @@ judged_kept core has kept (Ok (Same contamination)) after is made found.Other ju
 judged_kept core has kept (Ok (Other expected)) after is made passed judged = subst (λ (p : Passed). TakesKept core has kept p after) (sym judged) tt
 judged_kept core has kept (Err refused) after is made passed judged = absurd judged
 
--- at the end
-pub ends_right : (roots : List RootStart) (read : List Noted) (old new : CursorState) (tables : Tables) → HasComeTo roots read old tables
-    → IsJournalOf (journal_by new.has_notes roots read) new.bytes → new.has_notes ≡ old.has_notes → new.bytes ≡ old.bytes → EndsRight roots read old
-ends_right roots read old new tables come whole version bytes =
-    record {
-      whole =
-          subst (λ (has : Bool). IsJournalOf (journal_by has roots read) old.bytes) version
-          (subst (IsJournalOf (journal_by new.has_notes roots read)) bytes whole);
-      right = come.right;
-    }
-
 -- ---- the text that is wanted
 
 module _ (w : Wanted) (roots : List RootStart) where
@@ -149,7 +138,8 @@ module _ (w : Wanted) (roots : List RootStart) (bytes : List ℕ) where
         told = told ∙ sym (append-nil (front_of w roots));
       }
 
-  module _ (read : List Noted) (cursor : CursorState) (tables : Tables) (count : ℕ) (text : List ℕ) (so : IsSoFar w roots bytes read cursor tables count text) where
+  module _ (read : List Noted) (cursor : CursorState) (tables : Tables) (count : ℕ) (text : List ℕ)
+      (so : IsSoFar w roots bytes read cursor tables count text) where
     -- the place behind one more entry, and the count of entries, fit in 64 bits
     pub one_fits : (given : Noted) (new : CursorState) (after : Tables) (one : PassesOne roots read given cursor new after) → count + 1 < 2 ^ 64
     one_fits given new after one =
@@ -157,8 +147,8 @@ module _ (w : Wanted) (roots : List RootStart) (bytes : List ℕ) where
         let same : length new.bytes ≡ length bytes = ap length (one.bytes ∙ so.same) in
         omega (arith, so.few, one.further, inside, same, so.short)
 
-    pub so_far_more : (given : Noted) (new : CursorState) (after : Tables) (more : ℕ) (now : List ℕ) (one : PassesOne roots read given cursor new after) → more ≡ count + 1
-        → now ≡ text ++ flat_map noted_text (wanted_of w given) → IsSoFar w roots bytes (read ++ one.kept ∷ []) new after more now
+    pub so_far_more : (given : Noted) (new : CursorState) (after : Tables) (more : ℕ) (now : List ℕ) (one : PassesOne roots read given cursor new after)
+        → more ≡ count + 1 → now ≡ text ++ flat_map noted_text (wanted_of w given) → IsSoFar w roots bytes (read ++ one.kept ∷ []) new after more now
     so_far_more given new after more now one counted written =
         record {
           come = one.come;
@@ -184,14 +174,16 @@ module _ (w : Wanted) (roots : List RootStart) (bytes : List ℕ) where
         (journal, subst (IsJournalOf journal) so.same ends.whole, made_by cursor.has_notes ends.right)
 
 -- where it ends with right entries, what is wanted of them is made
-pub ended_right : (w : Wanted) (roots : List RootStart) (bytes : List ℕ) (read : List Noted) (old new : CursorState) (tables : Tables) (count : ℕ) (text : List ℕ) (is_right : Bool)
-    → TakesOne w roots bytes read old (Some is_right) new tables count text → is_right ≡ true → OfJournal bytes (IsMade w count text)
+pub ended_right : (w : Wanted) (roots : List RootStart) (bytes : List ℕ) (read : List Noted) (old new : CursorState) (tables : Tables) (count : ℕ)
+    (text : List ℕ) (is_right : Bool) → TakesOne w roots bytes read old (Some is_right) new tables count text → is_right ≡ true
+    → OfJournal bytes (IsMade w count text)
 ended_right w roots bytes read old new tables count text true made is = made
 ended_right w roots bytes read old new tables count text false none is = absurd (let z : ⊥ = cc in z)
 
 -- where one more entry was taken in, fewer bytes are left
-pub fewer_left : (w : Wanted) (roots : List RootStart) (bytes : List ℕ) (read : List Noted) (old new : CursorState) (before after : Tables) (count more : ℕ) (text now : List ℕ)
-    → IsSoFar w roots bytes read old before count text → TakesOne w roots bytes read old None new after more now → length new.bytes - new.place < length old.bytes - old.place
+pub fewer_left : (w : Wanted) (roots : List RootStart) (bytes : List ℕ) (read : List Noted) (old new : CursorState) (before after : Tables)
+    (count more : ℕ) (text now : List ℕ) → IsSoFar w roots bytes read old before count text → TakesOne w roots bytes read old None new after more now
+    → length new.bytes - new.place < length old.bytes - old.place
 fewer_left w roots bytes read old new before after count more text now so taken =
     let then = taken.1.1 in
     let inside = then.come.passed.inside in
@@ -208,10 +200,6 @@ each_one (n ∷ ns) = ap (λ (ms : List Noted). n ∷ ms) (each_one ns)
 same_flat : (f g : Noted → List Noted) → ((n : Noted) → f n ≡ g n) → (ns : List Noted) → flat_map f ns ≡ flat_map g ns
 same_flat f g same [] = refl
 same_flat f g same (n ∷ ns) = ap (λ (ms : List Noted). ms ++ flat_map f ns) (same n) ∙ ap (λ (ms : List Noted). g n ++ ms) (same_flat f g same ns)
-
-pub count_told : (journal : Journal) (count : ℕ) (text told : List ℕ) → IsMade wanted.Count count text journal → told ≡ valid_text count → IsCheckOf journal Right told
-count_told (First roots entries) count text told m is = (m.right, is ∙ ap valid_text m.counted)
-count_told (Second roots notes) count text told m is = (m.right, is ∙ ap valid_text (m.counted ∙ length-map notes bare))
 
 pub notes_told : (journal : Journal) (count : ℕ) (text : List ℕ) → IsMade wanted.Notes count text journal → IsUpgradeOf journal text
 notes_told journal count text m =

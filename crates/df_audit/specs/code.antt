@@ -1,3 +1,4 @@
+pub mod Calling
 pub mod Noting
 pub mod Passing
 pub mod Picking

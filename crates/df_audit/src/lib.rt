@@ -3,6 +3,7 @@
 #![tactic(auto)]
 
 mod audit;
+mod called;
 mod check;
 mod laws;
 mod pass;

@@ -1,6 +1,6 @@
 //! A journal is gone over entry by entry, and none is kept. This finds that it is right and makes
-//! what is wanted of it. Of any other it tells nothing: why it isn't right, the whole journal tells.
-ghost use Rattle.std.specs.Prelude.{◌≡◌, ◌++◌, ◌+◌, ◌<◌, ◌^◌, ◌↔◌, ℕ, true, List, [], IfOk, IfSome, IsTrue, OnOk};
+//! what is wanted of it. Of any other it tells nothing: why it isn't right the whole journal tells.
+ghost use Rattle.std.specs.Prelude.{◌≡◌, ◌++◌, ◌+◌, ◌<◌, ◌^◌, ℕ, true, List, [], IfOk, IfSome, OnOk};
 ghost use Rattle.std.specs.List.{flat_map};
 ghost use Rattle.df_machine.specs.Journal.{State};
 ghost use Rattle.df_machine.specs.Tables.{AgreesWith};
@@ -12,9 +12,10 @@ ghost use Rattle.df_journal_file.specs.Cursor.{HasPassed};
 ghost use Rattle.df_audit.specs.Audit.{OfJournal};
 ghost use Rattle.df_audit.specs.code.Passing.{ComesTo, HasComeTo, IsJudged, IsMade, IsSoFar, TakesKept, TakesNote, TakesOne, front_of, wanted_of};
 
+use crate::called::{NotedTables, take_call};
 use crate::text::write_notes;
 use df_journal_file::JournalCursor;
-use df_journal_text::{write_head, write_noted};
+use df_journal_text::{Notes, write_head, write_noted};
 use df_label::{Label, NoMemory};
 use df_lines::FileFault;
 use df_machine::Tables;
@@ -59,13 +60,15 @@ pub fn right_text(
     let Some((start, mut cursor)) = begin(alloc, bytes)? else {
         return Ok(None);
     };
-    let mut tables = Tables::begin(alloc, &start)?;
+    let tables = Tables::begin(alloc, &start)?;
+    let notes = Notes::new(alloc);
+    let mut behind = NotedTables { tables, notes };
     let text = front(alloc, &start, wanted)?;
     let mut made = Made { count: 0, text };
     drop(start);
-    let is_right = go_over(&mut cursor, &mut tables, wanted, &mut made)?;
+    let is_right = go_over(&mut cursor, &mut behind, wanted, &mut made)?;
     drop(cursor);
-    drop(tables);
+    drop(behind);
     if is_right {
         Ok(Some(made))
     } else {
@@ -77,17 +80,17 @@ pub fn right_text(
 /// Goes over the entries that are left: whether all are right, to the end.
 fn go_over(
     cursor: &mut JournalCursor<'_>,
-    tables: &mut Tables,
+    behind: &mut NotedTables,
     wanted: &Wanted<'_>,
     made: &mut Made,
 ) -> Result<bool, NoMemory>
     requires { (roots : List RootStart) × (read : List Noted) × IsSoFar wanted.now roots
-        cursor.old.bytes read cursor.old tables.old made.old.count made.old.text.items }
+        cursor.old.bytes read cursor.old behind.old.tables made.old.count made.old.text.items }
     ensures { IfOk result (λ is_right. is_right ≡ true →
         OfJournal cursor.old.bytes (IsMade wanted.now made.new.count made.new.text.items)) }
 {
     'entries: loop {
-        if let Some(is_right) = take_next(cursor, tables, wanted, made)? {
+        if let Some(is_right) = take_next(cursor, behind, wanted, made)? {
             return Ok(is_right);
         }
     }
@@ -96,6 +99,47 @@ fn go_over(
 /// Takes the next entry in, and appends what is wanted of it. Where there is none that is right:
 /// whether this is the end.
 fn take_next(
+    cursor: &mut JournalCursor<'_>,
+    behind: &mut NotedTables,
+    wanted: &Wanted<'_>,
+    made: &mut Made,
+) -> Result<Option<bool>, NoMemory>
+    requires { (roots : List RootStart) × (bytes : List ℕ) × (read : List Noted)
+        × IsSoFar wanted.now roots bytes read cursor.old behind.old.tables made.old.count
+        made.old.text.items }
+    ensures { IfOk result (λ ended. (roots : List RootStart) (bytes : List ℕ) (read : List Noted)
+        → IsSoFar wanted.now roots bytes read cursor.old behind.old.tables made.old.count
+        made.old.text.items → TakesOne wanted.now roots bytes read cursor.old ended cursor.new
+        behind.new.tables made.new.count made.new.text.items) }
+{
+    if !cursor.has_notes() {
+        return take_entry(cursor, &mut behind.tables, wanted, made);
+    }
+    if let Some(line) = cursor.common() {
+        let place = behind.tables.root(line.root);
+        let call = line.ask.call();
+        return take_call(cursor, behind, wanted, place, line.words, &call, made);
+    }
+    match cursor.call() {
+        Some(read) => {
+            let place = behind.tables.place(&read.line.actor);
+            take_call(
+                cursor,
+                behind,
+                wanted,
+                place,
+                read.words,
+                &read.line.call,
+                made,
+            )
+        }
+        None => take_entry(cursor, &mut behind.tables, wanted, made),
+    }
+}
+
+/// Takes the next entry in, which is read whole, and appends what is wanted of it. Where there is
+/// none that is right: whether this is the end.
+fn take_entry(
     cursor: &mut JournalCursor<'_>,
     tables: &mut Tables,
     wanted: &Wanted<'_>,
@@ -203,11 +247,12 @@ fn judged(
     }
 }
 
-/// A kept entry with its contamination, where that is noted with it or no notes stand.
+/// A kept entry with its contamination. Where notes stand, only one passes that has none, as what
+/// was emitted.
 fn noted(has_notes: bool, kept: Noted, contamination: Option<Label>) -> Passed
     ensures { TakesNote has_notes kept contamination result }
 {
-    if has_notes && !is_noted(&contamination, &kept.contamination) {
+    if has_notes && (contamination.is_some() || kept.contamination.is_some()) {
         drop(kept);
         drop(contamination);
         return Passed::Other;
@@ -218,17 +263,6 @@ fn noted(has_notes: bool, kept: Noted, contamination: Option<Label>) -> Passed
         entry,
         contamination,
     })
-}
-
-/// Whether this contamination is the one that is noted.
-fn is_noted(contamination: &Option<Label>, noted: &Option<Label>) -> bool
-    ensures { IsTrue result ↔ (contamination.now ≡ noted.now) }
-{
-    match (contamination, noted) {
-        (Some(a), Some(b)) => a.same(b),
-        (None, None) => true,
-        _ => false,
-    }
 }
 
 /// Appends what is wanted of a noted entry.

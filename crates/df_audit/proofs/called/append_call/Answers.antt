@@ -1,0 +1,30 @@
+use Rattle.std.proofs.Common.{sym, ◌∙◌}
+use Rattle.df_unit.specs.declared.entry.Effect.{Effect}
+use Rattle.df_audit.proofs.Calls.{appends_call, note_in, read_again}
+use Rattle.df_audit.proofs.called.append_call.Goals as goal
+
+pub append_other-requires-clause-state : goal.append_other-requires-clause-state
+append_other-requires-clause-state c =
+    let left = rw c.in-None.is at c.in_ok-reply.ensures.made in
+    (c.requires.state.0, left.0 c.requires.state.0 c.requires.state.1)
+
+pub append_other-requires-clause-seated : goal.append_other-requires-clause-seated
+append_other-requires-clause-seated c =
+    let left = rw c.in-None.is at c.in_ok-reply.ensures.made in
+    (c.requires.seated.0, c.requires.seated.1 ∙ sym (left.1 c.requires.seated.0))
+
+pub returns-in_ok-append_quiet-in-Some : goal.returns-in_ok-append_quiet-in-Some
+returns-in_ok-append_quiet-in-Some c = λ core actor agrees read.
+    let step = (rw c.in-Some.is at c.in_ok-reply.ensures.made) core actor agrees read.seated in
+    let noted = note_in core actor _ _ c.in_ok-note.ensures (c.contamination-contamination.ensures core actor agrees read.seated)
+    c.contamination_is_spelled.ensures in
+    appends_call core actor c.args.call.now c.in_ok-note.note.now c.step_alone.new.self c.args.text.now.items c.append_quiet.new.to.items c.in-Some.reply
+    Effect.Nothing step read.fits noted c.answer_is_spelled.ensures.reply c.answer_is_spelled.ensures.effect
+    (c.in_ok-append_quiet-in-Some.ensures actor c.args.call.now read.spelled)
+
+pub returns-in_ok-answer-in-None : goal.returns-in_ok-answer-in-None
+returns-in_ok-answer-in-None c = λ core actor agrees read.
+    let left = rw c.in-None.is at c.in_ok-reply.ensures.made in
+    let noted = note_in core actor _ _ c.in_ok-note.ensures (c.contamination-contamination.ensures core actor agrees read.seated)
+    c.contamination_is_spelled.ensures in
+    c.in_ok-answer-in-None.ensures core actor (left.0 core agrees) (read_again read (left.1 actor)) noted
