@@ -1,6 +1,6 @@
 //! Entries of calls, in a journal with notes. Only the unit and the call are read. The call is
 //! made, and its entry's lines are spelled. Where these are the next lines, the entry is right.
-ghost use Rattle.std.specs.Prelude.{◌≡◌, ◌≤◌, ◌++◌, ℕ, true, false, List, IfOk, OnOk, Some, drop, length, option_copied, take};
+ghost use Rattle.std.specs.Prelude.{◌≡◌, ◌≤◌, ◌++◌, ℕ, true, false, List, IfOk, None, OnOk, Some, drop, length, option_copied, take};
 ghost use Rattle.std.specs.List.{flat_map};
 ghost use Rattle.df_machine.specs.Journal.{State};
 ghost use Rattle.df_machine.specs.Tables.{AgreesWith, place_in};
@@ -32,7 +32,8 @@ pub struct NotedTables {
 }
 
 /// Makes a call that isn't known to be one of its unit's own state alone, and appends the lines of
-/// its entry with this note: the answer.
+/// its entry with this note. It tells the answer.
+#[inline(never)]
 fn append_other(
     tables: &mut Tables,
     place: Option<usize>,
@@ -40,35 +41,39 @@ fn append_other(
     words: &[u8],
     call: &Call,
     text: &mut Vec<u8>,
-) -> Result<Answer, NoMemory>
+    told: &mut Option<Answer>,
+) -> Result<(), NoMemory>
     requires state { (core : State) × AgreesWith core tables.old }
     requires seated { (actor : UnitName) × (place ≡ place_in tables.old actor) }
-    ensures { IfOk result (λ answer. (core : State) (actor : UnitName) →
+    ensures { OnOk result ((core : State) (actor : UnitName) →
         AgreesWith core tables.old → IsReadCall tables.old place actor call.now words.now →
-        IsNoteIn core actor note.now → AppendsCall core actor call.now answer.effect tables.new
-        text.old.items text.new.items) }
+        IsNoteIn core actor note.now → AppendsCall core actor call.now (effect_in told.new)
+        tables.new text.old.items text.new.items) }
 {
     let answer = tables.step_other(place, call)?;
     answer_is_spelled(&answer.reply, &answer.effect);
     append_spelled(words, &answer.reply, &answer.effect, note, text)?;
-    Ok(answer)
+    *told = Some(answer);
+    Ok(())
 }
 
-/// Makes the call of the unit at a place, and appends the lines of its entry: the answer, unless it
-/// has no effect.
+/// Makes the call of the unit at a place, and appends the lines of its entry. It tells the answer,
+/// unless that has no effect: the common calls hand none on.
 fn append_call(
     behind: &mut NotedTables,
     place: Option<usize>,
     words: &[u8],
     call: &Call,
     text: &mut Vec<u8>,
-) -> Result<Option<Answer>, NoMemory>
+    told: &mut Option<Answer>,
+) -> Result<(), NoMemory>
+    requires none { told.old ≡ None }
     requires state { (core : State) × AgreesWith core behind.old.tables }
     requires seated { (actor : UnitName) × (place ≡ place_in behind.old.tables actor) }
-    ensures { IfOk result (λ answer. (core : State) (actor : UnitName) →
+    ensures { OnOk result ((core : State) (actor : UnitName) →
         AgreesWith core behind.old.tables →
         IsReadCall behind.old.tables place actor call.now words.now →
-        AppendsCall core actor call.now (effect_in answer) behind.new.tables text.old.items
+        AppendsCall core actor call.now (effect_in told.new) behind.new.tables text.old.items
         text.new.items) }
 {
     let contamination = behind.tables.contamination(place);
@@ -78,11 +83,11 @@ fn append_call(
         Some(reply) => {
             answer_is_spelled(&reply, &Effect::Nothing);
             append_quiet(words, &reply, note, text)?;
-            Ok(None)
+            Ok(())
         }
         None => {
-            let answer = append_other(&mut behind.tables, place, note, words, call, text)?;
-            Ok(Some(answer))
+            append_other(&mut behind.tables, place, note, words, call, text, told)?;
+            Ok(())
         }
     }
 }
@@ -179,11 +184,12 @@ pub fn take_call(
 {
     let before = made.text.len();
     let stays = stays(wanted, behind.tables.contamination(place));
-    let answer = append_call(behind, place, words, call, &mut made.text)?;
+    let mut told = None;
+    append_call(behind, place, words, call, &mut made.text, &mut told)?;
     if !cursor.pass(lines_from(made.text.as_slice(), before)) {
         return Ok(Some(false));
     }
     made.count += 1;
-    leave(wanted, stays, &answer, before, &mut made.text)?;
+    leave(wanted, stays, &told, before, &mut made.text)?;
     Ok(None)
 }

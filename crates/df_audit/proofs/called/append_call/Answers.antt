@@ -1,5 +1,7 @@
-use Rattle.std.proofs.Common.{sym, ◌∙◌}
+use Rattle.std.proofs.Common.{Option, sym, subst, ◌∙◌}
+use Rattle.df_local.specs.declared.answer.Answer.{Answer}
 use Rattle.df_unit.specs.declared.entry.Effect.{Effect}
+use Rattle.df_audit.specs.code.Calling.{AppendsCall, effect_in}
 use Rattle.df_audit.proofs.Calls.{appends_call, note_in, read_again}
 use Rattle.df_audit.proofs.called.append_call.Goals as goal
 
@@ -18,13 +20,16 @@ returns-in_ok-append_quiet-in-Some c = λ core actor agrees read.
     let step = (rw c.in-Some.is at c.in_ok-reply.ensures.made) core actor agrees read.seated in
     let noted = note_in core actor _ _ c.in_ok-note.ensures (c.contamination-contamination.ensures core actor agrees read.seated)
     c.contamination_is_spelled.ensures in
-    appends_call core actor c.args.call.now c.in_ok-note.note.now c.step_alone.new.self c.args.text.now.items c.append_quiet.new.to.items c.in-Some.reply
+    subst
+    (λ (told : Option Answer). AppendsCall core actor c.args.call.now (effect_in told) c.step_alone.new.self c.args.text.now.items c.append_quiet.new.to.items)
+    (sym c.requires.none)
+    (appends_call core actor c.args.call.now c.in_ok-note.note.now c.step_alone.new.self c.args.text.now.items c.append_quiet.new.to.items c.in-Some.reply
     Effect.Nothing step read.fits noted c.answer_is_spelled.ensures.reply c.answer_is_spelled.ensures.effect
-    (c.in_ok-append_quiet-in-Some.ensures actor c.args.call.now read.spelled)
+    (c.in_ok-append_quiet-in-Some.ensures actor c.args.call.now read.spelled))
 
-pub returns-in_ok-answer-in-None : goal.returns-in_ok-answer-in-None
-returns-in_ok-answer-in-None c = λ core actor agrees read.
+pub returns-in_ok-append_other-in-None : goal.returns-in_ok-append_other-in-None
+returns-in_ok-append_other-in-None c = λ core actor agrees read.
     let left = rw c.in-None.is at c.in_ok-reply.ensures.made in
     let noted = note_in core actor _ _ c.in_ok-note.ensures (c.contamination-contamination.ensures core actor agrees read.seated)
     c.contamination_is_spelled.ensures in
-    c.in_ok-answer-in-None.ensures core actor (left.0 core agrees) (read_again read (left.1 actor)) noted
+    c.in_ok-append_other-in-None.ensures core actor (left.0 core agrees) (read_again read (left.1 actor)) noted

@@ -12,26 +12,26 @@ append_call-requires-clause-seated c = (c.requires.3, c.requires.5.seated)
 
 pub lines_from-requires : goal.lines_from-requires
 lines_from-requires c =
-    let appends = c.in_ok-answer.ensures (c.requires.0, past_of c.requires.2) c.requires.3 c.requires.4.come.made c.requires.5 in
+    let appends = c.in_ok-append_call.ensures (c.requires.0, past_of c.requires.2) c.requires.3 c.requires.4.come.made c.requires.5 in
     omega (arith, ap length appends.text, length-append {A = ℕ}, ap length c.as_slice.ensures.value)
 
 pub overflow_add-made : goal.overflow_add-made
 overflow_add-made c =
-    let appends = c.in_ok-answer.ensures (c.requires.0, past_of c.requires.2) c.requires.3 c.requires.4.come.made c.requires.5 in
+    let appends = c.in_ok-append_call.ensures (c.requires.0, past_of c.requires.2) c.requires.3 c.requires.4.come.made c.requires.5 in
     let lines = c.lines_from.ensures ∙ ap (drop c.len-before.result) c.as_slice.ensures.value in
     let fits = call_fits c.args.wanted.now c.requires.0 c.requires.1 c.requires.2 c.args.cursor.now c.pass.new.self c.args.behind.now.tables
     c.append_call.new.behind.tables c.args.made.now.count c.args.made.now.text.items c.append_call.new.text.items c.lines_from.result.now
-    c.len-before.result c.requires.3 c.args.call.now (effect_in c.in_ok-answer.answer) c.requires.4 appends (omega arith) lines c.requires.6
+    c.len-before.result c.requires.3 c.args.call.now (effect_in c.append_call.new.told) c.requires.4 appends (omega arith) lines c.requires.6
     (c.if-not-pass.ensures.passed refl) (c.if-not-pass.ensures.further refl) c.if-not-pass.ensures.bytes c.if-not-pass.ensures.version in
     omega (arith, fits)
 
 pub returns : goal.returns
 returns c = λ roots bytes read actor so heard has.
-    let appends = c.in_ok-answer.ensures (roots, past_of read) actor so.come.made heard in
+    let appends = c.in_ok-append_call.ensures (roots, past_of read) actor so.come.made heard in
     let lines = c.lines_from.ensures ∙ ap (drop c.len-before.result) c.as_slice.ensures.value in
     let noted = c.contamination.ensures (roots, past_of read) actor so.come.made heard.seated in
     takes_call c.args.wanted.now roots bytes read c.args.cursor.now c.pass.new.self c.args.behind.now.tables c.append_call.new.behind.tables
     c.args.made.now.count c.args.made.now.text.items c.append_call.new.text.items c.lines_from.result.now c.len-before.result actor c.args.call.now
-    (effect_in c.in_ok-answer.answer) so appends (omega arith) lines has (c.if-not-pass.ensures.passed refl) (c.if-not-pass.ensures.further refl)
+    (effect_in c.append_call.new.told) so appends (omega arith) lines has (c.if-not-pass.ensures.passed refl) (c.if-not-pass.ensures.further refl)
     c.if-not-pass.ensures.bytes c.if-not-pass.ensures.version c.leave.new.text.items c.stays-stays.result
     (c.stays-stays.ensures ∙ ap (stays_in c.args.wanted.now) noted) c.in_ok-leave.ensures.whole c.in_ok-leave.ensures.left
