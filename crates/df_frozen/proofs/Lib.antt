@@ -7,3 +7,4 @@ pub mod Places
 pub mod Contents
 pub mod Nodes
 pub mod Copies
+mod Heads

@@ -9,6 +9,7 @@ ghost use Rattle.std.specs.List.{list_all};
 ghost use Rattle.std.specs.Hash as fed;
 ghost use Rattle.std.proofs.Common.{rules};
 ghost use Rattle.df_frozen.specs.Name.{is_name, is_name_byte, is_letter};
+ghost use Rattle.df_frozen.specs.code.NameBytes.{head_of};
 
 use std::cmp::Ordering;
 use std::error::Error;
@@ -73,6 +74,16 @@ impl Name {
         } else {
             Err(NameRefused::BadName)
         }
+    }
+
+    // Its first eight bytes, with zeros after its own, as one number.
+    fn head(&self) -> u64
+        ensures { result ≡ head_of self.now }
+    {
+        let bytes = &self.bytes;
+        u64::from_be_bytes([
+            bytes[0], bytes[1], bytes[2], bytes[3], bytes[4], bytes[5], bytes[6], bytes[7],
+        ])
     }
 
     pub fn as_bytes(&self) -> &[u8]
@@ -153,7 +164,10 @@ impl PartialEq for Name {
     ghost laws = { partial_equiv_from_equiv nat_list_eq_equiv };
 
     fn eq(&self, other: &Name) -> bool {
-        self.as_bytes() == other.as_bytes()
+        if self.len != other.len || self.head() != other.head() {
+            return false;
+        }
+        self.len <= 8 || self.as_bytes() == other.as_bytes()
     }
 }
 

@@ -1,5 +1,6 @@
 -- How a name is kept: in 32 bytes, with zeros after its own.
 use Rattle.std.specs.Prelude.{◌≡◌, ℕ, true, ◌≤◌, ◌-◌, List, [], ◌∷◌, ◌++◌, length, take, drop, replicate, IsUtf8}
+use Rattle.std.specs.Int.{from_be_bytes, w64}
 use Rattle.std.specs.Str.{IsAscii}
 use Rattle.std.specs.List.{list_all}
 use Rattle.std.proofs.Common.{arith, lit<, zero, suc, length-append, sym, ◌∙◌, ap, take-append-drop, length-take-le}
@@ -12,6 +13,10 @@ use Rattle.df_frozen.specs.Name.{is_name, is_name_byte}
 -- the 32 bytes in which a name is kept
 abbrev pub padded : List ℕ → List ℕ
 padded xs = xs ++ replicate (longest_name - length xs) 0
+
+-- the first eight of them as one number
+abbrev pub head_of : List ℕ → ℕ
+head_of xs = from_be_bytes w64 (padded xs)
 
 -- the first `n` of these 32 bytes are a name, and the others are zeros
 pub record IsKept (bytes : List ℕ) (n : ℕ) : Type 0 where
@@ -63,7 +68,7 @@ ascii (b ∷ bs) h zero = grind (arith, h)
 ascii (b ∷ bs) h (suc i) = ascii bs (grind (arith, h)) i
 
 -- a name is ASCII
-ascii_name : (bs : List ℕ) → is_name bs ≡ true → IsAscii bs
+pub ascii_name : (bs : List ℕ) → is_name bs ≡ true → IsAscii bs
 ascii_name [] h i = lit< tt
 ascii_name (b ∷ bs) h zero = grind (arith, h)
 ascii_name (b ∷ bs) h (suc i) = ascii bs (grind (arith, h)) i
