@@ -1,4 +1,4 @@
-ghost use Rattle.std.specs.Prelude.{◌≡◌, ◌++◌, OnOk};
+ghost use Rattle.std.specs.Prelude.{◌≡◌, ◌∷◌, ◌++◌, [], OnOk};
 ghost use Rattle.std.specs.List.{flat_map};
 ghost use Rattle.df_journal_text.specs.Entry.{edit_text, effect_text, given_text, part_line, read_line, spot_line};
 
@@ -9,10 +9,10 @@ use df_part::{Edit, Part, PartRef, Spot};
 use df_unit::{Commit, Effect, Given, PartRead};
 
 /// Appends a part behind a mark.
-fn append_part(mark: &[u8], part: &Part, to: &mut Vec<u8>) -> Result<(), NoMemory>
-    ensures { OnOk result (to.new.items ≡ to.old.items ++ part_line mark.now part.now) }
+fn append_part(mark: u8, part: &Part, to: &mut Vec<u8>) -> Result<(), NoMemory>
+    ensures { OnOk result (to.new.items ≡ to.old.items ++ part_line (mark ∷ []) part.now) }
 {
-    to.extend_from_slice(mark)?;
+    to.push(mark)?;
     append_label_word(&part.label, to)?;
     append_name_word(&part.name, to)?;
     append_value_word(&part.value, to)?;
@@ -22,8 +22,9 @@ fn append_part(mark: &[u8], part: &Part, to: &mut Vec<u8>) -> Result<(), NoMemor
 }
 
 /// Appends each part behind a mark.
-fn append_parts(mark: &[u8], parts: &[PartRef], to: &mut Vec<u8>) -> Result<(), NoMemory>
-    ensures { OnOk result (to.new.items ≡ to.old.items ++ flat_map (part_line mark.now) parts.now) }
+fn append_parts(mark: u8, parts: &[PartRef], to: &mut Vec<u8>) -> Result<(), NoMemory>
+    ensures { OnOk result (to.new.items ≡ to.old.items
+        ++ flat_map (part_line (mark ∷ [])) parts.now) }
 {
     for part in parts {
         append_part(mark, part.part(), to)?;
@@ -55,7 +56,7 @@ pub fn append_edit(edit: &Edit, to: &mut Vec<u8>) -> Result<(), NoMemory>
     ensures { OnOk result (to.new.items ≡ to.old.items ++ edit_text edit.now) }
 {
     append_spots(edit.deleted(), to)?;
-    append_parts(b"+", edit.added(), to)?;
+    append_parts(b'+', edit.added(), to)?;
     Ok(())
 }
 
@@ -72,6 +73,7 @@ fn append_read(part: &PartRead, to: &mut Vec<u8>) -> Result<(), NoMemory>
 }
 
 /// Appends what a read shows.
+#[inline(never)]
 pub fn append_reads(parts: &[PartRead], to: &mut Vec<u8>) -> Result<(), NoMemory>
     ensures { OnOk result (to.new.items ≡ to.old.items ++ flat_map read_line parts.now) }
 {
@@ -81,12 +83,10 @@ pub fn append_reads(parts: &[PartRead], to: &mut Vec<u8>) -> Result<(), NoMemory
     Ok(())
 }
 
-/// Appends a mark, an event's name and a line feed.
-pub fn append_event_line(mark: &[u8], event: &EventName, to: &mut Vec<u8>) -> Result<(), NoMemory>
-    ensures { OnOk result (to.new.items ≡ to.old.items
-        ++ line mark.now (event_text event.now ∷ [])) }
+/// Appends an event's name behind a mark, and ends the line.
+pub fn append_event_line(event: &EventName, to: &mut Vec<u8>) -> Result<(), NoMemory>
+    ensures { OnOk result (to.new.items ≡ to.old.items ++ line [] (event_text event.now ∷ [])) }
 {
-    to.extend_from_slice(mark)?;
     append_event_word(event, to)?;
     to.push(b'\n')?;
     Ok(())
@@ -101,7 +101,8 @@ use df_unit::EventName;
 fn append_commit(commit: &Commit, to: &mut Vec<u8>) -> Result<(), NoMemory>
     ensures { OnOk result (to.new.items ≡ to.old.items ++ effect_text (Effect.Commit commit.now)) }
 {
-    append_event_line(b"=", &commit.event, to)?;
+    to.push(b'=')?;
+    append_event_line(&commit.event, to)?;
     append_edit(&commit.edit, to)?;
     Ok(())
 }
@@ -109,8 +110,9 @@ fn append_commit(commit: &Commit, to: &mut Vec<u8>) -> Result<(), NoMemory>
 fn append_given(given: &Given, to: &mut Vec<u8>) -> Result<(), NoMemory>
     ensures { OnOk result (to.new.items ≡ to.old.items ++ given_text given.now) }
 {
-    append_event_line(b"<", &given.event, to)?;
-    append_parts(b".", given.parts.as_slice(), to)?;
+    to.push(b'<')?;
+    append_event_line(&given.event, to)?;
+    append_parts(b'.', given.parts.as_slice(), to)?;
     Ok(())
 }
 

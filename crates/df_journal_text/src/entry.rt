@@ -3,7 +3,7 @@ ghost use Rattle.df_unit.specs.declared.call.Call.{Call};
 ghost use Rattle.df_unit.specs.declared.entry.Effect.{Effect};
 ghost use Rattle.df_unit.specs.declared.entry.Entry.TheVariants.{Done};
 ghost use Rattle.df_unit.specs.declared.name.UnitName.{UnitName};
-ghost use Rattle.df_unit.specs.declared.reply.Reply.TheVariants.{Handle};
+ghost use Rattle.df_unit.specs.declared.reply.Reply.TheVariants.{Event, Handle};
 ghost use Rattle.df_journal_text.specs.Entry.{edit_text, effect_text, entry_text, note_text, reads_text};
 ghost use Rattle.df_journal_text.specs.Front.{call_front};
 ghost use Rattle.df_journal_text.specs.Line.{line};
@@ -30,6 +30,18 @@ fn append_handle(h: u32, to: &mut Vec<u8>) -> Result<(), NoMemory>
     Ok(())
 }
 
+/// Appends a view of an event behind the words of its call, and ends the line.
+fn append_event(h: u32, sub: u32, to: &mut Vec<u8>) -> Result<(), NoMemory>
+    ensures { OnOk result (to.new.items ≡ to.old.items ++ answer_text (Event h sub)) }
+{
+    to.extend_from_slice(b" -> event ")?;
+    append_number(u64::from(h), to)?;
+    to.push(b' ')?;
+    append_number(u64::from(sub), to)?;
+    to.push(b'\n')?;
+    Ok(())
+}
+
 /// Appends a reply behind the words of its call, and ends the line.
 fn append_told(reply: &Reply, to: &mut Vec<u8>) -> Result<(), NoMemory>
     ensures { OnOk result (to.new.items ≡ to.old.items ++ answer_text reply.now) }
@@ -40,18 +52,38 @@ fn append_told(reply: &Reply, to: &mut Vec<u8>) -> Result<(), NoMemory>
     Ok(())
 }
 
-/// Appends the reply of a call behind its words, and ends the line. The two commonest are written
-/// at once.
+/// Appends the reply of a call behind its words, and ends the line. The commonest are written at
+/// once.
 fn append_answer(reply: &Reply, to: &mut Vec<u8>) -> Result<(), NoMemory>
     ensures { OnOk result (to.new.items ≡ to.old.items ++ answer_text reply.now) }
 {
     match reply {
-        Reply::Ok => {
-            to.extend_from_slice(b" -> ok\n")?;
+        Reply::Handle(h) => append_handle(*h, to),
+        Reply::Event { h, sub } => append_event(*h, *sub, to),
+        Reply::Parts(_) => {
+            to.extend_from_slice(b" -> parts\n")?;
             Ok(())
         }
-        Reply::Handle(h) => append_handle(*h, to),
         _ => append_told(reply, to),
+    }
+}
+
+/// Appends the reply of a call behind its words, and the line of a note. The commonest are written
+/// at once.
+fn append_noted(reply: &Reply, note: &Note, to: &mut Vec<u8>) -> Result<(), NoMemory>
+    ensures { OnOk result (to.new.items ≡ to.old.items
+        ++ (answer_text reply.now ++ note_text note.now)) }
+{
+    match reply {
+        Reply::Ok => {
+            to.extend_from_slice(note.behind_ok())?;
+            Ok(())
+        }
+        _ => {
+            append_answer(reply, to)?;
+            to.extend_from_slice(note.as_bytes())?;
+            Ok(())
+        }
     }
 }
 
@@ -90,7 +122,8 @@ fn append_emitted(commit: &Commit, to: &mut Vec<u8>) -> Result<(), NoMemory>
         ++ (line (codes "emitted") (event_text commit.now.event ∷ [])
         ++ edit_text commit.now.edit)) }
 {
-    append_event_line(b"emitted", &commit.event, to)?;
+    to.extend_from_slice(b"emitted")?;
+    append_event_line(&commit.event, to)?;
     append_edit(&commit.edit, to)?;
     Ok(())
 }
@@ -158,8 +191,7 @@ pub fn append_quiet(
         ++ entry_text note.now (Done actor call reply.now Effect.Nothing)) }
 {
     to.extend_from_slice(front)?;
-    append_answer(reply, to)?;
-    to.extend_from_slice(note.as_bytes())?;
+    append_noted(reply, note, to)?;
     append_reply_reads(reply, to)
 }
 
@@ -178,7 +210,6 @@ pub fn append_spelled(
         ++ entry_text note.now (Done actor call reply.now effect.now)) }
 {
     to.extend_from_slice(front)?;
-    append_answer(reply, to)?;
-    to.extend_from_slice(note.as_bytes())?;
+    append_noted(reply, note, to)?;
     append_shown(reply, effect, to)
 }

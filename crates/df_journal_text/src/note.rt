@@ -1,19 +1,26 @@
 //! A contamination that is noted of entries, with its line.
 
-ghost use Rattle.std.specs.Prelude.{◌≡◌, ◌↔◌, [], IsTrue, None, IfOk, OnErr, OnOk, option_copied};
+ghost use Rattle.std.specs.Prelude.{◌≡◌, ◌↔◌, ◌++◌, [], IsTrue, None, IfOk, OnErr, OnOk, option_copied};
+ghost use Rattle.df_unit.specs.declared.reply.Reply.TheVariants as Reply;
 ghost use Rattle.df_journal_text.specs.Entry.{note_text};
+ghost use Rattle.df_journal_text.specs.code.Outcome.{answer_text};
 
 use crate::entry::append_contamination;
 use df_label::{Label, NoMemory};
 use std::alloc::Global;
 use std::marker::Model;
 
+// The reply of a call, behind its words, where it is the commonest.
+const OK: &[u8] = b" -> ok\n";
+
 /// A contamination that is noted, if there is one, and its line, which is spelled once for as long
 /// as the contamination stands. A contract sees the contamination.
 #[derive(Drop)]
 pub struct Note {
     contamination: Option<Label>,
-    line: Vec<u8>,
+    /// The line, behind the commonest reply, with which it is mostly appended; no bytes where
+    /// nothing is noted.
+    outcome: Vec<u8>,
 }
 
 impl Model for Note {
@@ -21,7 +28,7 @@ impl Model for Note {
     ghost use Rattle.std.specs.Coded.{coded_option};
     ghost use Rattle.df_label.specs.contracts.label.Label as label;
     ghost use Rattle.df_label.specs.declared.label.Label.{Label};
-    ghost use Rattle.df_journal_text.specs.Entry.{note_text};
+    ghost use Rattle.df_journal_text.specs.code.Outcome.{ok_note};
 
     ghost Value = { Option Label };
 
@@ -29,11 +36,11 @@ impl Model for Note {
 
     ghost view = { λ n. n.contamination };
 
-    ghost invariant = { λ n. n.line.items ≡ note_text n.contamination };
+    ghost invariant = { λ n. n.outcome.items ≡ ok_note n.contamination };
 }
 
 /// Whether the label has no tag, as most have none.
-fn is_empty(label: &Label) -> bool
+pub(crate) fn is_empty(label: &Label) -> bool
     ensures { IsTrue result ↔ (label.now.s ≡ []) × (label.now.i ≡ []) }
 {
     label.s.is_empty() && label.i.is_empty()
@@ -65,12 +72,12 @@ fn spelled(alloc: Global, contamination: Option<&Label>) -> Result<Note, NoMemor
     let Some(label) = contamination else {
         return Ok(Note::new(alloc));
     };
-    let mut line = Vec::new(alloc);
-    append_contamination(label, &mut line)?;
+    let mut outcome = Vec::from_slice(alloc, OK)?;
+    append_contamination(label, &mut outcome)?;
     let label = label.copy()?;
     Ok(Note {
         contamination: Some(label),
-        line,
+        outcome,
     })
 }
 
@@ -81,7 +88,7 @@ impl Note {
     {
         Note {
             contamination: None,
-            line: Vec::new(alloc),
+            outcome: Vec::new(alloc),
         }
     }
 
@@ -89,7 +96,20 @@ impl Note {
     pub fn as_bytes(&self) -> &[u8]
         ensures { result.now ≡ note_text self.now }
     {
-        self.line.as_slice()
+        if self.outcome.is_empty() {
+            return &[];
+        }
+        &self.outcome.as_slice()[OK.len()..]
+    }
+
+    /// The line behind the reply `ok`.
+    pub(crate) fn behind_ok(&self) -> &[u8]
+        ensures { result.now ≡ answer_text Reply.Ok ++ note_text self.now }
+    {
+        if self.outcome.is_empty() {
+            return OK;
+        }
+        self.outcome.as_slice()
     }
 
     /// Notes this contamination, or none. Its line is spelled only where it is another than what
@@ -101,7 +121,7 @@ impl Note {
         if is_noted(&self.contamination, contamination) {
             return Ok(());
         }
-        *self = spelled(*self.line.allocator(), contamination)?;
+        *self = spelled(*self.outcome.allocator(), contamination)?;
         Ok(())
     }
 }

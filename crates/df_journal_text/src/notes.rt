@@ -48,14 +48,16 @@ impl Notes {
     ) -> Result<&Note, NoMemory>
         ensures { IfOk result (λ note. note.now ≡ option_copied contamination.entry) }
     {
-        let Some(place) = place else {
-            self.of_none.set(contamination)?;
-            return Ok(&self.of_none);
+        let note = match place {
+            Some(place) => {
+                if self.notes.len() <= place {
+                    reach(self.alloc, &mut self.notes, place)?;
+                }
+                &mut self.notes[place]
+            }
+            None => &mut self.of_none,
         };
-        if self.notes.len() <= place {
-            reach(self.alloc, &mut self.notes, place)?;
-        }
-        self.notes[place].set(contamination)?;
-        Ok(&self.notes[place])
+        note.set(contamination)?;
+        Ok(note)
     }
 }
