@@ -25,7 +25,7 @@ use Rattle.df_journal_file.specs.Journal.{EditsSome, HasNote, ShowsSome}
 use Rattle.df_journal_file.specs.code.Entries.{IsGivenFor, IsHere, IsNoteBy, IsShownBy, IsSomeCommit, IsSomeEdit, IsSomeEffectOf, IsWholeBy, commit_lines}
 use Rattle.df_journal_file.specs.code.Languages.{NotesNone, ShowsNone}
 use Rattle.df_journal_file.specs.code.Places.{ArePassed, TellsAt}
-use Rattle.df_script_text.proofs.Called.{onward}
+use Rattle.df_journal_text.proofs.Between.{onward}
 use Rattle.df_journal_file.proofs.Feeds.{CallTold, told_line}
 
 -- ---- what stands below a line

@@ -16,6 +16,7 @@ ghost use Rattle.df_journal_file.specs.code.Stops.{StopsIn};
 
 use crate::entry::entry_at;
 use crate::file::{is_end, version_at};
+use df_journal_text::KnownLabel;
 use df_lines::FileFault;
 use df_script_text::{CommonLine, ReadLine, call_at, common_call_at, roots_at};
 use df_start::Start;
@@ -31,6 +32,7 @@ pub struct JournalCursor<'a> {
     bytes: &'a [u8],
     has_notes: bool,
     place: usize,
+    known: KnownLabel,
 }
 
 impl<'a> Model for JournalCursor<'a> {
@@ -62,6 +64,7 @@ impl<'a> JournalCursor<'a> {
                 bytes,
                 has_notes,
                 place,
+                known: KnownLabel::new(alloc),
             },
         ))
     }
@@ -84,12 +87,13 @@ impl<'a> JournalCursor<'a> {
     }
 
     /// The call with which the next entry begins, where one can be read.
-    pub fn call(&self) -> Option<ReadLine<'a>>
+    pub fn call(&mut self) -> Option<ReadLine<'a>>
         ensures words { IfSome result (λ r.
             r.words.now ≡ call_front r.line.actor r.line.call) }
         ensures fits { IfSome result (λ r. IsScriptLine r.line) }
+        ensures same { self.new ≡ self.old }
     {
-        let (read, _) = call_at(self.alloc, self.bytes, self.place)?;
+        let (read, _) = call_at(self.alloc, &mut self.known, self.bytes, self.place)?;
         Some(read)
     }
 

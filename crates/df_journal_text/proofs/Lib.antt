@@ -8,6 +8,8 @@ pub mod WordBacks
 pub mod NameBacks
 pub mod CallBacks
 pub mod Founds
+pub mod Between
+pub mod KnownLabels
 pub mod CallFounds
 pub mod ValueTells
 pub mod CallTells

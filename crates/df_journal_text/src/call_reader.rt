@@ -8,12 +8,12 @@ ghost use Rattle.df_journal_text.specs.ReadWords.{kinds_at, word_at};
 ghost use Rattle.df_journal_text.specs.code.Judging.{EndsCall, Tells, TellsAdded, call_text};
 
 use crate::ask::ask_at;
+use crate::known_label::KnownLabel;
 use crate::line_fault::LineFault;
 use crate::name_reader::braced_at;
 use crate::value_word::read_value_word;
 use crate::word_reader::{
-    filter_word, keyword_at, label_word, name_word, named_at, number_word, privilege_word,
-    privileges_at, tag_word,
+    filter_word, keyword_at, name_word, number_word, privilege_word, privileges_at, tag_word,
 };
 use df_frozen::Name;
 use df_label::{Label, Tag, TagSet};
@@ -23,12 +23,17 @@ use df_value_text::{Fault, byte_at};
 use std::alloc::Global;
 
 /// The handle, the label and the name that are the next words, and the place behind them.
-fn spot_at(alloc: Global, bytes: &[u8], at: usize) -> Result<((u32, (Label, Name)), usize), Fault>
+fn spot_at(
+    alloc: Global,
+    known: &mut KnownLabel,
+    bytes: &[u8],
+    at: usize,
+) -> Result<((u32, (Label, Name)), usize), Fault>
     requires { at ≤ length bytes.now }
     ensures { Gives (λ s. (s.0, (s.1.0, s.1.1))) bytes.now result (spot_at (drop at bytes.now)) }
 {
     let (h, behind) = number_word(bytes, at)?;
-    let (named, end) = named_at(alloc, bytes, behind)?;
+    let (named, end) = known.named_at(alloc, bytes, behind)?;
     Ok(((h, named), end))
 }
 
@@ -115,12 +120,17 @@ fn last_call_at(alloc: Global, bytes: &[u8], at: usize) -> Result<(Call, usize),
 
 /// The call that names a label or a name without a value, or one of the last kinds, and the place
 /// behind it.
-fn named_call_at(alloc: Global, bytes: &[u8], at: usize) -> Result<(Call, usize), Fault>
+fn named_call_at(
+    alloc: Global,
+    known: &mut KnownLabel,
+    bytes: &[u8],
+    at: usize,
+) -> Result<(Call, usize), Fault>
     requires { at ≤ length bytes.now }
     ensures { Gives (λ c. c) bytes.now result (kinds_at named_kinds (drop at bytes.now)) }
 {
     if let Some(start) = keyword_at(bytes, at, b" del") {
-        let ((h, (label, name)), end) = spot_at(alloc, bytes, start)?;
+        let ((h, (label, name)), end) = spot_at(alloc, known, bytes, start)?;
         return Ok((Call::DelPart { h, label, name }, end));
     }
     if let Some(start) = keyword_at(bytes, at, b" read") {
@@ -130,11 +140,11 @@ fn named_call_at(alloc: Global, bytes: &[u8], at: usize) -> Result<(Call, usize)
     }
     if let Some(start) = keyword_at(bytes, at, b" clone") {
         let (h, behind) = number_word(bytes, start)?;
-        let (label, end) = label_word(alloc, bytes, behind)?;
+        let (label, end) = known.label_word(alloc, bytes, behind)?;
         return Ok((Call::CloneEvent { h, label }, end));
     }
     if let Some(start) = keyword_at(bytes, at, b" attach") {
-        let ((h, (label, name)), behind) = spot_at(alloc, bytes, start)?;
+        let ((h, (label, name)), behind) = spot_at(alloc, known, bytes, start)?;
         let (p, end) = privilege_word(alloc, bytes, behind)?;
         return Ok((Call::AttachPrivilege { h, label, name, p }, end));
     }
@@ -142,22 +152,32 @@ fn named_call_at(alloc: Global, bytes: &[u8], at: usize) -> Result<(Call, usize)
 }
 
 /// The call at the place, of any kind but that with a value, and the place behind it.
-fn plain_call_at(alloc: Global, bytes: &[u8], at: usize) -> Result<(Call, usize), Fault>
+fn plain_call_at(
+    alloc: Global,
+    known: &mut KnownLabel,
+    bytes: &[u8],
+    at: usize,
+) -> Result<(Call, usize), Fault>
     requires { at ≤ length bytes.now }
     ensures { Gives (λ c. c) bytes.now result (kinds_at plain_kinds (drop at bytes.now)) }
 {
     match ask_at(bytes, at)? {
         Some((ask, end)) => Ok((ask.call(), end)),
-        None => named_call_at(alloc, bytes, at),
+        None => named_call_at(alloc, known, bytes, at),
     }
 }
 
 /// What an `add` before the place asks for, and the place behind it.
-fn added_at(alloc: Global, bytes: &[u8], at: usize) -> Result<(Call, usize), LineFault>
+fn added_at(
+    alloc: Global,
+    known: &mut KnownLabel,
+    bytes: &[u8],
+    at: usize,
+) -> Result<(Call, usize), LineFault>
     requires { at ≤ length bytes.now }
     ensures { TellsAdded bytes.now at result }
 {
-    let ((h, (label, name)), behind) = spot_at(alloc, bytes, at)?;
+    let ((h, (label, name)), behind) = spot_at(alloc, known, bytes, at)?;
     let (value, end) = read_value_word(alloc, bytes, behind)?;
     Ok((
         Call::AddPart {
@@ -171,13 +191,18 @@ fn added_at(alloc: Global, bytes: &[u8], at: usize) -> Result<(Call, usize), Lin
 }
 
 /// The call at the place, and the place behind it. A space stands before each of its words.
-pub fn read_call_at(alloc: Global, bytes: &[u8], at: usize) -> Result<(Call, usize), LineFault>
+pub fn read_call_at(
+    alloc: Global,
+    known: &mut KnownLabel,
+    bytes: &[u8],
+    at: usize,
+) -> Result<(Call, usize), LineFault>
     requires { at ≤ length bytes.now }
     ensures { Tells call_text IsCall EndsCall IsLargeCall call_at bytes.now at result }
 {
     if let Some(start) = keyword_at(bytes, at, b" add") {
-        return added_at(alloc, bytes, start);
+        return added_at(alloc, known, bytes, start);
     }
-    let (call, end) = plain_call_at(alloc, bytes, at)?;
+    let (call, end) = plain_call_at(alloc, known, bytes, at)?;
     Ok((call, end))
 }

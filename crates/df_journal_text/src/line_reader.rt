@@ -10,6 +10,7 @@ ghost use Rattle.df_journal_text.specs.ReadWords.{named_at, word_at};
 ghost use Rattle.df_journal_text.specs.code.Judging.{IsWhole, TellsLine, answer_at};
 
 use crate::call_reader::read_call_at;
+use crate::known_label::KnownLabel;
 use crate::line_fault::LineFault;
 use crate::name_reader::unit_at;
 use crate::reply_reader::reply_at;
@@ -53,7 +54,7 @@ pub fn read_call_line(alloc: Global, line: &[u8]) -> Result<(UnitName, Call, Rep
     ensures { TellsLine (λ c. call_line c.0 c.1 c.2) IsCalled IsLargeCalled line.now result }
 {
     let (actor, behind) = unit_at(alloc, line, 0)?;
-    let (call, arrow) = read_call_at(alloc, line, behind)?;
+    let (call, arrow) = read_call_at(alloc, &mut KnownLabel::new(alloc), line, behind)?;
     let reply = whole(line, answer_at(alloc, line, arrow))?;
     Ok((actor, call, reply))
 }

@@ -1,6 +1,5 @@
 -- Calls where they stand, as their readers find them.
-use Rattle.std.proofs.Common.{◌≡◌, ℕ, ◌+◌, ◌-◌, ◌≤◌, List, [], ◌∷◌, ◌++◌, length, take, drop, Ok, sym, refl, ap, subst, ◌∙◌, arith, append_assoc, length-append}
-use Rattle.std.proofs.lemmas.List.{length-drop, take-append-le, take_all}
+use Rattle.std.proofs.Common.{◌≡◌, ℕ, ◌-◌, ◌≤◌, List, [], ◌∷◌, ◌++◌, length, take, drop, Ok, sym, refl, ap, subst, ◌∙◌, append_assoc}
 use Rattle.df_unit.specs.declared.call.Call.{Call}
 use Rattle.df_unit.specs.declared.name.UnitName.{UnitName}
 use Rattle.df_unit.specs.declared.name.UnitName.TheVariants.{Root}
@@ -11,6 +10,7 @@ use Rattle.df_journal_text.specs.ReadCall.{plain_kinds}
 use Rattle.df_journal_text.specs.ReadName.{unit_at}
 use Rattle.df_journal_text.specs.ReadWords.{kinds_at}
 use Rattle.df_journal_text.specs.code.Judging.{call_text}
+use Rattle.df_journal_text.proofs.Between.{between, onward}
 use Rattle.df_journal_text.proofs.CallFounds.{plain_find}
 use Rattle.df_journal_text.proofs.Founds.{kinds_found, short_finds, unit_finds}
 use Rattle.df_script_text.specs.Called.{IsCallAt}
@@ -36,26 +36,6 @@ root_stands bytes at behind root e = let found = short_finds.found (drop at byte
 -- a call without a value
 pub plain_stands : (bytes : List ℕ) (at end : ℕ) (call : Call) → kinds_at plain_kinds (drop at bytes) ≡ Ok (call, drop end bytes) → CallStands bytes at end call
 plain_stands bytes at end call e = kinds_found call_text IsCall plain_kinds plain_find (drop at bytes) call (drop end bytes) e
-
--- what stands in front, as long as it is
-front_of : (xs ys : List ℕ) → take (length xs) (xs ++ ys) ≡ xs
-front_of xs ys = take-append-le (length xs) xs ys (omega arith) ∙ take_all (length xs) xs (omega arith)
-
--- what stands from a place up to another
-module _ (bytes : List ℕ) (at end : ℕ) (inside : at ≤ length bytes) (within : end ≤ length bytes) (text : List ℕ)
-    (stands : drop at bytes ≡ text ++ drop end bytes) where
-  size : length bytes - at ≡ length text + (length bytes - end)
-  size =
-      sym (length-drop at bytes) ∙ ap length stands ∙ length-append text (drop end bytes)
-      ∙ ap (λ (n : ℕ). length text + n) (length-drop end bytes)
-
-  pub onward : at ≤ end
-  onward = omega (arith, size, inside, within)
-
-  between : take (end - at) (drop at bytes) ≡ text
-  between =
-      let e : end - at ≡ length text = omega (arith, size, inside, within) in
-      ap (λ (n : ℕ). take n (drop at bytes)) e ∙ ap (take (length text)) stands ∙ front_of text (drop end bytes)
 
 -- a unit's name and its call, one behind the other
 module _ (bytes : List ℕ) (at behind end : ℕ) (line : ScriptLine) (inside : at ≤ length bytes) (within : end ≤ length bytes)

@@ -6,7 +6,7 @@ ghost use Rattle.df_script_text.specs.Called.{IsCallAt};
 
 use crate::common::{CommonLine, RootLine};
 use crate::line::{ReadLine, ScriptLine};
-use df_journal_text::{ask_at, read_call_at, unit_at};
+use df_journal_text::{KnownLabel, ask_at, read_call_at, unit_at};
 use df_value_text::{between, short_at};
 use std::alloc::Global;
 
@@ -29,7 +29,12 @@ pub fn common_call_at(bytes: &[u8], at: usize) -> Option<(CommonLine<'_>, usize)
 
 /// A root's call at the place, with its words, and the place behind them; none where another
 /// stands there, or memory is wanting.
-pub fn root_call_at(alloc: Global, bytes: &[u8], at: usize) -> Option<(RootLine<'_>, usize)>
+pub fn root_call_at<'a>(
+    alloc: Global,
+    known: &mut KnownLabel,
+    bytes: &'a [u8],
+    at: usize,
+) -> Option<(RootLine<'a>, usize)>
     requires { at ≤ length bytes.now }
     ensures { IfSome result (λ read. IsCallAt bytes.now at
         (root_call read.0.root read.0.call) read.0.words.now read.1) }
@@ -37,7 +42,7 @@ pub fn root_call_at(alloc: Global, bytes: &[u8], at: usize) -> Option<(RootLine<
     let Ok((root, behind)) = short_at(bytes, at) else {
         return None;
     };
-    let Ok((call, end)) = read_call_at(alloc, bytes, behind) else {
+    let Ok((call, end)) = read_call_at(alloc, known, bytes, behind) else {
         return None;
     };
     let words = between(bytes, at, end);
@@ -46,14 +51,19 @@ pub fn root_call_at(alloc: Global, bytes: &[u8], at: usize) -> Option<(RootLine<
 
 /// The call at the place, with its words, and the place behind them; none where none can be read
 /// there.
-pub fn call_at(alloc: Global, bytes: &[u8], at: usize) -> Option<(ReadLine<'_>, usize)>
+pub fn call_at<'a>(
+    alloc: Global,
+    known: &mut KnownLabel,
+    bytes: &'a [u8],
+    at: usize,
+) -> Option<(ReadLine<'a>, usize)>
     requires { at ≤ length bytes.now }
     ensures { IfSome result (λ read. IsCallAt bytes.now at read.0.line read.0.words.now read.1) }
 {
     let Ok((actor, behind)) = unit_at(alloc, bytes, at) else {
         return None;
     };
-    let Ok((call, end)) = read_call_at(alloc, bytes, behind) else {
+    let Ok((call, end)) = read_call_at(alloc, known, bytes, behind) else {
         return None;
     };
     let words = between(bytes, at, end);

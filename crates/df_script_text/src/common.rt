@@ -4,7 +4,7 @@ ghost use Rattle.std.specs.Prelude.{◌≤◌, IfSome, length};
 ghost use Rattle.df_script_text.specs.code.Common.{IsCommonAt, IsRootCallAt};
 
 use crate::call::{common_call_at, root_call_at};
-use df_journal_text::Ask;
+use df_journal_text::{Ask, KnownLabel};
 use df_unit::Call;
 use df_value_text::byte_at;
 use std::alloc::Global;
@@ -42,12 +42,17 @@ pub fn common_at(bytes: &[u8], at: usize) -> Option<(CommonLine<'_>, usize)>
 
 /// The line of a root's call at the place, and the place behind it; none where another stands
 /// there, or memory is wanting.
-pub fn call_line_at(alloc: Global, bytes: &[u8], at: usize) -> Option<(RootLine<'_>, usize)>
+pub fn call_line_at<'a>(
+    alloc: Global,
+    known: &mut KnownLabel,
+    bytes: &'a [u8],
+    at: usize,
+) -> Option<(RootLine<'a>, usize)>
     requires { at ≤ length bytes.now }
     ensures { IfSome result (λ read.
         IsRootCallAt bytes.now at read.0.root read.0.call read.0.words.now read.1) }
 {
-    let (line, end) = root_call_at(alloc, bytes, at)?;
+    let (line, end) = root_call_at(alloc, known, bytes, at)?;
     let Ok((_, next)) = byte_at(bytes, end, b'\n') else {
         drop(line);
         return None;

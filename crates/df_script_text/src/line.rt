@@ -7,7 +7,7 @@ ghost use Rattle.df_journal_text.specs.code.Judging.{TellsLine};
 ghost use Rattle.df_script_text.specs.Script.{IsScriptLine, script_line};
 ghost use Rattle.df_script_text.specs.code.Stops.{StopsCall, TellsWords, fault_of};
 
-use df_journal_text::{LineFault, read_call_at, unit_at};
+use df_journal_text::{KnownLabel, LineFault, read_call_at, unit_at};
 use df_lines::{FileFault, line_at};
 use df_unit::{Call, UnitName};
 use std::alloc::Global;
@@ -32,7 +32,7 @@ pub fn read_line(alloc: Global, line: &[u8]) -> Result<ScriptLine, LineFault>
     ensures { TellsLine script_line IsScriptLine IsLargeCalled line.now result }
 {
     let (actor, behind) = unit_at(alloc, line, 0)?;
-    let (call, end) = read_call_at(alloc, line, behind)?;
+    let (call, end) = read_call_at(alloc, &mut KnownLabel::new(alloc), line, behind)?;
     if end != line.len() {
         return Err(LineFault::Syntax);
     }

@@ -17,6 +17,7 @@ ghost use Rattle.df_script_text.specs.declared.line.ScriptLine.{ScriptLine};
 use crate::common::{CommonLine, RootLine, call_line_at, common_at};
 use crate::line::{ReadLine, fault_of, read_line, words_at};
 use crate::root::roots_at;
+use df_journal_text::KnownLabel;
 use df_lines::{FileFault, FileRefused, file_refused, line_at};
 use df_start::Start;
 use std::alloc::Global;
@@ -28,6 +29,7 @@ pub struct ScriptReader<'a> {
     alloc: Global,
     bytes: &'a [u8],
     place: usize,
+    known: KnownLabel,
 }
 
 impl<'a> Model for ScriptReader<'a> {
@@ -81,6 +83,7 @@ impl<'a> ScriptReader<'a> {
                     alloc,
                     bytes,
                     place,
+                    known: KnownLabel::new(alloc),
                 },
             )),
             Err(fault) => Err(file_refused(bytes, fault)),
@@ -118,7 +121,7 @@ impl<'a> ScriptReader<'a> {
         ensures bytes { self.new.bytes ≡ self.old.bytes }
         ensures same { IfNone result (self.new ≡ self.old) }
     {
-        let (line, next) = call_line_at(self.alloc, self.bytes, self.place)?;
+        let (line, next) = call_line_at(self.alloc, &mut self.known, self.bytes, self.place)?;
         self.place = next;
         Some(line)
     }

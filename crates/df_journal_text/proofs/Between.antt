@@ -1,0 +1,27 @@
+-- What stands from a place up to another.
+use Rattle.std.proofs.Common.{◌≡◌, ℕ, ◌+◌, ◌-◌, ◌≤◌, List, ◌++◌, length, take, drop, sym, ap, ◌∙◌, arith, length-append}
+use Rattle.std.proofs.lemmas.List.{length-drop, take-append-le, take_all}
+
+-- what stands in front, as long as it is
+front_of : (xs ys : List ℕ) → take (length xs) (xs ++ ys) ≡ xs
+front_of xs ys = take-append-le (length xs) xs ys (omega arith) ∙ take_all (length xs) xs (omega arith)
+
+-- what stands from a place up to another
+module _ (bytes : List ℕ) (at end : ℕ) (inside : at ≤ length bytes) (within : end ≤ length bytes) (text : List ℕ)
+    (stands : drop at bytes ≡ text ++ drop end bytes) where
+  size : length bytes - at ≡ length text + (length bytes - end)
+  size =
+      sym (length-drop at bytes) ∙ ap length stands ∙ length-append text (drop end bytes)
+      ∙ ap (λ (n : ℕ). length text + n) (length-drop end bytes)
+
+  pub onward : at ≤ end
+  onward = omega (arith, size, inside, within)
+
+  pub between : take (end - at) (drop at bytes) ≡ text
+  between =
+      let e : end - at ≡ length text = omega (arith, size, inside, within) in
+      ap (λ (n : ℕ). take n (drop at bytes)) e ∙ ap (take (length text)) stands ∙ front_of text (drop end bytes)
+
+-- all that stands behind a place
+pub all_behind : (place : ℕ) (bytes : List ℕ) → take (length bytes - place) (drop place bytes) ≡ drop place bytes
+all_behind place bytes = take_all (length bytes - place) (drop place bytes) (omega (arith, length-drop place bytes))
