@@ -5,7 +5,7 @@ use Rattle.std.specs.Str.{IsAscii}
 use Rattle.std.proofs.lemmas.List.{take-take}
 use Rattle.std.proofs.lemmas.Nat.{be_bytes_8}
 use Rattle.df_frozen.specs.Limits.{longest_name}
-use Rattle.df_frozen.specs.code.NameBytes.{IsKept, ascii_name, head_of, padded, padded-take}
+use Rattle.df_frozen.specs.code.NameBytes.{IsKept, ascii_name, head_of, padded-take}
 
 -- a number of eight bytes is that of the first eight
 head_take : (bs : List ℕ) → 8 ≤ length bs → from_be_bytes w64 (take 8 bs) ≡ from_be_bytes w64 bs

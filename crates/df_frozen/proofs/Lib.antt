@@ -8,3 +8,4 @@ pub mod Contents
 pub mod Nodes
 pub mod Copies
 mod Heads
+mod HeadOrder

@@ -78,7 +78,8 @@ impl Name {
 
     // Its first eight bytes, with zeros after its own, as one number.
     fn head(&self) -> u64
-        ensures { result ≡ head_of self.now }
+        ensures value { result ≡ head_of self.now }
+        ensures name { is_name self.now ≡ true }
     {
         let bytes = &self.bytes;
         u64::from_be_bytes([
@@ -195,7 +196,10 @@ impl Ord for Name {
     ghost matches_eq = { texts_ties };
 
     fn cmp(&self, other: &Name) -> Ordering {
-        self.as_bytes().cmp(&other.as_bytes())
+        match self.head().cmp(&other.head()) {
+            Ordering::Equal => self.as_bytes().cmp(&other.as_bytes()),
+            order => order,
+        }
     }
 }
 
