@@ -40,17 +40,31 @@ impl Contents {
     }
 
     /// The parts after an edit, built once: it deletes first, each part that has the name and the
-    /// exact label of a deleted spot, and then adds, in order. An empty edit shares what there was.
+    /// exact label of a deleted spot, and then adds, in order. An empty edit shares what there was,
+    /// and an event without parts what the edit adds.
     pub fn applied(&self, edit: &Edit) -> Result<Contents, NoMemory>
         ensures { IfOk result (λ c. c ≡ apply edit.now self.now) }
     {
+        if self.parts().is_empty() {
+            return Ok(Contents {
+                parts: edit.shared_added()?,
+            });
+        }
         if is_idle(edit) {
             return self.copy();
         }
-        let alloc = self.parts.allocator();
-        let parts = edited(alloc, self.parts(), edit)?;
-        let parts = Parts::shared(alloc, parts)?;
-        Ok(Contents { parts })
+        self.rebuilt(edit)
+    }
+
+    /// The parts after an edit, as a new list.
+    #[inline(never)]
+    fn rebuilt(&self, edit: &Edit) -> Result<Contents, NoMemory>
+        ensures { IfOk result (λ c. c ≡ apply edit.now self.now) }
+    {
+        let parts = edited(self.parts.allocator(), self.parts(), edit)?;
+        Ok(Contents {
+            parts: Parts::shared(parts)?,
+        })
     }
 
     pub fn parts(&self) -> &[PartRef]
@@ -74,8 +88,7 @@ impl Contents {
         if are_readable(at, self.parts()) {
             return self.parts.copy();
         }
-        let alloc = self.parts.allocator();
-        Parts::shared(alloc, seen(alloc, at, self)?)
+        Parts::shared(seen(self.parts.allocator(), at, self)?)
     }
 
     /// The same parts, shared.

@@ -1,7 +1,6 @@
 ghost use Rattle.std.specs.Prelude.{◌≡◌, ◌↔◌, IsTrue, IfOk};
 
-use crate::PartRef;
-use crate::parts::{same_parts, share_all};
+use crate::{PartRef, Parts};
 use df_frozen::Name;
 use df_label::{Label, NoMemory};
 use std::alloc::Global;
@@ -36,7 +35,7 @@ impl Spot {
 #[derive(Drop)]
 pub struct Edit {
     deleted: Vec<Spot>,
-    added: Vec<PartRef>,
+    added: Parts,
 }
 
 impl Model for Edit {
@@ -51,13 +50,20 @@ impl Model for Edit {
 
     ghost coded = { coded× (coded_list spot.the_row.coded) (coded_list content.the_row.coded) };
 
-    ghost view = { λ e. (e.deleted.items, e.added.items) };
+    ghost view = { λ e. (e.deleted.items, e.added) };
 }
 
 impl Edit {
     /// Takes no memory.
     pub fn new(deleted: Vec<Spot>, added: Vec<PartRef>) -> Edit
         ensures { result ≡ (deleted.items, added.items) }
+    {
+        Edit::adding(deleted, Parts::new(added))
+    }
+
+    /// Takes no memory.
+    pub fn adding(deleted: Vec<Spot>, added: Parts) -> Edit
+        ensures { result ≡ (deleted.items, added) }
     {
         Edit { deleted, added }
     }
@@ -67,7 +73,7 @@ impl Edit {
         ensures { IsTrue result ↔ (self.now ≡ other.now) }
     {
         same_spots(self.deleted.as_slice(), other.deleted.as_slice())
-            && same_parts(self.added.as_slice(), other.added.as_slice())
+            && self.added.same(&other.added)
     }
 
     /// An equal edit, which shares the added parts.
@@ -75,8 +81,7 @@ impl Edit {
         ensures { IfOk result (λ e. e ≡ self.now) }
     {
         let deleted = copies(*self.deleted.allocator(), self.deleted.as_slice())?;
-        let mut added = Vec::new(*self.added.allocator());
-        share_all(self.added.as_slice(), &mut added)?;
+        let added = self.added.copy()?;
         Ok(Edit { deleted, added })
     }
 
@@ -90,6 +95,13 @@ impl Edit {
         ensures { result.now ≡ self.now.1 }
     {
         self.added.as_slice()
+    }
+
+    /// The added parts, as a list that copies share.
+    pub(crate) fn shared_added(&self) -> Result<Parts, NoMemory>
+        ensures { IfOk result (λ p. p ≡ self.now.1) }
+    {
+        self.added.copy_shared()
     }
 }
 

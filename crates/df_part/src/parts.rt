@@ -1,22 +1,26 @@
-ghost use Rattle.std.specs.Prelude.{◌≡◌, ◌↔◌, ◌++◌, IsTrue, IfOk, OnOk};
+ghost use Rattle.std.specs.Prelude.{◌≡◌, ◌↔◌, ◌++◌, [], ◌∷◌, IsTrue, IfOk, OnOk};
 
 use crate::PartRef;
 use df_label::NoMemory;
 use std::alloc::Global;
 use std::marker::Model;
+use std::slice;
 use std::sync::Arc;
 
-/// How a list of parts is kept: by one owner, or by all of those that share it.
+/// How a list of parts is kept: one part by itself, any list by one owner, or by all of those that
+/// share it.
 #[derive(Drop)]
 enum Kept {
+    One(PartRef),
     Own(Vec<PartRef>),
     Shared(Arc<Vec<PartRef>>),
 }
 
-/// Parts, in order. A shared list is copied by one share of the whole.
+/// Parts, in order. One part is copied by a share of it, and a shared list by one of the whole.
 #[derive(Drop)]
 pub struct Parts {
     kept: Kept,
+    alloc: Global,
 }
 
 impl Model for Parts {
@@ -38,27 +42,42 @@ impl Parts {
     pub fn new(parts: Vec<PartRef>) -> Parts
         ensures { result ≡ parts.items }
     {
+        let alloc = *parts.allocator();
         Parts {
             kept: Kept::Own(parts),
+            alloc,
         }
     }
 
-    /// A list that copies share. One without parts takes no memory.
-    pub fn shared(alloc: Global, parts: Vec<PartRef>) -> Result<Parts, NoMemory>
+    /// A list of one part. Takes no memory.
+    pub fn one(alloc: Global, part: PartRef) -> Parts
+        ensures { result ≡ part ∷ [] }
+    {
+        Parts {
+            kept: Kept::One(part),
+            alloc,
+        }
+    }
+
+    /// A list that copies share. One of a part or none takes no memory.
+    pub fn shared(mut parts: Vec<PartRef>) -> Result<Parts, NoMemory>
         ensures { IfOk result (λ p. p ≡ parts.items) }
     {
-        if parts.is_empty() {
-            return Ok(Parts::new(parts));
+        if parts.len() > 1 {
+            return shared_list(parts);
         }
-        Ok(Parts {
-            kept: Kept::Shared(Arc::new(alloc, parts)?),
-        })
+        let alloc = *parts.allocator();
+        match parts.pop() {
+            Some(part) => Ok(Parts::one(alloc, part)),
+            None => Ok(Parts::new(parts)),
+        }
     }
 
     pub fn as_slice(&self) -> &[PartRef]
         ensures { result.now ≡ self.now }
     {
         match &self.kept {
+            Kept::One(part) => slice::from_ref(part),
             Kept::Own(parts) => parts.as_slice(),
             Kept::Shared(parts) => parts.as_slice(),
         }
@@ -71,25 +90,47 @@ impl Parts {
         same_parts(self.as_slice(), other.as_slice())
     }
 
-    /// An equal list. A shared one is shared, any other copied.
+    /// An equal list. One part and a shared list are shared, any other list copied.
     pub fn copy(&self) -> Result<Parts, NoMemory>
         ensures { IfOk result (λ p. p ≡ self.now) }
     {
+        let kept = match &self.kept {
+            Kept::One(part) => Kept::One(part.share()?),
+            Kept::Own(parts) => Kept::Own(shares(parts)?),
+            Kept::Shared(parts) => Kept::Shared(Arc::try_clone(parts)?),
+        };
+        Ok(Parts {
+            kept,
+            alloc: self.alloc,
+        })
+    }
+
+    /// An equal list, which copies share.
+    pub(crate) fn copy_shared(&self) -> Result<Parts, NoMemory>
+        ensures { IfOk result (λ p. p ≡ self.now) }
+    {
         match &self.kept {
-            Kept::Own(parts) => Ok(Parts::new(shares(parts)?)),
-            Kept::Shared(parts) => Ok(Parts {
-                kept: Kept::Shared(Arc::try_clone(parts)?),
-            }),
+            Kept::Own(parts) => Parts::shared(shares(parts)?),
+            _ => self.copy(),
         }
     }
 
     /// What the list is kept by.
     pub(crate) fn allocator(&self) -> Global {
-        match &self.kept {
-            Kept::Own(parts) => *parts.allocator(),
-            Kept::Shared(parts) => *parts.allocator(),
-        }
+        self.alloc
     }
+}
+
+/// A list of several parts, which copies share.
+#[inline(never)]
+fn shared_list(parts: Vec<PartRef>) -> Result<Parts, NoMemory>
+    ensures { IfOk result (λ p. p ≡ parts.items) }
+{
+    let alloc = *parts.allocator();
+    Ok(Parts {
+        kept: Kept::Shared(Arc::new(alloc, parts)?),
+        alloc,
+    })
 }
 
 /// A list of its own, of shares of these parts.
