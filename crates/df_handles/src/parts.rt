@@ -5,7 +5,7 @@ ghost use Rattle.df_unit.specs.Drafts.{new_part, raised, relabel, relabelled};
 
 use df_frozen::{Frozen, Name};
 use df_label::{Label, NoMemory, Privileges};
-use df_part::{Part, PartRef, Spot};
+use df_part::{Part, PartRef, Parts, Spot};
 use std::alloc::Global;
 
 /// A label with the confidentiality of the output label added, and cut to its integrity.
@@ -41,18 +41,40 @@ fn relabel(output: &Label, part: &Part) -> Result<Part, NoMemory>
     ensures { IfOk result (λ p. p ≡ relabel output.now part.now) }
 {
     let label = raised(output, &part.label)?;
-    let copy = part.copy()?;
-    Ok(Part { label, ..copy })
+    let Ok(value) = part.value.share() else {
+        return Err(NoMemory);
+    };
+    Ok(Part {
+        name: part.name,
+        label,
+        value,
+        privileges: part.privileges.copy()?,
+    })
+}
+
+fn relabelled_one(alloc: Global, output: &Label, part: &Part) -> Result<PartRef, NoMemory>
+    ensures { IfOk result (λ p. p ≡ relabel output.now part.now) }
+{
+    PartRef::new(alloc, relabel(output, part)?)
 }
 
 /// The parts, each labelled again at the output label.
-pub fn relabelled(alloc: Global, output: &Label, parts: &[Part]) -> Result<Vec<PartRef>, NoMemory>
+pub fn relabelled(alloc: Global, output: &Label, parts: &[Part]) -> Result<Parts, NoMemory>
+    ensures { IfOk result (λ p. p ≡ relabelled output.now parts.now) }
+{
+    if let [part] = parts {
+        return Ok(Parts::one(alloc, relabelled_one(alloc, output, part)?));
+    }
+    Parts::shared(all_relabelled(alloc, output, parts)?)
+}
+
+#[inline(never)]
+fn all_relabelled(alloc: Global, output: &Label, parts: &[Part]) -> Result<Vec<PartRef>, NoMemory>
     ensures { IfOk result (λ v. v.items ≡ relabelled output.now parts.now) }
 {
     let mut relabelled = Vec::with_capacity(alloc, parts.len())?;
     for part in parts {
-        let part = relabel(output, part)?;
-        relabelled.push(PartRef::new(alloc, part)?)?;
+        relabelled.push(relabelled_one(alloc, output, part)?)?;
     }
     Ok(relabelled)
 }

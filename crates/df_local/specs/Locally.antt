@@ -1,5 +1,5 @@
 -- What the calls of a unit make of it.
-use Rattle.std.specs.Prelude.{Bool, true, false, Option, None, Some, ℕ, ◌≡◌, ◌+◌, ⊤, not, ◌&&◌, if◌then◌else◌, nat_le, length, List, [], ◌∷◌}
+use Rattle.std.specs.Prelude.{Bool, true, false, Option, None, Some, ℕ, ◌≡◌, ◌+◌, not, ◌&&◌, if◌then◌else◌, nat_le, length, List, [], ◌∷◌}
 use Rattle.df_label.specs.declared.label.Label.{Label}
 use Rattle.df_label.specs.declared.privilege.Privilege.{Privilege}
 use Rattle.df_unit.specs.declared.call.Call.{Call}
@@ -20,8 +20,6 @@ use Rattle.df_unit.specs.Drafts.{relabelled}
 use Rattle.df_unit.specs.Rows.{at_handle, reply, effect, after, is_accepted, is_nil, subscribed, refused_write, unwritable}
 use Rattle.df_local.specs.declared.close.Close.{Close}
 use Rattle.df_local.specs.declared.close.Close.TheVariants.{Publish, Release}
-use Rattle.df_local.specs.declared.close.EditRefused.{EditRefused}
-use Rattle.df_local.specs.declared.close.EditRefused.TheVariants.{NoSuchHandle, NotDraft, NotReceived, EmptyEvent, CannotWrite, NoMemory}
 use Rattle.df_local.specs.code.LocalState.{LocalState}
 
 -- the unit with another state
@@ -75,10 +73,6 @@ abbrev pub closing : Close → ℕ → Call
 closing Publish h = Call.Publish h
 closing Release h = Call.Release h
 
--- what an edit does: nothing where it is empty
-abbrev pub done_by : Commit → Effect
-done_by c = if is_nil c.edit.0 && is_nil c.edit.1 then Effect.Nothing else Effect.Commit c
-
 -- what a publish of an open handle is answered
 abbrev pub publish_reply : Handle → Reply
 publish_reply d =
@@ -92,36 +86,17 @@ release_reply out d =
 abbrev pub edited : EventName → List Spot → List Part → Commit
 edited event deleted added = record { event = event; edit = (deleted, added) }
 
+-- what a publish of an open handle does
+abbrev pub publish_effect : Label → Handle → Effect
+publish_effect out d = if is_accepted (publish_reply d)
+    then Effect.Commit (edited d.event [] (relabelled out d.drafted)) else Effect.Nothing
+
 -- what the release of an open handle does
-abbrev pub released_by : Label → Handle → Effect
-released_by out d = if is_nil d.named && is_nil d.drafted then Effect.Nothing
+abbrev pub release_effect : Label → Handle → Effect
+release_effect out d = if is_accepted (release_reply out d)
+    then if is_nil d.named && is_nil d.drafted then Effect.Nothing
     else Effect.Commit (edited d.event d.named (relabelled out d.drafted))
-
--- the commit of an open handle: its event, for a view the spots that are named for deletion, and
--- what is drafted
-abbrev pub committed : Close → Label → Handle → Commit
-committed Publish out d = edited d.event [] (relabelled out d.drafted)
-committed Release out d = edited d.event d.named (relabelled out d.drafted)
-
--- the closing call is accepted, the commit is that of the handle, and it is what the call does, if
--- anything
-pub record Commits (how : Close) (h : ℕ) (l : LocalState) (c : Commit) : Type 0 where
-  pub replied : reply l.unit l.own [] (closing how h) ≡ Reply.Ok
-  pub whole : (d : Handle) → handle_at l.own.handles h ≡ Some d → c ≡ committed how l.own.output d
-  pub done : effect l.unit l.own [] (closing how h) ≡ done_by c
-
--- the reply is this refusal; want of memory says nothing of it
-abbrev pub IsRefusal : EditRefused → Reply → Type 0
-IsRefusal NoSuchHandle r = r ≡ Reply.NoSuchHandle
-IsRefusal NotDraft r = r ≡ Reply.NotDraft
-IsRefusal NotReceived r = r ≡ Reply.NotReceived
-IsRefusal EmptyEvent r = r ≡ Reply.EmptyEvent
-IsRefusal (CannotWrite out part) r = r ≡ Reply.CannotWrite out part
-IsRefusal NoMemory r = ⊤
-
--- the closing call is refused in this way
-abbrev pub Refuses : Close → ℕ → LocalState → EditRefused → Type 0
-Refuses how h l e = IsRefusal e (reply l.unit l.own [] (closing how h))
+    else Effect.Nothing
 
 -- whether the call is made of the unit's own state alone and has no effect
 abbrev pub is_alone : Call → Bool

@@ -1,16 +1,16 @@
 //! What a call is answered, before anything moves.
 
-ghost use Rattle.std.specs.Prelude.{◌≡◌, [], false, IfOk, option_copied, option_to_list};
-ghost use Rattle.df_unit.specs.Rows.{effect, is_accepted, reply};
+ghost use Rattle.std.specs.Prelude.{◌≡◌, [], IfOk, option_copied, option_to_list};
+ghost use Rattle.df_unit.specs.Rows.{effect, reply};
 ghost use Rattle.df_unit.specs.declared.call.Call.{Call};
 ghost use Rattle.df_unit.specs.declared.entry.Effect.{Effect};
 ghost use Rattle.df_unit.specs.declared.reply.Reply.{Reply};
-ghost use Rattle.df_local.specs.Locally.{IsRefusal, closing, done_by};
+ghost use Rattle.df_local.specs.Locally.{closing};
 
 use crate::Local;
-use crate::close::{Close, EditRefused};
+use crate::close::{Close, publish_answer, release_answer};
 use df_label::NoMemory;
-use df_unit::{Call, Commit, Effect, Given, Reply};
+use df_unit::{Call, Effect, Given, Reply};
 
 /// What a call is answered, and what it does beyond the unit.
 #[derive(Drop)]
@@ -20,7 +20,7 @@ pub struct Answer {
 }
 
 /// An answer without effect.
-fn quiet(told: Reply) -> Answer
+pub(crate) fn quiet(told: Reply) -> Answer
     ensures { result ≡ record { reply = told; effect = Effect.Nothing } }
 {
     Answer {
@@ -84,37 +84,12 @@ impl Local {
         ensures effect { IfOk result (λ a. a.effect ≡ effect self.now.unit self.now.own []
             (closing how h)) }
     {
-        match self.edit_of(h, how) {
-            Ok(commit) => Ok(Answer {
-                reply: Reply::Ok,
-                effect: done_by(commit),
-            }),
-            Err(refused) => Ok(quiet(refusal(refused)?)),
+        let Some(handle) = self.handles.get(h) else {
+            return Ok(quiet(Reply::NoSuchHandle));
+        };
+        match how {
+            Close::Publish => publish_answer(self.alloc, &self.writing.output, handle),
+            Close::Release => release_answer(self.alloc, &self.writing.output, handle),
         }
-    }
-}
-
-/// What an edit does: nothing where it is empty.
-fn done_by(commit: Commit) -> Effect
-    ensures { result ≡ done_by commit }
-{
-    if commit.edit.deleted().is_empty() && commit.edit.added().is_empty() {
-        return Effect::Nothing;
-    }
-    Effect::Commit(commit)
-}
-
-/// The reply of a refused edit.
-fn refusal(refused: EditRefused) -> Result<Reply, NoMemory>
-    ensures reply { IfOk result (λ r. (s : Reply) → IsRefusal refused s → r ≡ s) }
-    ensures refused { IfOk result (λ r. is_accepted r ≡ false) }
-{
-    match refused {
-        EditRefused::NoSuchHandle => Ok(Reply::NoSuchHandle),
-        EditRefused::NotDraft => Ok(Reply::NotDraft),
-        EditRefused::NotReceived => Ok(Reply::NotReceived),
-        EditRefused::EmptyEvent => Ok(Reply::EmptyEvent),
-        EditRefused::CannotWrite { out, part } => Ok(Reply::CannotWrite { out, part }),
-        EditRefused::NoMemory => Err(NoMemory),
     }
 }

@@ -24,7 +24,7 @@ mod tags;
 mod take;
 
 pub use answer::Answer;
-pub use close::{Close, EditRefused};
+pub use close::Close;
 pub use fixed::Fixed;
 pub use local::Local;
 pub use named_parts::NamedParts;
