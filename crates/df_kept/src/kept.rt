@@ -1,6 +1,6 @@
 //! What is kept of units, by their names.
 
-ghost use Rattle.std.specs.Prelude.{◌≡◌, ◌<◌, ℕ, None, Some, OnErr, OnOk, IfOk, if◌then◌else◌, length, option_copied};
+ghost use Rattle.std.specs.Prelude.{◌≡◌, ◌<◌, ℕ, None, Some, OnErr, OnOk, IfOk, IfSome, if◌then◌else◌, length, option_copied};
 ghost use Rattle.df_roll.specs.Roll.{seat_of};
 ghost use Rattle.df_unit.specs.Name.{same};
 ghost use Rattle.df_unit.specs.declared.name.UnitName.{UnitName};
@@ -50,6 +50,13 @@ impl<V: Drop> Kept<V> {
             Some(place) => self.values.get(place),
             None => None,
         }
+    }
+
+    /// The place at which a value of a unit is kept.
+    pub fn place(&self, name: &UnitName) -> Option<usize>
+        ensures { IfSome result (λ k. IsPlace name.now k self.now) }
+    {
+        self.roll.place(name)
     }
 
     /// Keeps a value in place of the one at a unit's place.
