@@ -13,13 +13,14 @@ use Rattle.df_local_run.specs.RunState.{RunState}
 use Rattle.df_rules.specs.Follows.{Brain, Calls, Last, Replied, Wait, Want}
 use Rattle.df_unit.specs.declared.call.Call.{Call}
 use Rattle.df_unit.specs.declared.entry.Entry.{Entry}
-use Rattle.df_turn.specs.code.Going.{IsAt, IsEnded, IsGoing, IsMade, goes_on, led, now_of, steps_left, steps_made}
+use Rattle.df_turn.specs.code.Going.{IsAnswered, IsAt, IsEnded, IsGoing, IsMade, IsTaken, goes_on, led, now_of, steps_left, steps_made}
 use Rattle.df_turn.specs.Locally.{RunsTo, moved_want, most_local, ready_by, ready_from, told_want, wants_local}
 use Rattle.df_turn.specs.declared.ready.Ready.{Ready}
 use Rattle.df_turn.specs.declared.ready.Ready.TheVariants.{Long}
 use Rattle.df_turn.specs.declared.going.Going.{Going}
 use Rattle.df_turn.specs.declared.stage.Stage.{Stage}
 use Rattle.df_turn.specs.declared.stage.Stage.TheVariants.{Told, Wants}
+use Rattle.df_unit.specs.declared.reply.Reply.{Reply}
 use Rattle.df_turn.proofs.Runs.{led_more, run_more, run_ready}
 
 -- how a turn ends at a stage
@@ -33,6 +34,12 @@ most_is = refl
 
 pub told_pair : {B : Type 0} (x y : B) (l k : Tell) → x ≡ y → l ≡ k → (let p : B × Last = (y, last_of k) in p) ≡ (x, last_of l)
 told_pair x y l k e f = ap (λ v. let p : _ × Last = (v, last_of k) in p) (sym e) ∙ ap (λ (t : Tell). let p : _ × Last = (x, last_of t) in p) (sym f)
+
+-- the call that was wanted is made, once it is answered and taken
+pub made_by : (old new : RunState) (s : Stage) (r : Reply) → IsAnswered old s r → IsTaken old new s → IsMade old new s (Told (told.Reply r))
+made_by old new (Told l) r answered taken = absurd answered
+made_by old new (Wants wish.Wait) r answered taken = absurd answered
+made_by old new (Wants (wish.Call c)) r answered taken = (taken, ap (λ (q : Reply). Told (told.Reply q)) answered)
 
 module _ {B : Type 0} (brain : Brain B) (m : B × Last) where
   -- a turn without calls

@@ -12,7 +12,7 @@ ghost use Rattle.df_unit.specs.declared.entry.Entry.{Entry};
 use crate::mind::Mind;
 use crate::ready::Ready;
 use crate::shared::Shared;
-use crate::stage::{Stage, made};
+use crate::stage::{Stage, reply_to, take};
 use df_brain::{Brain, Last, Want};
 use df_label::NoMemory;
 use df_local::Local;
@@ -104,20 +104,21 @@ impl<B: Brain> Going<B> {
     }
 
     /// Makes the local call that is wanted.
+    #[tactic(auto, using(crate::proofs::Goings::made_by))]
     fn make(&mut self) -> Result<(), NoMemory>
         requires { goes_on self.old.stage ≡ true }
         ensures ok { OnOk result (IsMade self.old.run self.new.run self.old.stage self.new.stage) }
         ensures state { self.new.state ≡ self.old.state }
         ensures unchanged { OnErr result (self.new ≡ self.old) }
     {
-        let stage = mem::replace(&mut self.stage, Stage::Wants(Want::Wait));
-        match made(&mut self.run, stage) {
-            Ok(stage) => {
-                self.stage = stage;
-                Ok(())
-            }
-            Err(stage) => {
-                self.stage = stage;
+        let Ok(reply) = reply_to(&self.run, &self.stage) else {
+            return Err(NoMemory);
+        };
+        let wanted = mem::replace(&mut self.stage, Stage::Told(Last::Reply(reply)));
+        match take(&mut self.run, wanted) {
+            Ok(()) => Ok(()),
+            Err(wanted) => {
+                self.stage = wanted;
                 Err(NoMemory)
             }
         }

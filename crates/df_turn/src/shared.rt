@@ -25,23 +25,6 @@ impl<B: Brain> Model for Shared<B> {
     ghost view = { λ s. arc_value s.state };
 }
 
-/// What is wanted next, and the state that goes on.
-#[derive(Drop)]
-struct Ahead<B: Brain> {
-    state: Shared<B>,
-    want: Want,
-}
-
-/// What is wanted next, where a copy of the state goes on.
-fn ahead_of<B: Brain>(alloc: Global, state: &B, last: &Last) -> Result<Ahead<B>, NoMemory>
-    ensures { IfOk result (λ a. (want_of a.want, a.state) ≡ B.next state.now (last_of last.now)) }
-{
-    let mut state = state.copy()?;
-    let want = state.next(last)?;
-    let state = Shared::new(alloc, state)?;
-    Ok(Ahead { state, want })
-}
-
 impl<B: Brain> Shared<B> {
     /// Lets the state go where there is no memory.
     pub fn new(alloc: Global, state: B) -> Result<Shared<B>, NoMemory>
@@ -83,8 +66,19 @@ impl<B: Brain> Shared<B> {
         if let Some(own) = Arc::get_mut(&mut self.state) {
             return own.next(last);
         }
-        let ahead = ahead_of(alloc, self.state(), last)?;
-        self.state = ahead.state.state;
-        Ok(ahead.want)
+        self.next_apart(alloc, last)
+    }
+
+    /// What is wanted next, where a copy of the state goes on.
+    #[inline(never)]
+    fn next_apart(&mut self, alloc: Global, last: &Last) -> Result<Want, NoMemory>
+        ensures wants { IfOk result (λ w.
+            (want_of w, self.new) ≡ B.next self.old (last_of last.now)) }
+        ensures unchanged { OnErr result (self.new ≡ self.old) }
+    {
+        let mut state = self.state.copy()?;
+        let want = state.next(last)?;
+        self.state = Arc::new(alloc, state)?;
+        Ok(want)
     }
 }

@@ -1,14 +1,12 @@
 //! What a brain does next in a turn.
 
-ghost use Rattle.std.specs.Prelude.{◌≡◌, [], IfErr, IfOk, OnErr, OnOk, true};
-ghost use Rattle.df_local.specs.Locally.{row_answer};
-ghost use Rattle.df_local_run.specs.Runs.{called, is_local};
-ghost use Rattle.df_turn.specs.code.Going.{IsMade, goes_on};
+ghost use Rattle.std.specs.Prelude.{◌≡◌, IfErr, IfOk, OnErr, OnOk, true};
+ghost use Rattle.df_turn.specs.code.Going.{IsAnswered, IsTaken, goes_on};
 
 use df_brain::{Last, Want};
 use df_label::NoMemory;
 use df_local_run::{LocalRun, is_local};
-use df_unit::{Call, Reply};
+use df_unit::Reply;
 
 /// What a brain does next in a turn.
 #[derive(Drop)]
@@ -32,55 +30,31 @@ impl Stage {
     }
 }
 
-/// What a local call is answered.
-fn reply_by(run: &LocalRun, call: &Call) -> Result<Reply, NoMemory>
-    ensures { IfOk result (λ r. r ≡ (row_answer run.now.present [] call.now).0) }
+/// What the local call that is wanted is answered.
+pub(crate) fn reply_to(run: &LocalRun, stage: &Stage) -> Result<Reply, NoMemory>
+    requires { goes_on stage.now ≡ true }
+    ensures { IfOk result (λ r. IsAnswered run.now stage.now r) }
 {
-    let answer = run.present().answer(None, call)?;
-    Ok(answer.reply)
-}
-
-/// Makes a local call, or gives it back where there is no memory.
-fn take(run: &mut LocalRun, call: Call) -> Result<(), Call>
-    requires { is_local call ≡ true }
-    ensures run { OnOk result (run.new ≡ called run.old call) }
-    ensures unchanged { OnErr result (run.new ≡ run.old) }
-    ensures back { IfErr result (λ c. c ≡ call) }
-{
-    match run.call(call) {
-        Ok(()) => Ok(()),
-        Err(refused) => Err(refused.call),
-    }
-}
-
-/// Makes a local call, and answers its reply, or gives it back where there is no memory.
-fn reply_to(run: &mut LocalRun, call: Call) -> Result<Reply, Call>
-    requires { is_local call ≡ true }
-    ensures run { OnOk result (run.new ≡ called run.old call) }
-    ensures reply { IfOk result (λ r. r ≡ (row_answer run.old.present [] call).0) }
-    ensures unchanged { OnErr result (run.new ≡ run.old) }
-    ensures back { IfErr result (λ c. c ≡ call) }
-{
-    let Ok(reply) = reply_by(run, &call) else {
-        return Err(call);
-    };
-    match take(run, call) {
-        Ok(()) => Ok(reply),
-        Err(call) => Err(call),
+    match stage {
+        Stage::Wants(Want::Call(call)) => {
+            let answer = run.present().answer(None, call)?;
+            Ok(answer.reply)
+        }
+        _ => Err(NoMemory),
     }
 }
 
 /// Makes the local call that is wanted, or gives the stage back where there is no memory.
-pub(crate) fn made(run: &mut LocalRun, stage: Stage) -> Result<Stage, Stage>
+pub(crate) fn take(run: &mut LocalRun, stage: Stage) -> Result<(), Stage>
     requires { goes_on stage ≡ true }
-    ensures made { IfOk result (λ s. IsMade run.old run.new stage s) }
+    ensures taken { OnOk result (IsTaken run.old run.new stage) }
     ensures unchanged { OnErr result (run.new ≡ run.old) }
     ensures back { IfErr result (λ s. s ≡ stage) }
 {
     match stage {
-        Stage::Wants(Want::Call(call)) => match reply_to(run, call) {
-            Ok(reply) => Ok(Stage::Told(Last::Reply(reply))),
-            Err(call) => Err(Stage::Wants(Want::Call(call))),
+        Stage::Wants(Want::Call(call)) => match run.call(call) {
+            Ok(()) => Ok(()),
+            Err(refused) => Err(Stage::Wants(Want::Call(refused.call))),
         },
         other => Err(other),
     }

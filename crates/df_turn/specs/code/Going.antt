@@ -13,6 +13,7 @@ use Rattle.df_turn.specs.declared.stage.Stage.{Stage}
 use Rattle.df_turn.specs.declared.stage.Stage.TheVariants.{Told, Wants}
 use Rattle.df_unit.specs.declared.entry.Entry.{Entry}
 use Rattle.df_unit.specs.declared.entry.Entry.TheVariants.{Done, Emitted}
+use Rattle.df_unit.specs.declared.reply.Reply.{Reply as Answer}
 
 -- the brain, once it was told the replies of its entries in turn
 abbrev pub led : {B : Type 0} → Brain B → List Entry → B × Last → B × Last
@@ -24,6 +25,16 @@ led brain (Emitted c ∷ es) m = led brain es m
 abbrev pub goes_on : Stage → Bool
 goes_on (Told l) = true
 goes_on (Wants w) = wants_local (want_of w)
+
+-- what the local call that is wanted is answered
+abbrev pub IsAnswered : RunState → Stage → Answer → Type 0
+IsAnswered run (Wants (Calls c)) r = r ≡ (row_answer run.present [] c).0
+IsAnswered run _ r = ⊥
+
+-- the local call that is wanted is made
+abbrev pub IsTaken : RunState → RunState → Stage → Type 0
+IsTaken old new (Wants (Calls c)) = new ≡ called old c
+IsTaken old new _ = ⊥
 
 -- the call that was wanted is made, and its reply is to be told
 abbrev pub IsMade : RunState → RunState → Stage → Stage → Type 0
