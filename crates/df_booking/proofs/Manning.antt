@@ -10,7 +10,7 @@ use Rattle.df_booking.specs.CrewState.{CrewState, mind_in, want_by, want_in}
 use Rattle.df_booking.specs.Manned.{IsFollowed, IsManned, IsMind, seed_name}
 use Rattle.df_booking.specs.Minds.{mind_from}
 use Rattle.df_booking.specs.code.Renewal.{IsUnderWay, left_by, mind_after, mind_behind, shared_of}
-use Rattle.df_booking.specs.code.Seeding.{IsSeed, IsSeeded, back_of, behind, count_of, next_seed, seed_for, seed_of, seed_of_want, shared_by, shared_by_want}
+use Rattle.df_booking.specs.code.Seeding.{IsSeed, IsSeeded, KeepsAtMost, back_of, behind, count_of, next_seed, seed_for, seed_of, seed_of_want, shared_by, shared_by_want}
 use Rattle.df_booking.specs.Turns.{asked_by, is_local_want, turn_of, turned}
 use Rattle.df_booking.specs.declared.booking.Rest.{Rest}
 use Rattle.df_booking.specs.declared.booking.Rest.TheVariants as rest
@@ -108,19 +108,19 @@ module _ {B : Type 0} (brain : Brain B) (bs : List B) (start : List RootStart) (
           number_in (Managed p k t) = k
 
   -- with room for the unit's brain and for a subscription's the tables still agree
-  pub manned_ready : (kept kept' : KeptState (B × Last)) (begun begun' : KeptState B) → ((n : UnitName) → kept_at n kept' ≡ cond (same u n) (Some m) (kept_at n kept)) →
+  pub manned_ready : (kept kept' : KeptState (B × Last)) (begun begun' : KeptState B) → KeepsAtMost u m kept kept' →
       ((k : UnitName) → (seed_of g.run.present g.stage ≡ Some k → ⊥) → kept_at k begun' ≡ kept_at k begun) → IsManned brain bs kept begun core → IsManned brain bs kept' begun' core
   manned_ready kept kept' begun begun' room seed h = record {
     followed = h.followed;
-    minds = λ n. subst (λ (o : Option (B × Last)). IsMind brain bs core n o) (sym (room n)) (by n (same u n) refl);
+    minds = λ n. by n (room n);
     seeds = λ o n fx k. seed (seed_name o n) (fresh_seed h.followed o n fx k) ∙ h.seeds o n fx k;
     rooted = h.rooted;
   }
     where
-      by : (n : UnitName) (b : Bool) → same u n ≡ b → IsMind brain bs core n (cond b (Some m) (kept_at n kept))
-      by n true e = subst (λ (v : UnitName). IsMind brain bs core v (Some m)) (same_name-exact u n e)
-          (some_is (own rows (firsts start) past u) g.run.base.own (own_of core u g.run.base unit).0, mind)
-      by n false e = h.minds n
+      by : (n : UnitName) → (kept_at n kept' ≡ kept_at n kept) ⊎ ((same u n ≡ true) × (kept_at n kept' ≡ Some m)) → IsMind brain bs core n (kept_at n kept')
+      by n (inl e) = subst (λ (o : Option (B × Last)). IsMind brain bs core n o) (sym e) (h.minds n)
+      by n (inr e) = subst (λ (o : Option (B × Last)). IsMind brain bs core n o) (sym e.1) (subst (λ (v : UnitName). IsMind brain bs core v (Some m)) (same_name-exact u n e.0)
+          (some_is (own rows (firsts start) past u) g.run.base.own (own_of core u g.run.base unit).0, mind))
 
   -- behind a turn without a shared call
   pub manned_alone : (kept kept' : KeptState (B × Last)) (begun : KeptState B) → ((n : UnitName) → kept_at n kept' ≡ cond (same u n) (Some now) (kept_at n kept)) →
@@ -283,6 +283,18 @@ turned_is brain core bs crew view t m g base under followed ended k is =
     (is ∙ sym (turn_booked brain bs core.0 core.1 g.run.base.unit m g under.going under.unit under.mind followed ended))
     ∙ ap (λ (l : LocalState). turned brain l.unit (record { core = core; brains = bs })) base
     ∙ ap (turned brain t.unit.unit) view
+
+-- where this unit's brain is kept, nothing else changes
+pub keeps_one : {B : Type 0} (u : UnitName) (m : B × Last) (old new : KeptState (B × Last)) → ((n : UnitName) → kept_at n new ≡ cond (same u n) (Some m) (kept_at n old)) → KeepsAtMost u m old new
+keeps_one {B} u m old new h n = by (same u n) refl (h n)
+  where
+    by : (b : Bool) → same u n ≡ b → kept_at n new ≡ cond b (Some m) (kept_at n old) → (kept_at n new ≡ kept_at n old) ⊎ ((same u n ≡ true) × (kept_at n new ≡ Some m))
+    by true e k = inr (e, k)
+    by false e k = inl k
+
+-- where nothing changes
+pub keeps_none : {B : Type 0} (u : UnitName) (m : B × Last) (old new : KeptState (B × Last)) → new ≡ old → KeepsAtMost u m old new
+keeps_none u m old new e n = inl (ap (kept_at n) e)
 
 -- what a turn leaves agrees with the journal
 pub manned_booked : {B : Type 0} (brain : Brain B) (bs : List B) (core : State) (m : B × Last) (g : Going B) → IsUnderWay brain bs m g core → (kept kept' : KeptState (B × Last)) (begun : KeptState B) →

@@ -116,6 +116,7 @@ fn book_calls<B: Brain>(core: &mut Core, going: Going<B>, due: bool) -> Result<B
 
 /// Books the local calls of a turn behind which the unit waits. Its brain is the one before the
 /// wait, and known to wait.
+#[inline(never)]
 fn book_rest<B: Brain>(
     alloc: Global,
     core: &mut Core,

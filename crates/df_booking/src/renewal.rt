@@ -1,16 +1,15 @@
 //! What a crew keeps of its units' brains, before and after a turn is booked.
 
-ghost use Rattle.std.specs.Prelude.{◌≡◌, ◌+◌, IfErr, IfOk, IfSome, List, OnErr, OnOk, Some, if◌then◌else◌, length};
+ghost use Rattle.std.specs.Prelude.{◌≡◌, ◌+◌, IfErr, IfOk, IfSome, List, OnErr, OnOk, Some, length};
 ghost use Rattle.std.specs.Option.{option_map};
 ghost use Rattle.df_booking.specs.Manned.{IsManned, seed_name};
 ghost use Rattle.df_booking.specs.code.Renewal.{IsUnderWay, shared_of};
-ghost use Rattle.df_booking.specs.code.Seeding.{IsSeed, IsSeeded, seed_of};
-ghost use Rattle.df_kept.specs.Kept.{IsPlace, kept_at};
+ghost use Rattle.df_booking.specs.code.Seeding.{IsSeed, IsSeeded, KeepsAtMost, seed_of};
+ghost use Rattle.df_kept.specs.Kept.{IsPlace};
 ghost use Rattle.df_machine.specs.Booking.{booked};
 ghost use Rattle.df_machine.specs.Journal.{State, local_of};
 ghost use Rattle.df_rules.specs.Follows.{brain_of};
 ghost use Rattle.df_turn.specs.code.Going.{IsEnded, IsGoing};
-ghost use Rattle.df_unit.specs.Name.{same};
 ghost use Rattle.df_unit.specs.declared.name.UnitName.{UnitName};
 
 use crate::booking::book_going;
@@ -77,18 +76,21 @@ fn seed<B: Brain>(
     Ok(())
 }
 
-/// Keeps a turn's brain as it was, where its unit has its place, which is answered.
+/// Keeps a turn's brain as it was, where none of its unit is kept, and answers the unit's place.
+#[tactic(auto, using(crate::proofs::Manning::keeps_one, crate::proofs::Manning::keeps_none))]
 fn keep<B: Brain>(
     minds: &mut Kept<Mind<B>>,
     base: &Mind<B>,
     name: &UnitName,
 ) -> Result<usize, NoMemory>
-    ensures ok { OnOk result ((n : UnitName) → kept_at n minds.new
-        ≡ (if same name.now n then Some base.now else kept_at n minds.old)) }
+    ensures kept { KeepsAtMost name.now base.now minds.old minds.new }
     ensures place { IfOk result (λ k. IsPlace name.now k minds.new) }
     ensures unchanged { OnErr result (minds.new ≡ minds.old) }
 {
-    minds.put(name, base.share()?)
+    match minds.place(name) {
+        Some(place) => Ok(place),
+        None => minds.put(name, base.share()?),
+    }
 }
 
 /// Room for what a turn makes of its unit's brain, at the place that is answered, and of a

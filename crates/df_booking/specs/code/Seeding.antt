@@ -1,5 +1,5 @@
 -- The brain with which the instances of a subscription begin, before it is made.
-use Rattle.std.specs.Prelude.{◌≡◌, ℕ, Bool, if◌then◌else◌, Option, Some, None}
+use Rattle.std.specs.Prelude.{◌≡◌, ◌⊎◌, ℕ, Bool, true, if◌then◌else◌, Option, Some, None}
 use Rattle.df_brain.specs.Brain.{last_of}
 use Rattle.df_brain.specs.declared.want.Want.{Want}
 use Rattle.df_brain.specs.declared.want.Want.TheVariants as want
@@ -11,6 +11,7 @@ use Rattle.df_local.specs.code.LocalState.{LocalState}
 use Rattle.df_rules.specs.Follows.{Brain, Last, Replied, Start}
 use Rattle.df_turn.specs.declared.stage.Stage.{Stage}
 use Rattle.df_turn.specs.declared.stage.Stage.TheVariants.{Told, Wants}
+use Rattle.df_unit.specs.Name.{same}
 use Rattle.df_unit.specs.declared.call.Call.{Call}
 use Rattle.df_unit.specs.declared.call.Call.TheVariants.{Get, SubscribeManaged}
 use Rattle.df_unit.specs.declared.name.UnitName.{UnitName}
@@ -34,6 +35,12 @@ seed_of_want l want.Wait = None
 abbrev pub seed_of : LocalState → Stage → Option UnitName
 seed_of l (Told t) = None
 seed_of l (Wants w) = seed_of_want l w
+
+-- of each unit what was kept is kept, or of this one this brain
+abbrev pub KeepsAtMost : {B : Type 0} → UnitName → B × Last → KeptState (B × Last) →
+    KeptState (B × Last) → Type 0
+KeepsAtMost u m old new = (n : UnitName) → (kept_at n new ≡ kept_at n old)
+    ⊎ ((same u n ≡ true) × (kept_at n new ≡ Some m))
 
 -- the brain with which its instances are to begin is kept of the subscription
 abbrev pub IsSeed : {B : Type 0} → Brain B → LocalState → Stage → B → KeptState B → Type 0
