@@ -1,7 +1,9 @@
 //! What a turn begins from.
 
-ghost use Rattle.std.specs.Prelude.{◌≡◌, IfOk, false};
+ghost use Rattle.std.specs.Prelude.{◌≡◌, ◌≢◌, Err, IfOk, false};
+ghost use Rattle.df_crew.specs.declared.crew.BeginRefused.TheVariants.{NoSuchUnit};
 
+use crate::crew::BeginRefused;
 use df_brain::Brain;
 use df_label::NoMemory;
 use df_local::Local;
@@ -27,5 +29,28 @@ impl<B: Brain> Base<B> {
     {
         let Base { unit, mind } = self;
         Turn::begin(alloc, unit, mind)
+    }
+}
+
+/// A turn of a unit with this brain. It costs two copies of the unit.
+pub(crate) fn turn_of<B: Brain>(
+    alloc: Global,
+    unit: &Local,
+    mind: Mind<B>,
+) -> Result<Turn<B>, BeginRefused>
+    ensures begun { IfOk result (λ t. t ≡ record {
+      unit = unit.now;
+      state = mind.0;
+      last = mind.1;
+      is_ready = false;
+    }) }
+    ensures exists { result ≢ Err NoSuchUnit }
+{
+    let Ok(own) = unit.copy() else {
+        return Err(BeginRefused::NoMemory);
+    };
+    match Turn::begin(alloc, own, mind) {
+        Ok(turn) => Ok(turn),
+        Err(NoMemory) => Err(BeginRefused::NoMemory),
     }
 }

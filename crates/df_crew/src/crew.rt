@@ -15,7 +15,7 @@ ghost use Rattle.df_unit.specs.Rows.{is_instance};
 ghost use Rattle.df_unit.specs.declared.name.UnitName.{UnitName};
 ghost use Rattle.df_rules.specs.Start.{rows};
 
-use crate::base::Base;
+use crate::base::{Base, turn_of};
 use crate::roster::units;
 use crate::since::has_entry;
 use df_booking::{book_kept, seed_name};
@@ -169,8 +169,11 @@ impl<B: Brain> Crew<B> {
             self.now.core unit.now t) }
         ensures absent { (result ≡ Err NoSuchUnit) ↔ (local_of self.now.core unit.now ≡ None) }
     {
-        match self.base(unit)?.begin(self.alloc) {
-            Ok(turn) => Ok(turn),
+        let Some(local) = self.core.local(unit) else {
+            return Err(BeginRefused::NoSuchUnit);
+        };
+        match self.mind(unit) {
+            Ok(mind) => turn_of(self.alloc, local, mind),
             Err(NoMemory) => Err(BeginRefused::NoMemory),
         }
     }
