@@ -6,7 +6,7 @@ use Rattle.df_value_text.proofs.Names.{tag_text, tags_text, number_at, label_at,
 use Rattle.df_value_text.proofs.Names.{EndsWord}
 use Rattle.df_value_text.specs.ReadValue.{value_at}
 use Rattle.df_value_text.proofs.CountingEnds.{counted_behind}
-use Rattle.df_value_text.proofs.CountingSmall.{walked_few}
+use Rattle.df_value_text.proofs.CountingSteps.{walked_few}
 use Rattle.df_value_text.proofs.LabelLaws.{label_format, privilege_format, tags_end_at}
 use Rattle.df_value_text.proofs.NameLaws.{name_format, name_goes}
 use Rattle.df_value_text.proofs.NumberLaws.{number_format, number_goes}

@@ -2,8 +2,8 @@
 use Rattle.df_value_text.proofs.Names.{◌≡◌, ℕ, zero, suc, ◌+◌, ◌*◌, ◌/◌, ◌%◌, ◌<◌, ◌≤◌, Bool, true, false, cond, List, [], ◌∷◌, ◌++◌, length, Some, None, Ok}
 use Rattle.df_value_text.proofs.Names.{Err, refl, ap, append_assoc, arith, codes, AllByRecursion, flat_map, nat_tests, Bad, Read, ◌>>=◌, decoded, one_at}
 use Rattle.df_value_text.proofs.Names.{many_at, many_of, CanGoOn, IsLocal, Format, never, same_read, nowhere, nowhere_is_local, any_low, fitting, enclosed}
-use Rattle.df_value_text.proofs.Names.{itself, passing, passing_format, chain_at, chain_format, Links, each_format, hex, hex_digit, is_hex, hex_byte}
-use Rattle.df_value_text.proofs.Names.{pairs_at, bytes_at, AreBytes}
+use Rattle.df_value_text.proofs.Names.{itself, passing, passing_format, chain_at, chain_format, Links, each_format, hex, hex_digit, is_hex, hex_byte, pairs_at}
+use Rattle.df_value_text.proofs.Names.{bytes_at, AreBytes}
 use Rattle.df_value_text.specs.ReadBytes.{hex_value}
 
 abbrev pub pairs_text : List ℕ → List ℕ

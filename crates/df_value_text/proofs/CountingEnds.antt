@@ -1,20 +1,21 @@
 -- Behind the whole value nothing counts.
-use Rattle.df_value_text.proofs.Names.{◌≡◌, ℕ, ◌+◌, ◌<◌, ◌≤◌, max, Bool, true, false, cond, List, [], ◌∷◌, ◌++◌, length, take, drop, refl, sym, ap, subst}
-use Rattle.df_value_text.proofs.Names.{◌∙◌, append_assoc, arith, inl, inr, ltb-true, append-nil, length-take-le, is_ascii_digit, goes_on, IsWithinLimits}
-use Rattle.df_value_text.proofs.Names.{Plain, int, node_count, byte_count, depth, value_text, IsSpelled, Place, Walk, closed, closes, walked, start}
-use Rattle.df_value_text.proofs.Names.{counts_of, AreWithin, IsOver, FirstOver, NeverOver}
+use Rattle.df_value_text.proofs.Names.{◌≡◌, ℕ, ◌+◌, ◌<◌, ◌≤◌, max, Bool, true, false, cond, List, [], ◌∷◌, ◌++◌, length, take, drop, refl, sym, ap, subst, ◌∙◌}
+use Rattle.df_value_text.proofs.Names.{append_assoc, arith, inl, inr, ltb-true, append-nil, length-take-le, is_ascii_digit, goes_on, IsWithinLimits, Plain, int}
+use Rattle.df_value_text.proofs.Names.{node_count, byte_count, depth, value_text, IsSpelled, Place, Walk, closed, closes, walked, start, counts_of, AreWithin}
+use Rattle.df_value_text.proofs.Names.{IsOver, FirstOver, NeverOver}
 use Rattle.std.proofs.Common.{ltb}
 use Rattle.std.specs.Prelude.{◌↔◌}
 use Rattle.std.proofs.lemmas.Bool.{ltb-false}
 use Rattle.std.proofs.lemmas.List.{drop-append-le, take-append-drop}
-use Rattle.df_value_text.specs.declared.place.Place.TheVariants as place
+use Rattle.df_frozen.specs.Limits.{most_nodes, most_bytes, most_depth}
 use Rattle.df_value_text.specs.Counting.{AreCountsOf}
 use Rattle.df_value_text.proofs.CountingLaws.{at, Adds, same, passes, walked-append}
 use Rattle.df_value_text.proofs.CountingValues.{ended}
 use Rattle.df_value_text.proofs.CountingFronts.{counted_value, never_over}
+use Rattle.df_value_text.specs.declared.place.Place.TheVariants as place
 
 -- the walk has these counts
-record Counts (w : Walk) (nodes bytes deep : ℕ) : Type 0 where
+pub record Counts (w : Walk) (nodes bytes deep : ℕ) : Type 0 where
   pub nodes_are : w.nodes ≡ nodes
   pub bytes_are : w.bytes ≡ bytes
   pub deep_is : w.deep ≡ deep
@@ -23,24 +24,32 @@ none_closed : (c : ℕ) → closed [] c ≡ []
 none_closed c = elim (closes c) as (λ t. cond t (drop {A = Bool} 1 []) [] ≡ []) [ true ↦ refl | false ↦ refl ]
 
 -- a byte that counts nothing
-still_by : (p q : Place) (c : ℕ) (cs : List ℕ) (n b d : ℕ) → Adds p [] (c ∷ []) q [] 0 0 0 → Counts (walked (at q [] n b d) cs) n b d
-    → Counts (walked (at p [] n b d) (c ∷ cs)) n b d
-still_by p q c cs n b d adds h =
+still_by : (p q : Place) (os : List Bool) (c : ℕ) (cs : List ℕ) (n b d : ℕ) → Adds p os (c ∷ []) q os 0 0 0 → Counts (walked (at q os n b d) cs) n b d
+    → Counts (walked (at p os n b d) (c ∷ cs)) n b d
+still_by p q os c cs n b d adds h =
     subst (λ (w : Walk). Counts (walked w cs) n b d) (sym (adds.run n b d
-    ∙ same q [] (n + 0) (b + 0) (max d 0) n b d (omega arith) (omega arith) (omega arith))) h
+    ∙ same q os (n + 0) (b + 0) (max d 0) n b d (omega arith) (omega arith) (omega arith))) h
 
-done_still : (cs : List ℕ) (n b d : ℕ) → Counts (walked (at place.Done [] n b d) cs) n b d
-done_still [] n b d = record { nodes_are = refl; bytes_are = refl; deep_is = refl }
-done_still (c ∷ cs) n b d = still_by place.Done place.Done c cs n b d (passes refl refl refl refl) (done_still cs n b d)
+pub done_still : (cs : List ℕ) (os : List Bool) (n b d : ℕ) → Counts (walked (at place.Done os n b d) cs) n b d
+done_still [] os n b d = record { nodes_are = refl; bytes_are = refl; deep_is = refl }
+done_still (c ∷ cs) os n b d = still_by place.Done place.Done os c cs n b d (passes refl refl refl refl) (done_still cs os n b d)
 
-ended_still : (p : Plain) (cs : List ℕ) (n b d : ℕ) → Counts (walked (at (ended p) [] n b d) cs) n b d
+pub ended_still : (p : Plain) (cs : List ℕ) (n b d : ℕ) → Counts (walked (at (ended p) [] n b d) cs) n b d
 ended_still p [] n b d = record { nodes_are = refl; bytes_are = refl; deep_is = refl }
 ended_still (int z) (c ∷ cs) n b d = by (ended_still (int z) cs n b d) (is_ascii_digit c) refl
   where
     by : Counts (walked (at place.Number [] n b d) cs) n b d → (t : Bool) → is_ascii_digit c ≡ t → Counts (walked (at place.Number [] n b d) (c ∷ cs)) n b d
-    by rest true e = still_by place.Number place.Number c cs n b d (passes refl (rw e refl) (none_closed c) refl) rest
-    by rest false e = still_by place.Number place.Done c cs n b d (passes refl (rw e refl) (none_closed c) refl) (done_still cs n b d)
-ended_still _ (c ∷ cs) n b d = still_by place.Behind place.Done c cs n b d (passes refl refl (none_closed c) refl) (done_still cs n b d)
+    by rest true e = still_by place.Number place.Number [] c cs n b d (passes refl (rw e refl) (none_closed c) refl) rest
+    by rest false e = still_by place.Number place.Done [] c cs n b d (passes refl (rw e refl) (none_closed c) refl) (done_still cs [] n b d)
+ended_still _ (c ∷ cs) n b d = still_by place.Behind place.Done [] c cs n b d (passes refl refl (none_closed c) refl) (done_still cs [] n b d)
+
+-- a walk whose counts are within the limits
+pub within_still : (w : Walk) (n b d : ℕ) → Counts w n b d → n ≤ most_nodes → b ≤ most_bytes → d ≤ most_depth → AreWithin w
+within_still w n b d h nodes bytes flat = record {
+  nodes = omega (arith, nodes, h.nodes_are);
+  bytes = omega (arith, bytes, h.bytes_are);
+  flat = omega (arith, flat, h.deep_is);
+}
 
 -- what is counted over a value's spelling is what the value has, whatever stands behind it
 pub counted_behind : (p : Plain) → IsSpelled p → (rest : List ℕ) → AreCountsOf p (counts_of (value_text p ++ rest))

@@ -1,11 +1,11 @@
--- Walking on never lowers a count, and counts nothing behind the whole value.
-use Rattle.df_value_text.proofs.Names.{◌≡◌, ℕ, ◌+◌, ◌≤◌, max, Bool, true, false, cond, ◌||◌, eqb, List, [], ◌∷◌, length, drop, refl, sym, ap, subst, ◌∙◌}
-use Rattle.df_value_text.proofs.Names.{arith, ◌⊎◌, inl, inr, nat_tests, told, Plain, node_count, byte_count, depth, value_text, IsSpelled, Place, Walk}
-use Rattle.df_value_text.proofs.Names.{begins, weight, next, nested, closed, closes, walk, walked, start, counts_of, AreWithin, NeverOver}
-use Rattle.df_value_text.specs.declared.place.Place.TheVariants as place
+-- Walking on never lowers a count.
+use Rattle.df_value_text.proofs.Names.{◌≡◌, ℕ, ◌+◌, ◌≤◌, max, Bool, true, false, cond, ◌||◌, eqb, List, [], ◌∷◌, length, drop, refl, sym, ap, subst, ◌∙◌, arith}
+use Rattle.df_value_text.proofs.Names.{◌⊎◌, inl, inr, nat_tests, told, Plain, node_count, byte_count, depth, value_text, IsSpelled, Place, Walk, begins, nested}
+use Rattle.df_value_text.proofs.Names.{closed, closes, walk, walked, start, counts_of, AreWithin, NeverOver}
 use Rattle.df_value_text.specs.Counting.{IsCounted}
 use Rattle.df_value_text.proofs.CountingLaws.{at, same, walked-append}
 use Rattle.df_value_text.proofs.CountingValues.{ended, walked_value}
+use Rattle.df_value_text.specs.declared.place.Place.TheVariants as place
 
 -- what one byte adds
 pub record IsStep (w v : Walk) : Type 0 where
@@ -43,15 +43,6 @@ pub never_over : (bytes : List ℕ) → AreWithin (counts_of bytes) → NeverOve
 never_over bytes h front rest e =
     let all : counts_of bytes ≡ walked (counts_of front) rest = ap (walked start) e ∙ walked-append start front rest in
     within_before (counts_of front) (counts_of bytes) (subst (IsFurther (counts_of front)) (sym all) (walked_on (counts_of front) rest)) h
-
--- behind the whole value nothing counts
-pub done_on : (w : Walk) (cs : List ℕ) → w.place ≡ place.Done → AreWithin w → AreWithin (walked w cs)
-done_on w [] e h = h
-done_on w (c ∷ cs) e h =
-    let stays : next w.place w.brackets c ≡ place.Done = ap (λ (p : Place). next p w.brackets c) e in
-    let none : begins w.place c ≡ false = ap (λ (p : Place). begins p c) e in
-    let light : weight w.place c ≡ 0 = ap (λ (p : Place). weight p c) e in
-    done_on (walk w c) cs stays (record { nodes = rw none h.nodes; bytes = omega (arith, light, h.bytes); flat = rw none h.flat })
 
 -- ---- the counts of a value
 

@@ -1,10 +1,137 @@
--- The search for the first byte by which a count is passed, step by step.
-use Rattle.df_value_text.proofs.Names.{◌≡◌, ℕ, ◌+◌, ◌<◌, ◌≤◌, List, [], ◌∷◌, ◌++◌, length, get_or, drop, sym, ap, subst, ◌∙◌, append_assoc, drop_all, Walk}
-use Rattle.df_value_text.proofs.Names.{walk, walked, start, counts_of, AreWithin, IsOver, FirstOver, NeverOver}
+-- The search for the first byte by which a count is passed, and texts that pass none.
+use Rattle.df_value_text.proofs.Names.{◌≡◌, ℕ, suc, ◌+◌, ◌*◌, ◌<◌, ◌≤◌, max, Bool, true, false, cond, eqb, List, [], ◌∷◌, length, refl, arith, inl, inr}
+use Rattle.df_value_text.proofs.Names.{nat_tests, Place, Walk, character, nested, start, walk, walked, weight, NeverOver, is_hex, is_name_byte, ◌-◌, ◌||◌, ◌++◌}
+use Rattle.df_value_text.proofs.Names.{take, drop, get_or, sym, ap, subst, ◌∙◌, append_assoc, drop-drop, eqb-true, pos, is_ascii_digit, int, words, is_plain}
+use Rattle.df_value_text.proofs.Names.{begins_with, counts_of, AreWithin, drop_all, IsOver, FirstOver}
+use Rattle.df_value_text.specs.code.Short.{open_count, plain_run}
+use Rattle.df_value_text.proofs.CountingFronts.{is_step, brackets_on, nested_low, never_over}
+use Rattle.std.proofs.lemmas.List.{take-append-drop}
+use Rattle.df_frozen.specs.Limits.{most_bytes}
+use Rattle.df_value_text.proofs.CountingEnds.{ended_still, within_still, Counts, done_still}
+use Rattle.df_value_text.proofs.CountingLaws.{Adds, at, joins, nothing, opens, passes, same, walked-append, told as counted}
+use Rattle.df_value_text.proofs.Loops.{behind_it, first_of}
 use Rattle.df_value_text.specs.declared.place.Place.TheVariants as place
-use Rattle.df_value_text.proofs.CountingLaws.{walked-append}
-use Rattle.df_value_text.proofs.CountingFronts.{never_over, done_on}
-use Rattle.df_value_text.proofs.NameSteps.{first_of}
+
+-- ---- a short text that opens few brackets
+
+character_few : (c : ℕ) → character c ≤ 4
+character_few c = grind (arith, nat_tests)
+
+either_few : (b : Bool) (x y : ℕ) → x ≤ 4 → y ≤ 4 → cond b x y ≤ 4
+either_few true x y h k = h
+either_few false x y h k = k
+
+weight_few : (p : Place) (c : ℕ) → weight p c ≤ 4
+weight_few place.Words c = either_few (eqb c 34) 0 (character c) (omega arith) (character_few c)
+weight_few place.Bytes c = either_few (is_hex c) 1 0 (omega arith) (omega arith)
+weight_few place.Name c = either_few (is_name_byte c) 1 0 (omega arith) (omega arith)
+weight_few _ c = omega arith
+
+opens_more : (c : ℕ) (cs : List ℕ) → open_count cs ≤ open_count (c ∷ cs)
+opens_more c cs = elim (brackets_on c) as (λ b. open_count cs ≤ cond b (suc (open_count cs)) (open_count cs)) [ true ↦ omega arith | false ↦ omega arith ]
+
+opens_one : (c : ℕ) (cs : List ℕ) → brackets_on c ≡ true → open_count (c ∷ cs) ≡ suc (open_count cs)
+opens_one c cs h = rw h refl
+
+-- the brackets behind a byte, by those that it opens
+nested_few : (p : Place) (brackets : List Bool) (c : ℕ) (cs : List ℕ) → length (nested p brackets c) + open_count cs ≤ length brackets + open_count (c ∷ cs)
+nested_few p brackets c cs = elim (nested_low p brackets c) [
+  | inl low ↦ omega (arith, low, opens_more c cs)
+  | inr o ↦ omega (arith, o.low, opens_one c cs o.on)
+]
+
+-- what a walk over these bytes counts at most
+pub record IsBounded (w : Walk) (cs : List ℕ) : Type 0 where
+  pub nodes : (walked w cs).nodes ≤ w.nodes + length cs
+  pub bytes : (walked w cs).bytes ≤ w.bytes + 4 * length cs
+  pub deep : (walked w cs).deep ≤ max w.deep (length w.brackets + open_count cs + 1)
+
+pub walked_few : (w : Walk) (cs : List ℕ) → IsBounded w cs
+walked_few w [] = record { nodes = omega arith; bytes = omega arith; deep = omega arith }
+walked_few w (c ∷ cs) =
+    let one = is_step w c in
+    let rest = walked_few (walk w c) cs in
+    let few = weight_few w.place c in
+    let inner = nested_few w.place w.brackets c cs in
+    record {
+      nodes = omega (arith, one.few, rest.nodes);
+      bytes = omega (arith, few, rest.bytes);
+      deep = omega
+          (arith, one.flat, rest.deep, inner, opens_more c cs);
+    }
+
+-- a short text that opens few brackets passes no count
+pub never_small : (bytes : List ℕ) → length bytes ≤ 4096 → open_count bytes < 32 → NeverOver bytes
+never_small bytes short few =
+    let all = walked_few start bytes in
+    never_over bytes (record { nodes = omega (arith, all.nodes); bytes = omega (arith, all.bytes); flat = omega (arith, all.deep) })
+
+-- ---- numbers, and words of few bytes that stand for themselves
+
+-- a number begins with a digit or `-`
+pub never_number : (c : ℕ) (cs : List ℕ) → (is_ascii_digit c || eqb c 45) ≡ true → NeverOver (c ∷ cs)
+never_number c cs h =
+    let first : Adds place.Before [] (c ∷ []) place.Number [] 1 0 1 = opens (grind (arith, nat_tests)) (rw h refl) (grind (arith, nat_tests)) in
+    let still = ended_still (int (pos 0)) cs 1 0 1 in
+    never_over (c ∷ cs) (subst (λ (w : Walk). AreWithin (walked w cs)) (sym (first.run 0 0 0))
+    (within_still (walked (at place.Number [] 1 0 1) cs) 1 0 1 still (omega arith) (omega arith) (omega arith)))
+
+plain_adds : (c : ℕ) → is_plain c ≡ true → Adds place.Words [] (c ∷ []) place.Words [] 0 1 0
+plain_adds c h =
+    let quote : eqb c 34 ≡ false = grind (arith, nat_tests) in
+    let slash : eqb c 92 ≡ false = grind (arith, nat_tests) in
+    let one : character c ≡ 1 = grind (arith, nat_tests) in
+    passes refl (rw (quote, slash) refl) refl (rw quote one)
+
+run_adds : (bytes : List ℕ) → Adds place.Words [] (take (plain_run bytes) bytes) place.Words [] 0 (plain_run bytes) 0
+run_adds [] = nothing place.Words []
+run_adds (c ∷ cs) = by (is_plain c) refl (run_adds cs)
+  where
+    by : (t : Bool) → is_plain c ≡ t → Adds place.Words [] (take (plain_run cs) cs) place.Words [] 0 (plain_run cs) 0
+        → Adds place.Words [] (take (cond t (suc (plain_run cs)) 0) (c ∷ cs)) place.Words [] 0 (cond t (suc (plain_run cs)) 0) 0
+    by true e rest = counted (joins (plain_adds c e) rest) refl (omega arith) refl
+    by false e rest = nothing place.Words []
+
+-- words whose bytes stand for themselves, up to the closing `"`
+words_add : (bytes : List ℕ) → Adds place.Before [] ((34 ∷ take (plain_run bytes) bytes) ++ 34 ∷ []) place.Behind [] 1 (plain_run bytes) 1
+words_add bytes =
+    let first : Adds place.Before [] (34 ∷ []) place.Words [] 1 0 1 = opens refl refl refl in
+    let last : Adds place.Words [] (34 ∷ []) place.Behind [] 0 0 0 = passes refl refl refl refl in
+    counted (joins (joins first (run_adds bytes)) last) refl (omega arith) refl
+
+never_words : (bytes more : List ℕ) → drop (plain_run bytes) bytes ≡ 34 ∷ more → plain_run bytes ≤ most_bytes → NeverOver (34 ∷ bytes)
+never_words bytes more ends few =
+    let run : List ℕ = take (plain_run bytes) bytes in
+    let whole : 34 ∷ bytes ≡ ((34 ∷ run) ++ 34 ∷ []) ++ more =
+    ap (λ (u : List ℕ). 34 ∷ u)
+    (sym (take-append-drop (plain_run bytes) bytes) ∙ ap (λ (u : List ℕ). run ++ u) ends ∙ sym (append_assoc run (34 ∷ []) more)) in
+    let counts : counts_of ((34 ∷ run) ++ 34 ∷ []) ≡ at place.Behind [] 1 (plain_run bytes) 1 = (words_add bytes).run 0 0 0
+    ∙ same place.Behind [] 1 (0 + plain_run bytes) 1 1 (plain_run bytes) 1 refl (omega arith) refl in
+    let all : counts_of (34 ∷ bytes) ≡ walked (at place.Behind [] 1 (plain_run bytes) 1) more = ap counts_of whole
+    ∙ walked-append start ((34 ∷ run) ++ 34 ∷ []) more ∙ ap (λ (w : Walk). walked w more) counts in
+    let still = ended_still (words []) more 1 (plain_run bytes) 1 in
+    never_over (34 ∷ bytes) (subst AreWithin (sym all)
+    (within_still (walked (at place.Behind [] 1 (plain_run bytes) 1) more) 1 (plain_run bytes) 1 still (omega arith) few (omega arith)))
+
+-- few words at a place, up to the `"` at another
+pub few_words : (bytes : List ℕ) (at quote : ℕ) → begins_with 34 (drop at bytes) ≡ true → quote ≡ (at + 1) + plain_run (drop (at + 1) bytes)
+    → begins_with 34 (drop quote bytes) ≡ true → quote - at ≤ most_bytes → NeverOver (drop at bytes)
+few_words bytes at quote opening is closing few =
+    let first = behind_it bytes at 34 opening in
+    let last = behind_it bytes quote 34 closing in
+    let rest : List ℕ = drop (at + 1) bytes in
+    let behind : drop (plain_run rest) rest ≡ drop quote bytes = drop-drop (plain_run rest) (at + 1) bytes ∙ ap (λ (n : ℕ). drop n bytes) (sym is) in
+    let ends : drop (plain_run rest) rest ≡ 34 ∷ drop (quote + 1) bytes = behind ∙ last.1
+    ∙ ap (λ (c : ℕ). c ∷ drop (quote + 1) bytes) (eqb-true last.0 34 last.2) in
+    let text : drop at bytes ≡ 34 ∷ rest = first.1 ∙ ap (λ (c : ℕ). c ∷ rest) (eqb-true first.0 34 first.2) in
+    subst NeverOver (sym text) (never_words rest (drop (quote + 1) bytes) ends (omega (arith, is, few)))
+
+-- a number at a place
+pub number_begins : (bytes : List ℕ) (at : ℕ) → at < length bytes → (is_ascii_digit (get_or bytes at 0) || eqb (get_or bytes at 0) 45) ≡ true
+    → NeverOver (drop at bytes)
+number_begins bytes at lt h = subst NeverOver (sym (first_of bytes at lt)) (never_number (get_or bytes at 0) (drop (at + 1) bytes) h)
+
+-- ---- the search, step by step
 
 -- the walk has come from the one place to the other
 pub record Reached (bytes : List ℕ) (at here : ℕ) (w : Walk) : Type 0 where
@@ -15,7 +142,8 @@ pub record Reached (bytes : List ℕ) (at here : ℕ) (w : Walk) : Type 0 where
 counts_more : (front : List ℕ) (c : ℕ) (w : Walk) → counts_of front ≡ w → counts_of (front ++ c ∷ []) ≡ walk w c
 counts_more front c w e = walked-append start front (c ∷ []) ∙ ap (λ (w : Walk). walk w c) e
 
-pub reached_on : (bytes : List ℕ) (at here : ℕ) (w v : Walk) → here < length bytes → v ≡ walk w (get_or bytes here 0) → Reached bytes at here w → Reached bytes at (here + 1) v
+pub reached_on : (bytes : List ℕ) (at here : ℕ) (w v : Walk) → here < length bytes → v ≡ walk w (get_or bytes here 0) → Reached bytes at here w
+    → Reached bytes at (here + 1) v
 reached_on bytes at here w v lt e r = record {
   front = r.front ++ get_or bytes here 0 ∷ [];
   parts = r.parts ∙ ap (λ (u : List ℕ). r.front ++ u) (first_of bytes here lt) ∙ sym (append_assoc r.front (get_or bytes here 0 ∷ []) (drop (here + 1) bytes));
@@ -23,7 +151,8 @@ reached_on bytes at here w v lt e r = record {
 }
 
 -- the byte here is the first by which a count is passed
-pub reached_over : (bytes : List ℕ) (at here : ℕ) (w v : Walk) → here < length bytes → v ≡ walk w (get_or bytes here 0) → AreWithin w → IsOver v → Reached bytes at here w → FirstOver (drop at bytes) (drop here bytes)
+pub reached_over : (bytes : List ℕ) (at here : ℕ) (w v : Walk) → here < length bytes → v ≡ walk w (get_or bytes here 0) → AreWithin w → IsOver v
+    → Reached bytes at here w → FirstOver (drop at bytes) (drop here bytes)
 reached_over bytes at here w v lt e within over r = record {
   front = r.front;
   first = get_or bytes here 0;
@@ -36,7 +165,8 @@ reached_over bytes at here w v lt e within over r = record {
 
 never_reached : (bytes : List ℕ) (at here : ℕ) (w : Walk) → Reached bytes at here w → AreWithin (walked w (drop here bytes)) → NeverOver (drop at bytes)
 never_reached bytes at here w r h =
-    let all : counts_of (drop at bytes) ≡ walked w (drop here bytes) = ap counts_of r.parts ∙ walked-append start r.front (drop here bytes) ∙ ap (λ (w : Walk). walked w (drop here bytes)) r.is in
+    let all : counts_of (drop at bytes) ≡ walked w (drop here bytes) = ap counts_of r.parts ∙ walked-append start r.front (drop here bytes)
+        ∙ ap (λ (w : Walk). walked w (drop here bytes)) r.is in
     never_over (drop at bytes) (subst AreWithin (sym all) h)
 
 -- the bytes have ended
@@ -46,4 +176,8 @@ never_ended bytes at here w le within r =
 
 -- the value has ended
 pub never_done : (bytes : List ℕ) (at here : ℕ) (w : Walk) → w.place ≡ place.Done → AreWithin w → Reached bytes at here w → NeverOver (drop at bytes)
-never_done bytes at here w e within r = never_reached bytes at here w r (done_on w (drop here bytes) e within)
+never_done bytes begin here w e within r =
+    let rest : List ℕ = drop here bytes in
+    let still = subst (λ (p : Place). Counts (walked (at p w.brackets w.nodes w.bytes w.deep) rest) w.nodes w.bytes w.deep) (sym e)
+    (done_still rest w.brackets w.nodes w.bytes w.deep) in
+    never_reached bytes begin here w r (within_still (walked w rest) w.nodes w.bytes w.deep still within.nodes within.bytes within.flat)

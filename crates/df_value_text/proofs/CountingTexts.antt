@@ -5,11 +5,11 @@ use Rattle.df_value_text.proofs.Names.{signed_decimal, flat_map, list_all, scala
 use Rattle.df_value_text.proofs.Names.{is_name, is_name_byte, is_letter, hex, hex_digit, escaped, is_hex, AreBytes, is_quoted, is_control, IsWhole, is_lead}
 use Rattle.df_value_text.proofs.Names.{trail_length, least_second, most_second, character}
 use Rattle.std.proofs.Math.Utf8.{encode}
-use Rattle.df_value_text.specs.declared.place.Place.TheVariants as place
 use Rattle.df_value_text.proofs.BytesLaws.{digit_is}
 use Rattle.df_value_text.proofs.CharLaws.{IsChar, ascii_small, least_is, most_is, encoded_char}
 use Rattle.df_value_text.proofs.CountingLaws.{Adds, nothing, told, joins, passes, opens}
 use Rattle.df_value_text.proofs.WideLaws.{IsTrail, between_is}
+use Rattle.df_value_text.specs.declared.place.Place.TheVariants as place
 
 -- ---- numbers
 

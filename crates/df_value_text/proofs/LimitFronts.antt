@@ -3,6 +3,7 @@ use Rattle.df_value_text.proofs.Names.{◌≡◌, ℕ, suc, ◌+◌, ◌<◌, �
 use Rattle.df_value_text.proofs.Names.{◌⊎◌, inl, inr, nat_lt, nat_tests, append_cancel_right, CanGoOn, IsLongest, told, goes_on, own, AreWithin, FirstOver}
 use Rattle.df_value_text.proofs.Names.{IsOver, counts_of, IsSpelled, NameStandsLow, value_text, FirstBadValue, FirstLowName, FirstTooLarge, IsWithinBefore}
 use Rattle.std.proofs.lemmas.List.{append_cancel_left}
+use Rattle.df_format.proofs.Longest.{same_split}
 use Rattle.df_value_text.proofs.CountingEnds.{not_both}
 use Rattle.df_value_text.proofs.CountingFronts.{never_over}
 use Rattle.df_value_text.proofs.HigherLaws.{name_size}
@@ -56,23 +57,14 @@ first_too_large text rest here front over lt e on =
     }
 
 -- there is only one first byte over
-nothing_left : (xs ys zs : List ℕ) → xs ≡ zs ++ ys → length xs ≤ length ys → xs ≡ ys
-nothing_left xs ys [] e le = e
-nothing_left xs ys (z ∷ zs) e le = absurd (omega (arith, le, length-append zs ys, ap (λ (u : List ℕ). length u) e))
-
 pub over_once : (text rest other : List ℕ) → FirstOver text rest → FirstOver text other → other ≡ rest
 over_once text rest other over again =
+    let same : again.front ++ other ≡ over.front ++ rest = sym (over_parts text other again) ∙ over_parts text rest over in
     elim (told (nat_lt (length other) (length rest))) [
       | inl h ↦ absurd (over_behind text rest other again.front over (grind (arith, nat_tests)) (over_parts text other again) again.within)
       | inr h ↦ elim (told (nat_lt (length rest) (length other))) [
         | inl k ↦ absurd (over_behind text other rest over.front again (grind (arith, nat_tests)) (over_parts text rest over) over.within)
-        | inr k ↦
-            let le : length rest ≤ length other = grind (arith, nat_tests) in
-            let ge : length other ≤ length rest = grind (arith, nat_tests) in
-            let same : again.front ++ other ≡ over.front ++ rest = sym (over_parts text other again) ∙ over_parts text rest over in
-            let on = goes_on again.front other over.front rest same le in
-            let left : again.front ++ other ≡ again.front ++ (on.0 ++ rest) = same ∙ ap (λ (u : List ℕ). u ++ rest) on.1 ∙ append_assoc again.front on.0 rest in
-            nothing_left other rest on.0 (append_cancel_left again.front other (on.0 ++ rest) left) ge
+        | inr k ↦ (same_split again.front over.front other rest same (grind (arith, nat_tests))).1
       ]
     ]
 
@@ -98,7 +90,7 @@ pub longer_parts : (text front here behind : List ℕ) → text ≡ front ++ her
 longer_parts text front here behind e = ap (λ (u : List ℕ). u ++ behind) e ∙ append_assoc front here behind
 
 -- a bad byte stays bad, whatever stands behind it
-pub bad_longer : (text here behind : List ℕ) → 0 < length here → FirstBadValue text here → FirstBadValue (text ++ behind) (here ++ behind)
+bad_longer : (text here behind : List ℕ) → 0 < length here → FirstBadValue text here → FirstBadValue (text ++ behind) (here ++ behind)
 bad_longer text [] behind lt bad = absurd (omega (arith, lt))
 bad_longer text (c ∷ here) behind lt bad = record {
   front = bad.front;
@@ -164,7 +156,7 @@ low_shorter prev here behind room low =
     }
 
 -- a low name stays low
-pub low_longer : (text here behind : List ℕ) → (behind ≡ []) ⊎ (32 ≤ length here) → FirstLowName text here → FirstLowName (text ++ behind) (here ++ behind)
+low_longer : (text here behind : List ℕ) → (behind ≡ []) ⊎ (32 ≤ length here) → FirstLowName text here → FirstLowName (text ++ behind) (here ++ behind)
 low_longer text here behind room low =
     let stands = low.low.low in
     record {
@@ -187,3 +179,19 @@ low_longer text here behind room low =
         };
       };
     }
+
+-- ---- bad or low
+
+-- a byte here with which no value can go on, or a low name
+abbrev pub Faulty : List ℕ → List ℕ → Type 0
+Faulty text here = FirstBadValue text here ⊎ FirstLowName text here
+
+-- with what stands before it a value can begin
+pub faulty_front : (text here : List ℕ) → Faulty text here → (front : List ℕ) × (text ≡ front ++ here) × CanGoOn value_text IsSpelled front
+faulty_front text here (inl bad) = (bad.front, bad.parts, bad.viable)
+faulty_front text here (inr low) = (low.front, low.parts, low.viable)
+
+pub faulty_longer : (text here behind : List ℕ) → 0 < length here → (behind ≡ []) ⊎ (32 ≤ length here) → Faulty text here
+    → Faulty (text ++ behind) (here ++ behind)
+faulty_longer text here behind lt room (inl bad) = inl (bad_longer text here behind lt bad)
+faulty_longer text here behind lt room (inr low) = inr (low_longer text here behind room low)

@@ -1,23 +1,21 @@
 -- Reading up to the first byte by which a count of freezing is passed, and what it says of all bytes.
-use Rattle.df_value_text.proofs.Names.{◌≡◌, None, Some, ℕ, suc, ◌+◌, ◌<◌, ◌≤◌, List, [], ◌∷◌, ◌++◌, length, length-append, take, drop, Ok, Err, refl, sym, ap}
-use Rattle.df_value_text.proofs.Names.{subst, ◌∙◌, append_assoc, arith, ◌⊎◌, inl, inr, true, nat_le, nat_lt, nat_tests, append-nil, drop_all, length-take-le}
-use Rattle.df_value_text.proofs.Names.{CanGoOn, Stands, Bad, Low, told, IsWithinLimits, Plain, Fails, IsSyntaxAt, refusal, FirstOver, NeverOver, counts_of}
-use Rattle.df_value_text.proofs.Names.{IsSpelled, IsValue, NameStandsLow, LowInValue, value_text, FirstBadValue, FirstLowName, FirstTooLarge, IsWithinBefore}
-use Rattle.df_value_text.proofs.Names.{Fault}
+use Rattle.df_value_text.proofs.Names.{◌≡◌, None, Some, ℕ, suc, ◌+◌, ◌<◌, ◌≤◌, List, [], ◌∷◌, ◌++◌, length, length-append, take, drop, Ok, Err, refl, sym, ap, subst, ◌∙◌}
+use Rattle.df_value_text.proofs.Names.{append_assoc, arith, ◌⊎◌, inl, inr, true, nat_le, nat_lt, nat_tests, append-nil, drop_all, length-take-le, CanGoOn}
+use Rattle.df_value_text.proofs.Names.{Stands, Bad, Low, told, IsWithinLimits, Plain, Fails, IsSyntaxAt, refusal, FirstOver, NeverOver, counts_of, IsSpelled}
+use Rattle.df_value_text.proofs.Names.{IsValue, NameStandsLow, LowInValue, value_text, FirstBadValue, FirstTooLarge, IsWithinBefore, Fault}
 use Rattle.std.proofs.Common.{Result, min}
 use Rattle.std.specs.Result.{result_err}
 use Rattle.std.proofs.lemmas.List.{length-drop}
-use Rattle.df_value_text.specs.code.Answer.{Gives}
 use Rattle.df_value_text.specs.ReadValue.{value_within}
 use Rattle.df_value_text.specs.ValueFault.{IsTooLargeAt, NamesTooLarge, NamesValueFault, NoLowBefore, TellsSyntaxAt, up_to}
-use Rattle.df_value_text.specs.declared.refused.Fault.TheVariants as fault
 use Rattle.df_value_text.specs.declared.refused.TextRefused.{TextRefused}
-use Rattle.df_value_text.specs.declared.refused.TextRefused.TheVariants as refused
 use Rattle.df_value_text.proofs.CountingEnds.{value_within as counted_within, front_whole, not_both, over_inside, value_over}
 use Rattle.df_value_text.proofs.ValueAnswers.{Enough, first_bad_value, first_low_value, no_low_name, stops_low}
 use Rattle.df_value_text.proofs.ValueLaws.{value_format}
 use Rattle.df_value_text.proofs.LimitFronts.{viable_before, with_over, over_length, over_parts, within_in_front, over_behind, first_too_large, over_once}
-use Rattle.df_value_text.proofs.LimitFronts.{over_shorter, longer_parts, bad_longer, inside_of, low_shorter, low_longer}
+use Rattle.df_value_text.proofs.LimitFronts.{Faulty, faulty_front, faulty_longer, over_shorter, longer_parts, inside_of, low_shorter}
+use Rattle.df_value_text.specs.declared.refused.Fault.TheVariants as fault
+use Rattle.df_value_text.specs.declared.refused.TextRefused.TheVariants as refused
 
 -- ---- a value that is over the limits
 
@@ -35,7 +33,8 @@ pub record IsCut (text : List ℕ) (at over end : ℕ) : Type 0 where
   pub room : (end ≡ length text) ⊎ (over + 32 ≤ end)
   pub first : FirstOver (drop at text) (drop over text)
 
-pub is_cut : (text : List ℕ) (at over end : ℕ) → at ≤ length text → over < length text → FirstOver (drop at text) (drop over text) → end ≡ min (length text) (over + 32) → IsCut text at over end
+pub is_cut : (text : List ℕ) (at over end : ℕ) → at ≤ length text → over < length text → FirstOver (drop at text) (drop over text)
+    → end ≡ min (length text) (over + 32) → IsCut text at over end
 is_cut text at over end le lt first e = record {
   start = over_from text at over le lt first;
   before = omega (arith, e, lt);
@@ -44,8 +43,8 @@ is_cut text at over end le lt first e = record {
   first = first;
 }
 
-module _ (text : List ℕ) (at over end : ℕ) (c : IsCut text at over end) where
-  abbrev pub cut : List ℕ
+module _ {text : List ℕ} {at over end : ℕ} (c : IsCut text at over end) where
+  abbrev cut : List ℕ
   cut = take end text
 
   cut_length : length cut ≡ end
@@ -57,22 +56,19 @@ module _ (text : List ℕ) (at over end : ℕ) (c : IsCut text at over end) wher
 
   whole_parts : (front : List ℕ) (n : ℕ) → n ≤ end → drop at cut ≡ front ++ drop n cut → drop at text ≡ front ++ drop n text
   whole_parts front n le e =
-      sym (whole at (omega (arith, c.start, c.before))) ∙ longer_parts (drop at cut) front (drop n cut) (drop end text) e ∙ ap (λ (u : List ℕ). front ++ u) (whole n le)
+      sym (whole at (omega (arith, c.start, c.before))) ∙ longer_parts (drop at cut) front (drop n cut) (drop end text) e
+      ∙ ap (λ (u : List ℕ). front ++ u) (whole n le)
 
   -- the cut goes on in front of its end
   cut_goes : (n : ℕ) → n ≤ over → 0 < length (drop n cut)
   cut_goes n le = omega (arith, le, c.before, length-drop n cut, cut_length)
 
-  further : (n : ℕ) → n ≤ end → over < n → length (drop n text) < length (drop over text)
-  further n le lt = omega (arith, le, lt, c.within, c.before, length-drop n text, length-drop over text)
-
-  no_further : (n : ℕ) → n ≤ over → length (drop over text) ≤ length (drop n text)
-  no_further n le = omega (arith, le, c.within, c.before, length-drop n text, length-drop over text)
-
   -- a value can go on with the byte over, where one does so behind it
-  large_by : (front : List ℕ) (n : ℕ) → n ≤ end → over < n → drop at cut ≡ front ++ drop n cut → CanGoOn value_text IsSpelled front → NamesTooLarge text at (refused.TooLarge over)
+  large_by : (front : List ℕ) (n : ℕ) → n ≤ end → over < n → drop at cut ≡ front ++ drop n cut → CanGoOn value_text IsSpelled front
+      → NamesTooLarge text at (refused.TooLarge over)
   large_by front n le lt e on =
-      (omega (arith, c.before, c.within), first_too_large (drop at text) (drop over text) (drop n text) front c.first (further n le lt) (whole_parts front n le e) on)
+      let further : length (drop n text) < length (drop over text) = omega (arith, le, lt, c.within, c.before, length-drop n text, length-drop over text) in
+      (omega (arith, c.before, c.within), first_too_large (drop at text) (drop over text) (drop n text) front c.first further (whole_parts front n le e) on)
 
   -- where a name begins in front of the byte over, all of it stands in the cut
   name_room : (n : ℕ) → n ≤ over → (drop end text ≡ []) ⊎ (32 ≤ length (drop n cut))
@@ -81,20 +77,16 @@ module _ (text : List ℕ) (at over end : ℕ) (c : IsCut text at over end) wher
     | inr h ↦ inr (omega (arith, h, le, length-drop n cut, cut_length))
   ]
 
-  bad_whole : (n : ℕ) → n ≤ over → FirstBadValue (drop at cut) (drop n cut) → FirstBadValue (drop at text) (drop n text)
-  bad_whole n le bad =
-      let long = bad_longer (drop at cut) (drop n cut) (drop end text) (cut_goes n le) bad in
-      subst (λ (u : List ℕ). FirstBadValue u (drop n text)) (whole at (omega (arith, c.start, c.before)))
-      (subst (λ (u : List ℕ). FirstBadValue (drop at cut ++ drop end text) u) (whole n (omega (arith, le, c.before))) long)
-
-  low_whole : (n : ℕ) → n ≤ over → FirstLowName (drop at cut) (drop n cut) → FirstLowName (drop at text) (drop n text)
-  low_whole n le low =
-      let long = low_longer (drop at cut) (drop n cut) (drop end text) (name_room n le) low in
-      subst (λ (u : List ℕ). FirstLowName u (drop n text)) (whole at (omega (arith, c.start, c.before)))
-      (subst (λ (u : List ℕ). FirstLowName (drop at cut ++ drop end text) u) (whole n (omega (arith, le, c.before))) long)
+  -- what is bad or low in front of the byte over is so in the whole
+  faulty_whole : (n : ℕ) → n ≤ over → Faulty (drop at cut) (drop n cut) → Faulty (drop at text) (drop n text)
+  faulty_whole n le faulty =
+      subst (λ (u : List ℕ). Faulty u (drop n text)) (whole at (omega (arith, c.start, c.before)))
+      (subst (λ (u : List ℕ). Faulty (drop at cut ++ drop end text) u) (whole n (omega (arith, le, c.before)))
+      (faulty_longer (drop at cut) (drop n cut) (drop end text) (cut_goes n le) (name_room n le) faulty))
 
   -- a value that stands in the cut
-  pub value_cut : (p : Plain) (stop : ℕ) → Enough cut at (λ n. (stop ≤ length cut) × (value_within n (drop at cut) ≡ Ok (p, drop stop cut))) → NamesTooLarge text at (refused.TooLarge over)
+  pub value_cut : (p : Plain) (stop : ℕ) → Enough cut at (λ n. (stop ≤ length cut) × (value_within n (drop at cut) ≡ Ok (p, drop stop cut)))
+      → NamesTooLarge text at (refused.TooLarge over)
   value_cut p stop h =
       let n : ℕ = suc (length cut) in
       let read = h n (omega arith) in
@@ -107,31 +99,30 @@ module _ (text : List ℕ) (at over end : ℕ) (c : IsCut text at over end) wher
       large_by (value_text p) stop (omega (arith, read.0, cut_length)) (omega (arith, inside, read.0, length-drop stop cut, length-drop over cut)) f.parts
       (record { some = p; fits = f.fits.0; more = []; is = sym (append-nil (value_text p)) })
 
-  -- a fault in the cut, told where it isn't behind the byte over
-  pub fault_cut : (e : Fault) → Enough cut at (λ n. Fails cut e (value_within n (drop at cut))) → NamesValueFault text at (up_to over e) × NamesTooLarge text at (up_to over e)
+  -- what is bad or low in the cut is told where it isn't behind the byte over
+  told_cut : (place : ℕ) → place ≤ length cut → Faulty (drop at cut) (drop place cut)
+      → NamesValueFault text at (up_to over (fault.Bad place)) × NamesTooLarge text at (up_to over (fault.Bad place))
+  told_cut place below faulty =
+      elim (told (nat_le place over)) [
+        | inl k ↦
+            let le : place ≤ over = grind (arith, nat_tests) in
+            let front : length (drop over text) ≤ length (drop place text) = omega
+                (arith, le, c.within, c.before, length-drop place text, length-drop over text) in
+            rw k ((omega (arith, le, c.before, c.within), faulty_whole place le faulty,
+            within_in_front (drop at text) (drop over text) (drop place text) c.first front), tt)
+        | inr k ↦
+            let lt : over < place = grind (arith, nat_tests) in
+            let f = faulty_front (drop at cut) (drop place cut) faulty in
+            rw k (tt, large_by f.0 place (omega (arith, below, cut_length)) lt f.1 f.2)
+      ]
+
+  pub fault_cut : (e : Fault) → Enough cut at (λ n. Fails cut e (value_within n (drop at cut)))
+      → NamesValueFault text at (up_to over e) × NamesTooLarge text at (up_to over e)
   fault_cut fault.NoMemory h = (tt, tt)
   fault_cut (fault.Bad place) h =
-      let below = (h (suc (length cut)) (omega arith)).0 in
-      let bad = first_bad_value cut at (drop place cut) (λ n lt. (h n lt).1) in
-      elim (told (nat_le place over)) [
-        | inl k ↦
-            let le : place ≤ over = grind (arith, nat_tests) in
-            rw k ((omega (arith, le, c.before, c.within), inl (bad_whole place le bad), within_in_front (drop at text) (drop over text) (drop place text) c.first (no_further place le)), tt)
-        | inr k ↦
-            let lt : over < place = grind (arith, nat_tests) in
-            rw k (tt, large_by bad.front place (omega (arith, below, cut_length)) lt bad.parts bad.viable)
-      ]
+      told_cut place (h (suc (length cut)) (omega arith)).0 (inl (first_bad_value cut at (drop place cut) (λ n lt. (h n lt).1)))
   fault_cut (fault.Low place) h =
-      let below = (h (suc (length cut)) (omega arith)).0 in
-      let low = first_low_value cut at (drop place cut) (λ n lt. (h n lt).1) in
-      elim (told (nat_le place over)) [
-        | inl k ↦
-            let le : place ≤ over = grind (arith, nat_tests) in
-            rw k ((omega (arith, le, c.before, c.within), inr (low_whole place le low), within_in_front (drop at text) (drop over text) (drop place text) c.first (no_further place le)), tt)
-        | inr k ↦
-            let lt : over < place = grind (arith, nat_tests) in
-            rw k (tt, large_by low.front place (omega (arith, below, cut_length)) lt low.parts low.viable)
-      ]
+      told_cut place (h (suc (length cut)) (omega arith)).0 (inr (first_low_value cut at (drop place cut) (λ n lt. (h n lt).1)))
 
   -- a low name in front of which no count is passed is one in the cut
   record LowInCut (rest : List ℕ) : Type 0 where
@@ -147,9 +138,14 @@ module _ (text : List ℕ) (at over end : ℕ) (c : IsCut text at over end) wher
         | inr h ↦
             let long : length (drop over text) ≤ length rest = grind (arith, nat_tests) in
             let short : length (drop end text) ≤ length rest = omega (arith, long, c.before, length-drop end text, length-drop over text) in
-            let parts : drop at cut ++ drop end text ≡ low.0 ++ rest = whole at (omega (arith, c.start, c.before)) ∙ low.1 in
-            let i = inside_of (drop at cut) (drop end text) low.0 rest short parts in
+            let i = inside_of (drop at cut) (drop end text) low.0 rest short (whole at (omega (arith, c.start, c.before)) ∙ low.1) in
             let size : length rest ≡ length i.more + length (drop end text) = ap (λ (u : List ℕ). length u) i.is ∙ length-append i.more (drop end text) in
+            let room : (drop end text ≡ []) ⊎ (32 ≤ length i.more) = elim c.room [
+              | inl k ↦ inl (drop_all end text (omega (arith, k)))
+              | inr k ↦ inr (omega (arith, k, size, long, c.before, c.within, length-drop end text, length-drop over text))
+            ] in
+            let l = low.2 in
+            let stands = low_shorter l.last.0 i.more (drop end text) room (subst (NameStandsLow l.last.0) i.is l.low) in
             record {
               more = i.more;
               is = i.is;
@@ -157,28 +153,14 @@ module _ (text : List ℕ) (at over end : ℕ) (c : IsCut text at over end) wher
               low = (
                 low.0,
                 i.parts,
-                record {
-                  opened = low.2.opened;
-                  are = low.2.are;
-                  es = low.2.es;
-                  last = low.2.last;
-                  other = low.2.other;
-                  may = low.2.may;
-                  is = low.2.is;
-                  low = low_shorter low.2.last.0 i.more (drop end text) (more_room i.more (omega (arith, size, long, c.before, c.within, length-drop end text, length-drop over text))) (subst (NameStandsLow low.2.last.0) i.is low.2.low);
-                },
+                record { opened = l.opened; are = l.are; es = l.es; last = l.last; other = l.other; may = l.may; is = l.is; low = stands },
               );
             }
       ]
-    where
-      more_room : (more : List ℕ) → end ≤ over + length more → (drop end text ≡ []) ⊎ (32 ≤ length more)
-      more_room more le = elim c.room [
-        | inl h ↦ inl (drop_all end text (omega (arith, h)))
-        | inr h ↦ inr (omega (arith, h, le))
-      ]
 
   -- where such a name stands, a fault in the cut is told as its place
-  pub order_cut : (e : Fault) → Enough cut at (λ n. Fails cut e (value_within n (drop at cut))) → (rest : List ℕ) → LowInValue (drop at text) rest → IsWithinBefore (drop at text) rest → TellsSyntaxAt text rest (up_to over e)
+  pub order_cut : (e : Fault) → Enough cut at (λ n. Fails cut e (value_within n (drop at cut))) → (rest : List ℕ) → LowInValue (drop at text) rest
+      → IsWithinBefore (drop at text) rest → TellsSyntaxAt text rest (up_to over e)
   order_cut fault.NoMemory h rest low within = tt
   order_cut (fault.Bad place) h rest low within =
       let l = low_in_cut rest low within in
@@ -188,35 +170,53 @@ module _ (text : List ℕ) (at over end : ℕ) (c : IsCut text at over end) wher
       let l = low_in_cut rest low within in
       let stop : Low (drop place cut) ≡ Low l.more = stops_low cut at (Low (drop place cut)) (λ n lt. (h n lt).1) l.more l.low in
       let same : drop place cut ≡ l.more = cc in
-      let size : length rest ≡ length (drop place cut) + length (drop end text) = ap (λ (u : List ℕ). length u) (l.is ∙ ap (λ (u : List ℕ). u ++ drop end text) (sym same)) ∙ length-append (drop place cut) (drop end text) in
-      let le : place ≤ over = omega (arith, below, size, l.long, c.before, c.within, cut_length, length-drop place cut, length-drop end text, length-drop over text) in
+      let parts : drop place cut ++ drop end text ≡ rest = ap (λ (u : List ℕ). u ++ drop end text) same ∙ sym l.is in
+      let le : place ≤ over = omega (arith, below, ap (λ (u : List ℕ). length u) parts, length-append (drop place cut) (drop end text), l.long, c.before,
+      c.within, cut_length, length-drop place cut, length-drop end text, length-drop over text) in
       let first : nat_le place over ≡ true = grind (arith, nat_tests) in
-      rw first (sym (whole place (omega (arith, le, c.before))) ∙ ap (λ (u : List ℕ). u ++ drop end text) same ∙ sym l.is)
+      rw first (sym (whole place (omega (arith, le, c.before))) ∙ parts)
 
   -- a value isn't read where one stands
-  pub no_low_cut : (p : Plain) (stop : ℕ) → Enough cut at (λ n. (stop ≤ length cut) × (value_within n (drop at cut) ≡ Ok (p, drop stop cut))) → (rest : List ℕ) → LowInValue (drop at text) rest → IsWithinBefore (drop at text) rest → ⊥
-  no_low_cut p stop h rest low within = let l = low_in_cut rest low within in no_low_name cut at (p, drop stop cut) (λ n lt. (h n lt).1) l.more l.low
+  pub no_low_cut : (p : Plain) (stop : ℕ) → Enough cut at (λ n. (stop ≤ length cut) × (value_within n (drop at cut) ≡ Ok (p, drop stop cut)))
+      → (rest : List ℕ) → LowInValue (drop at text) rest → IsWithinBefore (drop at text) rest → ⊥
+  no_low_cut p stop h rest low within =
+      let l = low_in_cut rest low within in no_low_name cut at (p, drop stop cut) (λ n lt. (h n lt).1) l.more l.low
 
 -- ---- all answers
 
+pub ok_by : {X : Type 0} (r : Result X Fault) → result_err r ≡ None → (x : X) × (r ≡ Ok x)
+ok_by (Ok x) e = (x, refl)
+ok_by (Err f) e = absurd cc
+
+pub err_by : {X : Type 0} (r : Result X Fault) (f : Fault) → result_err r ≡ Some f → r ≡ Err f
+err_by (Ok x) f e = absurd cc
+err_by (Err g) f e = let same : g ≡ f = cc in ap (λ (h : Fault). Err h) same
+
 -- where no count is passed, the value that is read may be frozen
-pub read_within : (text : List ℕ) (at end : ℕ) (p : Plain) → NeverOver (drop at text) → Enough text at (λ n. (end ≤ length text) × (value_within n (drop at text) ≡ Ok (p, drop end text))) → IsWithinLimits p
+pub read_within : (text : List ℕ) (at end : ℕ) (p : Plain) → NeverOver (drop at text)
+    → Enough text at (λ n. (end ≤ length text) × (value_within n (drop at text) ≡ Ok (p, drop end text))) → IsWithinLimits p
 read_within text at end p never h =
     let n : ℕ = suc (length text) in
     let f = (value_format n).found (drop at text) p (drop end text) (h n (omega arith)).1 in
     counted_within p f.fits.0 (drop end text) (subst NeverOver f.parts never)
 
 -- where no count is passed, a fault is told as it stands
-pub fault_within : (text : List ℕ) (at : ℕ) (e : Fault) → NeverOver (drop at text) → Enough text at (λ n. Fails text e (value_within n (drop at text))) → NamesValueFault text at (refusal e) × NamesTooLarge text at (refusal e)
+pub fault_within : (text : List ℕ) (at : ℕ) (e : Fault) → NeverOver (drop at text) → Enough text at (λ n. Fails text e (value_within n (drop at text)))
+    → NamesValueFault text at (refusal e) × NamesTooLarge text at (refusal e)
 fault_within text at fault.NoMemory never h = (tt, tt)
-fault_within text at (fault.Bad place) never h = (((h (suc (length text)) (omega arith)).0, inl (first_bad_value text at (drop place text) (λ n lt. (h n lt).1)), λ front e. never front (drop place text) e), tt)
-fault_within text at (fault.Low place) never h = (((h (suc (length text)) (omega arith)).0, inr (first_low_value text at (drop place text) (λ n lt. (h n lt).1)), λ front e. never front (drop place text) e), tt)
+fault_within text at (fault.Bad place) never h = (((h (suc (length text)) (omega arith)).0,
+    inl (first_bad_value text at (drop place text) (λ n lt. (h n lt).1)), λ front e. never front (drop place text) e), tt)
+fault_within text at (fault.Low place) never h = (((h (suc (length text)) (omega arith)).0,
+    inr (first_low_value text at (drop place text) (λ n lt. (h n lt).1)), λ front e. never front (drop place text) e), tt)
 
 -- and a low name is told
-pub order_within : (text : List ℕ) (at : ℕ) (e : Fault) → Enough text at (λ n. Fails text e (value_within n (drop at text))) → (rest : List ℕ) → LowInValue (drop at text) rest → TellsSyntaxAt text rest (refusal e)
+pub order_within : (text : List ℕ) (at : ℕ) (e : Fault) → Enough text at (λ n. Fails text e (value_within n (drop at text))) → (rest : List ℕ)
+    → LowInValue (drop at text) rest → TellsSyntaxAt text rest (refusal e)
 order_within text at fault.NoMemory h rest low = tt
-order_within text at (fault.Bad place) h rest low = absurd (let no : Bad (drop place text) ≡ Low rest = stops_low text at (Bad (drop place text)) (λ n lt. (h n lt).1) rest low in cc)
-order_within text at (fault.Low place) h rest low = let same : Low (drop place text) ≡ Low rest = stops_low text at (Low (drop place text)) (λ n lt. (h n lt).1) rest low in cc
+order_within text at (fault.Bad place) h rest low =
+    absurd (let no : Bad (drop place text) ≡ Low rest = stops_low text at (Bad (drop place text)) (λ n lt. (h n lt).1) rest low in cc)
+order_within text at (fault.Low place) h rest low =
+    let same : Low (drop place text) ≡ Low rest = stops_low text at (Low (drop place text)) (λ n lt. (h n lt).1) rest low in cc
 
 pub syntax_told : (X : Type 0) (text rest : List ℕ) (e : TextRefused) → TellsSyntaxAt text rest e → IsSyntaxAt {X = X} text rest (Err e)
 syntax_told X text rest refused.NoMemory h = tt
@@ -239,17 +239,17 @@ no_bad text rest [] large le bad = let long = over_length text rest large.over i
 no_bad text rest (t ∷ tail) large le bad =
     let over = large.over in
     let long = over_length text rest over in
-    let parts : (bad.front ++ t ∷ []) ++ tail ≡ (over.front ++ over.first ∷ []) ++ over.more = append_assoc bad.front (t ∷ []) tail ∙ sym bad.parts ∙ sym (with_over text rest over) in
+    let parts : (bad.front ++ t ∷ []) ++ tail ≡ (over.front ++ over.first ∷ []) ++ over.more = append_assoc bad.front (t ∷ []) tail ∙ sym bad.parts
+    ∙ sym (with_over text rest over) in
     bad.dead t tail refl (viable_before (bad.front ++ t ∷ []) tail (over.front ++ over.first ∷ []) over.more parts (omega (arith, long, le)) large.viable)
 
 -- a Syntax isn't told where a count is passed
-no_syntax : (text rest here : List ℕ) → FirstTooLarge text rest → NoLowBefore text rest → FirstBadValue text here ⊎ FirstLowName text here → IsWithinBefore text here → ⊥
+no_syntax : (text rest here : List ℕ) → FirstTooLarge text rest → NoLowBefore text rest → Faulty text here → IsWithinBefore text here → ⊥
 no_syntax text rest here large high faulty within =
     elim (told (nat_lt (length here) (length rest))) [
-      | inl h ↦ elim faulty [
-        | inl bad ↦ over_behind text rest here bad.front large.over (grind (arith, nat_tests)) bad.parts (within bad.front bad.parts)
-        | inr low ↦ over_behind text rest here low.front large.over (grind (arith, nat_tests)) low.parts (within low.front low.parts)
-      ]
+      | inl h ↦
+          let f = faulty_front text here faulty in
+          over_behind text rest here f.0 large.over (grind (arith, nat_tests)) f.1 (within f.0 f.1)
       | inr h ↦ elim faulty [
         | inl bad ↦ no_bad text rest here large (grind (arith, nat_tests)) bad
         | inr low ↦ let lt = high here low in absurd (grind (arith, nat_tests))
@@ -257,25 +257,8 @@ no_syntax text rest here large high faulty within =
     ]
 
 -- a fault is told as TooLarge where one is to be told
-pub large_told : (X : Type 0) (text : List ℕ) (at : ℕ) (e : TextRefused) → NamesValueFault text at e → NamesTooLarge text at e → (rest : List ℕ) → FirstTooLarge (drop at text) rest → NoLowBefore (drop at text) rest → IsTooLargeAt {X = X} text rest (Err e)
+pub large_told : (X : Type 0) (text : List ℕ) (at : ℕ) (e : TextRefused) → NamesValueFault text at e → NamesTooLarge text at e → (rest : List ℕ)
+    → FirstTooLarge (drop at text) rest → NoLowBefore (drop at text) rest → IsTooLargeAt {X = X} text rest (Err e)
 large_told X text at refused.NoMemory s t rest large high = tt
 large_told X text at (refused.Syntax place) s t rest large high = no_syntax (drop at text) rest (drop place text) large high s.1 s.2
 large_told X text at (refused.TooLarge place) s t rest large high = over_once (drop at text) rest (drop place text) large.over t.1.over
-
--- ---- what reading the cut gives
-
-pub value_answer : {X : Type 0} (view : X → Plain) (text : List ℕ) (at over end : ℕ) → IsCut text at over end → (read : Result (X × ℕ) Fault) → result_err read ≡ None → Enough (take end text) at (λ n. Gives view (take end text) read (value_within n (drop at (take end text)))) → NamesTooLarge text at (refused.TooLarge over)
-value_answer view text at over end c (Ok x) e h = value_cut text at over end c (view x.0) x.1 h
-value_answer view text at over end c (Err f) e h = absurd cc
-
-pub fault_answer : {X : Type 0} (view : X → Plain) (text : List ℕ) (at over end : ℕ) → IsCut text at over end → (read : Result (X × ℕ) Fault) (f : Fault) → result_err read ≡ Some f → Enough (take end text) at (λ n. Gives view (take end text) read (value_within n (drop at (take end text)))) → NamesValueFault text at (up_to over f) × NamesTooLarge text at (up_to over f)
-fault_answer view text at over end c (Ok x) f e h = absurd cc
-fault_answer view text at over end c (Err g) f e h = let same : g ≡ f = cc in subst (λ (f : Fault). NamesValueFault text at (up_to over f) × NamesTooLarge text at (up_to over f)) same (fault_cut text at over end c g h)
-
-pub value_order : {X : Type 0} (view : X → Plain) (text : List ℕ) (at over end : ℕ) → IsCut text at over end → (read : Result (X × ℕ) Fault) → result_err read ≡ None → Enough (take end text) at (λ n. Gives view (take end text) read (value_within n (drop at (take end text)))) → (rest : List ℕ) → LowInValue (drop at text) rest → IsWithinBefore (drop at text) rest → ⊥
-value_order view text at over end c (Ok x) e h rest low within = no_low_cut text at over end c (view x.0) x.1 h rest low within
-value_order view text at over end c (Err f) e h rest low within = absurd cc
-
-pub fault_order : {X : Type 0} (view : X → Plain) (text : List ℕ) (at over end : ℕ) → IsCut text at over end → (read : Result (X × ℕ) Fault) (f : Fault) → result_err read ≡ Some f → Enough (take end text) at (λ n. Gives view (take end text) read (value_within n (drop at (take end text)))) → (rest : List ℕ) → LowInValue (drop at text) rest → IsWithinBefore (drop at text) rest → TellsSyntaxAt text rest (up_to over f)
-fault_order view text at over end c (Ok x) f e h rest low within = absurd cc
-fault_order view text at over end c (Err g) f e h rest low within = let same : g ≡ f = cc in subst (λ (f : Fault). TellsSyntaxAt text rest (up_to over f)) same (order_cut text at over end c g h rest low within)

@@ -1,9 +1,9 @@
 -- Tags are read as they are spelled.
 use Rattle.df_value_text.proofs.Names.{◌≡◌, ℕ, ◌+◌, ◌-◌, ◌*◌, ◌<◌, Bool, true, false, cond, eqb, List, [], ◌∷◌, ◌++◌, Ok, Err, refl, sym, ap, subst, ◌∙◌}
 use Rattle.df_value_text.proofs.Names.{append_assoc, arith, inl, inr, nat_cmp_is, tied_itself, nat_cmp_total, decimal, nat_cmp, Less, Equal, eqb-true}
-use Rattle.df_value_text.proofs.Names.{nat_tests, Stop, Bad, Low, Read, ◌>>=◌, CanGoOn, IsLongest, Ends, Found, Stuck, IsLocal, Format, ok_is, err_is}
-use Rattle.df_value_text.proofs.Names.{not_both, bind_ok, bind_err, told, chosen, viable_of, LastEnds, last_goes, is_longest, low_as, fitting, tag_cmp}
-use Rattle.df_value_text.proofs.Names.{path_text, tag_text, IsTag, leads_number, longest_at, ended, tag_at}
+use Rattle.df_value_text.proofs.Names.{nat_tests, Stop, Bad, Low, Read, ◌>>=◌, CanGoOn, IsLongest, Ends, Found, Stuck, IsLocal, Format, ok_is, err_is, not_both}
+use Rattle.df_value_text.proofs.Names.{bind_ok, bind_err, told, chosen, viable_of, LastEnds, last_goes, is_longest, low_as, fitting, tag_cmp, path_text}
+use Rattle.df_value_text.proofs.Names.{tag_text, IsTag, leads_number, longest_at, ended, tag_at}
 use Rattle.df_value_text.proofs.NumberLaws.{number_goes, digit_fits, digit_true, decimal_push}
 pub use Rattle.df_format.proofs.Tokens.{nowhere, nowhere_is_local}
 pub use Rattle.df_value_text.proofs.PathLaws.{top, IsShort, short_format, short_shrinks, digit_first, joined_items, behind_byte, LongFound, LongEnds}

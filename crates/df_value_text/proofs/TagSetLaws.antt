@@ -1,16 +1,15 @@
 -- Sets of tags are read as they are spelled.
-use Rattle.df_value_text.proofs.Names.{◌≡◌, ℕ, Bool, true, false, eqb, List, [], ◌∷◌, ◌++◌, Option, Some, None, Ok, refl, sym, ap, ◌∙◌, append_assoc}
-use Rattle.df_value_text.proofs.Names.{length-append, length, arith, decimal, nat_list_cmp_total, Ordering, Less, Equal, Greater, is_lt, eqb-true, nat_tests}
-use Rattle.df_value_text.proofs.Names.{items_at, more_spell, items_spell, maybe_spell, CanGoOn, Ends, IsLocal, Format, Follow, Parts}
-use Rattle.df_value_text.proofs.Names.{ItemsFit, Leads, last_goes, items_goes, items_format, Shrinks, MaybeFits, maybe_goes, maybe_format}
-use Rattle.df_value_text.proofs.Names.{tag_cmp, path_text, tag_text, tags_text, IsTag, AreTags, IsTagSet, StandsLow, IsLowTag, tag_at, next_at}
-use Rattle.df_value_text.proofs.Names.{leads_tag, optional, tags_at}
+use Rattle.df_value_text.proofs.Names.{◌≡◌, ℕ, Bool, true, false, eqb, List, [], ◌∷◌, ◌++◌, Option, Some, None, refl, sym, ap, ◌∙◌, append_assoc, length-append}
+use Rattle.df_value_text.proofs.Names.{length, arith, decimal, nat_list_cmp_total, Ordering, Less, Equal, Greater, is_lt, eqb-true, nat_tests, items_at}
+use Rattle.df_value_text.proofs.Names.{more_spell, items_spell, maybe_spell, CanGoOn, IsLocal, Format, Follow, Parts, ItemsFit, Leads, last_goes, items_goes}
+use Rattle.df_value_text.proofs.Names.{items_format, Shrinks, MaybeFits, maybe_goes, maybe_format, tag_cmp, path_text, tag_text, tags_text, IsTag, AreTags}
+use Rattle.df_value_text.proofs.Names.{IsTagSet, StandsLow, IsLowTag, tag_at, next_at, leads_tag, optional, tags_at}
 use Rattle.df_format.specs.Reading.{maybe_at}
 use Rattle.df_format.proofs.Joins.{as_format}
 use Rattle.df_label.specs.Ascending.{IsAscending}
 use Rattle.df_label.proofs.SetFacts.{below_trans}
 use Rattle.df_label.proofs.TagSetFacts.{tag_cmp_exact}
-use Rattle.df_value_text.proofs.TagLaws.{with_dot, joined_items, tag_goes, tag_format, Judges, judged_found, judged_again, judged_format}
+use Rattle.df_value_text.proofs.TagLaws.{with_dot, joined_items, tag_goes, tag_format, Judges, judged_found, judged_format}
 
 -- ---- a tag above another
 
@@ -35,9 +34,6 @@ above_judges prev fits = record {
   up = λ tag c h l. ap is_lt (nat_list_cmp_total.trans prev tag (l.first ∷ l.others) (is_less (tag_cmp prev tag) h) l.above);
   some = let l = with_dot prev fits in (l.first, l.others, (l.fits, ap is_lt l.above));
 }
-
-pub next_again : (prev tag rest : List ℕ) → AfterTag prev tag → Ends tag_goes tag rest → next_at prev (tag_text tag ++ rest) ≡ Ok (tag, rest)
-next_again prev tag rest after ends = judged_again (is_above prev) tag rest after ends
 
 pub next_format : (prev : List ℕ) → IsTag prev → Format (NearTag prev) tag_text (AfterTag prev) tag_goes (next_at prev)
 next_format prev fits = judged_format (is_above prev) (StandsLow prev) (above_judges prev fits)
@@ -64,7 +60,7 @@ tags_apart (n ∷ ns) h = apart n ns
 pub next_shrinks : (prev : List ℕ) → Shrinks (next_at prev)
 next_shrinks prev bytes tag rest e = omega (arith, ap length (judged_found (is_above prev) bytes tag rest e).parts, length-append (tag_text tag) rest)
 
-tags_parts : Parts NearTag leads_tag 44 tag_text IsTag AfterTag tag_goes next_at
+pub tags_parts : Parts NearTag leads_tag 44 tag_text IsTag AfterTag tag_goes next_at
 tags_parts = record {
   item = next_format;
   shrinks = next_shrinks;

@@ -1,27 +1,26 @@
 -- What reading, with as many levels as a text may need, says of the values that stand in it.
 use Rattle.df_value_text.proofs.Names.{◌≡◌, ℕ, suc, ◌+◌, ◌<◌, ◌≤◌, true, false, List, [], ◌∷◌, ◌++◌, length, drop, Ok, Err, refl, sym, ap, subst, ◌∙◌}
-use Rattle.df_value_text.proofs.Names.{append_assoc, arith, inl, inr, pos, append_cancel_right, Stop, Bad, Low, CanGoOn, Stands, Ends, ok_is, err_is}
-use Rattle.df_value_text.proofs.Names.{not_both, told, can_go_on, IsWithinLimits, Plain, int, words, bytes, items, entries, node_count, Fails, refusal}
-use Rattle.df_value_text.proofs.Names.{IsFound, IsRead, IsSpelled, IsValue, LowInValue, value_text, Fault}
+use Rattle.df_value_text.proofs.Names.{append_assoc, arith, inl, inr, pos, append_cancel_right, Stop, Bad, Low, CanGoOn, Stands, Ends, ok_is, err_is, not_both}
+use Rattle.df_value_text.proofs.Names.{told, can_go_on, IsWithinLimits, Plain, int, words, bytes, items, entries, node_count, Fails, refusal, IsFound, IsRead}
+use Rattle.df_value_text.proofs.Names.{IsSpelled, IsValue, LowInValue, value_text, Fault}
 use Rattle.df_format.specs.Grammar.{FirstBad}
 use Rattle.df_format.specs.Format.{IsViable}
 use Rattle.df_format.proofs.Laws.{viable_map, no_longer}
 use Rattle.df_value_text.specs.ValueFault.{FirstLow}
 use Rattle.df_value_text.specs.OrderNames.{LowWithin}
 use Rattle.df_value_text.specs.ReadValue.{value_within}
-use Rattle.df_value_text.specs.declared.refused.Fault.TheVariants as fault
-use Rattle.df_value_text.specs.declared.refused.TextRefused.TheVariants as refused
-use Rattle.df_value_text.proofs.EntryLaws.{IsLowName}
+use Rattle.df_value_text.proofs.EntryLaws.{IsLowName, LevelFits, nest_few}
 use Rattle.df_value_text.proofs.LowLaws.{low_found, low_read}
-use Rattle.df_value_text.proofs.NestLaws.{nests_more, nests_all, LevelFits}
 use Rattle.df_value_text.proofs.TagLaws.{nowhere, nowhere_is_local}
 use Rattle.df_value_text.proofs.ValueLaws.{value_goes, value_format}
 use Rattle.df_value_text.proofs.WholeLaws.{whole_format}
+use Rattle.df_value_text.specs.declared.refused.Fault.TheVariants as fault
+use Rattle.df_value_text.specs.declared.refused.TextRefused.TheVariants as refused
 
 -- ---- any number of levels that suffices
 
 pub level_fits : (p : Plain) (n : ℕ) → node_count p ≤ n → IsSpelled p → LevelFits n p
-level_fits p n le fits = (fits, nests_more p (node_count p) n le (nests_all p))
+level_fits p n le fits = (fits, omega (arith, le, nest_few p))
 
 level_on : (n : ℕ) (front : List ℕ) → (on : CanGoOn value_text IsSpelled front) → node_count on.some ≤ n → CanGoOn value_text (LevelFits n) front
 level_on n front on le = record { some = on.some; fits = level_fits on.some n le on.fits; more = on.more; is = on.is }
@@ -30,7 +29,8 @@ level_on n front on le = record { some = on.some; fits = level_fits on.some n le
 pub value_ends : (p : Plain) (c : ℕ) → IsSpelled p → value_goes p c ≡ false → CanGoOn value_text IsSpelled (value_text p ++ c ∷ []) → ⊥
 value_ends p c fits g on =
     let n : ℕ = node_count p + node_count on.some in
-    no_longer IsLowName value_text (LevelFits n) value_goes (value_within n) (value_format n) p c (level_fits p n (omega arith) fits) g (level_on n (value_text p ++ c ∷ []) on (omega arith))
+    no_longer IsLowName value_text (LevelFits n) value_goes (value_within n) (value_format n) p c (level_fits p n (omega arith) fits) g
+        (level_on n (value_text p ++ c ∷ []) on (omega arith))
 
 -- what goes on is a number, and a longer one is within the limits too
 value_on : (p : Plain) (c : ℕ) → IsSpelled p → value_goes p c ≡ true → CanGoOn value_text IsValue (value_text p ++ c ∷ [])
@@ -42,7 +42,8 @@ value_on (bytes s) c fits g = absurd (let no_end : false ≡ true = g in cc)
 value_on (items ps) c fits g = absurd (let no_end : false ≡ true = g in cc)
 value_on (entries es) c fits g = absurd (let no_end : false ≡ true = g in cc)
 
-stands_ends : (p : Plain) (rest : List ℕ) → IsSpelled p → ((c : ℕ) (tail : List ℕ) → rest ≡ c ∷ tail → CanGoOn value_text IsValue (value_text p ++ c ∷ []) → ⊥) → Ends value_goes p rest
+stands_ends : (p : Plain) (rest : List ℕ) → IsSpelled p
+    → ((c : ℕ) (tail : List ℕ) → rest ≡ c ∷ tail → CanGoOn value_text IsValue (value_text p ++ c ∷ []) → ⊥) → Ends value_goes p rest
 stands_ends p [] fits ends = tt
 stands_ends p (c ∷ rest) fits ends = elim (told (value_goes p c)) [ inl h ↦ absurd (ends c rest refl (value_on p c fits h)) | inr h ↦ h ]
 
@@ -51,14 +52,16 @@ value_read n text p rest le s = ap (value_within n) s.parts ∙ (value_format n)
 
 -- ---- a value that is read
 
-pub found_value : (n : ℕ) (text : List ℕ) (at end : ℕ) (p q : Plain) → q ≡ p → IsWithinLimits p → (end ≤ length text) × (value_within n (drop at text) ≡ Ok (p, drop end text)) → IsFound value_text IsValue text at (q, end)
+pub found_value : (n : ℕ) (text : List ℕ) (at end : ℕ) (p q : Plain) → q ≡ p → IsWithinLimits p
+    → (end ≤ length text) × (value_within n (drop at text) ≡ Ok (p, drop end text)) → IsFound value_text IsValue text at (q, end)
 found_value n text at end p q is limits h =
     let f = (value_format n).found (drop at text) p (drop end text) h.1 in (
       h.0,
       subst (λ (r : Plain). Stands value_text IsValue (drop at text) r (drop end text)) (sym is) (record {
         parts = f.parts;
         fits = (f.fits.0, limits);
-        ends = λ c tail same on. value_ends p c f.fits.0 (subst (Ends value_goes p) same f.ends) (record { some = on.some; fits = on.fits.0; more = on.more; is = on.is });
+        ends = λ c tail same on. value_ends p c f.fits.0 (subst (Ends value_goes p) same f.ends)
+            (record { some = on.some; fits = on.fits.0; more = on.more; is = on.is });
       }),
     )
 
@@ -66,7 +69,8 @@ found_value n text at end p q is limits h =
 abbrev pub Enough : (text : List ℕ) → ℕ → (ℕ → Type 0) → Type 0
 Enough text at P = (n : ℕ) → length text < at + n → P n
 
-same_value : (text : List ℕ) (at end : ℕ) (p : Plain) → Enough text at (λ n. (end ≤ length text) × (value_within n (drop at text) ≡ Ok (p, drop end text))) → (y : Plain) (rest : List ℕ) → Stands value_text IsValue (drop at text) y rest → (p ≡ y) × (drop end text ≡ rest)
+same_value : (text : List ℕ) (at end : ℕ) (p : Plain) → Enough text at (λ n. (end ≤ length text) × (value_within n (drop at text) ≡ Ok (p, drop end text)))
+    → (y : Plain) (rest : List ℕ) → Stands value_text IsValue (drop at text) y rest → (p ≡ y) × (drop end text ≡ rest)
 same_value text at end p h y rest s =
     let n : ℕ = suc (length text) + node_count y in
     let read = (h n (omega arith)).1 in
@@ -74,10 +78,13 @@ same_value text at end p h y rest s =
     let both = ok_is here (y, rest) (sym read ∙ value_read n (drop at text) y rest (omega arith) s) in
     (ap (λ (q : Plain × List ℕ). q.0) both, ap (λ (q : Plain × List ℕ). q.1) both)
 
-pub only_value : (text : List ℕ) (at end : ℕ) (p q : Plain) → q ≡ p → Enough text at (λ n. (end ≤ length text) × (value_within n (drop at text) ≡ Ok (p, drop end text))) → (y : Plain) (rest : List ℕ) → Stands value_text IsValue (drop at text) y rest → IsRead text y rest (Ok (q, end))
+pub only_value : (text : List ℕ) (at end : ℕ) (p q : Plain) → q ≡ p
+    → Enough text at (λ n. (end ≤ length text) × (value_within n (drop at text) ≡ Ok (p, drop end text))) → (y : Plain) (rest : List ℕ)
+    → Stands value_text IsValue (drop at text) y rest → IsRead text y rest (Ok (q, end))
 only_value text at end p q is h y rest s = let same = same_value text at end p h y rest s in (is ∙ same.0, same.1)
 
-pub only_fault : (text : List ℕ) (at : ℕ) (e : Fault) → Enough text at (λ n. Fails text e (value_within n (drop at text))) → (y : Plain) (rest : List ℕ) → Stands value_text IsValue (drop at text) y rest → refusal e ≡ refused.NoMemory
+pub only_fault : (text : List ℕ) (at : ℕ) (e : Fault) → Enough text at (λ n. Fails text e (value_within n (drop at text))) → (y : Plain) (rest : List ℕ)
+    → Stands value_text IsValue (drop at text) y rest → refusal e ≡ refused.NoMemory
 only_fault text at fault.NoMemory h y rest s = refl
 only_fault text at (fault.Bad place) h y rest s =
     let n : ℕ = suc (length text) + node_count y in
@@ -96,7 +103,8 @@ spelled_on n front v =
     can_go_on value_text IsSpelled (int (pos 0)) zero_fits front
     (viable_map value_text (LevelFits n) value_text IsSpelled front (λ on. record { some = on.some; fits = on.fits.0; more = on.more; is = on.is }) v)
 
-pub first_bad_value : (text : List ℕ) (at : ℕ) (rest : List ℕ) → Enough text at (λ n. value_within n (drop at text) ≡ Err (Bad rest)) → FirstBad value_text IsSpelled (drop at text) rest
+pub first_bad_value : (text : List ℕ) (at : ℕ) (rest : List ℕ) → Enough text at (λ n. value_within n (drop at text) ≡ Err (Bad rest))
+    → FirstBad value_text IsSpelled (drop at text) rest
 first_bad_value text at rest h =
     let m : ℕ = suc (length text) in
     let s = (value_format m).stuck (drop at text) (Bad rest) (h m (omega arith)) in
@@ -108,13 +116,17 @@ first_bad_value text at rest h =
           let n : ℕ = suc (length text) + node_count on.some in
           let k = (value_format n).stuck (drop at text) (Bad rest) (h n (omega arith)) in
           let same : k.front ≡ s.front = append_cancel_right k.front s.front rest (sym k.parts ∙ s.parts) in
-          let stays : value_within n (s.front ++ c ∷ (on.more ++ [])) ≡ Err (Bad (c ∷ (on.more ++ []))) = subst (λ (u : List ℕ). value_within n (u ++ c ∷ (on.more ++ [])) ≡ Err (Bad (c ∷ (on.more ++ [])))) same (k.cause c tail is (on.more ++ [])) in
-          let whole : value_text on.some ++ [] ≡ s.front ++ c ∷ (on.more ++ []) = ap (λ (u : List ℕ). u ++ []) on.is ∙ append_assoc (s.front ++ c ∷ []) on.more [] ∙ append_assoc s.front (c ∷ []) (on.more ++ []) in
-          let good : value_within n (value_text on.some ++ []) ≡ Ok (on.some, []) = (value_format n).again on.some [] (level_fits on.some n (omega arith) on.fits) tt in
+          let stays : value_within n (s.front ++ c ∷ (on.more ++ [])) ≡ Err (Bad (c ∷ (on.more ++ []))) = subst
+              (λ (u : List ℕ). value_within n (u ++ c ∷ (on.more ++ [])) ≡ Err (Bad (c ∷ (on.more ++ [])))) same (k.cause c tail is (on.more ++ [])) in
+          let whole : value_text on.some ++ [] ≡ s.front ++ c ∷ (on.more ++ []) = ap (λ (u : List ℕ). u ++ []) on.is
+              ∙ append_assoc (s.front ++ c ∷ []) on.more [] ∙ append_assoc s.front (c ∷ []) (on.more ++ []) in
+          let good : value_within n (value_text on.some ++ []) ≡ Ok (on.some, []) = (value_format n).again on.some []
+              (level_fits on.some n (omega arith) on.fits) tt in
           not_both (on.some, []) (Bad (c ∷ (on.more ++ []))) (sym good ∙ ap (value_within n) whole ∙ stays);
     }
 
-pub first_low_value : (text : List ℕ) (at : ℕ) (rest : List ℕ) → Enough text at (λ n. value_within n (drop at text) ≡ Err (Low rest)) → FirstLow LowWithin value_text IsSpelled (drop at text) rest
+pub first_low_value : (text : List ℕ) (at : ℕ) (rest : List ℕ) → Enough text at (λ n. value_within n (drop at text) ≡ Err (Low rest))
+    → FirstLow LowWithin value_text IsSpelled (drop at text) rest
 first_low_value text at rest h =
     let m : ℕ = suc (length text) in
     let s = (value_format m).stuck (drop at text) (Low rest) (h m (omega arith)) in
@@ -125,14 +137,16 @@ first_low_value text at rest h =
 -- ---- a low name
 
 -- where a value is read, none stands
-pub no_low_name : (text : List ℕ) (at : ℕ) (x : Plain × List ℕ) → Enough text at (λ n. value_within n (drop at text) ≡ Ok x) → (rest : List ℕ) → LowInValue (drop at text) rest → ⊥
+pub no_low_name : (text : List ℕ) (at : ℕ) (x : Plain × List ℕ) → Enough text at (λ n. value_within n (drop at text) ≡ Ok x) → (rest : List ℕ)
+    → LowInValue (drop at text) rest → ⊥
 no_low_name text at x h rest low =
     let l = low_read (drop at text) rest low in
     let n : ℕ = suc (length text) + l.0 in
     not_both x (Low rest) (sym (h n (omega arith)) ∙ l.1 n (omega arith))
 
 -- where reading stops, it does so there
-pub stops_low : (text : List ℕ) (at : ℕ) (stop : Stop ℕ) → Enough text at (λ n. value_within n (drop at text) ≡ Err stop) → (rest : List ℕ) → LowInValue (drop at text) rest → stop ≡ Low rest
+pub stops_low : (text : List ℕ) (at : ℕ) (stop : Stop ℕ) → Enough text at (λ n. value_within n (drop at text) ≡ Err stop) → (rest : List ℕ)
+    → LowInValue (drop at text) rest → stop ≡ Low rest
 stops_low text at stop h rest low =
     let l = low_read (drop at text) rest low in
     let n : ℕ = suc (length text) + l.0 in

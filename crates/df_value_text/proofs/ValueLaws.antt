@@ -1,16 +1,15 @@
 -- Values are read as they are spelled.
-use Rattle.df_value_text.proofs.Names.{◌≡◌, ℕ, zero, suc, ◌<◌, Bool, true, false, eqb, List, [], ◌∷◌, ◌++◌, refl, sym, ap, subst, append_assoc, arith, ◌⊎◌}
-use Rattle.df_value_text.proofs.Names.{inl, inr, ℤ, pos, negsuc, IsUtf8, codes, decimal, flat_map, eqb-true, nat_tests, Read, behind_at, Format, Begins}
-use Rattle.df_value_text.proofs.Names.{Parts, Leads, last_goes, items_format, format_shrinks, Shrinks, Of, made, led, fitting, either_of, is_letter, Plain}
-use Rattle.df_value_text.proofs.Names.{int, words, bytes, items, entries, from_list, from_pairs, IsSpelled, AreBytes, IsWhole, leads_value, list_of, list_at}
+use Rattle.df_value_text.proofs.Names.{◌≡◌, ℕ, zero, suc, ◌<◌, Bool, true, false, eqb, List, [], ◌∷◌, ◌++◌, refl, sym, ap, subst, append_assoc, arith, ◌⊎◌, inl}
+use Rattle.df_value_text.proofs.Names.{inr, ℤ, pos, negsuc, IsUtf8, codes, decimal, flat_map, eqb-true, nat_tests, Read, behind_at, Format, IsLocal, Begins}
+use Rattle.df_value_text.proofs.Names.{Parts, Leads, last_goes, items_format, format_shrinks, Shrinks, Of, made, led, fitting, either_of, is_letter, Plain, int}
+use Rattle.df_value_text.proofs.Names.{words, bytes, items, entries, from_list, from_pairs, IsSpelled, AreBytes, IsWhole, leads_value, list_of, list_at}
 use Rattle.df_value_text.proofs.Names.{leads_entry, next_entry_at, map_of, map_at, leaf_at, node_at, escaped, hex, value_text, items_text, entries_text}
 use Rattle.df_value_text.proofs.Names.{entry_text}
 use Rattle.df_value_text.specs.ReadValue.{value_within}
 use Rattle.df_value_text.proofs.BytesLaws.{bytes_format}
-use Rattle.df_value_text.proofs.EndedLaws.{Chain, ended_format}
-use Rattle.df_value_text.proofs.EntryLaws.{IsLowName, low_is_local, entries_parts, entries_format}
+use Rattle.df_value_text.proofs.EntryLaws.{Chain, ended_format, IsLowName, low_is_local, entries_parts, entries_format, LevelFits, LevelEntry, LevelAfter}
+use Rattle.df_value_text.proofs.EntryLaws.{items_to, items_from, entries_to, entries_from}
 use Rattle.df_value_text.proofs.NameLaws.{IsName}
-use Rattle.df_value_text.proofs.NestLaws.{LevelFits, LevelEntry, LevelAfter, items_to, items_from, entries_to, entries_from}
 use Rattle.df_value_text.proofs.NumberLaws.{no_digit_begins}
 use Rattle.df_value_text.proofs.Values.{items_text-joined, entries_text-joined}
 use Rattle.df_value_text.proofs.WholeLaws.{whole_format}
@@ -57,25 +56,25 @@ scalar_opens : (p : Plain) → IsScalar p → OpensBy 34 false p
 scalar_opens p (inl h) = opens_of 34 false (λ s k. bytes_open 34 false s refl) p h
 scalar_opens p (inr h) = opens_of 34 false (λ z k. int_opens 34 (inl (omega arith)) z k) p h
 
-leaf_format : Format IsLowName value_text IsLeaf value_goes leaf_at
-leaf_format =
-    either_of (λ c. eqb c 34) (made words (words_format IsLowName low_is_local) (λ s h. refl) (λ s c h. refl))
-    (either_of (λ c. eqb c 120) (made bytes (bytes_format IsLowName low_is_local) (λ s h. refl) (λ s c h. refl))
-    (made int (whole_format IsLowName low_is_local) (λ z h. refl) (λ z c h. refl))
+pub leaf_format : (IsLow : List ℕ → List ℕ → Type 0) → IsLocal IsLow → Format IsLow value_text IsLeaf value_goes leaf_at
+leaf_format IsLow moved =
+    either_of (λ c. eqb c 34) (made words (words_format IsLow moved) (λ s h. refl) (λ s c h. refl))
+    (either_of (λ c. eqb c 120) (made bytes (bytes_format IsLow moved) (λ s h. refl) (λ s c h. refl))
+    (made int (whole_format IsLow moved) (λ z h. refl) (λ z c h. refl))
     (opens_of 120 true (λ s k. bytes_open 120 true s refl)) (opens_of 120 false (int_opens 120 (inr (omega arith)))))
     (opens_of 34 true (λ s k. words_open 34 true s refl)) scalar_opens
 
 -- a leaf is what nests in no list or map
 leaf_level : (n : ℕ) (p : Plain) → IsLeaf p → LevelFits n p
-leaf_level n p (inl h) = subst (LevelFits n) h.2 (h.1, tt)
-leaf_level n p (inr (inl h)) = subst (LevelFits n) h.2 (h.1, tt)
-leaf_level n p (inr (inr h)) = subst (LevelFits n) h.2 (h.1, tt)
+leaf_level n p (inl h) = subst (LevelFits n) h.2 (h.1, omega arith)
+leaf_level n p (inr (inl h)) = subst (LevelFits n) h.2 (h.1, omega arith)
+leaf_level n p (inr (inr h)) = subst (LevelFits n) h.2 (h.1, omega arith)
 
 level_leaf : (p : Plain) → LevelFits 0 p → IsLeaf p
 level_leaf (words s) h = inl (s, h.0, refl)
 level_leaf (bytes s) h = inr (inl (s, h.0, refl))
 level_leaf (int z) h = inr (inr (z, h.0, refl))
-level_leaf _ h = absurd h.1
+level_leaf _ h = absurd (omega (arith, h.1))
 
 -- ---- lists and maps
 
@@ -87,15 +86,15 @@ IsMapOf n p = Of map_of (Chain (LevelEntry n) (LevelAfter n)) p
 
 -- what one level has is a list, a map or a leaf
 level_kinds : (n : ℕ) (p : Plain) → LevelFits (suc n) p → IsListOf n p ⊎ (IsMapOf n p ⊎ IsLeaf p)
-level_kinds n (items ps) h = let r = items_from n ps h.0 h.1 in inl (r.0, r.1, ap items r.2)
-level_kinds n (entries es) h = let r = entries_from n es h.0 h.1 in inr (inl (r.0, r.1, ap entries r.2))
+level_kinds n (items ps) h = let r = items_from n ps h.0 (omega (arith, h.1)) in inl (r.0, r.1, ap items r.2)
+level_kinds n (entries es) h = let r = entries_from n es h.0 (omega (arith, h.1)) in inr (inl (r.0, r.1, ap entries r.2))
 level_kinds n (words s) h = inr (inr (inl (s, h.0, refl)))
 level_kinds n (bytes s) h = inr (inr (inr (inl (s, h.0, refl))))
 level_kinds n (int z) h = inr (inr (inr (inr (z, h.0, refl))))
 
 kinds_level : (n : ℕ) (p : Plain) → (IsListOf n p ⊎ (IsMapOf n p ⊎ IsLeaf p)) → LevelFits (suc n) p
-kinds_level n p (inl h) = subst (LevelFits (suc n)) h.2 (items_to n h.0 h.1)
-kinds_level n p (inr (inl h)) = subst (LevelFits (suc n)) h.2 (entries_to n h.0 h.1)
+kinds_level n p (inl h) = let r = items_to n h.0 h.1 in subst (LevelFits (suc n)) h.2 (r.0, omega (arith, r.1))
+kinds_level n p (inr (inl h)) = let r = entries_to n h.0 h.1 in subst (LevelFits (suc n)) h.2 (r.0, omega (arith, r.1))
 kinds_level n p (inr (inr h)) = leaf_level (suc n) p h
 
 list_opens : (n w : ℕ) (to : Bool) → eqb 91 w ≡ to → (p : Plain) → IsListOf n p → OpensBy w to p
@@ -172,12 +171,12 @@ module _ (n : ℕ) (inner : List ℕ → Read ℕ Plain) (f : Format IsLowName v
   node_format =
       fitting (kinds_level n) (level_kinds n)
       (either_of (λ c. eqb c 91) list_format
-      (either_of (λ c. eqb c 40) map_format leaf_format (map_opens n 40 true refl) (leaf_opens 40 (inl (omega arith)) refl refl))
+      (either_of (λ c. eqb c 40) map_format (leaf_format IsLowName low_is_local) (map_opens n 40 true refl) (leaf_opens 40 (inl (omega arith)) refl refl))
       (list_opens n 91 true refl) (others_open n))
 
 pub value_format : (n : ℕ) → Format IsLowName value_text (LevelFits n) value_goes (value_within n)
 unfolding value_within
-value_format zero = fitting (leaf_level 0) level_leaf leaf_format
+value_format zero = fitting (leaf_level 0) level_leaf (leaf_format IsLowName low_is_local)
 value_format (suc n) = node_format n (value_within n) (value_format n)
 
 pub value_shrinks : (n : ℕ) → Shrinks (value_within n)

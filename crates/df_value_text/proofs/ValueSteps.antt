@@ -1,11 +1,62 @@
 -- The reader of values, step by step.
-use Rattle.df_value_text.proofs.Names.{◌≡◌, ℕ, zero, suc, ◌+◌, ◌<◌, ◌≤◌, Bool, true, false, ◌&&◌, List, [], ◌∷◌, ◌++◌, length, drop, Ok, Err, refl, sym, ap}
-use Rattle.df_value_text.proofs.Names.{◌∙◌, arith, not, and_parts, Stop, Bad, Read, ◌>>=◌, then_at, as_at, text_at, closed_at, more_of, items_at, with_front}
-use Rattle.df_value_text.proofs.Names.{Shrinks, item_read, item_failed, no_more, Plain, begins_with, listed, ended_at, leads_value, list_at, is_greatest}
-use Rattle.df_value_text.proofs.Names.{leads_entry, map_at, leaf_at, node_at}
+use Rattle.df_value_text.proofs.Names.{◌≡◌, ℕ, List, [], ◌∷◌, ◌++◌, Some, refl, sym, ap, ◌∙◌, nat_list_cmp_total, Less, Greater, name_cmp, Plain, items}
+use Rattle.df_value_text.proofs.Names.{entries, item, entry, from_list, from_pairs, zero, suc, ◌+◌, ◌<◌, ◌≤◌, Bool, true, false, ◌&&◌, length, drop, Ok, Err}
+use Rattle.df_value_text.proofs.Names.{arith, not, and_parts, Stop, Bad, Read, then_at, as_at, text_at, closed_at, items_at, begins_with, listed, either_at}
+use Rattle.df_value_text.proofs.Names.{behind_at, ended_at, entry_at, next_entry_at, leads_value, list_at, list_of, is_greatest, leads_entry, map_at, map_of}
+use Rattle.df_value_text.proofs.Names.{leaf_at}
+use Rattle.std.specs.Ordering.{ordering_reverse}
+use Rattle.df_frozen.specs.Place.{push_item, put_entry, push_at, put_at}
+use Rattle.std.specs.Prelude.{◌==◌}
 use Rattle.df_value_text.specs.ReadValue.{value_within}
-use Rattle.df_value_text.proofs.Loops.{drop_first, items_read, items_stop}
-use Rattle.df_value_text.proofs.TagSteps.{behind_it}
+use Rattle.df_value_text.proofs.Loops.{LedTo, drop_first, behind_it, either_behind}
+
+-- ---- one more value in a list, and one more entry in a map
+
+push_last : (ps : List Plain) (p : Plain) → push_item p (from_list ps) ≡ from_list (ps ++ p ∷ [])
+push_last [] p = refl
+push_last (q ∷ ps) p = ap (item q) (push_last ps p)
+
+-- the list with the value behind the others
+pub pushed : (ps : List Plain) (p old new : Plain) → old ≡ items (from_list ps) → push_at [] p old ≡ Some new → new ≡ items (from_list (ps ++ p ∷ []))
+pushed ps p old new is e =
+    let here : Some (items (push_item p (from_list ps))) ≡ Some new = ap (push_at [] p) (sym is) ∙ e in
+    let same : items (push_item p (from_list ps)) ≡ new = cc in
+    sym same ∙ ap items (push_last ps p)
+
+-- each of the names is below this one
+abbrev AreBelow : List (List ℕ × Plain) → List ℕ → Type 0
+AreBelow [] name = Unit {0}
+AreBelow (e ∷ es) name = (name_cmp e.0 name ≡ Less) × AreBelow es name
+
+-- each of the names is below what is above this one
+abbrev pub AreUpTo : List (List ℕ × Plain) → List ℕ → Type 0
+AreUpTo es last = (name : List ℕ) → name_cmp last name ≡ Less → AreBelow es name
+
+over : (a b : List ℕ) → name_cmp a b ≡ Less → name_cmp b a ≡ Greater
+over a b e = nat_list_cmp_total.antisymm b a ∙ ap ordering_reverse e
+
+put_last : (es : List (List ℕ × Plain)) (name : List ℕ) (p : Plain) → AreBelow es name → put_entry name p (from_pairs es) ≡ from_pairs (es ++ (name, p) ∷ [])
+put_last [] name p h = refl
+put_last (e ∷ es) name p h = rw (over e.0 name h.0) (ap (entry e.0 e.1) (put_last es name p h.1))
+
+-- the map with the entry behind the others
+pub put_behind : (es : List (List ℕ × Plain)) (name : List ℕ) (p old new : Plain) → AreBelow es name → old ≡ entries (from_pairs es)
+    → put_at [] name p old ≡ Some new → new ≡ entries (from_pairs (es ++ (name, p) ∷ []))
+put_behind es name p old new below is e =
+    let here : Some (entries (put_entry name p (from_pairs es))) ≡ Some new = ap (put_at [] name p) (sym is) ∙ e in
+    let same : entries (put_entry name p (from_pairs es)) ≡ new = cc in
+    sym same ∙ ap entries (put_last es name p below)
+
+pub up_to_one : (name : List ℕ) (p : Plain) → AreUpTo ((name, p) ∷ []) name
+up_to_one name p = λ other less. (less, tt)
+
+pub up_to_more : (es : List (List ℕ × Plain)) (last name : List ℕ) (p : Plain) → AreUpTo es last → name_cmp last name ≡ Less
+    → AreUpTo (es ++ (name, p) ∷ []) name
+up_to_more es last name p up less = λ other above. behind es other (up other (nat_list_cmp_total.trans last name other less above)) above
+  where
+    behind : (es : List (List ℕ × Plain)) (other : List ℕ) → AreBelow es other → name_cmp name other ≡ Less → AreBelow (es ++ (name, p) ∷ []) other
+    behind [] other h above = (above, tt)
+    behind (e ∷ es) other h above = (h.0, behind es other h.1 above)
 
 pub within_empty : (n : ℕ) → value_within n [] ≡ Err (Bad [])
 unfolding value_within
@@ -23,17 +74,26 @@ pub record Opened (read : (List ℕ → Read ℕ Plain) → List ℕ → Read �
 pub opened_list : (n : ℕ) (text : List ℕ) (at : ℕ) → at ≤ length text → length text < at + n → begins_with 91 (drop at text) ≡ true → Opened list_at n text at
 unfolding value_within
 opened_list zero text at le lt h = absurd (omega (arith, le, lt))
-opened_list (suc n) text at le lt h =
-    let b = behind_it text at 91 h in
-    record { levels = n; is = refl; same = ap (node_at (value_within n)) b.1 ∙ rw (b.2) refl }
+opened_list (suc n) text at le lt h = record {
+  levels = n;
+  is = refl;
+  same = either_behind 91 (list_at (value_within n)) (either_at (λ c. c == 40) (behind_at (40 ∷ []) (map_at (value_within n))) leaf_at) text at h;
+}
 
-pub opened_map : (n : ℕ) (text : List ℕ) (at : ℕ) → at ≤ length text → length text < at + n → begins_with 91 (drop at text) ≡ false → begins_with 40 (drop at text) ≡ true → Opened map_at n text at
+no_list : (n : ℕ) (text : List ℕ) → begins_with 91 text ≡ false
+    → value_within (suc n) text ≡ either_at (λ c. c == 40) (behind_at (40 ∷ []) (map_at (value_within n))) leaf_at text
 unfolding value_within
+no_list n [] h = refl
+no_list n (c ∷ cs) h = rw h refl
+
+pub opened_map : (n : ℕ) (text : List ℕ) (at : ℕ) → at ≤ length text → length text < at + n → begins_with 91 (drop at text) ≡ false
+    → begins_with 40 (drop at text) ≡ true → Opened map_at n text at
 opened_map zero text at le lt other h = absurd (omega (arith, le, lt))
-opened_map (suc n) text at le lt other h =
-    let b = behind_it text at 40 h in
-    let differs = ap (begins_with 91) (sym b.1) ∙ other in
-    record { levels = n; is = refl; same = ap (node_at (value_within n)) b.1 ∙ rw (differs, b.2) refl }
+opened_map (suc n) text at le lt other h = record {
+  levels = n;
+  is = refl;
+  same = no_list n (drop at text) other ∙ either_behind 40 (map_at (value_within n)) leaf_at text at h;
+}
 
 pub leaf_same : (n : ℕ) (text : List ℕ) → begins_with 91 text ≡ false → begins_with 40 text ≡ false → value_within n text ≡ leaf_at text
 unfolding value_within
@@ -42,89 +102,72 @@ leaf_same (suc n) [] h k = refl
 leaf_same (suc n) (c ∷ cs) h k = rw (h, k) refl
 
 -- one thing and then another
-pub both_read : {X Y : Type 0} (first : List ℕ → Read ℕ X) (second : List ℕ → Read ℕ Y) (text behind rest : List ℕ) (x : X) (y : Y) → first text ≡ Ok (x, behind) → second behind ≡ Ok (y, rest) → then_at first second text ≡ Ok ((x, y), rest)
+pub both_read : {X Y : Type 0} (first : List ℕ → Read ℕ X) (second : List ℕ → Read ℕ Y) (text behind rest : List ℕ) (x : X) (y : Y)
+    → first text ≡ Ok (x, behind) → second behind ≡ Ok (y, rest) → then_at first second text ≡ Ok ((x, y), rest)
 both_read first second text behind rest x y e e' = rw (e, e') refl
 
 -- ---- items in front of a closing byte
 
-abbrev kept : {X : Type 0} → X → List ℕ × List ℕ → Read ℕ X
-kept x h = Ok (x, h.1)
+-- what is read so, and what is made of it
+pub record Kind (X : Type 0) : Type 0 where
+  pub make : List X → Plain
+  pub last : ℕ
+  pub leads : X → ℕ → List ℕ → Bool
+  pub first : List ℕ → Read ℕ X
+  pub next : X → List ℕ → Read ℕ X
+  pub empty : first [] ≡ Err (Bad [])
 
-abbrev closing : {X : Type 0} → ℕ → X × List ℕ → Read ℕ X
-closing last x = text_at (last ∷ []) x.1 >>= kept x.0
+abbrev pub a_list : ℕ → Kind Plain
+a_list n = record {
+  make = list_of; last = 93; leads = leads_value; first = value_within n; next = λ prev. value_within n; empty = within_empty n;
+}
 
-some_is : {X : Type 0} (last : ℕ) (read : List ℕ → Read ℕ (X × List X)) (text : List ℕ) → begins_with last text ≡ false → read [] ≡ Err (Bad []) → ended_at last read text ≡ closed_at (last ∷ []) (as_at listed read) text
-some_is last read [] h e = rw e refl
-some_is last read (c ∷ cs) h e = rw h refl
+abbrev pub a_map : ℕ → Kind (List ℕ × Plain)
+a_map n = record {
+  make = map_of; last = 41; leads = leads_entry; first = entry_at (value_within n); next = λ prev. next_entry_at (value_within n) prev.0; empty = refl;
+}
 
--- what leads on to another item
-pub record LedTo {X : Type 0} (leads : X → ℕ → List ℕ → Bool) (prev : X) (text : List ℕ) (place : ℕ) : Type 0 where
-  pub first : ℕ
-  pub is : drop place text ≡ first ∷ drop (place + 1) text
-  pub leads_on : leads prev first (drop (place + 1) text) ≡ true
+-- the items, and what stands behind them
+abbrev pub all_in : {X : Type 0} → Kind X → List ℕ → Read ℕ (List X)
+all_in k text = as_at listed (items_at k.leads k.first k.next) text
 
-module _ {X : Type 0} (make : List X → Plain) (last : ℕ) (leads : X → ℕ → List ℕ → Bool) (first : List ℕ → Read ℕ X) (next : X → List ℕ → Read ℕ X) (empty : first [] ≡ Err (Bad [])) where
-  abbrev pub inside : List ℕ → Read ℕ Plain
-  inside text = as_at make (ended_at last (items_at leads first next)) text
+module _ {X : Type 0} (k : Kind X) where
+  abbrev inside : List ℕ → Read ℕ Plain
+  inside text = as_at k.make (ended_at k.last (items_at k.leads k.first k.next)) text
 
-  abbrev made : List X × List ℕ → Read ℕ Plain
-  made xs = Ok (make xs.0, xs.1)
+  some_is : (text : List ℕ) → begins_with k.last text ≡ false → ended_at k.last (items_at k.leads k.first k.next) text ≡ closed_at (k.last ∷ []) (all_in k) text
+  some_is [] h = rw (k.empty) refl
+  some_is (c ∷ cs) h = rw h refl
 
-  pub none_made : (text : List ℕ) (at : ℕ) → begins_with last (drop at text) ≡ true → inside (drop at text) ≡ Ok (make [], drop (at + 1) text)
-  none_made text at h = let b = behind_it text at last h in ap inside b.1 ∙ rw (b.2) refl
+  pub none_made : (text : List ℕ) (at : ℕ) → begins_with k.last (drop at text) ≡ true → inside (drop at text) ≡ Ok (k.make [], drop (at + 1) text)
+  none_made text at h = let b = behind_it text at k.last h in ap inside b.1 ∙ rw (b.2) refl
 
-  items_empty : items_at leads first next [] ≡ Err (Bad [])
-  items_empty = rw empty refl
+  pub inside_stops : (text : List ℕ) → begins_with k.last text ≡ false → (stop : Stop ℕ) → all_in k text ≡ Err stop → inside text ≡ Err stop
+  inside_stops text h stop e = rw (some_is text h, e) refl
 
-  pub first_stops : (text : List ℕ) (stop : Stop ℕ) → begins_with last text ≡ false → first text ≡ Err stop → inside text ≡ Err stop
-  first_stops text stop h e = ap (λ r. r >>= made) (some_is last (items_at leads first next) text h items_empty) ∙ rw e refl
+  pub first_stops : (text : List ℕ) → begins_with k.last text ≡ false → (stop : Stop ℕ) → k.first text ≡ Err stop → inside text ≡ Err stop
+  first_stops text h stop e = inside_stops text h stop (rw e refl)
 
-  inside_stops : (text : List ℕ) (stop : Stop ℕ) → begins_with last text ≡ false → as_at listed (items_at leads first next) text ≡ Err stop → inside text ≡ Err stop
-  inside_stops text stop h e = ap (λ r. r >>= made) (some_is last (items_at leads first next) text h items_empty) ∙ ap (λ r. (r >>= closing last) >>= made) e
+  pub closing_stops : (text rest : List ℕ) (all : List X) → begins_with k.last text ≡ false → all_in k text ≡ Ok (all, rest)
+      → (stop : Stop ℕ) → text_at (k.last ∷ []) rest ≡ Err stop → inside text ≡ Err stop
+  closing_stops text rest all h e stop closing = rw (some_is text h, e, closing) refl
 
-  pub next_stops : ((prev : X) → Shrinks (next prev)) → (text : List ℕ) (at start place : ℕ) (x prev : X) (all : List X) (stop : Stop ℕ) → begins_with last (drop at text) ≡ false → first (drop at text) ≡ Ok (x, drop start text) → LedTo leads prev text place
-      → with_front all (more_of leads next prev (drop place text)) ≡ with_front (x ∷ []) (more_of leads next x (drop start text)) → next prev (drop (place + 1) text) ≡ Err stop → inside (drop at text) ≡ Err stop
-  next_stops shrinks text at start place x prev all stop h one l so_far e =
-      inside_stops (drop at text) stop h (items_stop leads first next (drop at text) (drop start text) x stop one
-      (item_failed leads next shrinks all prev (drop place text) l.first (drop (place + 1) text) stop _ l.is l.leads_on e so_far))
-
-  items_done : (text : List ℕ) (at start place : ℕ) (x prev : X) (all : List X) → first (drop at text) ≡ Ok (x, drop start text) → ((c : ℕ) (cs : List ℕ) → drop place text ≡ c ∷ cs → leads prev c cs ≡ false)
-      → with_front all (more_of leads next prev (drop place text)) ≡ with_front (x ∷ []) (more_of leads next x (drop start text)) → as_at listed (items_at leads first next) (drop at text) ≡ Ok (all, drop place text)
-  items_done text at start place x prev all one over so_far =
-      items_read leads first next (drop at text) (drop start text) (drop place text) x all one (no_more leads next all prev (drop place text) _ over so_far)
-
-  pub closing_stops : (text : List ℕ) (at start place : ℕ) (x prev : X) (all : List X) (stop : Stop ℕ) → begins_with last (drop at text) ≡ false → first (drop at text) ≡ Ok (x, drop start text) → ((c : ℕ) (cs : List ℕ) → drop place text ≡ c ∷ cs → leads prev c cs ≡ false)
-      → with_front all (more_of leads next prev (drop place text)) ≡ with_front (x ∷ []) (more_of leads next x (drop start text)) → text_at (last ∷ []) (drop place text) ≡ Err stop → inside (drop at text) ≡ Err stop
-  closing_stops text at start place x prev all stop h one over so_far e =
-      ap (λ r. r >>= made) (some_is last (items_at leads first next) (drop at text) h items_empty)
-      ∙ ap (λ r. (r >>= closing last) >>= made) (items_done text at start place x prev all one over so_far) ∙ ap (λ r. (r >>= kept all) >>= made) e
-
-  pub inside_reads : (text : List ℕ) (at start place end : ℕ) (x prev : X) (all : List X) (w : List ℕ) → begins_with last (drop at text) ≡ false → first (drop at text) ≡ Ok (x, drop start text) → ((c : ℕ) (cs : List ℕ) → drop place text ≡ c ∷ cs → leads prev c cs ≡ false)
-      → with_front all (more_of leads next prev (drop place text)) ≡ with_front (x ∷ []) (more_of leads next x (drop start text)) → text_at (last ∷ []) (drop place text) ≡ Ok (w, drop end text) → inside (drop at text) ≡ Ok (make all, drop end text)
-  inside_reads text at start place end x prev all w h one over so_far e =
-      ap (λ r. r >>= made) (some_is last (items_at leads first next) (drop at text) h items_empty)
-      ∙ ap (λ r. (r >>= closing last) >>= made) (items_done text at start place x prev all one over so_far) ∙ ap (λ r. (r >>= kept all) >>= made) e
-
-  pub item_behind : ((prev : X) → Shrinks (next prev)) → (text : List ℕ) (place after : ℕ) (prev x : X) (all : List X) (total : Read ℕ (List X)) → LedTo leads prev text place → next prev (drop (place + 1) text) ≡ Ok (x, drop after text)
-      → with_front all (more_of leads next prev (drop place text)) ≡ total → with_front (all ++ x ∷ []) (more_of leads next x (drop after text)) ≡ total
-  item_behind shrinks text place after prev x all total l e so_far = item_read leads next shrinks all prev x (drop place text) l.first (drop (place + 1) text) (drop after text) total l.is l.leads_on e so_far
+  pub inside_reads : (text rest behind : List ℕ) (all : List X) (w : List ℕ) → begins_with k.last text ≡ false → all_in k text ≡ Ok (all, rest)
+      → text_at (k.last ∷ []) rest ≡ Ok (w, behind) → inside text ≡ Ok (k.make all, behind)
+  inside_reads text rest behind all w h e closing = rw (some_is text h, e, closing) refl
 
 -- ---- commas
 
-pub value_led : (prev : Plain) (text : List ℕ) (place : ℕ) → begins_with 44 (drop place text) ≡ true → LedTo leads_value prev text place
-value_led prev text place h = let b = behind_it text place 44 h in record { first = b.0; is = b.1; leads_on = b.2 }
-
-pub value_last : (prev : Plain) (text : List ℕ) (place : ℕ) → begins_with 44 (drop place text) ≡ false → (c : ℕ) (cs : List ℕ) → drop place text ≡ c ∷ cs → leads_value prev c cs ≡ false
-value_last prev text place h c cs is = ap (begins_with 44) (sym is) ∙ h
-
-pub entry_led : (name : List ℕ) (p : Plain) (text : List ℕ) (place : ℕ) → (begins_with 44 (drop place text) && not (is_greatest name)) ≡ true → LedTo leads_entry (name, p) text place
+pub entry_led : (name : List ℕ) (p : Plain) (text : List ℕ) (place : ℕ) → (begins_with 44 (drop place text) && not (is_greatest name)) ≡ true
+    → LedTo leads_entry (name, p) text place
 entry_led name p text place h =
     let a = and_parts (begins_with 44 (drop place text)) (not (is_greatest name)) h in
     let b = behind_it text place 44 (a.0) in
     record { first = b.0; is = b.1; leads_on = rw (b.2, a.1) refl }
 
-pub entry_last : (name : List ℕ) (p : Plain) (text : List ℕ) (place : ℕ) → (begins_with 44 (drop place text) && not (is_greatest name)) ≡ false → (c : ℕ) (cs : List ℕ) → drop place text ≡ c ∷ cs → leads_entry (name, p) c cs ≡ false
-entry_last name p text place h c cs is = ap (λ (u : List ℕ). begins_with 44 u && not (is_greatest name)) (sym is) ∙ h
+pub entry_last : (name : List ℕ) (p : Plain) (text : List ℕ) → (begins_with 44 text && not (is_greatest name)) ≡ false
+    → (c : ℕ) (cs : List ℕ) → text ≡ c ∷ cs → leads_entry (name, p) c cs ≡ false
+entry_last name p text h c cs is = ap (λ (u : List ℕ). begins_with 44 u && not (is_greatest name)) (sym is) ∙ h
 
 -- a byte that stands at a place takes some place
 pub begins_within : (text : List ℕ) (place byte : ℕ) → begins_with byte (drop place text) ≡ true → place + 1 ≤ length text

@@ -15,11 +15,14 @@ entries_text-joined (e ∷ []) = refl
 entries_text-joined (e ∷ d ∷ es) = ap (λ (l : List ℕ). entry_text e ++ (44 ∷ l)) (entries_text-joined (d ∷ es))
 
 -- a body between two bytes
-pub enclosed : (first opened filled closed body : List ℕ) (open_byte close_byte : ℕ) → opened ≡ first ++ open_byte ∷ [] → filled ≡ opened ++ body → closed ≡ filled ++ close_byte ∷ [] → closed ≡ first ++ (open_byte ∷ (body ++ close_byte ∷ []))
+pub enclosed : (first opened filled closed body : List ℕ) (open_byte close_byte : ℕ) → opened ≡ first ++ open_byte ∷ [] → filled ≡ opened ++ body
+    → closed ≡ filled ++ close_byte ∷ [] → closed ≡ first ++ (open_byte ∷ (body ++ close_byte ∷ []))
 enclosed first opened filled closed body a b e e' e'' =
-    e'' ∙ ap (λ (l : List ℕ). l ++ b ∷ []) (e' ∙ ap (λ (l : List ℕ). l ++ body) e) ∙ append_assoc (first ++ a ∷ []) body (b ∷ []) ∙ append_assoc first (a ∷ []) (body ++ b ∷ [])
+    e'' ∙ ap (λ (l : List ℕ). l ++ b ∷ []) (e' ∙ ap (λ (l : List ℕ). l ++ body) e) ∙ append_assoc (first ++ a ∷ []) body (b ∷ [])
+        ∙ append_assoc first (a ∷ []) (body ++ b ∷ [])
 
 -- a name, `=` and a value
-pub entry_appended : (before named after name text : List ℕ) → named ≡ before ++ (name ++ 61 ∷ []) → after ≡ named ++ text → after ≡ before ++ (name ++ (61 ∷ text))
+pub entry_appended : (before named after name text : List ℕ) → named ≡ before ++ (name ++ 61 ∷ []) → after ≡ named ++ text
+    → after ≡ before ++ (name ++ (61 ∷ text))
 entry_appended before named after name text e e' =
     e' ∙ ap (λ (l : List ℕ). l ++ text) e ∙ append_assoc before (name ++ 61 ∷ []) text ∙ ap (λ (l : List ℕ). before ++ l) (append_assoc name (61 ∷ []) text)

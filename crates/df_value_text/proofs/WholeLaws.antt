@@ -1,10 +1,9 @@
 -- A whole number is read as it is spelled.
 use Rattle.df_value_text.proofs.Names.{◌≡◌, ℕ, suc, ◌-◌, ◌^◌, ◌<◌, ◌≤◌, Bool, true, false, cond, eqb, List, [], ◌∷◌, ◌++◌, Ok, Err, refl, sym, ap, ◌∙◌, arith}
 use Rattle.df_value_text.proofs.Names.{◌⊎◌, inl, inr, ℤ, pos, negsuc, decimal, signed_decimal, eqb-true, Bad, Found, IsLocal, Format, ok_is, told, Begins}
-use Rattle.df_value_text.proofs.Names.{nowhere, any_low, Of, made, led, fitting, either_of, first_at, first_format, number_at, digits_at, IsWhole}
-use Rattle.df_value_text.proofs.Names.{positive_at, minus, whole_at}
-use Rattle.df_value_text.proofs.NumberLaws.{number_goes, first_fits, number_of, number_read, number_found, number_on, number_format, zero_read}
-use Rattle.df_value_text.proofs.NumberLaws.{no_digit_begins}
+use Rattle.df_value_text.proofs.Names.{nowhere, any_low, Of, made, led, fitting, either_of, first_at, first_format, number_at, digits_at, IsWhole, positive_at}
+use Rattle.df_value_text.proofs.Names.{minus, whole_at}
+use Rattle.df_value_text.proofs.NumberLaws.{number_goes, first_fits, number_of, number_read, number_found, number_on, number_format, zero_read, no_digit_begins}
 
 -- ---- numbers above 0
 

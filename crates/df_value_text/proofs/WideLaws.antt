@@ -1,7 +1,7 @@
 -- Characters of several bytes are read as they stand.
-use Rattle.df_value_text.proofs.Names.{◌≡◌, ℕ, zero, suc, ◌+◌, ◌-◌, ◌*◌, ◌/◌, ◌<◌, ◌≤◌, Bool, true, false, eqb, nat_lt, List, [], ◌∷◌, refl, sym, subst, ◌∙◌}
-use Rattle.df_value_text.proofs.Names.{arith, ◌⊎◌, inl, inr, nat_tests, scalar, low_scalar, Read, Format, never, told, same_read, own, text_format, nowhere}
-use Rattle.df_value_text.proofs.Names.{chain_at, chain_format, Links, is_between, is_lead, trail_length, least_second, most_second, trail_at, wide_at}
+use Rattle.df_value_text.proofs.Names.{◌≡◌, ℕ, zero, suc, ◌+◌, ◌-◌, ◌*◌, ◌/◌, ◌<◌, ◌≤◌, Bool, true, false, nat_lt, List, [], ◌∷◌, refl, sym, subst, ◌∙◌, arith}
+use Rattle.df_value_text.proofs.Names.{◌⊎◌, inl, inr, nat_tests, scalar, low_scalar, Read, Format, never, told, same_read, own, text_format, nowhere, chain_at}
+use Rattle.df_value_text.proofs.Names.{chain_format, Links, is_between, is_lead, trail_length, least_second, most_second, trail_at, wide_at}
 use Rattle.std.proofs.Math.Utf8.{next, encode, scalar_cases}
 use Rattle.df_value_text.specs.ReadWide.{led_at}
 
@@ -104,39 +104,22 @@ four c l = rw (not_below c 128 (omega (arith, l)), not_below c 2048 (omega (arit
 abbrev pub IsOfMany : List ℕ → Type 0
 IsOfMany x = (c : ℕ) × (128 ≤ c) × (scalar c ≡ true) × (encode c ≡ x)
 
--- a second byte: it is a further one, and the first may ask for more
-record Second (lead b : ℕ) : Type 0 where
-  pub low : 128 ≤ b
-  pub high : b ≤ 191
-  pub above : lead ≡ 224 → 160 ≤ b
-  pub above_four : lead ≡ 240 → 144 ≤ b
-  pub below : lead ≡ 237 → b ≤ 159
-  pub below_four : lead ≡ 244 → b ≤ 143
+-- a second byte that the first one asks for
+abbrev IsSecond : ℕ → ℕ → Type 0
+IsSecond lead b = is_between (least_second lead) (most_second lead) b ≡ true
 
-second_is : (lead b : ℕ) → is_between (least_second lead) (most_second lead) b ≡ true → Second lead b
-second_is lead b h = record {
-  low = grind (arith, nat_tests);
-  high = grind (arith, nat_tests);
-  above = λ e. grind (arith, nat_tests);
-  above_four = λ e. grind (arith, nat_tests);
-  below = λ e. grind (arith, nat_tests);
-  below_four = λ e. grind (arith, nat_tests);
-}
+second_range : (lead b : ℕ) → IsSecond lead b → (128 ≤ b) × (b ≤ 191)
+second_range lead b h = (grind (arith, nat_tests), grind (arith, nat_tests))
 
-least_up_to : (lead b : ℕ) → Second lead b → least_second lead ≤ b
-least_up_to lead b s = elim (told (eqb lead 224)) [
-  | inl e ↦ rw e (s.above (grind (arith, nat_tests)))
-  | inr e ↦ elim (told (eqb lead 240)) [ inl f ↦ rw (e, f) (s.above_four (grind (arith, nat_tests))) | inr f ↦ rw (e, f) s.low ]
-]
+second_of_two : (c : ℕ) → 128 ≤ c → c < 2048 → IsSecond (192 + c / 64) (next c)
+second_of_two c l h = grind (arith, nat_tests)
 
-up_to_most : (lead b : ℕ) → Second lead b → b ≤ most_second lead
-up_to_most lead b s = elim (told (eqb lead 237)) [
-  | inl e ↦ rw e (s.below (grind (arith, nat_tests)))
-  | inr e ↦ elim (told (eqb lead 244)) [ inl f ↦ rw (e, f) (s.below_four (grind (arith, nat_tests))) | inr f ↦ rw (e, f) s.high ]
-]
+second_of_three : (c : ℕ) → 2048 ≤ c → c < 65536 → (c < 55296) ⊎ (57344 ≤ c) → IsSecond (224 + c / 4096) (next (c / 64))
+second_of_three c l h (inl k) = grind (arith, nat_tests)
+second_of_three c l h (inr k) = grind (arith, nat_tests)
 
-is_second : (lead b : ℕ) → Second lead b → is_between (least_second lead) (most_second lead) b ≡ true
-is_second lead b s = between (least_second lead) (most_second lead) b (least_up_to lead b s) (up_to_most lead b s)
+second_of_four : (c : ℕ) → 65536 ≤ c → c < 1114112 → IsSecond (240 + c / 262144) (next (c / 4096))
+second_of_four c l h = grind (arith, nat_tests)
 
 further : (bits : ℕ) → is_between 128 191 (next bits) ≡ true
 further bits = between 128 191 (next bits) (omega arith) (omega arith)
@@ -163,86 +146,61 @@ char_wide c is l = by (order c 2048) (order c 65536) (scalar_cases c is)
   where
     by : (c < 2048) ⊎ (2048 ≤ c) → (c < 65536) ⊎ (65536 ≤ c) → (c < 55296) ⊎ ((57344 ≤ c) × (c < 1114112)) → IsWide (encode c)
     by (inl h) _ cases =
-        let s : Second (192 + c / 64) (next c) = record {
-          low = omega arith;
-          high = omega arith;
-          above = λ e. omega (arith, e, h);
-          above_four = λ e. omega
-              (arith, e, h);
-          below = λ e. omega (arith, e, h);
-          below_four = λ e. omega (arith, e, h);
-        } in
-        subst IsWide (sym (two c l h))
-        (wide_of 1 (192 + c / 64) (next c ∷ []) (omega (arith, l)) (omega (arith, h)) (length_one (192 + c / 64) (omega (arith, h)))
-        (is_second (192 + c / 64) (next c) s, refl))
+        subst IsWide (sym (two c l h)) (wide_of 1 (192 + c / 64) (next c ∷ []) (omega (arith, l)) (omega (arith, h))
+        (length_one (192 + c / 64) (omega (arith, h))) (second_of_two c l h, refl))
     by (inr m) (inl h) cases =
-        let s : Second (224 + c / 4096) (next (c / 64)) = record {
-          low = omega arith;
-          high = omega arith;
-          above = λ e. omega (arith, e, m);
-          above_four = λ e. omega (arith, e, h);
-          below = λ e. elim cases [ inl k ↦ omega (arith, e, k) | inr k ↦ omega (arith, e, k.0) ];
-          below_four = λ e. omega (arith, e, h);
-        } in
-        subst IsWide (sym (three c m h))
-        (wide_of 2 (224 + c / 4096) (next (c / 64) ∷ next c ∷ []) (omega arith) (omega (arith, h))
-        (length_two (224 + c / 4096) (omega arith) (omega (arith, h)))
-        (is_second (224 + c / 4096) (next (c / 64)) s, (further c, refl)))
+        let gap : (c < 55296) ⊎ (57344 ≤ c) = elim cases [ inl k ↦ inl k | inr k ↦ inr k.0 ] in
+        subst IsWide (sym (three c m h)) (wide_of 2 (224 + c / 4096) (next (c / 64) ∷ next c ∷ []) (omega arith) (omega (arith, h))
+        (length_two (224 + c / 4096) (omega arith) (omega (arith, h))) (second_of_three c m h gap, (further c, refl)))
     by (inr _) (inr m) cases =
         let top : c < 1114112 = elim cases [ inl k ↦ omega (arith, k) | inr k ↦ k.1 ] in
-        let s : Second (240 + c / 262144) (next (c / 4096)) = record {
-          low = omega arith;
-          high = omega arith;
-          above = λ e. omega
-              (arith, e);
-          above_four = λ e. omega (arith, e, m);
-          below = λ e. omega (arith, e);
-          below_four = λ e. omega (arith, e, top);
-        } in
-        subst IsWide (sym (four c m))
-        (wide_of 3 (240 + c / 262144) (next (c / 4096) ∷ next (c / 64) ∷ next c ∷ []) (omega arith) (omega (arith, top))
-        (length_three (240 + c / 262144) (omega arith))
-        (is_second (240 + c / 262144) (next (c / 4096)) s, (further (c / 64), (further c, refl))))
+        subst IsWide (sym (four c m)) (wide_of 3 (240 + c / 262144) (next (c / 4096) ∷ next (c / 64) ∷ next c ∷ []) (omega arith) (omega (arith, top))
+        (length_three (240 + c / 262144) (omega arith)) (second_of_four c m top, (further (c / 64), (further c, refl))))
 
 -- no code from 55296 to 57343 is a character
 scalar_by : (c : ℕ) → (55296 ≤ c → 57344 ≤ c) → c < 1114112 → scalar c ≡ true
 scalar_by c gap top = elim (order c 55296) [ inl h ↦ low_scalar c h | inr l ↦ let above : 57344 ≤ c = gap l in grind (arith, nat_tests) ]
 
-two_char : (a b : ℕ) → 194 ≤ a → a < 224 → Second a b → IsOfMany (a ∷ b ∷ [])
+two_char : (a b : ℕ) → 194 ≤ a → a < 224 → IsSecond a b → IsOfMany (a ∷ b ∷ [])
 two_char a b la ha s =
+    let r = second_range a b s in
     let c : ℕ = (a - 192) * 64 + (b - 128) in
-    let first : 192 + c / 64 ≡ a = omega (arith, la, ha, s.low, s.high) in
-    let second : next c ≡ b = omega (arith, la, ha, s.low, s.high) in
-    (c, omega (arith, la), low_scalar c (omega (arith, ha, s.high)), two c (omega (arith, la)) (omega (arith, ha, s.high)) ∙ rw (first, second) refl)
+    let first : 192 + c / 64 ≡ a = omega (arith, la, ha, r.0, r.1) in
+    let second : next c ≡ b = omega (arith, la, ha, r.0, r.1) in
+    (c, omega (arith, la), low_scalar c (omega (arith, ha, r.1)), two c (omega (arith, la)) (omega (arith, ha, r.1)) ∙ rw (first, second) refl)
 
-three_char : (a b d : ℕ) → 224 ≤ a → a < 240 → Second a b → 128 ≤ d → d ≤ 191 → IsOfMany (a ∷ b ∷ d ∷ [])
+three_big : (a b d : ℕ) → 224 ≤ a → a < 240 → IsSecond a b → 128 ≤ d → d ≤ 191 → 2048 ≤ (a - 224) * 4096 + (b - 128) * 64 + (d - 128)
+three_big a b d la ha s ld hd = grind (arith, nat_tests)
+
+three_gap : (a b d : ℕ) → 224 ≤ a → a < 240 → IsSecond a b → 128 ≤ d → d ≤ 191 → 55296 ≤ (a - 224) * 4096 + (b - 128) * 64 + (d - 128)
+    → 57344 ≤ (a - 224) * 4096 + (b - 128) * 64 + (d - 128)
+three_gap a b d la ha s ld hd ge = grind (arith, nat_tests)
+
+three_char : (a b d : ℕ) → 224 ≤ a → a < 240 → IsSecond a b → 128 ≤ d → d ≤ 191 → IsOfMany (a ∷ b ∷ d ∷ [])
 three_char a b d la ha s ld hd =
+    let r = second_range a b s in
     let c : ℕ = (a - 224) * 4096 + (b - 128) * 64 + (d - 128) in
-    let first : 224 + c / 4096 ≡ a = omega (arith, la, ha, s.low, s.high, ld, hd) in
-    let second : next (c / 64) ≡ b = omega (arith, la, ha, s.low, s.high, ld, hd) in
-    let third : next c ≡ d = omega (arith, la, ha, s.low, s.high, ld, hd) in
-    let big : 2048 ≤ c = elim (order a 225) [ inl h ↦ let up = s.above (omega (arith, la, h)) in omega (arith, up) | inr l ↦ omega (arith, l, s.low) ] in
-    let gap : 55296 ≤ c → 57344 ≤ c = λ ge. elim (order a 237) [
-      | inl h ↦ absurd (omega (arith, ge, h, s.high, hd))
-      | inr l ↦ elim (order a 238) [
-        | inl h ↦ let up = s.below (omega (arith, l, h)) in absurd (omega (arith, ge, h, up, hd))
-        | inr m ↦ omega (arith, m)
-      ]
-    ] in
-    (c, omega (arith, big), scalar_by c gap (omega (arith, ha, s.high, hd)), three c big (omega (arith, ha, s.high, hd)) ∙ rw (first, second, third) refl)
+    let first : 224 + c / 4096 ≡ a = omega (arith, la, ha, r.0, r.1, ld, hd) in
+    let second : next (c / 64) ≡ b = omega (arith, la, ha, r.0, r.1, ld, hd) in
+    let third : next c ≡ d = omega (arith, la, ha, r.0, r.1, ld, hd) in
+    let big : 2048 ≤ c = three_big a b d la ha s ld hd in
+    (c, omega (arith, big), scalar_by c (three_gap a b d la ha s ld hd) (omega (arith, ha, r.1, hd)),
+    three c big (omega (arith, ha, r.1, hd)) ∙ rw (first, second, third) refl)
 
-four_char : (a b d e : ℕ) → 240 ≤ a → a ≤ 244 → Second a b → 128 ≤ d → d ≤ 191 → 128 ≤ e → e ≤ 191 → IsOfMany (a ∷ b ∷ d ∷ e ∷ [])
+four_second : (a b : ℕ) → 240 ≤ a → a ≤ 244 → IsSecond a b → (a < 241 → 144 ≤ b) × (244 ≤ a → b ≤ 143)
+four_second a b la ha s = (λ h. grind (arith, nat_tests), λ h. grind (arith, nat_tests))
+
+four_char : (a b d e : ℕ) → 240 ≤ a → a ≤ 244 → IsSecond a b → 128 ≤ d → d ≤ 191 → 128 ≤ e → e ≤ 191 → IsOfMany (a ∷ b ∷ d ∷ e ∷ [])
 four_char a b d e la ha s ld hd le he =
+    let r = second_range a b s in
+    let f = four_second a b la ha s in
     let c : ℕ = (a - 240) * 262144 + (b - 128) * 4096 + (d - 128) * 64 + (e - 128) in
-    let first : 240 + c / 262144 ≡ a = omega (arith, la, ha, s.low, s.high, ld, hd, le, he) in
-    let second : next (c / 4096) ≡ b = omega (arith, la, ha, s.low, s.high, ld, hd, le, he) in
-    let third : next (c / 64) ≡ d = omega (arith, la, ha, s.low, s.high, ld, hd, le, he) in
-    let fourth : next c ≡ e = omega (arith, la, ha, s.low, s.high, ld, hd, le, he) in
-    let big : 65536 ≤ c = elim (order a 241) [ inl h ↦ let up = s.above_four (omega (arith, la, h)) in omega (arith, up) | inr l ↦ omega (arith, l) ] in
-    let top : c < 1114112 = elim (order a 244) [
-      | inl h ↦ omega (arith, h, s.high, hd, he)
-      | inr l ↦ let up = s.below_four (omega (arith, ha, l)) in omega (arith, ha, up, hd, he)
-    ] in
+    let first : 240 + c / 262144 ≡ a = omega (arith, la, ha, r.0, r.1, ld, hd, le, he) in
+    let second : next (c / 4096) ≡ b = omega (arith, la, ha, r.0, r.1, ld, hd, le, he) in
+    let third : next (c / 64) ≡ d = omega (arith, la, ha, r.0, r.1, ld, hd, le, he) in
+    let fourth : next c ≡ e = omega (arith, la, ha, r.0, r.1, ld, hd, le, he) in
+    let big : 65536 ≤ c = elim (order a 241) [ inl h ↦ let up = f.0 h in omega (arith, up) | inr l ↦ omega (arith, l) ] in
+    let top : c < 1114112 = elim (order a 244) [ inl h ↦ omega (arith, h, r.1, hd, he) | inr l ↦ let up = f.1 l in omega (arith, ha, up, hd, he) ] in
     (c, omega (arith, big), scalar_by c (λ ge. omega (arith, big)) top, four c big ∙ rw (first, second, third, fourth) refl)
 
 pub wide_char : (x : List ℕ) → IsWide x → IsOfMany x
@@ -259,14 +217,14 @@ wide_char (a ∷ bs) fits =
   where
     behind_one : (bs : List ℕ) → 194 ≤ a → a < 224 → IsTrail 1 (least_second a) (most_second a) bs → IsOfMany (a ∷ bs)
     behind_one [] l h t = absurd t
-    behind_one (b ∷ bs) l h t = subst (λ (u : List ℕ). IsOfMany (a ∷ b ∷ u)) (sym t.1) (two_char a b l h (second_is a b t.0))
+    behind_one (b ∷ bs) l h t = subst (λ (u : List ℕ). IsOfMany (a ∷ b ∷ u)) (sym t.1) (two_char a b l h t.0)
 
     behind_two : (bs : List ℕ) → 224 ≤ a → a < 240 → IsTrail 2 (least_second a) (most_second a) bs → IsOfMany (a ∷ bs)
     behind_two [] l h t = absurd t
     behind_two (b ∷ []) l h t = absurd t.1
     behind_two (b ∷ d ∷ bs) l h t =
         let r = between_is 128 191 d t.1.0 in
-        subst (λ (u : List ℕ). IsOfMany (a ∷ b ∷ d ∷ u)) (sym t.1.1) (three_char a b d l h (second_is a b t.0) r.0 r.1)
+        subst (λ (u : List ℕ). IsOfMany (a ∷ b ∷ d ∷ u)) (sym t.1.1) (three_char a b d l h t.0 r.0 r.1)
 
     behind_three : (bs : List ℕ) → 240 ≤ a → a ≤ 244 → IsTrail 3 (least_second a) (most_second a) bs → IsOfMany (a ∷ bs)
     behind_three [] l h t = absurd t
@@ -275,4 +233,4 @@ wide_char (a ∷ bs) fits =
     behind_three (b ∷ d ∷ e ∷ bs) l h t =
         let r = between_is 128 191 d t.1.0 in
         let v = between_is 128 191 e t.1.1.0 in
-        subst (λ (u : List ℕ). IsOfMany (a ∷ b ∷ d ∷ e ∷ u)) (sym t.1.1.1) (four_char a b d e l h (second_is a b t.0) r.0 r.1 v.0 v.1)
+        subst (λ (u : List ℕ). IsOfMany (a ∷ b ∷ d ∷ e ∷ u)) (sym t.1.1.1) (four_char a b d e l h t.0 r.0 r.1 v.0 v.1)

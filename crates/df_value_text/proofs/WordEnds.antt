@@ -1,8 +1,8 @@
 -- A literal that is written stands there where a word ends.
-use Rattle.df_value_text.proofs.Names.{◌≡◌, ℕ, suc, Bool, true, false, cond, eqb, List, [], ◌∷◌, ◌++◌, ℤ, pos, negsuc, refl, sym, subst, inl, inr, Stands}
-use Rattle.df_value_text.proofs.Names.{Ends, never, ends_never, stands, Plain, int, words, bytes, items, entries, Label, Privilege, Right, Plus, Minus}
-use Rattle.df_value_text.proofs.Names.{PlusAuth, MinusAuth, IsLabel, IsPrivilege, IsTag, IsValue, label_text, privilege_text, tag_text, IsLowTag, label_at}
-use Rattle.df_value_text.proofs.Names.{privilege_at, tag_at, value_text, EndsWord}
+use Rattle.df_value_text.proofs.Names.{◌≡◌, ℕ, suc, Bool, true, false, cond, eqb, List, [], ◌∷◌, ◌++◌, ℤ, pos, negsuc, refl, sym, subst, inl, inr, Stands, Ends}
+use Rattle.df_value_text.proofs.Names.{never, ends_never, stands, Plain, int, words, bytes, items, entries, Label, Privilege, Right, Plus, Minus, PlusAuth}
+use Rattle.df_value_text.proofs.Names.{MinusAuth, IsLabel, IsPrivilege, IsTag, IsValue, label_text, privilege_text, tag_text, IsLowTag, label_at, privilege_at}
+use Rattle.df_value_text.proofs.Names.{tag_at, value_text, EndsWord}
 use Rattle.df_value_text.specs.code.WordEnd.{IsBreak}
 use Rattle.df_value_text.proofs.LabelLaws.{label_format, privilege_format, privilege_goes, right_goes}
 use Rattle.df_value_text.proofs.NumberLaws.{number_goes}
@@ -60,10 +60,12 @@ tag_stands tag rest fits end =
     stands nowhere tag_text IsTag tag_goes tag_at f (tag_text tag ++ rest) tag rest (f.again tag rest fits (tag_stops tag rest end))
 
 pub label_stands : (label : Label) (rest : List ℕ) → IsLabel label → EndsWord rest → Stands label_text IsLabel (label_text label ++ rest) label rest
-label_stands label rest fits end = stands IsLowTag label_text IsLabel never label_at label_format (label_text label ++ rest) label rest (label_format.again label rest fits (ends_never label rest))
+label_stands label rest fits end = stands IsLowTag label_text IsLabel never label_at label_format (label_text label ++ rest) label rest
+    (label_format.again label rest fits (ends_never label rest))
 
 pub privilege_stands : (p : Privilege) (rest : List ℕ) → IsPrivilege p → EndsWord rest → Stands privilege_text IsPrivilege (privilege_text p ++ rest) p rest
-privilege_stands p rest fits end = stands nowhere privilege_text IsPrivilege privilege_goes privilege_at privilege_format (privilege_text p ++ rest) p rest (privilege_format.again p rest fits (privilege_stops p rest end))
+privilege_stands p rest fits end = stands nowhere privilege_text IsPrivilege privilege_goes privilege_at privilege_format (privilege_text p ++ rest) p rest
+    (privilege_format.again p rest fits (privilege_stops p rest end))
 
 pub value_stands : (p : Plain) (rest : List ℕ) → IsValue p → EndsWord rest → Stands value_text IsValue (value_text p ++ rest) p rest
 value_stands p rest fits end = record {

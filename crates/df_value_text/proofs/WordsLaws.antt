@@ -1,7 +1,7 @@
 -- Words are read as they are spelled.
 use Rattle.df_value_text.proofs.Names.{◌≡◌, ℕ, Bool, true, List, [], ◌∷◌, ◌++◌, Ok, refl, ap, ◌∙◌, append_assoc, IsUtf8, AllByRecursion, concat, flat_map}
-use Rattle.df_value_text.proofs.Names.{scalar, scalars, encodes, and_parts, flat_map-append, IsLocal, Format, never, nowhere, nowhere_is_local, any_low}
-use Rattle.df_value_text.proofs.Names.{viewed, enclosed, each_format, escaped, begins_char, chars_at, words_at}
+use Rattle.df_value_text.proofs.Names.{scalar, scalars, encodes, and_parts, flat_map-append, IsLocal, Format, never, nowhere, nowhere_is_local, any_low, viewed}
+use Rattle.df_value_text.proofs.Names.{enclosed, each_format, escaped, begins_char, chars_at, words_at}
 use Rattle.std.proofs.Math.Utf8.{encode}
 use Rattle.df_value_text.specs.Value.{words_text}
 use Rattle.df_value_text.proofs.CharLaws.{chars_text, IsChar, char_format, char_starts, char_some, char_encoded, encoded_char}

@@ -1,13 +1,133 @@
--- The reader of words, step by step.
-use Rattle.df_value_text.proofs.Names.{◌≡◌, ℕ, zero, suc, ◌+◌, ◌-◌, ◌<◌, ◌≤◌, Bool, true, false, not, ◌&&◌, ◌||◌, cond, eqb, List, [], ◌∷◌, ◌++◌, length}
-use Rattle.df_value_text.proofs.Names.{length-append, take, drop, get_or, Ok, Err, refl, sym, ap, ◌∙◌, append_assoc, add-one, arith, nat_le, nat_lt, concat}
-use Rattle.df_value_text.proofs.Names.{drop-cons, and_parts, ltb-true, append-nil, drop_all, drop-drop, Stop, Read, ◌>>=◌, many_at, many_of, with_front}
-use Rattle.df_value_text.proofs.Names.{list_all, ok_is, err_is, not_both, onto, is_plain, is_quoted, char_at, begins_char, starts, chars_at}
+-- The readers of names, characters, bytes and words, step by step.
+use Rattle.df_value_text.proofs.Names.{◌≡◌, ℕ, zero, suc, ◌+◌, ◌-◌, ◌<◌, ◌≤◌, true, false, List, [], ◌∷◌, length, get_or, take, drop, Ok, refl, sym, ap, ◌∙◌}
+use Rattle.df_value_text.proofs.Names.{arith, drop_all, drop-drop, is_letter, is_name, is_name_byte, name_bytes, name_at, Bool, nat_lt, ◌++◌, inl, inr, told}
+use Rattle.df_value_text.proofs.Names.{nat_tests, Read, ◌>>=◌, with_front, onto, is_between, is_lead, trail_length, least_second, most_second, trail_at}
+use Rattle.df_value_text.proofs.Names.{wide_at, starts, length-append, text_at, text_found, is_hex, hex_byte, pairs_at, not, ◌&&◌, ◌||◌, cond, eqb, Err}
+use Rattle.df_value_text.proofs.Names.{append_assoc, add-one, nat_le, concat, drop-cons, and_parts, ltb-true, append-nil, Stop, many_at, many_of, list_all}
+use Rattle.df_value_text.proofs.Names.{ok_is, err_is, not_both, is_plain, is_quoted, char_at, begins_char, chars_at}
+use Rattle.df_value_text.proofs.Loops.{first_of, front_on}
+use Rattle.df_value_text.proofs.NameLaws.{name_format}
+use Rattle.std.proofs.Common.{length-drop}
 use Rattle.std.proofs.lemmas.Bool.{lt-ltb}
-use Rattle.std.proofs.lemmas.List.{length-drop}
 use Rattle.df_format.proofs.Laws.{bind_same}
 use Rattle.df_value_text.specs.code.Short.{plain_run}
 use Rattle.df_value_text.proofs.CharLaws.{char_format, char_starts, plain_begins}
+
+-- ---- names
+
+pub none_left : (most : ℕ) (bytes : List ℕ) → most ≡ 0 → name_bytes most bytes ≡ 0
+none_left most [] e = refl
+none_left zero (c ∷ cs) e = refl
+none_left (suc most) (c ∷ cs) e = absurd (omega (arith, e))
+
+pub none_there : (most place : ℕ) (bytes : List ℕ) → length bytes ≤ place → name_bytes most (drop place bytes) ≡ 0
+none_there most place bytes le = ap (name_bytes most) (drop_all place bytes le)
+
+pub none_fits : (most place : ℕ) (bytes : List ℕ) → place < length bytes → is_name_byte (get_or bytes place 0) ≡ false → name_bytes most (drop place bytes) ≡ 0
+none_fits most place bytes lt h = ap (name_bytes most) (first_of bytes place lt) ∙ by most (get_or bytes place 0) (drop (place + 1) bytes) h
+  where
+    by : (most c : ℕ) (cs : List ℕ) → is_name_byte c ≡ false → name_bytes most (c ∷ cs) ≡ 0
+    by zero c cs h = refl
+    by (suc most) c cs h = rw h refl
+
+-- a letter and the bytes counted behind it are what is read
+pub name_read : (bytes : List ℕ) (at end : ℕ) → at < length bytes → is_letter (get_or bytes at 0) ≡ true
+    → end ≡ (at + 1) + name_bytes 31 (drop (at + 1) bytes) → name_at (drop at bytes) ≡ Ok (take (end - at) (drop at bytes), drop end bytes)
+name_read bytes at end lt letter is =
+    let k : ℕ = name_bytes 31 (drop (at + 1) bytes) in
+    let count : end - at ≡ suc k = omega (arith, is) in
+    let behind : drop k (drop (at + 1) bytes) ≡ drop end bytes = drop-drop k (at + 1) bytes ∙ ap (λ (n : ℕ). drop n bytes) (sym is) in
+    let first : drop at bytes ≡ get_or bytes at 0 ∷ drop (at + 1) bytes = first_of bytes at lt in
+    let read : name_at (get_or bytes at 0 ∷ drop (at + 1) bytes) ≡ Ok (get_or bytes at 0 ∷ take k (drop (at + 1) bytes), drop k (drop (at + 1) bytes)) = rw
+        letter refl in
+    let front : get_or bytes at 0 ∷ take k (drop (at + 1) bytes) ≡ take (end - at) (drop at bytes) = sym
+        (ap (λ (n : ℕ). take n (drop at bytes)) count ∙ ap (take (suc k)) first) in
+    ap name_at first ∙ read ∙ ap (λ (u : List ℕ). Ok (u, drop k (drop (at + 1) bytes))) front
+        ∙ ap (λ (u : List ℕ). Ok (take (end - at) (drop at bytes), u)) behind
+
+pub name_is : (bytes : List ℕ) (at end : ℕ) → at < length bytes → is_letter (get_or bytes at 0) ≡ true → end ≡ (at + 1) + name_bytes 31 (drop (at + 1) bytes)
+    → is_name (take (end - at) (drop at bytes)) ≡ true
+name_is bytes at end lt letter
+    is = ((name_format (λ front rest. ⊥)).found (drop at bytes) (take (end - at) (drop at bytes)) (drop end bytes) (name_read bytes at end lt letter is)).fits
+
+-- ---- characters
+
+-- a byte that passes the test stands there
+started : (test : ℕ → Bool) (bytes : List ℕ) (place : ℕ) → starts test (drop place bytes) ≡ true
+    → (drop place bytes ≡ get_or bytes place 0 ∷ drop (place + 1) bytes) × (test (get_or bytes place 0) ≡ true)
+started test bytes place h =
+    elim (told (nat_lt place (length bytes))) [
+      | inl e ↦ let first = first_of bytes place (grind (arith, nat_tests)) in (first, sym (ap (starts test) first) ∙ h)
+      | inr e ↦
+          let none : drop place bytes ≡ [] = drop_all place bytes (grind (arith, nat_tests)) in
+          absurd (let no : false ≡ true = sym (ap (starts test) none) ∙ h in cc)
+    ]
+
+trail_step : (count least most b : ℕ) (cs : List ℕ) → is_between least most b ≡ true
+    → trail_at (suc count) least most (b ∷ cs) ≡ (trail_at count 128 191 cs >>= onto b)
+trail_step count least most b cs h = rw h refl
+
+-- a further byte is read
+pub trail_on : (bytes old more : List ℕ) (at count least most : ℕ) → 0 < count → starts (is_between least most) (drop at bytes) ≡ true
+    → more ≡ old ++ get_or bytes at 0 ∷ []
+    → with_front old (trail_at count least most (drop at bytes)) ≡ with_front more (trail_at (count - 1) 128 191 (drop (at + 1) bytes))
+trail_on bytes old more at count least most some h is =
+    let s = started (is_between least most) bytes at h in
+    let n : count ≡ suc (count - 1) = omega (arith, some) in
+    let step = ap (trail_at count least most) s.0 ∙ ap (λ (k : ℕ). trail_at k least most (get_or bytes at 0 ∷ drop (at + 1) bytes)) n
+    ∙ trail_step (count - 1) least most (get_or bytes at 0) (drop (at + 1) bytes) s.1 in
+    sym (front_on old more (get_or bytes at 0) (trail_at count least most (drop at bytes)) (trail_at (count - 1) 128 191 (drop (at + 1) bytes)) _ step is refl)
+
+wide_step : (lead : ℕ) (cs : List ℕ) → is_lead lead ≡ true
+    → wide_at (lead ∷ cs) ≡ (trail_at (trail_length lead) (least_second lead) (most_second lead) cs >>= onto lead)
+wide_step lead cs h = rw h refl
+
+-- a first byte is read
+pub wide_on : (bytes old more : List ℕ) (at count least most : ℕ) → at < length bytes → is_lead (get_or bytes at 0) ≡ true
+    → more ≡ old ++ get_or bytes at 0 ∷ [] → count ≡ trail_length (get_or bytes at 0) → least ≡ least_second (get_or bytes at 0)
+    → most ≡ most_second (get_or bytes at 0) → with_front old (wide_at (drop at bytes)) ≡ with_front more (trail_at count least most (drop (at + 1) bytes))
+wide_on bytes old more at count least most lt h is counted from to =
+    let lead : ℕ = get_or bytes at 0 in
+    let left : Read ℕ (List ℕ) = trail_at (trail_length lead) (least_second lead) (most_second lead) (drop (at + 1) bytes) in
+    let whole : with_front more left ≡ with_front old (wide_at (drop at bytes)) = front_on old more lead (wide_at (drop at bytes)) left _
+    (ap wide_at (first_of bytes at lt) ∙ wide_step lead (drop (at + 1) bytes) h) is refl in
+    rw (counted, from, to) (sym whole)
+
+-- ---- bytes
+
+two_of : (bytes : List ℕ) (place : ℕ) → place + 1 < length bytes
+    → drop place bytes ≡ get_or bytes place 0 ∷ get_or bytes (place + 1) 0 ∷ drop (place + 2) bytes
+two_of bytes place lt =
+    let same : (place + 1) + 1 ≡ place + 2 = omega arith in
+    first_of bytes place (omega (arith, lt)) ∙ ap (λ (u : List ℕ). get_or bytes place 0 ∷ u)
+    (first_of bytes (place + 1) lt ∙ ap (λ (n : ℕ). get_or bytes (place + 1) 0 ∷ drop n bytes) same)
+
+pair_first : (a b : ℕ) (cs : List ℕ) → is_hex a ≡ true → is_hex b ≡ true → pairs_at (a ∷ b ∷ cs) ≡ (pairs_at cs >>= onto (hex_byte a b))
+pair_first a b cs ha hb = rw (ha, hb) refl
+
+-- a pair is read
+pub pair_read : (bytes : List ℕ) (place : ℕ) (out more : List ℕ) (total : Read ℕ (List ℕ)) → place + 1 < length bytes
+    → is_hex (get_or bytes place 0) ≡ true → is_hex (get_or bytes (place + 1) 0) ≡ true
+    → more ≡ out ++ hex_byte (get_or bytes place 0) (get_or bytes (place + 1) 0) ∷ []
+    → with_front out (pairs_at (drop place bytes)) ≡ total → with_front more (pairs_at (drop (place + 2) bytes)) ≡ total
+pair_read bytes place out more total lt ha hb is so_far =
+    let step = ap pairs_at (two_of bytes place lt) ∙ pair_first (get_or bytes place 0) (get_or bytes (place + 1) 0) (drop (place + 2) bytes) ha hb in
+    front_on out more (hex_byte (get_or bytes place 0) (get_or bytes (place + 1) 0)) (pairs_at (drop place bytes)) (pairs_at (drop (place + 2) bytes))
+    total step is so_far
+
+-- no digit stands there
+pub no_pair : (text : List ℕ) → starts is_hex text ≡ false → pairs_at text ≡ Ok ([], text)
+no_pair [] h = refl
+no_pair (a ∷ []) h = rw h refl
+no_pair (a ∷ b ∷ cs) h = rw h refl
+
+-- fixed bytes end no earlier than they begin
+pub text_onward : (bytes ws x : List ℕ) (at end : ℕ) → at ≤ length bytes → end ≤ length bytes → text_at ws (drop at bytes) ≡ Ok (x, drop end bytes)
+    → at ≤ end
+text_onward bytes ws x at end within le e = omega (arith, within, le, ap length (text_found ws (drop at bytes) x (drop end bytes) e).1,
+    length-append ws (drop end bytes), length-drop at bytes, length-drop end bytes)
+
+-- ---- words
 
 abbrev begins : ℕ → ℕ → Bool
 begins k c = begins_char c

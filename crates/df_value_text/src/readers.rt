@@ -16,6 +16,7 @@ use crate::TextRefused;
 use crate::counting::over_at;
 use crate::label_reader::{label_at, privilege_at};
 use crate::limits::{over_fault, within_at};
+use crate::refused::told;
 use crate::tag_reader::tag_at;
 use df_frozen::Frozen;
 use df_label::{Label, Privilege, Tag};
@@ -29,7 +30,7 @@ pub fn read_tag(alloc: Global, bytes: &[u8], at: usize) -> Result<(Tag, usize), 
         IsRead bytes.now tag rest result }
     ensures syntax { IfErr result (NamesBad tag_text IsTag bytes.now at) }
 {
-    Ok(tag_at(alloc, bytes, at)?)
+    told(tag_at(alloc, bytes, at))
 }
 
 /// The label at the place, and the place behind it.
@@ -43,7 +44,7 @@ pub fn read_label(alloc: Global, bytes: &[u8], at: usize) -> Result<(Label, usiz
     ensures order { (rest : List ℕ) → LowInLabel (drop at bytes.now) rest →
         IsSyntaxAt bytes.now rest result }
 {
-    Ok(label_at(alloc, bytes, at)?)
+    told(label_at(alloc, bytes, at))
 }
 
 /// The longest privilege at the place, and the place behind it.
@@ -59,7 +60,7 @@ pub fn read_privilege(
         IsRead bytes.now privilege rest result }
     ensures syntax { IfErr result (NamesBad privilege_text IsPrivilege bytes.now at) }
 {
-    Ok(privilege_at(alloc, bytes, at)?)
+    told(privilege_at(alloc, bytes, at))
 }
 
 /// The longest value at the place, frozen, and the place behind it.

@@ -1,6 +1,6 @@
 //! Why a literal isn't read.
 ghost use Rattle.std.specs.Prelude.{◌≡◌};
-ghost use Rattle.df_value_text.specs.code.Answer.{refusal};
+ghost use Rattle.df_value_text.specs.code.Answer.{refusal, told};
 ghost use Rattle.df_value_text.specs.declared.refused.Fault.TheVariants as fault;
 
 use df_label::NoMemory;
@@ -68,5 +68,15 @@ impl From<Fault> for TextRefused {
             Fault::Bad(offset) => TextRefused::Syntax { offset },
             Fault::Low(offset) => TextRefused::Syntax { offset },
         }
+    }
+}
+
+/// The answer as callers are told it.
+pub(crate) fn told<X>(read: Result<(X, usize), Fault>) -> Result<(X, usize), TextRefused>
+    ensures { result ≡ told read }
+{
+    match read {
+        Ok(found) => Ok(found),
+        Err(fault) => Err(TextRefused::from(fault)),
     }
 }

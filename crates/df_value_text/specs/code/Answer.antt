@@ -26,6 +26,11 @@ refusal fault.NoMemory = refused.NoMemory
 refusal (fault.Bad place) = refused.Syntax place
 refusal (fault.Low place) = refused.Syntax place
 
+-- an answer as it is told to callers
+abbrev pub told : {X : Type 0} → Result (X × ℕ) Fault → Result (X × ℕ) TextRefused
+told (Ok x) = Ok x
+told (Err e) = Err (refusal e)
+
 -- what is answered stands at the place, and no text goes on with the byte behind it
 abbrev pub IsFound : {X : Type 0} → (X → List ℕ) → (X → Type 0) → List ℕ → ℕ → X × ℕ → Type 0
 IsFound spell Fits bytes at read = (read.1 ≤ length bytes)

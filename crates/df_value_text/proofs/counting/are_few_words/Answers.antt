@@ -1,6 +1,6 @@
 use Rattle.std.proofs.Common.{◌-◌, sym, ◌∙◌}
 use Rattle.std.proofs.lemmas.Bool.{leb-true}
-use Rattle.df_value_text.proofs.CountingLight.{few_words}
+use Rattle.df_value_text.proofs.CountingSteps.{few_words}
 use Rattle.df_value_text.proofs.counting.are_few_words.Goals as goal
 
 pub returns-then-byte_stands : goal.returns-then-byte_stands

@@ -1,5 +1,5 @@
 use Rattle.std.proofs.Common.{refl, sym, ◌∙◌}
-use Rattle.df_value_text.proofs.CountingLight.{number_begins}
+use Rattle.df_value_text.proofs.CountingSteps.{number_begins}
 use Rattle.df_value_text.proofs.counting.is_number.Goals as goal
 
 pub returns-then-is_ascii_digit : goal.returns-then-is_ascii_digit

@@ -1,6 +1,6 @@
 use Rattle.std.proofs.Common.{arith}
 use Rattle.std.proofs.lemmas.Bool.{ltb-true}
-use Rattle.df_value_text.proofs.CountingSmall.{never_small}
+use Rattle.df_value_text.proofs.CountingSteps.{never_small}
 use Rattle.df_value_text.proofs.counting.is_small.Goals as goal
 
 pub returns-then-text-le-MOST_NODES : goal.returns-then-text-le-MOST_NODES

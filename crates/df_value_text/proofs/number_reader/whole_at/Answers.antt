@@ -1,20 +1,41 @@
-use Rattle.std.proofs.Common.{◌+◌, Ok, drop, ap, sym, ◌∙◌, arith}
-use Rattle.std.specs.Prelude.{ℤ}
+use Rattle.std.proofs.Common.{◌≡◌, ℤ, Ok, ap, drop, pos, refl, sym, ◌+◌, ◌∙◌, arith}
 use Rattle.std.proofs.lemmas.Int.{to_z-of_z}
 use mir.Syntax.{w64}
 use Rattle.std.proofs.lemmas.Result.{err_from_is_err_and}
-use Rattle.df_value_text.proofs.Loops.{fails_by}
-use Rattle.df_value_text.proofs.WholeSteps.{minus_stops, minus_reads, is_positive}
+use Rattle.df_format.specs.Reading.{as_at}
+use Rattle.df_value_text.specs.Number.{number_at}
+use Rattle.df_value_text.specs.ReadWhole.{minus, positive_at}
+use Rattle.df_value_text.proofs.Loops.{either_behind, fails_by}
+use Rattle.df_value_text.proofs.WholeLaws.{positive_format}
 use Rattle.df_value_text.proofs.number_reader.whole_at.Goals as goal
 
 pub returns-in_err-distance : goal.returns-in_err-distance
 returns-in_err-distance c =
+    let below = either_behind 45 (as_at minus (positive_at 9223372036854775808)) (as_at pos (number_at 9223372036854775807)) c.args.bytes.now c.args.at
+    (sym c.byte_stands.ensures ∙ c.if-byte_stands.true) in
     let p = err_from_is_err_and c.from_residual.result c.from_residual.ensures.1 in
-    record { exact = rw (p.1, p.2) (fails_by c.in_err-distance.field-0.0 c.args.bytes.now _ _ (λ stop e. minus_stops c.args.bytes.now c.args.at stop (sym c.byte_stands.ensures ∙ c.if-byte_stands.true) e) c.in_err-distance.ensures.exact); onward = rw (p.1) tt }
+    record {
+      exact = rw (p.1, p.2) (fails_by c.in_err-distance.field-0.0 c.args.bytes.now _ _ (λ stop e. below ∙ rw e refl) c.in_err-distance.ensures.exact);
+      onward = rw (p.1) tt;
+    }
 
 pub returns-then-byte_stands : goal.returns-then-byte_stands
 returns-then-byte_stands c =
-    record { exact = (c.in_ok-distance.ensures.exact.0, minus_reads c.args.bytes.now c.args.at c.in_ok-distance.end c.in_ok-distance.distance (sym c.byte_stands.ensures ∙ c.if-byte_stands.true) c.in_ok-distance.ensures.exact.1 ∙ ap (λ (z : ℤ). Ok (z, drop c.in_ok-distance.end c.args.bytes.now)) (sym (to_z-of_z w64 c.below_zero.result (record { sfits = c.below_zero.type_inv }) ∙ c.below_zero.ensures))); onward = omega (arith, c.in_ok-distance.ensures.onward) }
+    let below = either_behind 45 (as_at minus (positive_at 9223372036854775808)) (as_at pos (number_at 9223372036854775807)) c.args.bytes.now c.args.at
+    (sym c.byte_stands.ensures ∙ c.if-byte_stands.true) in
+    let end = drop c.in_ok-distance.end c.args.bytes.now in
+    let read : as_at minus (positive_at 9223372036854775808) (drop (c.args.at + 1) c.args.bytes.now) ≡ Ok (minus c.in_ok-distance.distance, end)
+    = rw c.in_ok-distance.ensures.exact.1 refl in
+    let same = to_z-of_z w64 c.below_zero.result (record { sfits = c.below_zero.type_inv }) ∙ c.below_zero.ensures in
+    record {
+      exact = (c.in_ok-distance.ensures.exact.0, below ∙ read ∙ ap (λ (z : ℤ). Ok (z, end)) (sym same));
+      onward = omega (arith, c.in_ok-distance.ensures.onward);
+    }
 
+-- what is read behind the sign isn't 0
 pub below_zero-requires : goal.below_zero-requires
-below_zero-requires c = record { positive = is_positive (drop (c.args.at + 1) c.args.bytes.now) c.in_ok-distance.distance (drop c.in_ok-distance.end c.args.bytes.now) c.in_ok-distance.ensures.exact.1; small = c.in_ok-distance.ensures.small }
+below_zero-requires c = record {
+  positive = ((positive_format 9223372036854775808 (omega arith)).found (drop (c.args.at + 1) c.args.bytes.now) c.in_ok-distance.distance
+      (drop c.in_ok-distance.end c.args.bytes.now) c.in_ok-distance.ensures.exact.1).fits.0;
+  small = c.in_ok-distance.ensures.small;
+}

@@ -1,9 +1,10 @@
-use Rattle.std.proofs.Common.{◌≡◌, ℕ, ◌+◌, ◌-◌, ◌*◌, ◌<◌, ◌≤◌, List, [], ◌∷◌, length, drop, Ok}
-use Rattle.df_format.specs.Reading.{more_of, with_front}
+use Rattle.std.proofs.Common.{◌≡◌, ℕ, ◌+◌, ◌-◌, ◌*◌, ◌<◌, ◌≤◌, List, length, drop}
 use Rattle.df_frozen.specs.Plain.{Plain, items, entries, from_list, from_pairs}
 use Rattle.df_frozen.specs.Value.{plain}
-use Rattle.df_value_text.specs.ReadValue.{leads_value, leads_entry, entry_at, next_entry_at, value_within}
-use Rattle.df_value_text.proofs.PutSteps.{AreUpTo}
+use Rattle.df_value_text.specs.ReadValue.{leads_value, leads_entry, next_entry_at, value_within}
+use Rattle.df_value_text.proofs.Loops.{Left}
+use Rattle.df_value_text.proofs.ValueSteps.{AreUpTo}
+use Rattle.df_value_text.proofs.ValueSteps.{a_list, a_map, all_in}
 use Rattle.df_value_text.proofs.value_reader.+read.Given as goal
 
 abbrev pub decreases-value_at : goal.decreases-value_at
@@ -24,14 +25,13 @@ decreases-list_at a = 5 * (length a.bytes.now - a.at) + 4
 abbrev pub decreases-map_at : goal.decreases-map_at
 decreases-map_at a = 5 * (length a.bytes.now - a.at) + 4
 
--- what is left is read as all behind the first value was to be, for every number of levels that suffices
+-- for every number of levels that suffices
 abbrev pub invariant-list_at-values : goal.invariant-list_at-values
-invariant-list_at-values l = (first : Plain)
-    × (last : Plain)
+invariant-list_at-values l = (last : Plain)
     × (all : List Plain)
     × (plain l.list ≡ items (from_list all))
-    × ((n : ℕ) → length l.bytes < l.at + n → (value_within n (drop l.at l.bytes) ≡ Ok (first, drop l.start l.bytes))
-    × (with_front all (more_of leads_value (λ prev. value_within n) last (drop l.place l.bytes)) ≡ with_front (first ∷ []) (more_of leads_value (λ prev. value_within n) first (drop l.start l.bytes))))
+    × ((n : ℕ) → length l.bytes < l.at + n
+    → Left leads_value (λ prev. value_within n) (all_in (a_list n) (drop l.at l.bytes)) all last l.bytes l.place)
     × (l.place ≤ length l.bytes)
     × (l.at < l.place)
 
@@ -40,12 +40,11 @@ decreases-list_at-values l = length l.bytes - l.place
 
 -- the same of entries, whose names go up to the last one
 abbrev pub invariant-map_at-entries : goal.invariant-map_at-entries
-invariant-map_at-entries l = (first : List ℕ × Plain)
-    × (last : Plain)
+invariant-map_at-entries l = (last : Plain)
     × (all : List (List ℕ × Plain))
     × (plain l.map ≡ entries (from_pairs all))
-    × ((n : ℕ) → length l.bytes < l.at + n → (entry_at (value_within n) (drop l.at l.bytes) ≡ Ok (first, drop l.start l.bytes))
-    × (with_front all (more_of leads_entry (λ prev. next_entry_at (value_within n) prev.0) (l.last, last) (drop l.place l.bytes)) ≡ with_front (first ∷ []) (more_of leads_entry (λ prev. next_entry_at (value_within n) prev.0) first (drop l.start l.bytes))))
+    × ((n : ℕ) → length l.bytes < l.at + n
+    → Left leads_entry (λ prev. next_entry_at (value_within n) prev.0) (all_in (a_map n) (drop l.at l.bytes)) all (l.last, last) l.bytes l.place)
     × AreUpTo all l.last
     × (l.place ≤ length l.bytes)
     × (l.at < l.place)
