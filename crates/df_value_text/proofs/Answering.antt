@@ -1,11 +1,32 @@
 -- What a format says of the answers of a reader that gives what reading gives.
 use Rattle.df_value_text.proofs.Names.{◌≡◌, ℕ, Bool, List, drop, Ok, Err, refl, sym, ap, ◌∙◌, inl, inr, Bad, Low, Read, Stands, Format, ok_is, err_is, not_both}
-use Rattle.df_value_text.proofs.Names.{stands, can_go_on, IsFound, IsRead, IsSyntaxAt, Fault}
+use Rattle.df_value_text.proofs.Names.{stands, can_go_on, Fails, refusal, IsFound, IsRead, IsSyntaxAt, Fault}
 use Rattle.std.proofs.Common.{Result}
 use Rattle.std.specs.Prelude.{IfErr, IfOk}
 use Rattle.df_format.proofs.Laws.{is_read, first_bad}
 use Rattle.df_value_text.specs.code.Answer.{Gives, NamesBad, NamesBadOrLow, told}
+use Rattle.df_value_text.specs.ValueFault.{TellsSyntaxAt}
+use Rattle.df_value_text.specs.declared.refused.TextRefused.{TextRefused}
 use Rattle.df_value_text.specs.declared.refused.Fault.TheVariants as fault
+use Rattle.df_value_text.specs.declared.refused.TextRefused.TheVariants as refused
+
+-- a fault is only one of memory where something is read
+pub no_refusal : {X : Type 0} (bytes : List ℕ) (e : Fault) (r : Read ℕ X) (x : X × List ℕ) → Fails bytes e r → r ≡ Ok x → refusal e ≡ refused.NoMemory
+no_refusal bytes fault.NoMemory r x h e = refl
+no_refusal bytes (fault.Bad place) r x h e = not_both x (Bad (drop place bytes)) (sym e ∙ h.1)
+no_refusal bytes (fault.Low place) r x h e = not_both x (Low (drop place bytes)) (sym e ∙ h.1)
+
+-- where reading stops low, a Syntax is told there
+pub told_low : {X : Type 0} (bytes : List ℕ) (e : Fault) (r : Read ℕ X) (rest : List ℕ) → Fails bytes e r → r ≡ Err (Low rest)
+    → TellsSyntaxAt bytes rest (refusal e)
+told_low bytes fault.NoMemory r rest h low = tt
+told_low bytes (fault.Bad place) r rest h low = absurd (let e = err_is (Bad (drop place bytes)) (Low rest) (sym h.1 ∙ low) in cc)
+told_low bytes (fault.Low place) r rest h low = let e = err_is (Low (drop place bytes)) (Low rest) (sym h.1 ∙ low) in cc
+
+pub syntax_told : (X : Type 0) (text rest : List ℕ) (e : TextRefused) → TellsSyntaxAt text rest e → IsSyntaxAt {X = X} text rest (Err e)
+syntax_told X text rest refused.NoMemory h = tt
+syntax_told X text rest (refused.Syntax place) h = h
+syntax_told X text rest (refused.TooLarge place) h = h
 
 module _ {X : Type 0} {IsLow : List ℕ → List ℕ → Type 0} {spell : X → List ℕ} {Fits : X → Type 0} {goes : X → ℕ → Bool} {read : List ℕ → Read ℕ X}
     (f : Format IsLow spell Fits goes read) (bytes : List ℕ) (at : ℕ) where
@@ -22,9 +43,7 @@ module _ {X : Type 0} {IsLow : List ℕ → List ℕ → Type 0} {spell : X → 
           let here : X × List ℕ = (x.0, drop x.1 bytes) in
           let both = ok_is here (y, rest) (sym h.1 ∙ e) in
           (ap (λ (q : X × List ℕ). q.0) both, ap (λ (q : X × List ℕ). q.1) both)
-      by (Err fault.NoMemory) h e = refl
-      by (Err (fault.Bad place)) h e = not_both (y, rest) (Bad (drop place bytes)) (sym e ∙ h.1)
-      by (Err (fault.Low place)) h e = not_both (y, rest) (Low (drop place bytes)) (sym e ∙ h.1)
+      by (Err e) h read-is = no_refusal bytes e (read (drop at bytes)) (y, rest) h read-is
 
   pub names_either : (x : X) → Fits x → (r : Result (X × ℕ) Fault) → Gives (λ x. x) bytes r (read (drop at bytes))
       → IfErr (told r) (NamesBadOrLow IsLow spell Fits bytes at)
@@ -45,10 +64,7 @@ module _ {X : Type 0} {IsLow : List ℕ → List ℕ → Type 0} {spell : X → 
   names_bad none x fits (Err (fault.Low place)) h =
       let s = f.stuck (drop at bytes) (Low (drop place bytes)) h.1 in absurd (none s.front (drop place bytes) s.cause)
 
--- reading that stops low is answered by a Syntax there
 pub names_low : {X : Type 0} (bytes : List ℕ) (r : Result (X × ℕ) Fault) (read : Read ℕ X) (rest : List ℕ) → Gives (λ x. x) bytes r read
     → read ≡ Err (Low rest) → IsSyntaxAt bytes rest (told r)
 names_low {X} bytes (Ok x) read rest h low = let here : X × List ℕ = (x.0, drop x.1 bytes) in not_both here (Low rest) (sym h.1 ∙ low)
-names_low bytes (Err fault.NoMemory) read rest h low = tt
-names_low bytes (Err (fault.Bad place)) read rest h low = absurd (let e = err_is (Bad (drop place bytes)) (Low rest) (sym h.1 ∙ low) in cc)
-names_low bytes (Err (fault.Low place)) read rest h low = let e = err_is (Low (drop place bytes)) (Low rest) (sym h.1 ∙ low) in cc
+names_low {X} bytes (Err e) read rest h low = syntax_told X bytes rest (refusal e) (told_low bytes e read rest h low)

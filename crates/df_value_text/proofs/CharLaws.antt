@@ -86,14 +86,12 @@ IsEscaped c = IsQuoted c ⊎ IsControl c
 escape_format : Format nowhere behind_slash IsEscaped never escape_at
 escape_format =
     either_of is_quoted (told_as (λ c h. rw h refl) (λ c t h. refl) (passing_format is_quoted))
-    (told_as (λ c h. rw (not_quoted c h) refl) (λ c t h. refl) control_format)
-    (λ c h. record { first = c; others = []; is = rw h refl; test = h })
+    (told_as (λ c h. rw (not_quoted c h) refl) (λ c t h. refl) control_format) (λ c h. record { first = c; others = []; is = rw h refl; test = h })
     (λ c h. record {
       first = hex_digit (c / 16);
       others = hex_digit (c % 16) ∷ [];
       is = rw (not_quoted c h) refl;
-      test = high_unquoted (hex_digit (c / 16))
-          (high_is c h);
+      test = high_unquoted (hex_digit (c / 16)) (high_is c h);
     })
 
 -- ---- a byte of ASCII
@@ -118,8 +116,7 @@ pub ascii_format : Format nowhere escaped (λ c. IsEscaped c ⊎ IsPlain c) neve
 ascii_format =
     either_of (λ c. eqb c 92)
     (told_as escaped_is (λ c t h. refl) (behind_format nowhere nowhere_is_local (92 ∷ []) behind_slash IsEscaped never escape_at 34 (inl refl) escape_format))
-    (told_as plain_is (λ c t h. refl) (passing_format is_plain))
-    (λ c h. record { first = 92; others = behind_slash c; is = escaped_is c h; test = refl })
+    (told_as plain_is (λ c t h. refl) (passing_format is_plain)) (λ c h. record { first = 92; others = behind_slash c; is = escaped_is c h; test = refl })
     (λ c h. record { first = c; others = []; is = plain_is c h; test = plain_other c h })
 
 -- the bytes of a text, each escaped
@@ -177,8 +174,7 @@ wide_high : (x : List ℕ) → IsWide x → AreHigh x
 wide_high [] fits = absurd fits
 wide_high (lead ∷ bs) fits = (
   omega (arith, (between_is 194 244 lead fits.0).0),
-  trail_high (trail_length lead) (least_second lead) (most_second lead) bs
-      (least_is lead) fits.1,
+  trail_high (trail_length lead) (least_second lead) (most_second lead) bs (least_is lead) fits.1,
 )
 
 wide_text : (x : List ℕ) → IsWide x → chars_text x ≡ x
@@ -204,8 +200,7 @@ first_ascii : (c : ℕ) → (IsEscaped c ⊎ IsPlain c) → FirstAscii (chars_te
 first_ascii c (inl h) = record {
   first = 92;
   others = behind_slash c ++ [];
-  is = ap (λ (u : List ℕ). u ++ [])
-      (escaped_is c h);
+  is = ap (λ (u : List ℕ). u ++ []) (escaped_is c h);
   small = omega arith;
   begins = refl;
 }
@@ -213,8 +208,7 @@ first_ascii c (inr h) = record {
   first = c;
   others = [];
   is = ap (λ (u : List ℕ). u ++ []) (plain_is c h);
-  small = ascii_small c
-      (inr h);
+  small = ascii_small c (inr h);
   begins = plain_begins c h;
 }
 
@@ -230,8 +224,7 @@ wide_begins (lead ∷ bs) h = record {
   first = lead;
   others = bs;
   is = wide_text (lead ∷ bs) h;
-  test = not_below lead 128
-      (omega (arith, (between_is 194 244 lead h.0).0));
+  test = not_below lead 128 (omega (arith, (between_is 194 244 lead h.0).0));
 }
 
 pub char_format : Format nowhere chars_text IsChar never char_at

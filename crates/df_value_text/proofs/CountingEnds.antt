@@ -60,8 +60,7 @@ counted_behind p fits rest =
     record {
       nodes = ap (λ (w : Walk). w.nodes) e ∙ h.nodes_are;
       bytes = ap (λ (w : Walk). w.bytes) e ∙ h.bytes_are;
-      deep = ap (λ (w : Walk). w.deep) e
-          ∙ h.deep_is;
+      deep = ap (λ (w : Walk). w.deep) e ∙ h.deep_is;
     }
 
 -- ---- values and the limits

@@ -42,8 +42,7 @@ joins {p} {os} {s} {q} {ps} {t} {r} {qs} {nodes} {bytes} {deep} {nodes'} {bytes'
 
 -- a text, a byte that counts nothing, others and a last byte
 pub and_more : {p : Place} {os : List Bool} {s : List ℕ} {q : Place} {ps : List Bool} {r : Place} {qs : List Bool} {u : Place} {us : List Bool} {nodes bytes
-    deep nodes' bytes' deep' : ℕ}
-    (c last : ℕ) (others : List ℕ) → Adds p os s q ps nodes bytes deep → Adds q ps (c ∷ []) r qs 0 0 0
+    deep nodes' bytes' deep' : ℕ} (c last : ℕ) (others : List ℕ) → Adds p os s q ps nodes bytes deep → Adds q ps (c ∷ []) r qs 0 0 0
     → Adds r qs (others ++ last ∷ []) u us nodes' bytes' deep'
     → Adds p os ((s ++ (c ∷ others)) ++ last ∷ []) u us (nodes + nodes') (bytes + bytes') (max deep deep')
 and_more {p} {os} {s} {q} {ps} {r} {qs} {u} {us} {nodes} {bytes} {deep} {nodes'} {bytes'} {deep'} c last others left between right =

@@ -56,8 +56,7 @@ walked_few w (c ∷ cs) =
     record {
       nodes = omega (arith, one.few, rest.nodes);
       bytes = omega (arith, few, rest.bytes);
-      deep = omega
-          (arith, one.flat, rest.deep, inner, opens_more c cs);
+      deep = omega (arith, one.flat, rest.deep, inner, opens_more c cs);
     }
 
 -- a short text that opens few brackets passes no count
@@ -103,8 +102,7 @@ never_words : (bytes more : List ℕ) → drop (plain_run bytes) bytes ≡ 34 �
 never_words bytes more ends few =
     let run : List ℕ = take (plain_run bytes) bytes in
     let whole : 34 ∷ bytes ≡ ((34 ∷ run) ++ 34 ∷ []) ++ more =
-    ap (λ (u : List ℕ). 34 ∷ u)
-    (sym (take-append-drop (plain_run bytes) bytes) ∙ ap (λ (u : List ℕ). run ++ u) ends ∙ sym (append_assoc run (34 ∷ []) more)) in
+    ap (λ (u : List ℕ). 34 ∷ u) (sym (take-append-drop (plain_run bytes) bytes) ∙ ap (λ (u : List ℕ). run ++ u) ends ∙ sym (append_assoc run (34 ∷ []) more)) in
     let counts : counts_of ((34 ∷ run) ++ 34 ∷ []) ≡ at place.Behind [] 1 (plain_run bytes) 1 = (words_add bytes).run 0 0 0
     ∙ same place.Behind [] 1 (0 + plain_run bytes) 1 1 (plain_run bytes) 1 refl (omega arith) refl in
     let all : counts_of (34 ∷ bytes) ≡ walked (at place.Behind [] 1 (plain_run bytes) 1) more = ap counts_of whole
@@ -166,13 +164,12 @@ reached_over bytes at here w v lt e within over r = record {
 never_reached : (bytes : List ℕ) (at here : ℕ) (w : Walk) → Reached bytes at here w → AreWithin (walked w (drop here bytes)) → NeverOver (drop at bytes)
 never_reached bytes at here w r h =
     let all : counts_of (drop at bytes) ≡ walked w (drop here bytes) = ap counts_of r.parts ∙ walked-append start r.front (drop here bytes)
-        ∙ ap (λ (w : Walk). walked w (drop here bytes)) r.is in
+    ∙ ap (λ (w : Walk). walked w (drop here bytes)) r.is in
     never_over (drop at bytes) (subst AreWithin (sym all) h)
 
 -- the bytes have ended
 pub never_ended : (bytes : List ℕ) (at here : ℕ) (w : Walk) → length bytes ≤ here → AreWithin w → Reached bytes at here w → NeverOver (drop at bytes)
-never_ended bytes at here w le within r =
-    never_reached bytes at here w r (subst (λ (u : List ℕ). AreWithin (walked w u)) (sym (drop_all here bytes le)) within)
+never_ended bytes at here w le within r = never_reached bytes at here w r (subst (λ (u : List ℕ). AreWithin (walked w u)) (sym (drop_all here bytes le)) within)
 
 -- the value has ended
 pub never_done : (bytes : List ℕ) (at here : ℕ) (w : Walk) → w.place ≡ place.Done → AreWithin w → Reached bytes at here w → NeverOver (drop at bytes)

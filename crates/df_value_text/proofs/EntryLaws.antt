@@ -60,11 +60,9 @@ module _ {X : Type 0} (spell : X → List ℕ) (Fits : X → Type 0) (After : X 
       → ((xs : X × List X) → ItemsFit Fits After xs → goes xs last ≡ false) → Format IsLow (items_spell 44 spell) (ItemsFit Fits After) goes read
       → Format IsLow (ended_text last spell) (Chain Fits After) never (ended_at last read)
   ended_format {IsLow} {goes} {read} moved ends f =
-      fitting chain_of of_chain
-      (either_of (λ c. eqb c last) (made none_listed (text_format IsLow (last ∷ [])) (λ w h. sym h) (λ w c h. refl))
+      fitting chain_of of_chain (either_of (λ c. eqb c last) (made none_listed (text_format IsLow (last ∷ [])) (λ w h. sym h) (λ w c h. refl))
       (closed_format IsLow moved last [] (λ xs. joined 44 spell xs) (IsSome Fits After) (goes_on goes) (as_at listed read)
-      (λ xs h. subst (λ (ys : List X). goes_on goes ys last ≡ false) h.2 (ends h.0 h.1))
-      (made listed f (λ x h. joined_items 44 spell x.0 x.1) (λ x c h. refl)))
+      (λ xs h. subst (λ (ys : List X). goes_on goes ys last ≡ false) h.2 (ends h.0 h.1)) (made listed f (λ x h. joined_items 44 spell x.0 x.1) (λ x c h. refl)))
       none_begins some_begins)
 
 -- ---- how deep lists and maps nest
@@ -105,8 +103,7 @@ LevelFits n p = IsSpelled p × (nest p ≤ n)
 
 -- ---- lists, item by item
 
-items_follow : (n : ℕ) (prev : Plain) (ps : List Plain) → Follow (λ prev. LevelFits n) prev ps
-    → AreSpelled (from_list ps) × (items_nest (from_list ps) ≤ n)
+items_follow : (n : ℕ) (prev : Plain) (ps : List Plain) → Follow (λ prev. LevelFits n) prev ps → AreSpelled (from_list ps) × (items_nest (from_list ps) ≤ n)
 items_follow n prev [] h = (tt, omega arith)
 items_follow n prev (p ∷ ps) h = let r = items_follow n p ps h.1 in ((h.0.0, r.0), omega (arith, h.0.1, r.1))
 
@@ -241,14 +238,12 @@ module _ (n : ℕ) (inner : List ℕ → Read ℕ Plain) (f : Format IsLowName v
   pub entry_format : Format IsLowName entry_text (LevelEntry n) entry_goes (entry_at inner)
   entry_format =
       then_second_format IsLowName low_is_local own IsName name_goes name_at given_text (LevelFits n) value_goes (given_at inner)
-      (name_format IsLowName) given_format
-      (int (pos 0)) (omega arith, omega arith) (λ name p rest fits fits_p ends. name_apart name)
+      (name_format IsLowName) given_format (int (pos 0)) (omega arith, omega arith) (λ name p rest fits fits_p ends. name_apart name)
 
   pub next_format : (prev : List ℕ × Plain) → Format (NearEntry prev) entry_text (LevelAfter n prev) entry_goes (next_entry_at inner prev.0)
   next_format prev =
       then_format (NearName prev.0) IsLowName (NearEntry prev) own (AfterName prev.0) name_goes (higher_at prev.0) given_text (LevelFits n) value_goes
-      (given_at inner) (then_goes value_goes)
-      (λ front rest low. inl low) (λ name front rest fits low. inr (low_is_local name front rest low))
+      (given_at inner) (then_goes value_goes) (λ front rest low. inl low) (λ name front rest fits low. inr (low_is_local name front rest low))
       (higher_format prev.0) given_format (int (pos 0)) (omega arith, omega arith)
       (ends_of_second IsLowName own (AfterName prev.0) name_goes given_text (LevelFits n) value_goes (given_at inner) given_format
       (λ name p rest fits fits_p ends. name_apart name))

@@ -20,7 +20,7 @@ is_less Less h = refl
 is_less Equal h = absurd cc
 is_less Greater h = absurd cc
 
-tied : (n : ℕ) → nat_cmp n n ≡ Equal
+pub tied : (n : ℕ) → nat_cmp n n ≡ Equal
 tied n = tied_itself nat_cmp_total n
 
 -- ---- the longest name
@@ -67,15 +67,11 @@ higher_stuck prev bytes stop e =
           elim (chosen (is_lt (name_cmp prev h.0.0)) (Ok h.0) (Err (Low bytes)) (Err stop) h.2) [
             | inl k ↦ not_both h.0 stop k.1
             | inr k ↦
-                subst (λ (s : Stop ℕ). Stuck (NearName prev) own (AfterName prev) (higher_at prev) bytes s) (err_is (Low bytes) stop k.1)
-                (record {
+                subst (λ (s : Stop ℕ). Stuck (NearName prev) own (AfterName prev) (higher_at prev) bytes s) (err_is (Low bytes) stop k.1) (record {
                   front = [];
                   parts = refl;
                   viable = tt;
-                  cause = (
-                    refl,
-                    record { name = h.0.0; more = h.0.1; longest = is_longest name_whole bytes h.0.0 h.0.1 h.1; low = k.0 },
-                  );
+                  cause = (refl, record { name = h.0.0; more = h.0.1; longest = is_longest name_whole bytes h.0.0 h.0.1 h.1; low = k.0 });
                 })
           ]
     ]

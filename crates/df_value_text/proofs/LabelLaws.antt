@@ -116,8 +116,7 @@ minus_begins word h = record { first = 45; others = maybe_spell own word; is = m
 
 pub right_format : Format nowhere right_text IsRight right_goes right_at
 right_format =
-    fitting (λ r h. tt) (λ r h. signed r)
-    (either_of (λ c. eqb c 43) (led nowhere_is_local (43 ∷ []) plus_of None tt auth_format plus_spelled plus_alike)
+    fitting (λ r h. tt) (λ r h. signed r) (either_of (λ c. eqb c 43) (led nowhere_is_local (43 ∷ []) plus_of None tt auth_format plus_spelled plus_alike)
     (led nowhere_is_local (45 ∷ []) minus_of None tt auth_format minus_spelled minus_alike)
     (λ r h. subst (λ (r : Right). Begins (λ c. eqb c 43) true (right_text r)) h.2 (plus_begins h.0 h.1))
     (λ r h. subst (λ (r : Right). Begins (λ c. eqb c 43) false (right_text r)) h.2 (minus_begins h.0 h.1)))
@@ -134,8 +133,6 @@ privilege_goes p c = right_goes p.right c
 
 pub privilege_format : Format nowhere privilege_text IsPrivilege privilege_goes privilege_at
 privilege_format =
-    viewed privilege_of
-    (then_second_format nowhere nowhere_is_local tag_text IsTag tag_goes tag_at right_text IsRight right_goes right_at
-    (tag_format nowhere nowhere_is_local) right_format Plus tt
-    (λ tag r rest fits any ends. before_sign tag r rest fits))
+    viewed privilege_of (then_second_format nowhere nowhere_is_local tag_text IsTag tag_goes tag_at right_text IsRight right_goes right_at
+    (tag_format nowhere nowhere_is_local) right_format Plus tt (λ tag r rest fits any ends. before_sign tag r rest fits))
     (record { to = λ x fits. fits.0; from = λ p fits. ((p.tag, p.right), (fits, tt), refl); spelled = λ x fits. refl; alike = λ x c fits. refl })

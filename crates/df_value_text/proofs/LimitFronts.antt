@@ -52,8 +52,7 @@ first_too_large text rest here front over lt e on =
     let long = over_length text rest over in
     record {
       over = over;
-      viable = viable_before (over.front ++ over.first ∷ []) over.more front here (with_over text rest over ∙ e)
-          (omega (arith, long, lt)) on;
+      viable = viable_before (over.front ++ over.first ∷ []) over.more front here (with_over text rest over ∙ e) (omega (arith, long, lt)) on;
     }
 
 -- there is only one first byte over
@@ -121,8 +120,7 @@ inside_of here behind name tail short e =
     record {
       more = on.0;
       parts = on.1;
-      is = append_cancel_left name tail (on.0 ++ behind)
-          (sym e ∙ ap (λ (u : List ℕ). u ++ behind) on.1 ∙ append_assoc name on.0 behind);
+      is = append_cancel_left name tail (on.0 ++ behind) (sym e ∙ ap (λ (u : List ℕ). u ++ behind) on.1 ∙ append_assoc name on.0 behind);
     }
 
 -- the longest name stays so, where more bytes stand here than a name has

@@ -1,8 +1,8 @@
 -- Reading up to the first byte by which a count of freezing is passed, and what it says of all bytes.
 use Rattle.df_value_text.proofs.Names.{◌≡◌, None, Some, ℕ, suc, ◌+◌, ◌<◌, ◌≤◌, List, [], ◌∷◌, ◌++◌, length, length-append, take, drop, Ok, Err, refl, sym, ap, subst, ◌∙◌}
 use Rattle.df_value_text.proofs.Names.{append_assoc, arith, ◌⊎◌, inl, inr, true, nat_le, nat_lt, nat_tests, append-nil, drop_all, length-take-le, CanGoOn}
-use Rattle.df_value_text.proofs.Names.{Stands, Bad, Low, told, IsWithinLimits, Plain, Fails, IsSyntaxAt, refusal, FirstOver, NeverOver, counts_of, IsSpelled}
-use Rattle.df_value_text.proofs.Names.{IsValue, NameStandsLow, LowInValue, value_text, FirstBadValue, FirstTooLarge, IsWithinBefore, Fault}
+use Rattle.df_value_text.proofs.Names.{Stands, Bad, Low, told, IsWithinLimits, Plain, Fails, refusal, FirstOver, NeverOver, counts_of, IsSpelled, IsValue}
+use Rattle.df_value_text.proofs.Names.{NameStandsLow, LowInValue, value_text, FirstBadValue, FirstTooLarge, IsWithinBefore, Fault}
 use Rattle.std.proofs.Common.{Result, min}
 use Rattle.std.specs.Result.{result_err}
 use Rattle.std.proofs.lemmas.List.{length-drop}
@@ -10,6 +10,8 @@ use Rattle.df_value_text.specs.ReadValue.{value_within}
 use Rattle.df_value_text.specs.ValueFault.{IsTooLargeAt, NamesTooLarge, NamesValueFault, NoLowBefore, TellsSyntaxAt, up_to}
 use Rattle.df_value_text.specs.declared.refused.TextRefused.{TextRefused}
 use Rattle.df_value_text.proofs.CountingEnds.{value_within as counted_within, front_whole, not_both, over_inside, value_over}
+use Rattle.df_value_text.proofs.Answering.{told_low}
+use Rattle.df_value_text.proofs.LowLaws.{low_read}
 use Rattle.df_value_text.proofs.ValueAnswers.{Enough, first_bad_value, first_low_value, no_low_name, stops_low}
 use Rattle.df_value_text.proofs.ValueLaws.{value_format}
 use Rattle.df_value_text.proofs.LimitFronts.{viable_before, with_over, over_length, over_parts, within_in_front, over_behind, first_too_large, over_once}
@@ -72,10 +74,7 @@ module _ {text : List ℕ} {at over end : ℕ} (c : IsCut text at over end) wher
 
   -- where a name begins in front of the byte over, all of it stands in the cut
   name_room : (n : ℕ) → n ≤ over → (drop end text ≡ []) ⊎ (32 ≤ length (drop n cut))
-  name_room n le = elim c.room [
-    | inl h ↦ inl (drop_all end text (omega (arith, h)))
-    | inr h ↦ inr (omega (arith, h, le, length-drop n cut, cut_length))
-  ]
+  name_room n le = elim c.room [ inl h ↦ inl (drop_all end text (omega (arith, h))) | inr h ↦ inr (omega (arith, h, le, length-drop n cut, cut_length)) ]
 
   -- what is bad or low in front of the byte over is so in the whole
   faulty_whole : (n : ℕ) → n ≤ over → Faulty (drop at cut) (drop n cut) → Faulty (drop at text) (drop n text)
@@ -106,14 +105,12 @@ module _ {text : List ℕ} {at over end : ℕ} (c : IsCut text at over end) wher
       elim (told (nat_le place over)) [
         | inl k ↦
             let le : place ≤ over = grind (arith, nat_tests) in
-            let front : length (drop over text) ≤ length (drop place text) = omega
-                (arith, le, c.within, c.before, length-drop place text, length-drop over text) in
-            rw k ((omega (arith, le, c.before, c.within), faulty_whole place le faulty,
-            within_in_front (drop at text) (drop over text) (drop place text) c.first front), tt)
+            let front : length (drop over text) ≤ length (drop place text) = omega (arith, le, c.within, length-drop place text, length-drop over text) in
+            let before = within_in_front (drop at text) (drop over text) (drop place text) c.first front in
+            rw k ((omega (arith, le, c.before, c.within), faulty_whole place le faulty, before), tt)
         | inr k ↦
-            let lt : over < place = grind (arith, nat_tests) in
             let f = faulty_front (drop at cut) (drop place cut) faulty in
-            rw k (tt, large_by f.0 place (omega (arith, below, cut_length)) lt f.1 f.2)
+            rw k (tt, large_by f.0 place (omega (arith, below, cut_length)) (grind (arith, nat_tests)) f.1 f.2)
       ]
 
   pub fault_cut : (e : Fault) → Enough cut at (λ n. Fails cut e (value_within n (drop at cut)))
@@ -121,8 +118,7 @@ module _ {text : List ℕ} {at over end : ℕ} (c : IsCut text at over end) wher
   fault_cut fault.NoMemory h = (tt, tt)
   fault_cut (fault.Bad place) h =
       told_cut place (h (suc (length cut)) (omega arith)).0 (inl (first_bad_value cut at (drop place cut) (λ n lt. (h n lt).1)))
-  fault_cut (fault.Low place) h =
-      told_cut place (h (suc (length cut)) (omega arith)).0 (inr (first_low_value cut at (drop place cut) (λ n lt. (h n lt).1)))
+  fault_cut (fault.Low place) h = told_cut place (h (suc (length cut)) (omega arith)).0 (inr (first_low_value cut at (drop place cut) (λ n lt. (h n lt).1)))
 
   -- a low name in front of which no count is passed is one in the cut
   record LowInCut (rest : List ℕ) : Type 0 where
@@ -171,16 +167,17 @@ module _ {text : List ℕ} {at over end : ℕ} (c : IsCut text at over end) wher
       let stop : Low (drop place cut) ≡ Low l.more = stops_low cut at (Low (drop place cut)) (λ n lt. (h n lt).1) l.more l.low in
       let same : drop place cut ≡ l.more = cc in
       let parts : drop place cut ++ drop end text ≡ rest = ap (λ (u : List ℕ). u ++ drop end text) same ∙ sym l.is in
-      let le : place ≤ over = omega (arith, below, ap (λ (u : List ℕ). length u) parts, length-append (drop place cut) (drop end text), l.long, c.before,
-      c.within, cut_length, length-drop place cut, length-drop end text, length-drop over text) in
+      let sizes : length (drop place cut) + length (drop end text) ≡ length rest = sym (length-append (drop place cut) (drop end text))
+      ∙ ap (λ (u : List ℕ). length u) parts in
+      let ends = length-drop end text in
+      let le : place ≤ over = omega (arith, below, sizes, ends, l.long, c.before, c.within, cut_length, length-drop place cut, length-drop over text) in
       let first : nat_le place over ≡ true = grind (arith, nat_tests) in
       rw first (sym (whole place (omega (arith, le, c.before))) ∙ parts)
 
   -- a value isn't read where one stands
   pub no_low_cut : (p : Plain) (stop : ℕ) → Enough cut at (λ n. (stop ≤ length cut) × (value_within n (drop at cut) ≡ Ok (p, drop stop cut)))
       → (rest : List ℕ) → LowInValue (drop at text) rest → IsWithinBefore (drop at text) rest → ⊥
-  no_low_cut p stop h rest low within =
-      let l = low_in_cut rest low within in no_low_name cut at (p, drop stop cut) (λ n lt. (h n lt).1) l.more l.low
+  no_low_cut p stop h rest low within = let l = low_in_cut rest low within in no_low_name cut at (p, drop stop cut) (λ n lt. (h n lt).1) l.more l.low
 
 -- ---- all answers
 
@@ -204,24 +201,20 @@ read_within text at end p never h =
 pub fault_within : (text : List ℕ) (at : ℕ) (e : Fault) → NeverOver (drop at text) → Enough text at (λ n. Fails text e (value_within n (drop at text)))
     → NamesValueFault text at (refusal e) × NamesTooLarge text at (refusal e)
 fault_within text at fault.NoMemory never h = (tt, tt)
-fault_within text at (fault.Bad place) never h = (((h (suc (length text)) (omega arith)).0,
-    inl (first_bad_value text at (drop place text) (λ n lt. (h n lt).1)), λ front e. never front (drop place text) e), tt)
-fault_within text at (fault.Low place) never h = (((h (suc (length text)) (omega arith)).0,
-    inr (first_low_value text at (drop place text) (λ n lt. (h n lt).1)), λ front e. never front (drop place text) e), tt)
+fault_within text at (fault.Bad place) never h =
+    let bad = first_bad_value text at (drop place text) (λ n lt. (h n lt).1) in
+    (((h (suc (length text)) (omega arith)).0, inl bad, λ front e. never front (drop place text) e), tt)
+fault_within text at (fault.Low place) never h =
+    let low = first_low_value text at (drop place text) (λ n lt. (h n lt).1) in
+    (((h (suc (length text)) (omega arith)).0, inr low, λ front e. never front (drop place text) e), tt)
 
 -- and a low name is told
 pub order_within : (text : List ℕ) (at : ℕ) (e : Fault) → Enough text at (λ n. Fails text e (value_within n (drop at text))) → (rest : List ℕ)
     → LowInValue (drop at text) rest → TellsSyntaxAt text rest (refusal e)
-order_within text at fault.NoMemory h rest low = tt
-order_within text at (fault.Bad place) h rest low =
-    absurd (let no : Bad (drop place text) ≡ Low rest = stops_low text at (Bad (drop place text)) (λ n lt. (h n lt).1) rest low in cc)
-order_within text at (fault.Low place) h rest low =
-    let same : Low (drop place text) ≡ Low rest = stops_low text at (Low (drop place text)) (λ n lt. (h n lt).1) rest low in cc
-
-pub syntax_told : (X : Type 0) (text rest : List ℕ) (e : TextRefused) → TellsSyntaxAt text rest e → IsSyntaxAt {X = X} text rest (Err e)
-syntax_told X text rest refused.NoMemory h = tt
-syntax_told X text rest (refused.Syntax place) h = h
-syntax_told X text rest (refused.TooLarge place) h = h
+order_within text at e h rest low =
+    let l = low_read (drop at text) rest low in
+    let n : ℕ = suc (length text) + l.0 in
+    told_low text e (value_within n (drop at text)) rest (h n (omega arith)) (l.1 n (omega arith))
 
 -- a byte over stands in no value that may be frozen
 pub no_value : (text rest : List ℕ) → FirstOver text rest → (p : Plain) (behind : List ℕ) → Stands value_text IsValue text p behind → ⊥

@@ -52,8 +52,7 @@ front_on {X} front more x r s total step is so_far =
 -- none stands there
 pub front_done : {X : Type 0} (front : List X) (r : Read ℕ (List X)) (rest : List ℕ) (total : Read ℕ (List X)) → r ≡ Ok ([], rest)
     → with_front front r ≡ total → total ≡ Ok (front, rest)
-front_done {X} front r rest total e so_far =
-    sym so_far ∙ ap (with_front front) e ∙ ap (λ (u : List X). Ok (u, rest)) (append-nil front)
+front_done {X} front r rest total e so_far = sym so_far ∙ ap (with_front front) e ∙ ap (λ (u : List X). Ok (u, rest)) (append-nil front)
 
 -- ---- items
 
@@ -120,5 +119,5 @@ text_on bytes text i place b d total lt is h e =
     let taken : take (i + 1) text ≡ take i text ++ b ∷ [] = take_more text i d lt ∙ ap (λ (v : ℕ). take i text ++ v ∷ []) (sym is) in
     let step : text_at (drop i text) (drop place bytes) ≡ (text_at (drop (i + 1) text) rest >>= onto b) = ap (text_at (drop i text)) t.1
     ∙ ap (λ (u : List ℕ). text_at u (t.0 ∷ rest)) ws ∙ ap (λ x. cond x (text_at (drop (i + 1) text) rest >>= onto b) (Err (Bad (t.0 ∷ rest)))) t.2 in
-    ((drop_first bytes place t.0 rest t.1).0,
-    front_on (take i text) (take (i + 1) text) b (text_at (drop i text) (drop place bytes)) (text_at (drop (i + 1) text) rest) total step taken e)
+    let on = front_on (take i text) (take (i + 1) text) b (text_at (drop i text) (drop place bytes)) (text_at (drop (i + 1) text) rest) total step taken e in
+    ((drop_first bytes place t.0 rest t.1).0, on)

@@ -162,11 +162,7 @@ module _ {X : Type 0} {Near : X → List ℕ → List ℕ → Type 0} {leads : X
 
 pub as_stops : {X Y : Type 0} (make : X → Y) (read : List ℕ → Read ℕ X) (tokens : List ℕ) (stop : Stop ℕ) → as_at make read tokens ≡ Err stop
     → read tokens ≡ Err stop
-as_stops make read tokens stop e =
-    elim (bind_err (read tokens) (λ x. Ok (make x.0, x.1)) stop e) [
-      | inl h ↦ h
-      | inr h ↦ not_both (make h.0.0, h.0.1) stop h.2
-    ]
+as_stops make read tokens stop e = elim (bind_err (read tokens) (λ x. Ok (make x.0, x.1)) stop e) [ inl h ↦ h | inr h ↦ not_both (make h.0.0, h.0.1) stop h.2 ]
 
 text_no_low : (ws tokens rest : List ℕ) → text_at ws tokens ≡ Err (Low rest) → ⊥
 text_no_low ws tokens rest e = ((text_format nowhere ws).stuck tokens (Low rest) e).cause

@@ -232,8 +232,7 @@ module _ (n : ℕ) (es : List (List ℕ × Plain)) (name : List ℕ) (may : MayF
   given_stops : (text rest : List ℕ) → value_within n text ≡ Err (Low rest) → value_within (suc n) (open_text (in_map es name) ++ text) ≡ Err (Low rest)
   given_stops text rest e =
       ap (λ (u : List ℕ). value_within (suc n) (40 ∷ u)) (append_assoc (entries_led es) (name ++ 61 ∷ []) text
-      ∙ ap (λ (u : List ℕ). entries_led es ++ u) (append_assoc name (61 ∷ []) text))
-      ∙ map_stops n es (name ++ (61 ∷ text)) rest front
+      ∙ ap (λ (u : List ℕ). entries_led es ++ u) (append_assoc name (61 ∷ []) text)) ∙ map_stops n es (name ++ (61 ∷ text)) rest front
       (λ none. entry_stops (value_within n) name text (Low rest)
       (subst (λ (u : List (List ℕ × Plain)). Chain (LevelEntry n) (LevelAfter n) (u ++ (name, may.0) ∷ [])) none chain).0.0 e)
       (λ before last is h. let a = after before last is in
@@ -260,8 +259,8 @@ innermost_stops es last other rest may low =
     let all : List (List ℕ × Plain) = es ++ last ∷ [] in
     one_more (entries_node_count (from_pairs (all ++ (other, may.0) ∷ []))) ((40 ∷ entries_led all) ++ rest) rest (λ n le.
     map_stops n all rest rest (front n all other may le) (λ none. absurd (omega (arith, ap length none, length-append es (last ∷ []))))
-    (λ before l is h. (leads_on l other rest (after n all other may le before l is),
-    low_stops (value_within n) l.0 rest (subst (λ (d : List ℕ × Plain). NameStandsLow d.0 rest) (last_same es before last l is) low))))
+    (λ before l is h. let stands = subst (λ (d : List ℕ × Plain). NameStandsLow d.0 rest) (last_same es before last l is) low in
+    (leads_on l other rest (after n all other may le before l is), low_stops (value_within n) l.0 rest stands)))
 
 pub low_read : (text rest : List ℕ) → LowInValue text rest → Eventually text rest
 low_read text rest l =

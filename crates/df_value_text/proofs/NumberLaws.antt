@@ -51,8 +51,7 @@ digits_found most n (c ∷ cs) m rest wide pos le e =
           let t = digit_true most n c h.0 in
           let r = digits_found most (10 * n + (c - 48)) cs m rest wide (omega arith) t.2 h.1 in
           record {
-            parts = sym (append_assoc (decimal n) (c ∷ []) cs)
-                ∙ ap (λ (x : List ℕ). x ++ cs) (sym (decimal_push n c pos t.0 t.1 (omega arith))) ∙ r.parts;
+            parts = sym (append_assoc (decimal n) (c ∷ []) cs) ∙ ap (λ (x : List ℕ). x ++ cs) (sym (decimal_push n c pos t.0 t.1 (omega arith))) ∙ r.parts;
             small = r.small;
             positive = r.positive;
             ends = r.ends;
@@ -147,8 +146,7 @@ number_on most n c wide g =
       some = 10 * n + (c - 48);
       fits = (omega (arith, pos), t.2);
       more = [];
-      is = decimal_push n c pos t.0 t.1 (omega arith)
-          ∙ sym (append-nil (decimal n ++ c ∷ []));
+      is = decimal_push n c pos t.0 t.1 (omega arith) ∙ sym (append-nil (decimal n ++ c ∷ []));
     }
 
 pub number_format : (IsLow : List ℕ → List ℕ → Type 0) (most : ℕ) → most < 2 ^ 64 → Format IsLow decimal (λ n. n ≤ most) (number_goes most) (number_at most)
@@ -180,8 +178,7 @@ first_digit =
     (λ n ds ge d. record {
       first = d.first;
       others = d.others ++ (48 + n % 10) ∷ [];
-      is = ap
-          (λ (u : List ℕ). u ++ (48 + n % 10) ∷ []) d.is;
+      is = ap (λ (u : List ℕ). u ++ (48 + n % 10) ∷ []) d.is;
       low = d.low;
       high = d.high;
     })

@@ -74,8 +74,7 @@ numbers_found bytes tag rest e =
     let a = bind_ok (items_at leads_number short_at (λ prev. short_at) bytes) (λ x. Ok (listed x.0, x.1)) (tag, rest) e in
     let f = items_found numbers_parts nowhere short_at (short_format nowhere) bytes a.0.0 a.0.1 a.1 in
     let made : List ℕ × List ℕ = (listed a.0.0, a.0.1) in
-    subst (λ (q : List ℕ × List ℕ). LongFound (35 ∷ bytes) q.0 q.1) (ok_is made (tag, rest) a.2)
-    (record {
+    subst (λ (q : List ℕ × List ℕ). LongFound (35 ∷ bytes) q.0 q.1) (ok_is made (tag, rest) a.2) (record {
       parts = ap (λ (u : List ℕ). 35 ∷ u) (f.parts ∙ ap (λ (u : List ℕ). u ++ a.0.1) (sym (joined_items 46 decimal a.0.0.0 a.0.0.1)));
       fits = (omega (arith, f.fits.0), are_numbers a.0.0.0 a.0.0.1 f.fits.1);
       ends = f.ends;
@@ -157,11 +156,7 @@ numbers_stop bytes stop e =
     ]
 
 short_stays : (c : ℕ) (tail other : List ℕ) (stop : Stop ℕ) → short_at (c ∷ tail) ≡ Err stop → numbers_at (c ∷ other) ≡ Err (Bad (c ∷ other))
-short_stays c tail other stop e =
-    elim (told (is_ascii_digit c)) [
-      | inl h ↦ absurd (digit_reads (c ∷ tail) stop h e)
-      | inr h ↦ rw (no_digit (c ∷ other) h) refl
-    ]
+short_stays c tail other stop e = elim (told (is_ascii_digit c)) [ inl h ↦ absurd (digit_reads (c ∷ tail) stop h e) | inr h ↦ rw (no_digit (c ∷ other) h) refl ]
 
 -- ---- where the longest tag stops
 
@@ -178,8 +173,7 @@ pub long_stuck : (bytes : List ℕ) (stop : Stop ℕ) → longest_at bytes ≡ E
 long_stuck [] stop e = record {
   front = [];
   rest = [];
-  bad = sym
-      (err_is (Bad []) stop e);
+  bad = sym (err_is (Bad []) stop e);
   parts = refl;
   more = 35 ∷ [];
   shape = refl;

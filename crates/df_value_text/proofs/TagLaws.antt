@@ -1,9 +1,10 @@
 -- Tags are read as they are spelled.
 use Rattle.df_value_text.proofs.Names.{◌≡◌, ℕ, ◌+◌, ◌-◌, ◌*◌, ◌<◌, Bool, true, false, cond, eqb, List, [], ◌∷◌, ◌++◌, Ok, Err, refl, sym, ap, subst, ◌∙◌}
-use Rattle.df_value_text.proofs.Names.{append_assoc, arith, inl, inr, nat_cmp_is, tied_itself, nat_cmp_total, decimal, nat_cmp, Less, Equal, eqb-true}
-use Rattle.df_value_text.proofs.Names.{nat_tests, Stop, Bad, Low, Read, ◌>>=◌, CanGoOn, IsLongest, Ends, Found, Stuck, IsLocal, Format, ok_is, err_is, not_both}
-use Rattle.df_value_text.proofs.Names.{bind_ok, bind_err, told, chosen, viable_of, LastEnds, last_goes, is_longest, low_as, fitting, tag_cmp, path_text}
-use Rattle.df_value_text.proofs.Names.{tag_text, IsTag, leads_number, longest_at, ended, tag_at}
+use Rattle.df_value_text.proofs.Names.{append_assoc, arith, inl, inr, nat_cmp_is, decimal, Less, eqb-true, nat_tests, Stop, Bad, Low, Read, ◌>>=◌, CanGoOn}
+use Rattle.df_value_text.proofs.Names.{IsLongest, Ends, Found, Stuck, IsLocal, Format, ok_is, err_is, not_both, bind_ok, bind_err, told, chosen, viable_of}
+use Rattle.df_value_text.proofs.Names.{LastEnds, last_goes, is_longest, low_as, fitting, tag_cmp, path_text, tag_text, IsTag, leads_number, longest_at, ended}
+use Rattle.df_value_text.proofs.Names.{tag_at}
+use Rattle.df_value_text.proofs.HigherLaws.{tied}
 use Rattle.df_value_text.proofs.NumberLaws.{number_goes, digit_fits, digit_true, decimal_push}
 pub use Rattle.df_format.proofs.Tokens.{nowhere, nowhere_is_local}
 pub use Rattle.df_value_text.proofs.PathLaws.{top, IsShort, short_format, short_shrinks, digit_first, joined_items, behind_byte, LongFound, LongEnds}
@@ -28,9 +29,6 @@ pub record Longer (tag : List ℕ) (c : ℕ) : Type 0 where
   pub is : path_text (first ∷ others) ≡ path_text tag ++ c ∷ more
   pub above : tag_cmp tag (first ∷ others) ≡ Less
 
-tied : (n : ℕ) → nat_cmp n n ≡ Equal
-tied n = tied_itself nat_cmp_total n
-
 pub longer : (n : ℕ) (ns : List ℕ) (c : ℕ) → IsTag (n ∷ ns) → tag_goes (n ∷ ns) c ≡ true → Longer (n ∷ ns) c
 longer n [] c fits g =
     elim (chosen (eqb c 46) true (number_goes top n c) true g) [
@@ -40,8 +38,7 @@ longer n [] c fits g =
             others = 0 ∷ [];
             fits = (fits.0, (omega arith, tt));
             more = decimal 0;
-            is = ap (λ (v : ℕ). decimal n ++ (v ∷ decimal 0))
-                (sym (eqb-true c 46 h.0));
+            is = ap (λ (v : ℕ). decimal n ++ (v ∷ decimal 0)) (sym (eqb-true c 46 h.0));
             above = rw (tied n) refl;
           }
       | inr h ↦
@@ -56,8 +53,7 @@ longer n [] c fits g =
             others = [];
             fits = (omega (arith, t.2), tt);
             more = [];
-            is = decimal_push n c pos t.0 t.1
-                (omega (arith, t.2));
+            is = decimal_push n c pos t.0 t.1 (omega (arith, t.2));
             above = rw (← order) refl;
           }
     ]
@@ -126,10 +122,7 @@ ended_free tag (c ∷ rest) free = rw free refl
 
 free_ended : (x y : List ℕ × List ℕ) → ended x ≡ Ok y → NoDot x.1
 free_ended (t, []) y e = tt
-free_ended (t, c ∷ cs) y e = elim (told (eqb c 46)) [
-  | inl h ↦ not_both y (Bad cs) (sym e ∙ rw h refl)
-  | inr h ↦ h
-]
+free_ended (t, c ∷ cs) y e = elim (told (eqb c 46)) [ inl h ↦ not_both y (Bad cs) (sym e ∙ rw h refl) | inr h ↦ h ]
 
 -- the byte behind a dot tells that no number follows
 long_ends_same : (n : ℕ) (ns : List ℕ) (c : ℕ) (tail other : List ℕ) → LastEnds leads_number (number_goes top) n ns (46 ∷ c ∷ tail)
@@ -188,18 +181,15 @@ module _ (test : List ℕ → Bool) (L : List ℕ → Type 0) (j : Judges test L
   unread : (bytes : List ℕ) (stop : Stop ℕ) → LongStuck bytes stop → IsStuck bytes stop
   unread bytes stop s =
       let path : List ℕ = path_text (j.some.0 ∷ j.some.1) in
-      subst (λ (q : Stop ℕ). IsStuck bytes q) (sym s.bad)
-      (record {
+      subst (λ (q : Stop ℕ). IsStuck bytes q) (sym s.bad) (record {
         front = s.front;
         parts = s.parts;
-        viable = viable_of tag_text (Passes test) s.front
-            (record {
-              some = j.some.0 ∷ j.some.1;
-              fits = j.some.2;
-              more = s.more ++ path;
-              is = ap (λ (u : List ℕ). u ++ path) s.shape
-                  ∙ append_assoc s.front s.more path;
-            });
+        viable = viable_of tag_text (Passes test) s.front (record {
+          some = j.some.0 ∷ j.some.1;
+          fits = j.some.2;
+          more = s.more ++ path;
+          is = ap (λ (u : List ℕ). u ++ path) s.shape ∙ append_assoc s.front s.more path;
+        });
         cause = λ c tail is other. rw (s.stays c tail is other) refl;
       })
 
@@ -208,8 +198,7 @@ module _ (test : List ℕ → Bool) (L : List ℕ → Type 0) (j : Judges test L
     some = l.first ∷ l.others;
     fits = (l.fits, j.up tag c passes l);
     more = l.more;
-    is = ap (λ (u : List ℕ). 35 ∷ u)
-        (l.is ∙ sym (append_assoc (path_text tag) (c ∷ []) l.more));
+    is = ap (λ (u : List ℕ). 35 ∷ u) (l.is ∙ sym (append_assoc (path_text tag) (c ∷ []) l.more));
   }
 
   dangling : (bytes : List ℕ) (stop : Stop ℕ) (x : List ℕ × List ℕ) → longest_at bytes ≡ Ok x → test x.0 ≡ true
@@ -217,16 +206,14 @@ module _ (test : List ℕ → Bool) (L : List ℕ → Type 0) (j : Judges test L
   dangling bytes stop x read passes s =
       let f = long_found bytes x.0 x.1 read in
       let l = with_dot x.0 f.fits in
-      subst (λ (q : Stop ℕ). IsStuck bytes q) (sym s.2)
-      (record {
+      subst (λ (q : Stop ℕ). IsStuck bytes q) (sym s.2) (record {
         front = tag_text x.0 ++ 46 ∷ [];
         parts = f.parts ∙ ap (λ (u : List ℕ). tag_text x.0 ++ u) s.1 ∙ sym (append_assoc (tag_text x.0) (46 ∷ []) s.0);
         viable = viable_of tag_text (Passes test) (tag_text x.0 ++ 46 ∷ []) (longer_can x.0 46 passes l);
         cause = λ c tail is other.
             let ends : LongEnds x.0 (46 ∷ c ∷ other) = ends_same x.0 c tail other (subst (LongEnds x.0) (s.1 ∙ ap (λ (u : List ℕ). 46 ∷ u) is) f.ends) in
             let again : longest_at (tag_text x.0 ++ (46 ∷ c ∷ other)) ≡ Ok (x.0, 46 ∷ c ∷ other) = long_again x.0 (46 ∷ c ∷ other) f.fits ends in
-            ap (judged_at test) (append_assoc (tag_text x.0) (46 ∷ []) (c ∷ other))
-            ∙ ap (λ r. r >>= judged test (tag_text x.0 ++ (46 ∷ c ∷ other))) again
+            ap (judged_at test) (append_assoc (tag_text x.0) (46 ∷ []) (c ∷ other)) ∙ ap (λ r. r >>= judged test (tag_text x.0 ++ (46 ∷ c ∷ other))) again
             ∙ ap (λ b. cond b (Err (Bad (c ∷ other))) (Err (Low (tag_text x.0 ++ (46 ∷ c ∷ other))))) passes;
       })
 

@@ -1,14 +1,15 @@
 -- Sets of tags are read as they are spelled.
 use Rattle.df_value_text.proofs.Names.{◌≡◌, ℕ, Bool, true, false, eqb, List, [], ◌∷◌, ◌++◌, Option, Some, None, refl, sym, ap, ◌∙◌, append_assoc, length-append}
-use Rattle.df_value_text.proofs.Names.{length, arith, decimal, nat_list_cmp_total, Ordering, Less, Equal, Greater, is_lt, eqb-true, nat_tests, items_at}
-use Rattle.df_value_text.proofs.Names.{more_spell, items_spell, maybe_spell, CanGoOn, IsLocal, Format, Follow, Parts, ItemsFit, Leads, last_goes, items_goes}
-use Rattle.df_value_text.proofs.Names.{items_format, Shrinks, MaybeFits, maybe_goes, maybe_format, tag_cmp, path_text, tag_text, tags_text, IsTag, AreTags}
-use Rattle.df_value_text.proofs.Names.{IsTagSet, StandsLow, IsLowTag, tag_at, next_at, leads_tag, optional, tags_at}
+use Rattle.df_value_text.proofs.Names.{length, arith, decimal, nat_list_cmp_total, is_lt, eqb-true, nat_tests, items_at, more_spell, items_spell, maybe_spell}
+use Rattle.df_value_text.proofs.Names.{CanGoOn, IsLocal, Format, Follow, Parts, ItemsFit, Leads, last_goes, items_goes, items_format, Shrinks, MaybeFits}
+use Rattle.df_value_text.proofs.Names.{maybe_goes, maybe_format, tag_cmp, path_text, tag_text, tags_text, IsTag, AreTags, IsTagSet, StandsLow, IsLowTag, tag_at}
+use Rattle.df_value_text.proofs.Names.{next_at, leads_tag, optional, tags_at}
 use Rattle.df_format.specs.Reading.{maybe_at}
 use Rattle.df_format.proofs.Joins.{as_format}
 use Rattle.df_label.specs.Ascending.{IsAscending}
 use Rattle.df_label.proofs.SetFacts.{below_trans}
 use Rattle.df_label.proofs.TagSetFacts.{tag_cmp_exact}
+use Rattle.df_value_text.proofs.HigherLaws.{is_less}
 use Rattle.df_value_text.proofs.TagLaws.{with_dot, joined_items, tag_goes, tag_format, Judges, judged_found, judged_format}
 
 -- ---- a tag above another
@@ -18,11 +19,6 @@ AfterTag prev tag = IsTag tag × (is_lt (tag_cmp prev tag) ≡ true)
 
 abbrev pub NearTag : List ℕ → List ℕ → List ℕ → Type 0
 NearTag prev front rest = (front ≡ []) × StandsLow prev rest
-
-is_less : (o : Ordering) → is_lt o ≡ true → o ≡ Less
-is_less Less h = refl
-is_less Equal h = absurd cc
-is_less Greater h = absurd cc
 
 -- a tag is above this one
 abbrev is_above : List ℕ → List ℕ → Bool
@@ -44,8 +40,7 @@ pub low_is_local : IsLocal IsLowTag
 low_is_local before front rest low = record {
   before = before ++ low.before;
   prev = low.prev;
-  is = ap (λ (u : List ℕ). before ++ u) low.is
-      ∙ sym (append_assoc before low.before (tag_text low.prev ++ 44 ∷ []));
+  is = ap (λ (u : List ℕ). before ++ u) low.is ∙ sym (append_assoc before low.before (tag_text low.prev ++ 44 ∷ []));
   low = low.low;
 }
 
@@ -123,8 +118,7 @@ tags_some c h = record {
   some = (0 ∷ [], []);
   fits = ((omega arith, tt), tt);
   more = decimal 0 ++ [];
-  is = ap (λ (v : ℕ). v ∷ (decimal 0 ++ []))
-      (sym (eqb-true c 35 h));
+  is = ap (λ (v : ℕ). v ∷ (decimal 0 ++ [])) (sym (eqb-true c 35 h));
 }
 
 pub tags_format : Format IsLowTag tags_text IsTagSet tags_goes tags_at
@@ -134,6 +128,5 @@ tags_format =
     (record { to = tags_to; from = tags_from; spelled = tags_spelled; alike = tags_alike })
     (maybe_format IsLowTag begins_tag (items_spell 44 tag_text) (ItemsFit IsTag AfterTag) (items_goes leads_tag tag_goes) (items_at leads_tag tag_at next_at)
     (λ x fits. record { first = 35; others = path_text x.0 ++ more_spell 44 tag_text x.1; is = refl; test = refl })
-    tags_some
-    (items_format IsLowTag low_is_local NearTag leads_tag 44 tag_text IsTag AfterTag tag_goes tag_at next_at tags_parts tags_lead
+    tags_some (items_format IsLowTag low_is_local NearTag leads_tag 44 tag_text IsTag AfterTag tag_goes tag_at next_at tags_parts tags_lead
     (tag_format IsLowTag low_is_local)))

@@ -75,8 +75,7 @@ set_read bytes at place tags start end h e =
     let size : place - at ≡ length (tags_text tags) = omega (arith, front, rest, whole) in
     record {
       onward = omega (arith, front, rest, whole);
-      spelled = ap (λ (k : ℕ). take k (drop at bytes)) size
-          ∙ ap (take (length (tags_text tags))) found.parts
+      spelled = ap (λ (k : ℕ). take k (drop at bytes)) size ∙ ap (take (length (tags_text tags))) found.parts
           ∙ take-append_seam (tags_text tags) (drop place bytes);
       ascending = found.fits.1;
       short = All-from_recursion AreShort tags (tags_short tags found.fits.0);

@@ -1,14 +1,15 @@
 -- What reading, with as many levels as a text may need, says of the values that stand in it.
-use Rattle.df_value_text.proofs.Names.{◌≡◌, ℕ, suc, ◌+◌, ◌<◌, ◌≤◌, true, false, List, [], ◌∷◌, ◌++◌, length, drop, Ok, Err, refl, sym, ap, subst, ◌∙◌}
-use Rattle.df_value_text.proofs.Names.{append_assoc, arith, inl, inr, pos, append_cancel_right, Stop, Bad, Low, CanGoOn, Stands, Ends, ok_is, err_is, not_both}
-use Rattle.df_value_text.proofs.Names.{told, can_go_on, IsWithinLimits, Plain, int, words, bytes, items, entries, node_count, Fails, refusal, IsFound, IsRead}
-use Rattle.df_value_text.proofs.Names.{IsSpelled, IsValue, LowInValue, value_text, Fault}
+use Rattle.df_value_text.proofs.Names.{◌≡◌, ℕ, suc, ◌+◌, ◌<◌, ◌≤◌, true, false, List, [], ◌∷◌, ◌++◌, length, drop, Ok, Err, refl, sym, ap, subst, ◌∙◌, arith}
+use Rattle.df_value_text.proofs.Names.{inl, inr, pos, append_cancel_right, Stop, Bad, Low, CanGoOn, Stands, Ends, ok_is, err_is, not_both, told, can_go_on}
+use Rattle.df_value_text.proofs.Names.{IsWithinLimits, Plain, int, words, bytes, items, entries, node_count, Fails, refusal, IsFound, IsRead, IsSpelled}
+use Rattle.df_value_text.proofs.Names.{IsValue, LowInValue, value_text, Fault}
 use Rattle.df_format.specs.Grammar.{FirstBad}
 use Rattle.df_format.specs.Format.{IsViable}
-use Rattle.df_format.proofs.Laws.{viable_map, no_longer}
+use Rattle.df_format.proofs.Laws.{viable_map, no_longer, first_bad}
 use Rattle.df_value_text.specs.ValueFault.{FirstLow}
 use Rattle.df_value_text.specs.OrderNames.{LowWithin}
 use Rattle.df_value_text.specs.ReadValue.{value_within}
+use Rattle.df_value_text.proofs.Answering.{no_refusal}
 use Rattle.df_value_text.proofs.EntryLaws.{IsLowName, LevelFits, nest_few}
 use Rattle.df_value_text.proofs.LowLaws.{low_found, low_read}
 use Rattle.df_value_text.proofs.TagLaws.{nowhere, nowhere_is_local}
@@ -30,7 +31,7 @@ pub value_ends : (p : Plain) (c : ℕ) → IsSpelled p → value_goes p c ≡ fa
 value_ends p c fits g on =
     let n : ℕ = node_count p + node_count on.some in
     no_longer IsLowName value_text (LevelFits n) value_goes (value_within n) (value_format n) p c (level_fits p n (omega arith) fits) g
-        (level_on n (value_text p ++ c ∷ []) on (omega arith))
+    (level_on n (value_text p ++ c ∷ []) on (omega arith))
 
 -- what goes on is a number, and a longer one is within the limits too
 value_on : (p : Plain) (c : ℕ) → IsSpelled p → value_goes p c ≡ true → CanGoOn value_text IsValue (value_text p ++ c ∷ [])
@@ -85,13 +86,9 @@ only_value text at end p q is h y rest s = let same = same_value text at end p h
 
 pub only_fault : (text : List ℕ) (at : ℕ) (e : Fault) → Enough text at (λ n. Fails text e (value_within n (drop at text))) → (y : Plain) (rest : List ℕ)
     → Stands value_text IsValue (drop at text) y rest → refusal e ≡ refused.NoMemory
-only_fault text at fault.NoMemory h y rest s = refl
-only_fault text at (fault.Bad place) h y rest s =
+only_fault text at e h y rest s =
     let n : ℕ = suc (length text) + node_count y in
-    not_both (y, rest) (Bad (drop place text)) (sym (value_read n (drop at text) y rest (omega arith) s) ∙ (h n (omega arith)).1)
-only_fault text at (fault.Low place) h y rest s =
-    let n : ℕ = suc (length text) + node_count y in
-    not_both (y, rest) (Low (drop place text)) (sym (value_read n (drop at text) y rest (omega arith) s) ∙ (h n (omega arith)).1)
+    no_refusal text e (value_within n (drop at text)) (y, rest) (h n (omega arith)) (value_read n (drop at text) y rest (omega arith) s)
 
 -- ---- a place that is refused
 
@@ -114,15 +111,11 @@ first_bad_value text at rest h =
       viable = spelled_on m s.front s.viable;
       dead = λ c tail is on.
           let n : ℕ = suc (length text) + node_count on.some in
-          let k = (value_format n).stuck (drop at text) (Bad rest) (h n (omega arith)) in
-          let same : k.front ≡ s.front = append_cancel_right k.front s.front rest (sym k.parts ∙ s.parts) in
-          let stays : value_within n (s.front ++ c ∷ (on.more ++ [])) ≡ Err (Bad (c ∷ (on.more ++ []))) = subst
-              (λ (u : List ℕ). value_within n (u ++ c ∷ (on.more ++ [])) ≡ Err (Bad (c ∷ (on.more ++ [])))) same (k.cause c tail is (on.more ++ [])) in
-          let whole : value_text on.some ++ [] ≡ s.front ++ c ∷ (on.more ++ []) = ap (λ (u : List ℕ). u ++ []) on.is
-              ∙ append_assoc (s.front ++ c ∷ []) on.more [] ∙ append_assoc s.front (c ∷ []) (on.more ++ []) in
-          let good : value_within n (value_text on.some ++ []) ≡ Ok (on.some, []) = (value_format n).again on.some []
-              (level_fits on.some n (omega arith) on.fits) tt in
-          not_both (on.some, []) (Bad (c ∷ (on.more ++ []))) (sym good ∙ ap (value_within n) whole ∙ stays);
+          let k = first_bad IsLowName value_text (LevelFits n) value_goes (value_within n) (value_format n) (int (pos 0)) (zero_fits, omega arith)
+          (drop at text) rest (h n (omega arith)) in
+          let same : s.front ≡ k.front = append_cancel_right s.front k.front rest (sym s.parts ∙ k.parts) in
+          let longer = level_on n (s.front ++ c ∷ []) on (omega arith) in
+          k.dead c tail is (subst (λ (u : List ℕ). CanGoOn value_text (LevelFits n) (u ++ c ∷ [])) same longer);
     }
 
 pub first_low_value : (text : List ℕ) (at : ℕ) (rest : List ℕ) → Enough text at (λ n. value_within n (drop at text) ≡ Err (Low rest))

@@ -157,8 +157,7 @@ module _ (n : ℕ) (inner : List ℕ → Read ℕ Plain) (f : Format IsLowName v
       led low_is_local (91 ∷ []) list_of [] tt
       (ended_format value_text (LevelFits n) (λ prev. LevelFits n) 93 (λ p fits. value_opens p fits.0) low_is_local (λ ps fits. items_end ps.0 ps.1)
       (items_format IsLowName low_is_local (λ prev. IsLowName) leads_value 44 value_text (LevelFits n) (λ prev. LevelFits n) value_goes inner
-      (λ prev. inner) items_parts (items_lead n) f))
-      (λ ps h. ap (λ (u : List ℕ). 91 ∷ (u ++ 93 ∷ [])) (items_text-joined ps)) (λ ps c h. refl)
+      (λ prev. inner) items_parts (items_lead n) f)) (λ ps h. ap (λ (u : List ℕ). 91 ∷ (u ++ 93 ∷ [])) (items_text-joined ps)) (λ ps c h. refl)
 
   map_format : Format IsLowName value_text (IsMapOf n) value_goes (behind_at (40 ∷ []) (map_at inner))
   map_format =
@@ -169,8 +168,7 @@ module _ (n : ℕ) (inner : List ℕ → Read ℕ Plain) (f : Format IsLowName v
 
   node_format : Format IsLowName value_text (LevelFits (suc n)) value_goes (node_at inner)
   node_format =
-      fitting (kinds_level n) (level_kinds n)
-      (either_of (λ c. eqb c 91) list_format
+      fitting (kinds_level n) (level_kinds n) (either_of (λ c. eqb c 91) list_format
       (either_of (λ c. eqb c 40) map_format (leaf_format IsLowName low_is_local) (map_opens n 40 true refl) (leaf_opens 40 (inl (omega arith)) refl refl))
       (list_opens n 91 true refl) (others_open n))
 

@@ -118,13 +118,16 @@ pub record Kind (X : Type 0) : Type 0 where
   pub empty : first [] ≡ Err (Bad [])
 
 abbrev pub a_list : ℕ → Kind Plain
-a_list n = record {
-  make = list_of; last = 93; leads = leads_value; first = value_within n; next = λ prev. value_within n; empty = within_empty n;
-}
+a_list n = record { make = list_of; last = 93; leads = leads_value; first = value_within n; next = λ prev. value_within n; empty = within_empty n }
 
 abbrev pub a_map : ℕ → Kind (List ℕ × Plain)
 a_map n = record {
-  make = map_of; last = 41; leads = leads_entry; first = entry_at (value_within n); next = λ prev. next_entry_at (value_within n) prev.0; empty = refl;
+  make = map_of;
+  last = 41;
+  leads = leads_entry;
+  first = entry_at (value_within n);
+  next = λ prev. next_entry_at (value_within n) prev.0;
+  empty = refl;
 }
 
 -- the items, and what stands behind them

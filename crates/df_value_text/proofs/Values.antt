@@ -19,7 +19,7 @@ pub enclosed : (first opened filled closed body : List ℕ) (open_byte close_byt
     → closed ≡ filled ++ close_byte ∷ [] → closed ≡ first ++ (open_byte ∷ (body ++ close_byte ∷ []))
 enclosed first opened filled closed body a b e e' e'' =
     e'' ∙ ap (λ (l : List ℕ). l ++ b ∷ []) (e' ∙ ap (λ (l : List ℕ). l ++ body) e) ∙ append_assoc (first ++ a ∷ []) body (b ∷ [])
-        ∙ append_assoc first (a ∷ []) (body ++ b ∷ [])
+    ∙ append_assoc first (a ∷ []) (body ++ b ∷ [])
 
 -- a name, `=` and a value
 pub entry_appended : (before named after name text : List ℕ) → named ≡ before ++ (name ++ 61 ∷ []) → after ≡ named ++ text

@@ -50,8 +50,7 @@ read_positive most n (c ∷ cs) rest above e =
 pub positive_format : (most : ℕ) → most < 2 ^ 64 → Format nowhere decimal (IsPositive most) (number_goes most) (positive_at most)
 positive_format most wide =
     first_format decimal (IsPositive most) (number_goes most) (positive_at most) (positive_fits most) (number_of most) (positive_first most)
-    (λ c cs h. positive_found most c cs wide h)
-    (λ n rest fits ends. positive_first most (decimal n ++ rest)
+    (λ c cs h. positive_found most c cs wide h) (λ n rest fits ends. positive_first most (decimal n ++ rest)
     ∙ read_positive most n (decimal n ++ rest) rest fits.0 ((number_format nowhere most wide).again n rest fits.1 ends))
     (λ n c fits g. number_on most n c wide g)
 
@@ -94,8 +93,7 @@ sign_either z (inr h) = rw (← h.2) (let small : h.0 < 2 ^ 63 = omega (arith, h
 
 whole_nowhere : Format nowhere signed_decimal IsWhole whole_goes whole_at
 whole_nowhere =
-    fitting sign_either either_sign
-    (either_of (λ c. eqb c 45)
+    fitting sign_either either_sign (either_of (λ c. eqb c 45)
     (led (λ before front rest low. low) (45 ∷ []) minus 1 (omega arith, omega arith) (positive_format most_below (omega arith))
     (λ n fits. ap (λ (k : ℕ). 45 ∷ decimal k) (back n fits.0)) (λ n c fits. ap (λ (k : ℕ). number_goes most_below k c) (back n fits.0)))
     (made pos (number_format nowhere most_above (omega arith)) (λ n fits. refl) (λ n c fits. refl))

@@ -184,8 +184,8 @@ three_char a b d la ha s ld hd =
     let second : next (c / 64) ≡ b = omega (arith, la, ha, r.0, r.1, ld, hd) in
     let third : next c ≡ d = omega (arith, la, ha, r.0, r.1, ld, hd) in
     let big : 2048 ≤ c = three_big a b d la ha s ld hd in
-    (c, omega (arith, big), scalar_by c (three_gap a b d la ha s ld hd) (omega (arith, ha, r.1, hd)),
-    three c big (omega (arith, ha, r.1, hd)) ∙ rw (first, second, third) refl)
+    let is : scalar c ≡ true = scalar_by c (three_gap a b d la ha s ld hd) (omega (arith, ha, r.1, hd)) in
+    (c, omega (arith, big), is, three c big (omega (arith, ha, r.1, hd)) ∙ rw (first, second, third) refl)
 
 four_second : (a b : ℕ) → 240 ≤ a → a ≤ 244 → IsSecond a b → (a < 241 → 144 ≤ b) × (244 ≤ a → b ≤ 143)
 four_second a b la ha s = (λ h. grind (arith, nat_tests), λ h. grind (arith, nat_tests))

@@ -33,8 +33,7 @@ utf8_all (c ∷ cs) h =
 
 chars_format : Format nowhere chars_text IsUtf8 chars_go chars_at
 chars_format =
-    viewed concat (each_format begins_char char_format char_starts char_some)
-    (record {
+    viewed concat (each_format begins_char char_format char_starts char_some) (record {
       to = all_utf8;
       from = λ text u. let all = utf8_all u.0 u.1.0 in
           (all.0, all.1, all.2 ∙ u.1.1);

@@ -3,8 +3,8 @@ use Rattle.df_value_text.proofs.Names.{◌≡◌, ℕ, zero, suc, ◌+◌, ◌-�
 use Rattle.df_value_text.proofs.Names.{arith, drop_all, drop-drop, is_letter, is_name, is_name_byte, name_bytes, name_at, Bool, nat_lt, ◌++◌, inl, inr, told}
 use Rattle.df_value_text.proofs.Names.{nat_tests, Read, ◌>>=◌, with_front, onto, is_between, is_lead, trail_length, least_second, most_second, trail_at}
 use Rattle.df_value_text.proofs.Names.{wide_at, starts, length-append, text_at, text_found, is_hex, hex_byte, pairs_at, not, ◌&&◌, ◌||◌, cond, eqb, Err}
-use Rattle.df_value_text.proofs.Names.{append_assoc, add-one, nat_le, concat, drop-cons, and_parts, ltb-true, append-nil, Stop, many_at, many_of, list_all}
-use Rattle.df_value_text.proofs.Names.{ok_is, err_is, not_both, is_plain, is_quoted, char_at, begins_char, chars_at}
+use Rattle.df_value_text.proofs.Names.{append_assoc, add-one, nat_le, concat, drop-cons, and_parts, ltb-true, Stop, many_at, many_of, list_all, ok_is, err_is}
+use Rattle.df_value_text.proofs.Names.{not_both, is_plain, is_quoted, char_at, begins_char, chars_at}
 use Rattle.df_value_text.proofs.Loops.{first_of, front_on}
 use Rattle.df_value_text.proofs.NameLaws.{name_format}
 use Rattle.std.proofs.Common.{length-drop}
@@ -39,11 +39,11 @@ name_read bytes at end lt letter is =
     let behind : drop k (drop (at + 1) bytes) ≡ drop end bytes = drop-drop k (at + 1) bytes ∙ ap (λ (n : ℕ). drop n bytes) (sym is) in
     let first : drop at bytes ≡ get_or bytes at 0 ∷ drop (at + 1) bytes = first_of bytes at lt in
     let read : name_at (get_or bytes at 0 ∷ drop (at + 1) bytes) ≡ Ok (get_or bytes at 0 ∷ take k (drop (at + 1) bytes), drop k (drop (at + 1) bytes)) = rw
-        letter refl in
+    letter refl in
     let front : get_or bytes at 0 ∷ take k (drop (at + 1) bytes) ≡ take (end - at) (drop at bytes) = sym
-        (ap (λ (n : ℕ). take n (drop at bytes)) count ∙ ap (take (suc k)) first) in
+    (ap (λ (n : ℕ). take n (drop at bytes)) count ∙ ap (take (suc k)) first) in
     ap name_at first ∙ read ∙ ap (λ (u : List ℕ). Ok (u, drop k (drop (at + 1) bytes))) front
-        ∙ ap (λ (u : List ℕ). Ok (take (end - at) (drop at bytes), u)) behind
+    ∙ ap (λ (u : List ℕ). Ok (take (end - at) (drop at bytes), u)) behind
 
 pub name_is : (bytes : List ℕ) (at end : ℕ) → at < length bytes → is_letter (get_or bytes at 0) ≡ true → end ≡ (at + 1) + name_bytes 31 (drop (at + 1) bytes)
     → is_name (take (end - at) (drop at bytes)) ≡ true
@@ -95,8 +95,7 @@ wide_on bytes old more at count least most lt h is counted from to =
 
 -- ---- bytes
 
-two_of : (bytes : List ℕ) (place : ℕ) → place + 1 < length bytes
-    → drop place bytes ≡ get_or bytes place 0 ∷ get_or bytes (place + 1) 0 ∷ drop (place + 2) bytes
+two_of : (bytes : List ℕ) (place : ℕ) → place + 1 < length bytes → drop place bytes ≡ get_or bytes place 0 ∷ get_or bytes (place + 1) 0 ∷ drop (place + 2) bytes
 two_of bytes place lt =
     let same : (place + 1) + 1 ≡ place + 2 = omega arith in
     first_of bytes place (omega (arith, lt)) ∙ ap (λ (u : List ℕ). get_or bytes place 0 ∷ u)
@@ -122,10 +121,10 @@ no_pair (a ∷ []) h = rw h refl
 no_pair (a ∷ b ∷ cs) h = rw h refl
 
 -- fixed bytes end no earlier than they begin
-pub text_onward : (bytes ws x : List ℕ) (at end : ℕ) → at ≤ length bytes → end ≤ length bytes → text_at ws (drop at bytes) ≡ Ok (x, drop end bytes)
-    → at ≤ end
-text_onward bytes ws x at end within le e = omega (arith, within, le, ap length (text_found ws (drop at bytes) x (drop end bytes) e).1,
-    length-append ws (drop end bytes), length-drop at bytes, length-drop end bytes)
+pub text_onward : (bytes ws x : List ℕ) (at end : ℕ) → at ≤ length bytes → end ≤ length bytes → text_at ws (drop at bytes) ≡ Ok (x, drop end bytes) → at ≤ end
+text_onward bytes ws x at end within le e =
+    let parts = ap length (text_found ws (drop at bytes) x (drop end bytes) e).1 ∙ length-append ws (drop end bytes) in
+    omega (arith, within, le, parts, length-drop at bytes, length-drop end bytes)
 
 -- ---- words
 
@@ -172,7 +171,7 @@ chars_stop : (bytes : List ℕ) (stop : Stop ℕ) → starts begins_char bytes �
 chars_stop [] stop h e = absurd cc
 chars_stop (c ∷ cs) stop h e = rw (h, e) refl
 
-chars_none : (bytes : List ℕ) → starts begins_char bytes ≡ false → chars_at bytes ≡ Ok ([], bytes)
+pub chars_none : (bytes : List ℕ) → starts begins_char bytes ≡ false → chars_at bytes ≡ Ok ([], bytes)
 chars_none [] h = refl
 chars_none (c ∷ cs) h = rw h refl
 
@@ -204,11 +203,6 @@ char_read bytes front more rest total h e so_far =
 pub char_broken : (bytes front : List ℕ) (stop : Stop ℕ) (total : Read ℕ (List ℕ)) → starts begins_char bytes ≡ true
     → with_front front (chars_at bytes) ≡ total → with_front front (char_at bytes) ≡ Err stop → total ≡ Err stop
 char_broken bytes front stop total h so_far e = sym so_far ∙ ap (with_front front) (chars_stop bytes stop h (front_stopped front stop (char_at bytes) e))
-
--- no character begins there
-pub chars_done : (bytes front : List ℕ) (total : Read ℕ (List ℕ)) → starts begins_char bytes ≡ false → with_front front (chars_at bytes) ≡ total
-    → total ≡ Ok (front, bytes)
-chars_done bytes front total h so_far = sym so_far ∙ ap (with_front front) (chars_none bytes h) ∙ ap (λ (u : List ℕ). Ok (u, bytes)) (append-nil front)
 
 -- ---- bytes that stand for themselves
 
@@ -248,8 +242,7 @@ run_read bytes at end front more is e =
     let count : end - at ≡ k = omega (arith, is) in
     let behind : drop k (drop at bytes) ≡ drop end bytes = drop-drop k at bytes ∙ ap (λ (n : ℕ). drop n bytes) (sym is) in
     let taken : more ≡ front ++ take k (drop at bytes) = e ∙ ap (λ (n : ℕ). front ++ take n (drop at bytes)) count in
-    ap (λ (u : List ℕ). with_front u (chars_at (drop end bytes))) taken
-    ∙ sym (fronts front (take k (drop at bytes)) (chars_at (drop end bytes)))
+    ap (λ (u : List ℕ). with_front u (chars_at (drop end bytes))) taken ∙ sym (fronts front (take k (drop at bytes)) (chars_at (drop end bytes)))
     ∙ ap (λ (u : List ℕ). with_front front (with_front (take k (drop at bytes)) (chars_at u))) (sym behind)
     ∙ ap (with_front front) (sym (chars_run (drop at bytes)))
 

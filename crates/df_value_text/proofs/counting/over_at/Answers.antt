@@ -7,8 +7,9 @@ use Rattle.df_value_text.proofs.counting.over_at.Goals as goal
 pub returns-then-is_over : goal.returns-then-is_over
 returns-then-is_over c =
     let so_far = c.loop-place.invariant in
-    (c.loop-place-test.true, reached_over c.args.bytes.now c.args.at c.loop-place.place c.loop-place.walk c.step.new.self c.loop-place-test.true
-        c.step.ensures so_far.low c.if-is_over.ensures so_far.reached)
+    let here = c.loop-place.place in
+    let over = reached_over c.args.bytes.now c.args.at here c.loop-place.walk c.step.new.self c.loop-place-test.true c.step.ensures so_far.low in
+    (c.loop-place-test.true, over c.if-is_over.ensures so_far.reached)
 
 pub loop-place-preserved : goal.loop-place-preserved
 loop-place-preserved c =

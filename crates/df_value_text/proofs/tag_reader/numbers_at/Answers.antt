@@ -30,8 +30,8 @@ pub loop-numbers-preserved : goal.loop-numbers-preserved
 loop-numbers-preserved c =
     let inv = c.loop-numbers.invariant in
     let led = number_led inv.0 c.args.bytes.now c.loop-numbers.place (sym c.leads_number.ensures ∙ c.loop-numbers-test.true) in
-    let some : 0 < length c.push-in-loop-numbers.new.self.items = omega (arith, ap length c.in_ok-push-2.ensures.items,
-    length_push c.loop-numbers.numbers.items c.in_ok-number.number) in (
+    let pushed = ap length c.in_ok-push-2.ensures.items ∙ length_push c.loop-numbers.numbers.items c.in_ok-number.number in
+    let some : 0 < length c.push-in-loop-numbers.new.self.items = omega (arith, pushed) in (
       c.in_ok-number.number,
       left_on inv.1 short_shrinks led c.in_ok-number.after c.in_ok-number.number c.push-in-loop-numbers.new.self.items c.in_ok-number.ensures.exact.1
           c.in_ok-push-2.ensures.items,

@@ -24,28 +24,32 @@ value_at-returns-then-byte_stands-clause-exact t c = λ n lt.
 pub value_at-returns-then-byte_stands-2-clause-exact : goal.value_at-returns-then-byte_stands-2-clause-exact
 value_at-returns-then-byte_stands-2-clause-exact t c = λ n lt.
     let o = opened_map n c.args.bytes.now c.args.at c.requires lt (sym c.byte_stands.ensures ∙ c.if-byte_stands.false)
-        (sym c.byte_stands-2.ensures ∙ c.if-byte_stands-2.true) in
+    (sym c.byte_stands-2.ensures ∙ c.if-byte_stands-2.true) in
     subst (λ r. Gives plain c.args.bytes.now c.map_at.result r) (sym o.same) (c.map_at.ensures.exact o.levels (omega (arith, lt, o.is)))
 
 pub value_at-returns-clause-exact : goal.value_at-returns-clause-exact
 value_at-returns-clause-exact t c = λ n lt.
     subst (λ r. Gives plain c.args.bytes.now c.leaf_at.result r)
-        (sym (leaf_same n (drop c.args.at c.args.bytes.now) (sym c.byte_stands.ensures ∙ c.if-byte_stands.false)
-        (sym c.byte_stands-2.ensures ∙ c.if-byte_stands-2.false))) c.leaf_at.ensures.exact
+    (sym (leaf_same n (drop c.args.at c.args.bytes.now) (sym c.byte_stands.ensures ∙ c.if-byte_stands.false)
+    (sym c.byte_stands-2.ensures ∙ c.if-byte_stands-2.false))) c.leaf_at.ensures.exact
 
 -- ---- entries
 
 pub entry_at-returns-clause-exact : goal.entry_at-returns-clause-exact
 entry_at-returns-clause-exact t c = λ n lt.
-    let given = c.in_ok-value.ensures.exact n (omega (arith, lt, c.in_ok-name.ensures.onward)) in
-    (given.0, both_read name_at (given_at (value_within n)) (drop c.args.at c.args.bytes.now) (drop c.in_ok-name.behind c.args.bytes.now)
-        (drop c.in_ok-value.end c.args.bytes.now) c.in_ok-name.name (plain c.in_ok-value.value) c.in_ok-name.ensures.exact.1 given.1)
+    let given = c.in_ok-value.ensures.exact n (omega (arith, lt, c.in_ok-name.ensures.onward)) in (
+      given.0,
+      both_read name_at (given_at (value_within n)) (drop c.args.at c.args.bytes.now) (drop c.in_ok-name.behind c.args.bytes.now)
+          (drop c.in_ok-value.end c.args.bytes.now) c.in_ok-name.name (plain c.in_ok-value.value) c.in_ok-name.ensures.exact.1 given.1,
+    )
 
 pub next_entry_at-returns-clause-exact : goal.next_entry_at-returns-clause-exact
 next_entry_at-returns-clause-exact t c = λ n lt.
-    let given = c.in_ok-value.ensures.exact n (omega (arith, lt, c.in_ok-name.ensures.onward)) in
-    (given.0, both_read (higher_at c.args.last.now) (given_at (value_within n)) (drop c.args.at c.args.bytes.now) (drop c.in_ok-name.behind c.args.bytes.now)
-        (drop c.in_ok-value.end c.args.bytes.now) c.in_ok-name.name (plain c.in_ok-value.value) c.in_ok-name.ensures.exact.1 given.1)
+    let given = c.in_ok-value.ensures.exact n (omega (arith, lt, c.in_ok-name.ensures.onward)) in (
+      given.0,
+      both_read (higher_at c.args.last.now) (given_at (value_within n)) (drop c.args.at c.args.bytes.now) (drop c.in_ok-name.behind c.args.bytes.now)
+          (drop c.in_ok-value.end c.args.bytes.now) c.in_ok-name.name (plain c.in_ok-value.value) c.in_ok-name.ensures.exact.1 given.1,
+    )
 
 -- ---- lists
 

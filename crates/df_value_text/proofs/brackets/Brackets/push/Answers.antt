@@ -10,17 +10,17 @@ one_bit false = omega arith
 pub overflow_mul-self : goal.overflow_mul-self
 overflow_mul-self c =
     let small = small_bits c.self.inside.count c.self.inside.kinds (subst (λ (bs : List Bool). length bs ≤ 32) (sym c.self.view_is) c.requires)
-        c.self.invariant in
+    c.self.invariant in
     omega (arith, small.1)
 
 pub overflow_add-self : goal.overflow_add-self
 overflow_add-self c =
     let small = small_bits c.self.inside.count c.self.inside.kinds (subst (λ (bs : List Bool). length bs ≤ 32) (sym c.self.view_is) c.requires)
-        c.self.invariant in
+    c.self.invariant in
     omega (arith, small.1, one_bit c.args.map)
 
 pub overflow_add-self-2 : goal.overflow_add-self-2
 overflow_add-self-2 c =
     let small = small_bits c.self.inside.count c.self.inside.kinds (subst (λ (bs : List Bool). length bs ≤ 32) (sym c.self.view_is) c.requires)
-        c.self.invariant in
+    c.self.invariant in
     omega (arith, small.0)
