@@ -21,24 +21,24 @@ pub record Adds (p : Place) (os : List Bool) (text : List ℕ) (q : Place) (ps :
 pub nothing : (p : Place) (os : List Bool) → Adds p os [] p os 0 0 0
 nothing p os = record { run = λ n b d. same p os n b d (n + 0) (b + 0) (max d 0) (omega arith) (omega arith) (omega arith) }
 
--- the same counts, told otherwise
-pub told : {p : Place} {os : List Bool} {text : List ℕ} {q : Place} {ps : List Bool} {nodes bytes deep nodes' bytes' deep' : ℕ}
-    → Adds p os text q ps nodes bytes deep → nodes ≡ nodes' → bytes ≡ bytes' → deep ≡ deep' → Adds p os text q ps nodes' bytes' deep'
-told {q = q} {ps = ps} {nodes = nodes} {bytes = bytes} {deep = deep} {nodes' = nodes'} {bytes' = bytes'} {deep' = deep'} adds e e' e'' = record {
-  run = λ n b d.
-      adds.run n b d ∙ same q ps (n + nodes) (b + bytes) (max d deep) (n + nodes') (b + bytes') (max d deep') (omega arith) (omega arith) (omega arith);
-}
+module _ {p : Place} {os : List Bool} {s : List ℕ} {q : Place} {ps : List Bool} {nodes bytes deep nodes' bytes' deep' : ℕ}
+    (left : Adds p os s q ps nodes bytes deep) where
+  -- the same counts, told otherwise
+  pub told : nodes ≡ nodes' → bytes ≡ bytes' → deep ≡ deep' → Adds p os s q ps nodes' bytes' deep'
+  told e e' e'' = record {
+    run = λ n b d.
+        left.run n b d ∙ same q ps (n + nodes) (b + bytes) (max d deep) (n + nodes') (b + bytes') (max d deep') (omega arith) (omega arith) (omega arith);
+  }
 
--- one text behind the other
-pub joins : {p : Place} {os : List Bool} {s : List ℕ} {q : Place} {ps : List Bool} {t : List ℕ} {r : Place} {qs : List Bool} {nodes bytes deep nodes' bytes'
-    deep' : ℕ}
-    → Adds p os s q ps nodes bytes deep → Adds q ps t r qs nodes' bytes' deep' → Adds p os (s ++ t) r qs (nodes + nodes') (bytes + bytes') (max deep deep')
-joins {p} {os} {s} {q} {ps} {t} {r} {qs} {nodes} {bytes} {deep} {nodes'} {bytes'} {deep'} left right = record {
-  run = λ n b d.
-      walked-append (at p os n b d) s t ∙ ap (λ (w : Walk). walked w t) (left.run n b d) ∙ right.run (n + nodes) (b + bytes) (max d deep)
-      ∙ same r qs ((n + nodes) + nodes') ((b + bytes) + bytes') (max (max d deep) deep') (n + (nodes + nodes')) (b + (bytes + bytes')) (max d (max deep deep'))
-      (omega arith) (omega arith) (omega arith);
-}
+  -- one text behind the other
+  pub joins : {t : List ℕ} {r : Place} {qs : List Bool} → Adds q ps t r qs nodes' bytes' deep'
+      → Adds p os (s ++ t) r qs (nodes + nodes') (bytes + bytes') (max deep deep')
+  joins {t} {r} {qs} right = record {
+    run = λ n b d.
+        walked-append (at p os n b d) s t ∙ ap (λ (w : Walk). walked w t) (left.run n b d) ∙ right.run (n + nodes) (b + bytes) (max d deep)
+        ∙ same r qs ((n + nodes) + nodes') ((b + bytes) + bytes') (max (max d deep) deep') (n + (nodes + nodes')) (b + (bytes + bytes'))
+        (max d (max deep deep')) (omega arith) (omega arith) (omega arith);
+  }
 
 -- a text, a byte that counts nothing, others and a last byte
 pub and_more : {p : Place} {os : List Bool} {s : List ℕ} {q : Place} {ps : List Bool} {r : Place} {qs : List Bool} {u : Place} {us : List Bool} {nodes bytes

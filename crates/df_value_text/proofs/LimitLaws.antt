@@ -1,8 +1,8 @@
 -- Reading up to the first byte by which a count of freezing is passed, and what it says of all bytes.
-use Rattle.df_value_text.proofs.Names.{◌≡◌, None, Some, ℕ, suc, ◌+◌, ◌<◌, ◌≤◌, List, [], ◌∷◌, ◌++◌, length, length-append, take, drop, Ok, Err, refl, sym, ap, subst, ◌∙◌}
-use Rattle.df_value_text.proofs.Names.{append_assoc, arith, ◌⊎◌, inl, inr, true, nat_le, nat_lt, nat_tests, append-nil, drop_all, length-take-le, CanGoOn}
-use Rattle.df_value_text.proofs.Names.{Stands, Bad, Low, told, IsWithinLimits, Plain, Fails, refusal, FirstOver, NeverOver, counts_of, IsSpelled, IsValue}
-use Rattle.df_value_text.proofs.Names.{NameStandsLow, LowInValue, value_text, FirstBadValue, FirstTooLarge, IsWithinBefore, Fault}
+use Rattle.df_value_text.proofs.Names.{◌≡◌, None, Some, ℕ, suc, ◌+◌, ◌<◌, ◌≤◌, List, [], ◌∷◌, ◌++◌, length, length-append, take, drop, Ok, Err, refl, sym, ap}
+use Rattle.df_value_text.proofs.Names.{subst, ◌∙◌, append_assoc, arith, ◌⊎◌, inl, inr, true, nat_le, nat_lt, nat_tests, append-nil, drop_all, length-take-le}
+use Rattle.df_value_text.proofs.Names.{CanGoOn, Stands, Bad, Low, told, IsWithinLimits, Plain, Fails, refusal, FirstOver, NeverOver, counts_of, IsSpelled}
+use Rattle.df_value_text.proofs.Names.{IsValue, NameStandsLow, LowInValue, value_text, FirstBadValue, FirstTooLarge, IsWithinBefore, Fault}
 use Rattle.std.proofs.Common.{Result, min}
 use Rattle.std.specs.Result.{result_err}
 use Rattle.std.proofs.lemmas.List.{length-drop}

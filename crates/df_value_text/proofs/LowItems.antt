@@ -25,37 +25,34 @@ joined_led spell x (y ∷ ys) rest = append_assoc (spell x) (44 ∷ joined 44 sp
 pub last_same : {X : Type 0} (xs ys : List X) (x y : X) → xs ++ x ∷ [] ≡ ys ++ y ∷ [] → x ≡ y
 last_same xs ys x y e = let ends : x ∷ [] ≡ y ∷ [] = (same_split xs ys (x ∷ []) (y ∷ []) e refl).1 in cc
 
--- Behind the last of these items a comma leads on, and what stands behind it stops so. What may stand behind the last may stand behind them.
-pub record LastStops {X : Type 0} (leads : X → ℕ → List ℕ → Bool) (Fits : X → Type 0) (After : X → X → Type 0) (next : X → List ℕ → Read ℕ X)
-    (xs : List X) (inner : List ℕ) (stop : Stop ℕ) : Type 0 where
-  pub before : List X
-  pub last : X
-  pub is : xs ≡ before ++ last ∷ []
-  pub fits : Fits last
-  pub leads_on : leads last 44 inner ≡ true
-  pub stops : next last inner ≡ Err stop
-  pub after : (y : X) → After last y → Chain Fits After (xs ++ y ∷ [])
-
-record MoreStops {X : Type 0} (leads : X → ℕ → List ℕ → Bool) (spell : X → List ℕ) (Fits : X → Type 0) (After : X → X → Type 0)
-    (next : X → List ℕ → Read ℕ X) (prev : X) (tokens : List ℕ) (stop : Stop ℕ) : Type 0 where
-  pub xs : List X
-  pub inner : List ℕ
-  pub parts : tokens ≡ 44 ∷ (led spell xs ++ inner)
-  pub follow : Follow After prev xs
-  pub stops : LastStops leads Fits After next (prev ∷ xs) inner stop
-
-pub record ItemsStop {X : Type 0} (leads : X → ℕ → List ℕ → Bool) (spell : X → List ℕ) (Fits : X → Type 0) (After : X → X → Type 0)
-    (first : List ℕ → Read ℕ X) (next : X → List ℕ → Read ℕ X) (tokens : List ℕ) (stop : Stop ℕ) : Type 0 where
-  pub xs : List X
-  pub inner : List ℕ
-  pub parts : tokens ≡ led spell xs ++ inner
-  pub chain : Chain Fits After xs
-  pub stops : ((xs ≡ []) × (first inner ≡ Err stop)) ⊎ LastStops leads Fits After next xs inner stop
-
 module _ {X : Type 0} {Near : X → List ℕ → List ℕ → Type 0} {leads : X → ℕ → List ℕ → Bool} {spell : X → List ℕ} {Fits : X → Type 0}
     {After : X → X → Type 0} {goes : X → ℕ → Bool} {next : X → List ℕ → Read ℕ X} (p : Parts Near leads 44 spell Fits After goes next) where
+  -- Behind the last of these items a comma leads on, and what stands behind it stops so. What may stand behind the last may stand behind them.
+  pub record LastStops (xs : List X) (inner : List ℕ) (stop : Stop ℕ) : Type 0 where
+    pub before : List X
+    pub last : X
+    pub is : xs ≡ before ++ last ∷ []
+    pub fits : Fits last
+    pub leads_on : leads last 44 inner ≡ true
+    pub stops : next last inner ≡ Err stop
+    pub after : (y : X) → After last y → Chain Fits After (xs ++ y ∷ [])
+
+  record MoreStops (prev : X) (tokens : List ℕ) (stop : Stop ℕ) : Type 0 where
+    pub xs : List X
+    pub inner : List ℕ
+    pub parts : tokens ≡ 44 ∷ (led spell xs ++ inner)
+    pub follow : Follow After prev xs
+    pub stops : LastStops (prev ∷ xs) inner stop
+
+  pub record ItemsStop (first : List ℕ → Read ℕ X) (tokens : List ℕ) (stop : Stop ℕ) : Type 0 where
+    pub xs : List X
+    pub inner : List ℕ
+    pub parts : tokens ≡ led spell xs ++ inner
+    pub chain : Chain Fits After xs
+    pub stops : ((xs ≡ []) × (first inner ≡ Err stop)) ⊎ LastStops xs inner stop
+
   more_stops : (n : ℕ) (prev : X) (tokens : List ℕ) (stop : Stop ℕ) → Fits prev → length tokens ≤ n → more_of leads next prev tokens ≡ Err stop
-      → MoreStops leads spell Fits After next prev tokens stop
+      → MoreStops prev tokens stop
   more_stops n prev [] stop fits le e = not_both ([], []) stop e
   more_stops zero prev (t ∷ ts) stop fits le e = absurd (omega (arith, le))
   more_stops (suc n) prev (t ∷ ts) stop fits le e =
@@ -101,7 +98,7 @@ module _ {X : Type 0} {Near : X → List ℕ → List ℕ → Type 0} {leads : X
       ]
 
   pub items_stop : (IsLow : List ℕ → List ℕ → Type 0) (first : List ℕ → Read ℕ X) → Format IsLow spell Fits goes first → (tokens : List ℕ)
-      (stop : Stop ℕ) → items_at leads first next tokens ≡ Err stop → ItemsStop leads spell Fits After first next tokens stop
+      (stop : Stop ℕ) → items_at leads first next tokens ≡ Err stop → ItemsStop first tokens stop
   items_stop IsLow first fx tokens stop e =
       elim (bind_err (first tokens) (λ x. more_of leads next x.0 x.1 >>= λ xs. Ok ((x.0, xs.0), xs.1)) stop e) [
         | inl h ↦ record { xs = []; inner = tokens; parts = refl; chain = tt; stops = inl (refl, h) }

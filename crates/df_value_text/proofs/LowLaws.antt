@@ -74,7 +74,7 @@ module _ (n : ℕ) (deeper : (text rest : List ℕ) → value_within n text ≡ 
       ]
 
   next_low : (es : List (List ℕ × Plain)) (more cs rest : List ℕ) → cs ≡ entries_led es ++ more
-      → LastStops leads_entry (LevelEntry n) (LevelAfter n) (λ prev. next_entry_at (value_within n) prev.0) es more (Low rest) → LowInValue (40 ∷ cs) rest
+      → LastStops (entry_parts n) es more (Low rest) → LowInValue (40 ∷ cs) rest
   next_low es more cs rest parts l =
       elim (given_low (higher_at l.last.0) (value_within n) more rest l.stops) [
         | inl h ↦
