@@ -102,6 +102,7 @@ fn open_count(text: &[u8]) -> usize
 }
 
 /// Whether the text is so short, and opens so few brackets, that no count is passed in it.
+#[tactic(auto, using(crate::proofs::CountingSteps::never_small))]
 fn is_small(text: &[u8]) -> bool
     ensures { result ≡ true → NeverOver text.now }
 {

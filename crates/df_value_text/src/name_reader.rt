@@ -34,6 +34,7 @@ fn name_of(text: &[u8]) -> Name
 }
 
 /// The longest name at the place, and the place behind it.
+#[tactic(auto, using(crate::proofs::WordsSteps::name_is))]
 pub fn name_at(bytes: &[u8], at: usize) -> Result<(Name, usize), Fault>
     requires { at ≤ length bytes.now }
     ensures exact { Gives (λ n. n) bytes.now result (name_at (drop at bytes.now)) }
