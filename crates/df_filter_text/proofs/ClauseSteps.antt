@@ -1,27 +1,16 @@
 -- The loop that reads clauses, step by step.
-use Rattle.std.proofs.Common.{◌≡◌, ℕ, zero, suc, ◌+◌, ◌-◌, ◌<◌, ◌≤◌, true, false, eqb, List, [], ◌∷◌, ◌++◌, length, drop, Option, Some, Ok, Err, refl, sym}
-use Rattle.std.proofs.Common.{ap, ◌∙◌, arith}
-use Rattle.std.proofs.lemmas.List.{append-nil, length_push}
+use Rattle.df_filter_text.proofs.Names.{◌≡◌, ℕ, zero, suc, ◌+◌, ◌-◌, ◌<◌, ◌≤◌, true, false, eqb, List, [], ◌∷◌, ◌++◌, length, drop, Option, Some, Ok, Err}
+use Rattle.df_filter_text.proofs.Names.{refl, sym, ap, ◌∙◌, ◌⊎◌, inl, inr, arith, append-nil, Read, ◌>>=◌, listed, optional}
+use Rattle.std.proofs.lemmas.List.{length_push}
 use Rattle.df_filter.specs.declared.clause.Clause.{Clause}
-use Rattle.df_format.specs.Reading.{Stop, Read, ◌>>=◌, then_at, with_front}
+use Rattle.df_format.specs.Reading.{Stop, with_front}
 use Rattle.df_format.proofs.ItemSteps.{onto, regroup}
 use Rattle.df_value_text.specs.Number.{begins_with}
-use Rattle.df_value_text.specs.ReadTag.{listed, optional}
 use Rattle.df_value_text.proofs.TagSteps.{behind_it}
 use Rattle.df_filter_text.specs.ReadFilter.{clause_at, more_clauses_at, filter_at}
 
--- ---- steps
-
-listed_one : (x : Clause) (r : Read ℕ (List Clause))
-    → ((r >>= λ y. Ok ((x, y.0), y.1)) >>= λ (p : (Clause × List Clause) × List ℕ). Ok (listed p.0, p.1)) ≡ (r >>= onto x)
-listed_one x (Ok y) = refl
-listed_one x (Err s) = refl
-
-listed_pair : (r : Read ℕ Clause) (more : List ℕ → Read ℕ (List Clause))
-    → ((r >>= λ x. more x.1 >>= λ y. Ok ((x.0, y.0), y.1)) >>= λ (p : (Clause × List Clause) × List ℕ). Ok (listed p.0, p.1))
-    ≡ (r >>= λ x. more x.1 >>= onto x.0)
-listed_pair (Ok x) more = listed_one x.0 (more x.1)
-listed_pair (Err s) more = refl
+abbrev paired : Clause → List Clause × List ℕ → Read ℕ (Clause × List Clause)
+paired x y = Ok ((x, y.0), y.1)
 
 abbrev some_made : (Clause × List Clause) × List ℕ → Read ℕ (Option (Clause × List Clause))
 some_made p = Ok (Some p.0, p.1)
@@ -29,16 +18,22 @@ some_made p = Ok (Some p.0, p.1)
 abbrev optional_made : Option (Clause × List Clause) × List ℕ → Read ℕ (List Clause)
 optional_made x = Ok (optional x.0, x.1)
 
-abbrev listed_made : (Clause × List Clause) × List ℕ → Read ℕ (List Clause)
-listed_made p = Ok (listed p.0, p.1)
+first_listed : (x : Clause) (r : Read ℕ (List Clause)) → ((r >>= paired x) >>= λ (p : (Clause × List Clause) × List ℕ). Ok (listed p.0, p.1)) ≡ (r >>= onto x)
+first_listed x (Ok y) = refl
+first_listed x (Err s) = refl
 
-optional_pair : (r : Read ℕ (Clause × List Clause)) → ((r >>= some_made) >>= optional_made) ≡ (r >>= listed_made)
-optional_pair (Ok p) = refl
-optional_pair (Err s) = refl
+pair_listed : (x : Clause) (r : Read ℕ (List Clause)) → (((r >>= paired x) >>= some_made) >>= optional_made) ≡ (r >>= onto x)
+pair_listed x (Ok y) = refl
+pair_listed x (Err s) = refl
+
+clause_listed : (r : Read ℕ Clause) (more : List ℕ → Read ℕ (List Clause))
+    → (((r >>= λ x. more x.1 >>= paired x.0) >>= some_made) >>= optional_made) ≡ (r >>= λ x. more x.1 >>= onto x.0)
+clause_listed (Ok x) more = pair_listed x.0 (more x.1)
+clause_listed (Err s) more = refl
 
 -- behind `&`, a clause and those behind it
 led_on : (most c : ℕ) (cs : List ℕ) → eqb c 38 ≡ true → more_clauses_at (suc most) (c ∷ cs) ≡ (clause_at cs >>= λ x. more_clauses_at most x.1 >>= onto x.0)
-led_on most c cs h = rw h (optional_pair (then_at clause_at (more_clauses_at most) cs) ∙ listed_pair (clause_at cs) (more_clauses_at most))
+led_on most c cs h = rw h (clause_listed (clause_at cs) (more_clauses_at most))
 
 -- no `&`, no further clause
 none_led : (most : ℕ) (bytes : List ℕ) → begins_with 38 bytes ≡ false → more_clauses_at most bytes ≡ Ok ([], bytes)
@@ -46,78 +41,50 @@ none_led zero bytes h = refl
 none_led (suc most) [] h = refl
 none_led (suc most) (c ∷ cs) h = rw h refl
 
-first_read : (tokens : List ℕ) (first : Clause) (start : List ℕ) → clause_at tokens ≡ Ok (first, start)
-    → filter_at tokens ≡ with_front (first ∷ []) (more_clauses_at 3 start)
-first_read tokens first start e = listed_pair (clause_at tokens) (more_clauses_at 3) ∙ rw e refl
-
--- ---- the loop
-
--- what is left is read as all behind the first clause was to be
-pub record ReadSoFar (bytes : List ℕ) (at start place : ℕ) (clauses : List Clause) : Type 0 where
-  pub first : Clause
-  pub one : clause_at (drop at bytes) ≡ Ok (first, drop start bytes)
+-- what is left is read as all was to be
+pub record SoFar (bytes : List ℕ) (at place : ℕ) (clauses : List Clause) : Type 0 where
   pub left : ℕ
   pub room : left + length clauses ≡ 4
-  pub rest : with_front clauses (more_clauses_at left (drop place bytes)) ≡ with_front (first ∷ []) (more_clauses_at 3 (drop start bytes))
+  pub rest : with_front clauses (more_clauses_at left (drop place bytes)) ≡ filter_at (drop at bytes)
 
 pub clauses_begun : (bytes : List ℕ) (at start : ℕ) (first : Clause) (clauses : List Clause) → clause_at (drop at bytes) ≡ Ok (first, drop start bytes)
-    → clauses ≡ first ∷ [] → ReadSoFar bytes at start start clauses
-clauses_begun bytes at start first clauses e is =
-    record {
-      first = first;
-      one = e;
-      left = 3;
-      room = omega (arith, ap length is);
-      rest = ap
-          (λ (xs : List Clause). with_front xs (more_clauses_at 3 (drop start bytes))) is;
-    }
+    → clauses ≡ first ∷ [] → SoFar bytes at start clauses
+clauses_begun bytes at start first clauses e is = record {
+  left = 3;
+  room = omega (arith, ap length is);
+  rest = ap (λ (xs : List Clause). with_front xs (more_clauses_at 3 (drop start bytes))) is ∙ sym (first_listed first (more_clauses_at 3 (drop start bytes))) ∙ rw e refl;
+}
 
--- another clause may stand behind this `&`
-next_is : (bytes : List ℕ) (at start place : ℕ) (clauses : List Clause) (s : ReadSoFar bytes at start place clauses) → length clauses < 4
-    → begins_with 38 (drop place bytes) ≡ true
-    → more_clauses_at s.left (drop place bytes) ≡ (clause_at (drop (place + 1) bytes) >>= λ x. more_clauses_at (s.left - 1) x.1 >>= onto x.0)
-next_is bytes at start place clauses s few h =
-    let b = behind_it bytes place 38 h in
-    let some : s.left ≡ suc (s.left - 1) = omega (arith, s.room, few) in
-    ap (more_clauses_at s.left) b.1 ∙ ap (λ (n : ℕ). more_clauses_at n (b.0 ∷ drop (place + 1) bytes)) some
-    ∙ led_on (s.left - 1) b.0 (drop (place + 1) bytes) b.2
+module _ {bytes : List ℕ} {at place : ℕ} {clauses : List Clause} (s : SoFar bytes at place clauses) where
+  -- another clause may stand behind this `&`
+  module _ (few : length clauses < 4) (h : begins_with 38 (drop place bytes) ≡ true) where
+    next_is : more_clauses_at s.left (drop place bytes) ≡ (clause_at (drop (place + 1) bytes) >>= λ x. more_clauses_at (s.left - 1) x.1 >>= onto x.0)
+    next_is =
+        let b = behind_it bytes place 38 h in
+        let some : s.left ≡ suc (s.left - 1) = omega (arith, s.room, few) in
+        ap (more_clauses_at s.left) b.1 ∙ ap (λ (n : ℕ). more_clauses_at n (b.0 ∷ drop (place + 1) bytes)) some
+        ∙ led_on (s.left - 1) b.0 (drop (place + 1) bytes) b.2
 
-pub clause_read : (bytes : List ℕ) (at start place after : ℕ) (clauses more : List Clause) (x : Clause) → ReadSoFar bytes at start place clauses
-    → length clauses < 4 → begins_with 38 (drop place bytes) ≡ true
-    → clause_at (drop (place + 1) bytes) ≡ Ok (x, drop after bytes) → more ≡ clauses ++ x ∷ [] → ReadSoFar bytes at start after more
-clause_read bytes at start place after clauses more x s few h e is =
-    let step : more_clauses_at s.left (drop place bytes) ≡ (more_clauses_at (s.left - 1) (drop after bytes) >>= onto x) = next_is bytes at start place clauses
-    s few h ∙ rw e refl in
-    record {
-      first = s.first;
-      one = s.one;
-      left = s.left - 1;
-      room = omega (arith, s.room, few, ap length is, length_push clauses x);
-      rest = ap (λ (xs : List Clause). with_front xs (more_clauses_at (s.left - 1) (drop after bytes))) is
-          ∙ sym (regroup clauses x (more_clauses_at (s.left - 1) (drop after bytes))) ∙ ap (with_front clauses) (sym step) ∙ s.rest;
-    }
+    pub clause_read : (x : Clause) (after : ℕ) (more : List Clause) → clause_at (drop (place + 1) bytes) ≡ Ok (x, drop after bytes)
+        → more ≡ clauses ++ x ∷ [] → SoFar bytes at after more
+    clause_read x after more e is =
+        let step : more_clauses_at s.left (drop place bytes) ≡ (more_clauses_at (s.left - 1) (drop after bytes) >>= onto x) = next_is ∙ rw e refl in
+        record {
+          left = s.left - 1;
+          room = omega (arith, s.room, few, ap length is, length_push clauses x);
+          rest = ap (λ (xs : List Clause). with_front xs (more_clauses_at (s.left - 1) (drop after bytes))) is
+              ∙ sym (regroup clauses x (more_clauses_at (s.left - 1) (drop after bytes))) ∙ ap (with_front clauses) (sym step) ∙ s.rest;
+        }
 
-pub clause_failed : (bytes : List ℕ) (at start place : ℕ) (clauses : List Clause) (stop : Stop ℕ) → ReadSoFar bytes at start place clauses
-    → length clauses < 4 → begins_with 38 (drop place bytes) ≡ true
-    → clause_at (drop (place + 1) bytes) ≡ Err stop → filter_at (drop at bytes) ≡ Err stop
-clause_failed bytes at start place clauses stop s few h e =
-    let step : more_clauses_at s.left (drop place bytes) ≡ Err stop = next_is bytes at start place clauses s few h ∙ rw e refl in
-    first_read (drop at bytes) s.first (drop start bytes) s.one ∙ sym s.rest ∙ ap (with_front clauses) step
+    pub clause_failed : (stop : Stop ℕ) → clause_at (drop (place + 1) bytes) ≡ Err stop → filter_at (drop at bytes) ≡ Err stop
+    clause_failed stop e =
+        let step : more_clauses_at s.left (drop place bytes) ≡ Err stop = next_is ∙ rw e refl in
+        sym s.rest ∙ ap (with_front clauses) step
 
-pub all_read : (bytes : List ℕ) (at start place : ℕ) (clauses : List Clause) (s : ReadSoFar bytes at start place clauses)
-    → more_clauses_at s.left (drop place bytes) ≡ Ok ([], drop place bytes) → filter_at (drop at bytes) ≡ Ok (clauses, drop place bytes)
-all_read bytes at start place clauses s e =
-    first_read (drop at bytes) s.first (drop start bytes) s.one ∙ sym s.rest ∙ ap (with_front clauses) e
-    ∙ ap (λ (xs : List Clause). Ok (xs, drop place bytes)) (append-nil clauses)
-
--- no `&` stands there
-pub none_stands : (bytes : List ℕ) (at start place : ℕ) (clauses : List Clause) (s : ReadSoFar bytes at start place clauses)
-    → begins_with 38 (drop place bytes) ≡ false → filter_at (drop at bytes) ≡ Ok (clauses, drop place bytes)
-none_stands bytes at start place clauses s h = all_read bytes at start place clauses s (none_led s.left (drop place bytes) h)
-
--- there are four
-pub four_stand : (bytes : List ℕ) (at start place : ℕ) (clauses : List Clause) (s : ReadSoFar bytes at start place clauses) → 4 ≤ length clauses
-    → filter_at (drop at bytes) ≡ Ok (clauses, drop place bytes)
-four_stand bytes at start place clauses s many =
-    let none : s.left ≡ 0 = omega (arith, s.room, many) in
-    all_read bytes at start place clauses s (ap (λ (n : ℕ). more_clauses_at n (drop place bytes)) none)
+  -- no further clause stands there, or there are four
+  pub clauses_done : (begins_with 38 (drop place bytes) ≡ false) ⊎ (4 ≤ length clauses) → filter_at (drop at bytes) ≡ Ok (clauses, drop place bytes)
+  clauses_done end = sym s.rest ∙ ap (with_front clauses) (last end) ∙ ap (λ (xs : List Clause). Ok (xs, drop place bytes)) (append-nil clauses)
+    where
+      last : (begins_with 38 (drop place bytes) ≡ false) ⊎ (4 ≤ length clauses) → more_clauses_at s.left (drop place bytes) ≡ Ok ([], drop place bytes)
+      last (inl h) = none_led s.left (drop place bytes) h
+      last (inr many) = ap (λ (n : ℕ). more_clauses_at n (drop place bytes)) (let none : s.left ≡ 0 = omega (arith, s.room, many) in none)

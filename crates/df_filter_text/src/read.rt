@@ -26,17 +26,14 @@ pub fn read_filter(alloc: Global, bytes: &[u8]) -> Result<Filter, FilterTextRefu
     if bytes.is_empty() {
         return Err(FilterTextRefused::NoClause);
     }
-    let (clauses, end) = clauses_at(alloc, bytes, 0)?;
+    let (filter, end) = filter_at(alloc, bytes, 0)?;
     if byte_stands(bytes, end, b'&') {
         return Err(FilterTextRefused::TooManyClauses);
     }
     if end < bytes.len() {
         return Err(FilterTextRefused::Syntax { offset: end });
     }
-    match Filter::new(clauses) {
-        Ok(filter) => Ok(filter),
-        Err(_) => unreachable!(),
-    }
+    Ok(filter)
 }
 
 /// The longest filter at the place, and the place behind it.
