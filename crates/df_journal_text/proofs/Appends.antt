@@ -1,5 +1,5 @@
 -- Texts put together in another order.
-use Rattle.std.proofs.Common.{◌≡◌, ℕ, List, [], ◌++◌, append_assoc, append-nil}
+use Rattle.df_journal_text.proofs.Names.{◌≡◌, ℕ, List, [], ◌++◌, append_assoc, append-nil}
 
 pub four_end : (k a b c d : List ℕ) → k ++ (a ++ (b ++ (c ++ (d ++ [])))) ≡ k ++ ((a ++ (b ++ c)) ++ d)
 four_end k a b c d = simp (append_assoc, append-nil)

@@ -1,22 +1,8 @@
 -- Calls that are spelled are read back.
-use Rattle.std.proofs.Common.{◌≡◌, ℕ, false, List, [], ◌∷◌, ◌++◌, map, Ok, refl}
-use Rattle.std.proofs.lemmas.List.Elements.{recursion_from_All}
-use Rattle.df_priv.specs.declared.need.Half.{Half}
-use Rattle.df_priv.specs.declared.need.Half.TheVariants.{S, I}
-use Rattle.df_priv.specs.declared.need.Act.{Act}
-use Rattle.df_priv.specs.declared.need.Act.TheVariants.{Add, Del}
-use Rattle.df_unit.specs.declared.call.Call.{Call}
-use Rattle.df_unit.specs.declared.call.Call.TheVariants.{AddPart, DelPart, ReadPart, CloneEvent, AttachPrivilege, ChangeOutLabel, DropEvent, Subscribe}
-use Rattle.df_unit.specs.declared.call.Call.TheVariants.{SubscribeManaged, Publish, Release, ChangeInOut, Instantiate}
-use Rattle.df_value_text.specs.Fits.{IsPrivilege}
-use Rattle.df_value_text.specs.Label.{label_text, privilege_text, tag_text}
-use Rattle.df_value_text.specs.Value.{value_text}
-use Rattle.df_value_text.specs.code.WordEnd.{EndsWord}
-use Rattle.df_journal_text.specs.Call.{act_text, half_text, call_words}
-use Rattle.df_journal_text.specs.Fits.{IsCall}
-use Rattle.df_journal_text.specs.Line.{spaced}
-use Rattle.df_journal_text.specs.ReadCall.{act_at, half_at, call_at}
-use Rattle.df_journal_text.specs.ReadWords.{begins_pair}
+use Rattle.df_journal_text.proofs.Names.{◌≡◌, ℕ, false, List, [], ◌∷◌, ◌++◌, map, Ok, refl, recursion_from_All, Half, S, I, Act, Add, Del, Call, AddPart}
+use Rattle.df_journal_text.proofs.Names.{DelPart, ReadPart, CloneEvent, AttachPrivilege, ChangeOutLabel, DropEvent, Subscribe, SubscribeManaged, Publish}
+use Rattle.df_journal_text.proofs.Names.{Release, ChangeInOut, Instantiate, IsPrivilege, label_text, privilege_text, tag_text, value_text, EndsWord, act_text}
+use Rattle.df_journal_text.proofs.Names.{half_text, call_words, IsCall, spaced, act_at, half_at, call_at, begins_pair}
 use Rattle.df_journal_text.proofs.WordBacks.{word_back, short_word, label_word, name_word, value_word, privilege_word, tag_word, filter_word, braced_word}
 use Rattle.df_journal_text.proofs.WordBacks.{privileges_back}
 

@@ -1,22 +1,9 @@
 -- Calls that are read are spelled so.
-use Rattle.std.proofs.Common.{append-nil, ◌≡◌, ℕ, ◌<◌, ◌^◌, true, List, [], ◌∷◌, ◌++◌, codes, decimal, refl}
-use Rattle.df_priv.specs.declared.need.Half.{Half}
-use Rattle.df_priv.specs.declared.need.Half.TheVariants.{S, I}
-use Rattle.df_priv.specs.declared.need.Act.{Act}
-use Rattle.df_priv.specs.declared.need.Act.TheVariants.{Add, Del}
-use Rattle.df_format.specs.Reading.{Read}
-use Rattle.df_frozen.specs.Name.{is_name}
-use Rattle.df_label.specs.declared.label.Label.{Label}
-use Rattle.df_unit.specs.declared.call.Call.TheVariants.{CreateEvent, DelPart, ReadPart, CloneEvent, AttachPrivilege, ChangeOutLabel, CreateTag, DropEvent}
-use Rattle.df_unit.specs.declared.call.Call.TheVariants.{Subscribe, SubscribeManaged, Get, Publish, Release, ChangeInOut, Instantiate}
-use Rattle.df_value_text.specs.Fits.{IsLabel, IsTag}
-use Rattle.df_value_text.specs.Label.{label_text, privilege_text, tag_text}
-use Rattle.df_journal_text.specs.Call.{act_text, half_text}
-use Rattle.df_journal_text.specs.Fits.{IsCall}
-use Rattle.df_journal_text.specs.Line.{word}
-use Rattle.df_journal_text.specs.ReadCall.{act_at, change_at, half_at, named_kinds, plain_kinds, last_kinds, spot_at}
-use Rattle.df_journal_text.specs.ReadWords.{bare_at, named_at}
-use Rattle.df_journal_text.specs.code.Judging.{call_text}
+use Rattle.df_journal_text.proofs.Names.{append-nil, ◌≡◌, ℕ, ◌<◌, ◌^◌, true, List, [], ◌∷◌, ◌++◌, codes, decimal, refl, Half, S, I, Act, Add, Del, Read}
+use Rattle.df_journal_text.proofs.Names.{is_name, Label, CreateEvent, DelPart, ReadPart, CloneEvent, AttachPrivilege, ChangeOutLabel, CreateTag, DropEvent}
+use Rattle.df_journal_text.proofs.Names.{Subscribe, SubscribeManaged, Get, Publish, Release, ChangeInOut, Instantiate, IsLabel, IsTag, label_text}
+use Rattle.df_journal_text.proofs.Names.{privilege_text, tag_text, act_text, half_text, IsCall, word, act_at, change_at, half_at, named_kinds, plain_kinds}
+use Rattle.df_journal_text.proofs.Names.{last_kinds, spot_at, bare_at, named_at, call_text}
 use Rattle.df_journal_text.proofs.Appends.{four_end}
 use Rattle.df_journal_text.proofs.Founds.{◌⊕◌, AllFind, Finds, bare_finds, braced_finds, filter_finds, finds_then, finds_word, kind_finds, kinds_found}
 use Rattle.df_journal_text.proofs.Founds.{label_finds, name_finds, privilege_finds, privileges_finds, short_finds, tag_finds}

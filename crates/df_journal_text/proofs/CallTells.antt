@@ -1,30 +1,10 @@
 -- What the reader of calls answers.
-use Rattle.std.proofs.Common.{◌≡◌, ℕ, ◌≤◌, List, ◌++◌, length, drop, Result, Ok, Err, codes, decimal, refl, sym, ap, subst, ◌∙◌, inl}
-use Rattle.df_format.specs.Reading.{Stop, Read, then_at, text_at}
-use Rattle.df_format.proofs.Laws.{not_both, ok_is}
-use Rattle.df_format.proofs.Texts.{text_again, text_found}
+use Rattle.df_journal_text.proofs.Names.{◌≡◌, ℕ, ◌≤◌, List, ◌++◌, length, drop, Result, Ok, Err, codes, decimal, refl, sym, ap, subst, ◌∙◌, inl, Stop, Read}
+use Rattle.df_journal_text.proofs.Names.{then_at, text_at, not_both, ok_is, text_again, text_found, Label, Call, AddPart, IsSpelled, IsValue, label_text}
+use Rattle.df_journal_text.proofs.Names.{label_at, name_at, short_at, value_at, value_text, Fails, EndsWord, Fault, value_format, IsCall, IsLargeCall}
+use Rattle.df_journal_text.proofs.Names.{IsLargeWord, word, add_of, added_at, call_at, plain_kinds, spot_at, keyed, kinds_at, word_at, EndsCall, IsStopped}
+use Rattle.df_journal_text.proofs.Names.{IsUnspelled, Tells, behind_add, call_text, line_fault, LineFault}
 use Rattle.df_frozen.specs.Plain.{Plain}
-use Rattle.df_label.specs.declared.label.Label.{Label}
-use Rattle.df_unit.specs.declared.call.Call.{Call}
-use Rattle.df_unit.specs.declared.call.Call.TheVariants.{AddPart}
-use Rattle.df_value_text.specs.Fits.{IsSpelled, IsValue}
-use Rattle.df_value_text.specs.Label.{label_text}
-use Rattle.df_value_text.specs.ReadLabel.{label_at}
-use Rattle.df_value_text.specs.ReadName.{name_at}
-use Rattle.df_value_text.specs.ReadTag.{short_at}
-use Rattle.df_value_text.specs.ReadValue.{value_at}
-use Rattle.df_value_text.specs.Value.{value_text}
-use Rattle.df_value_text.specs.code.Answer.{Fails}
-use Rattle.df_value_text.specs.code.WordEnd.{EndsWord}
-use Rattle.df_value_text.specs.declared.refused.Fault.{Fault}
-use Rattle.df_value_text.proofs.ValueLaws.{value_format}
-use Rattle.df_journal_text.specs.Fits.{IsCall}
-use Rattle.df_journal_text.specs.Large.{IsLargeCall, IsLargeWord}
-use Rattle.df_journal_text.specs.Line.{word}
-use Rattle.df_journal_text.specs.ReadCall.{add_of, added_at, call_at, plain_kinds, spot_at}
-use Rattle.df_journal_text.specs.ReadWords.{keyed, kinds_at, word_at}
-use Rattle.df_journal_text.specs.code.Judging.{EndsCall, IsStopped, IsUnspelled, Tells, TellsAdded, behind_add, call_text, line_fault}
-use Rattle.df_journal_text.specs.declared.line_fault.LineFault.{LineFault}
 use Rattle.df_journal_text.specs.declared.line_fault.LineFault.TheVariants as fault
 use Rattle.df_journal_text.proofs.Appends.{four_apart, three_apart}
 use Rattle.df_journal_text.proofs.CallBacks.{call_back}
@@ -37,7 +17,7 @@ use Rattle.df_journal_text.proofs.WordBacks.{label_word, name_word, short_word}
 value_finds : Finds value_text IsSpelled value_at
 value_finds = record { found = λ bytes v rest e. let f = (value_format (length bytes)).found bytes v rest e in (f.parts, f.fits.0) }
 
--- ---- what stands behind `add`
+-- ---- behind `add`
 
 call_is : (bytes : List ℕ) (call : Call) (rest : List ℕ) → IsCall call → EndsCall rest → behind_add bytes ≡ call_text call ++ rest
     → added_at bytes ≡ Ok (call, rest)
@@ -57,62 +37,83 @@ spot_large bytes l =
     let e3 : name_at (n.name ++ n.rest) ≡ Ok (n.name, n.rest) = name_word.back n.name n.rest n.name_fits (subst EndsWord (sym n.large.parts) (inl refl)) in
     ap spot_at whole ∙ rw (e1, e2, e3) refl
 
+-- no call that fits is spelled in front of what may stand behind it
+abbrev IsNoCall : List ℕ → Type 0
+IsNoCall bytes = IsUnspelled call_text IsCall EndsCall bytes
+
+-- what is read of an added part, one behind the other
+added_read : (bytes : List ℕ) (call : Call) (rest : List ℕ) → added_at bytes ≡ Ok (call, rest)
+    → (spot : ℕ × (Label × List ℕ)) × (value : Plain) × (mid : List ℕ) × (spot_at bytes ≡ Ok (spot, mid)) × (word_at value_at mid ≡ Ok (value, rest))
+    × (add_of (spot, value) ≡ call)
+added_read bytes call rest e =
+    let a = as_found add_of (then_at spot_at (word_at value_at)) bytes call rest e in
+    let t = then_found spot_at (word_at value_at) bytes a.0.0 a.0.1 rest a.1 in
+    (a.0.0, a.0.1, t.0, t.1, t.2, a.2)
+
 -- where no handle, label and name stand
-no_spot : (bytes : List ℕ) (stop : Stop ℕ) → spot_at bytes ≡ Err stop
-    → IsUnspelled call_text IsCall EndsCall (behind_add bytes) × ¬ IsLargeCall (behind_add bytes)
+no_spot : (bytes : List ℕ) (stop : Stop ℕ) → spot_at bytes ≡ Err stop → IsNoCall (behind_add bytes) × ¬ IsLargeCall (behind_add bytes)
 no_spot bytes stop e = (
   λ call rest fits may is.
-      let a = as_found add_of (then_at spot_at (word_at value_at)) bytes call rest (call_is bytes call rest fits may is) in
-      let t = then_found spot_at (word_at value_at) bytes a.0.0 a.0.1 rest a.1 in
-      not_both (a.0.0, t.0) stop (sym t.1 ∙ e),
+      let a = added_read bytes call rest (call_is bytes call rest fits may is) in
+      not_both (a.0, a.2) stop (sym a.3 ∙ e),
   λ l. not_both ((l.h, (l.large.label, l.large.name)), l.large.rest) stop (sym (spot_large bytes l) ∙ e),
 )
 
-pub added_no_spot : (bytes : List ℕ) (at : ℕ) (e : Fault) → Fails bytes e (spot_at (drop at bytes)) → TellsAdded bytes at (Err (line_fault e))
-added_no_spot bytes at e h = on_fault (λ f. TellsAdded bytes at (Err f)) bytes (spot_at (drop at bytes)) e h tt (no_spot (drop at bytes))
+-- `add` stands at the one place, and its words begin at the other
+module _ (bytes : List ℕ) (at start : ℕ) (add : drop at bytes ≡ behind_add (drop start bytes)) where
+  abbrev pub CallTold : Result (Call × ℕ) LineFault → Type 0
+  CallTold r = Tells call_text IsCall EndsCall IsLargeCall call_at bytes at r
 
-module _ (bytes : List ℕ) (at behind : ℕ) (x : ℕ × (Label × List ℕ)) (spot : spot_at (drop at bytes) ≡ Ok (x, drop behind bytes)) where
-  unspelled : IsUnspelled value_word_text IsValue EndsWord (drop behind bytes) → IsUnspelled call_text IsCall EndsCall (behind_add (drop at bytes))
-  unspelled u call rest fits may is =
-      let a = as_found add_of (then_at spot_at (word_at value_at)) (drop at bytes) call rest (call_is (drop at bytes) call rest fits may is) in
-      let t = then_found spot_at (word_at value_at) (drop at bytes) a.0.0 a.0.1 rest a.1 in
-      let same = ok_is (x, drop behind bytes) (a.0.0, t.0) (sym spot ∙ t.1) in
-      let v = (finds_word value_finds).found t.0 a.0.1 rest t.2 in
-      let made : IsCall (add_of a.0) = subst IsCall (sym a.2) fits in
-      u a.0.1 rest made.3 may.0 (ap (λ (q : (ℕ × (Label × List ℕ)) × List ℕ). q.1) same ∙ v.0)
+  pub added_no_spot : (e : Fault) → Fails bytes e (spot_at (drop start bytes)) → CallTold (Err (line_fault e))
+  added_no_spot e h =
+      on_fault (λ f. CallTold (Err f)) bytes (spot_at (drop start bytes)) e h tt
+      (λ stop s. subst (λ (u : List ℕ). IsNoCall u × ¬ IsLargeCall u) (sym add) (no_spot (drop start bytes) stop s))
 
-  not_large : ¬ IsLargeWord (drop behind bytes) → ¬ IsLargeCall (behind_add (drop at bytes))
-  not_large h l =
-      let same = ok_is (x, drop behind bytes) ((l.h, (l.large.label, l.large.name)), l.large.rest) (sym spot ∙ spot_large (drop at bytes) l) in
-      h (subst IsLargeWord (sym (ap (λ (q : (ℕ × (Label × List ℕ)) × List ℕ). q.1) same)) l.large.large)
+  module _ (behind : ℕ) (x : ℕ × (Label × List ℕ)) (spot : spot_at (drop start bytes) ≡ Ok (x, drop behind bytes)) where
+    unspelled : IsUnspelled value_word_text IsValue EndsWord (drop behind bytes) → IsNoCall (drop at bytes)
+    unspelled u call rest fits may is =
+        let a = added_read (drop start bytes) call rest (call_is (drop start bytes) call rest fits may (sym add ∙ is)) in
+        let same = ok_is (x, drop behind bytes) (a.0, a.2) (sym spot ∙ a.3) in
+        let v = (finds_word value_finds).found a.2 a.1 rest a.4 in
+        let made : IsCall (add_of (a.0, a.1)) = subst IsCall (sym a.5) fits in
+        u a.1 rest made.3 may.0 (ap (λ (q : (ℕ × (Label × List ℕ)) × List ℕ). q.1) same ∙ v.0)
 
-  is_large : IsLargeWord (drop behind bytes) → IsLargeCall (behind_add (drop at bytes))
-  is_large h =
-      let s = spot_finds.found (drop at bytes) x (drop behind bytes) spot in
-      let parts : drop at bytes ≡ word (decimal x.0) ++ (word (label_text x.1.0) ++ (word x.1.1 ++ drop behind bytes)) = s.0
-      ∙ three_apart (word (decimal x.0)) (word (label_text x.1.0)) (word x.1.1) (drop behind bytes) in
-      record {
-        h = x.0;
-        rest = word (label_text x.1.0) ++ (word x.1.1 ++ drop behind bytes);
-        parts = ap behind_add parts;
-        small = s.1.0;
-        large = record { label = x.1.0; name = x.1.1; rest = drop behind bytes; parts = refl; label_fits = s.1.1.0; name_fits = s.1.1.1; large = h };
-      }
+    not_large : ¬ IsLargeWord (drop behind bytes) → ¬ IsLargeCall (drop at bytes)
+    not_large h large =
+        let l : IsLargeCall (behind_add (drop start bytes)) = subst IsLargeCall add large in
+        let same = ok_is (x, drop behind bytes) ((l.h, (l.large.label, l.large.name)), l.large.rest) (sym spot ∙ spot_large (drop start bytes) l) in
+        h (subst IsLargeWord (sym (ap (λ (q : (ℕ × (Label × List ℕ)) × List ℕ). q.1) same)) l.large.large)
 
-  pub added_no_value : (f : LineFault) → Tells value_word_text IsValue EndsWord IsLargeWord (word_at value_at) bytes behind (Err f)
-      → TellsAdded bytes at (Err f)
-  added_no_value fault.NoMemory v = tt
-  added_no_value fault.Syntax v = (unspelled v.0, not_large v.1)
-  added_no_value fault.TooLarge v = (unspelled v.0, is_large v.1)
+    is_large : IsLargeWord (drop behind bytes) → IsLargeCall (drop at bytes)
+    is_large h =
+        let s = spot_finds.found (drop start bytes) x (drop behind bytes) spot in
+        let parts : drop start bytes ≡ word (decimal x.0) ++ (word (label_text x.1.0) ++ (word x.1.1 ++ drop behind bytes)) = s.0
+        ∙ three_apart (word (decimal x.0)) (word (label_text x.1.0)) (word x.1.1) (drop behind bytes) in
+        record {
+          h = x.0;
+          rest = word (label_text x.1.0) ++ (word x.1.1 ++ drop behind bytes);
+          parts = add ∙ ap behind_add parts;
+          small = s.1.0;
+          large = record { label = x.1.0; name = x.1.1; rest = drop behind bytes; parts = refl; label_fits = s.1.1.0; name_fits = s.1.1.1; large = h };
+        }
 
-  pub added_found : (value : Plain) (end : ℕ) → Tells value_word_text IsValue EndsWord IsLargeWord (word_at value_at) bytes behind (Ok (value, end))
-      → TellsAdded bytes at (Ok (AddPart x.0 x.1.0 x.1.1 value, end))
-  added_found value end v =
-      let s = spot_finds.found (drop at bytes) x (drop behind bytes) spot in
-      let front : List ℕ = word (decimal x.0) ++ (word (label_text x.1.0) ++ word x.1.1) in
-      let whole : call_text (AddPart x.0 x.1.0 x.1.1 value) ++ drop end bytes ≡ behind_add (front ++ (value_word_text value ++ drop end bytes)) = four_apart
-      (word (codes "add")) (word (decimal x.0)) (word (label_text x.1.0)) (word x.1.1) (value_word_text value) (drop end bytes) in
-      (v.0, (s.1.0, s.1.1.0, s.1.1.1, v.1), ap behind_add (s.0 ∙ ap (λ (u : List ℕ). front ++ u) v.2) ∙ sym whole, rw (spot, v.3) refl)
+    pub added_no_value : (f : LineFault) → Tells value_word_text IsValue EndsWord IsLargeWord (word_at value_at) bytes behind (Err f) → CallTold (Err f)
+    added_no_value fault.NoMemory v = tt
+    added_no_value fault.Syntax v = (unspelled v.0, not_large v.1)
+    added_no_value fault.TooLarge v = (unspelled v.0, is_large v.1)
+
+    pub added_found : (value : Plain) (end : ℕ) → Tells value_word_text IsValue EndsWord IsLargeWord (word_at value_at) bytes behind (Ok (value, end))
+        → CallTold (Ok (AddPart x.0 x.1.0 x.1.1 value, end))
+    added_found value end v =
+        let s = spot_finds.found (drop start bytes) x (drop behind bytes) spot in
+        let front : List ℕ = word (decimal x.0) ++ (word (label_text x.1.0) ++ word x.1.1) in
+        let whole : call_text (AddPart x.0 x.1.0 x.1.1 value) ++ drop end bytes ≡ behind_add (front ++ (value_word_text value ++ drop end bytes)) = four_apart
+        (word (codes "add")) (word (decimal x.0)) (word (label_text x.1.0)) (word x.1.1) (value_word_text value) (drop end bytes) in (
+          v.0,
+          (s.1.0, s.1.1.0, s.1.1.1, v.1),
+          add ∙ ap behind_add (s.0 ∙ ap (λ (u : List ℕ). front ++ u) v.2) ∙ sym whole,
+          ap call_at add ∙ rw (spot, v.3) refl,
+        )
 
 -- a call that is read adds nothing that is too large
 pub call_apart : (bytes : List ℕ) (call : Call) (rest : List ℕ) → call_at bytes ≡ Ok (call, rest) → IsCall call → IsLargeCall bytes → ⊥
@@ -120,31 +121,16 @@ call_apart bytes call rest e fits l =
     let behind : List ℕ = word (decimal l.h) ++ l.rest in
     let read : added_at behind ≡ Ok (call, rest) = sym (ap call_at l.parts) ∙ e in
     let here : IsLargeCall (behind_add behind) = record { h = l.h; rest = l.rest; parts = refl; small = l.small; large = l.large } in
-    let a = as_found add_of (then_at spot_at (word_at value_at)) behind call rest read in
-    let t = then_found spot_at (word_at value_at) behind a.0.0 a.0.1 rest a.1 in
-    let same = ok_is ((l.h, (l.large.label, l.large.name)), l.large.rest) (a.0.0, t.0) (sym (spot_large behind here) ∙ t.1) in
-    let made : IsCall (add_of a.0) = subst IsCall (sym a.2) fits in
-    value_apart t.0 a.0.1 rest t.2 made.3 (subst IsLargeWord (ap (λ (q : (ℕ × (Label × List ℕ)) × List ℕ). q.1) same) l.large.large)
+    let a = added_read behind call rest read in
+    let same = ok_is ((l.h, (l.large.label, l.large.name)), l.large.rest) (a.0, a.2) (sym (spot_large behind here) ∙ a.3) in
+    let made : IsCall (add_of (a.0, a.1)) = subst IsCall (sym a.5) fits in
+    value_apart a.2 a.1 rest a.4 made.3 (subst IsLargeWord (ap (λ (q : (ℕ × (Label × List ℕ)) × List ℕ). q.1) same) l.large.large)
 
 -- ---- any call
 
-tells_added : (bytes : List ℕ) (at start : ℕ) → drop at bytes ≡ behind_add (drop start bytes) → (f : LineFault) → TellsAdded bytes start (Err f)
-    → Tells call_text IsCall EndsCall IsLargeCall call_at bytes at (Err f)
-tells_added bytes at start is fault.NoMemory h = tt
-tells_added bytes at start is fault.Syntax h = (λ call rest fits may e. h.0 call rest fits may (sym is ∙ e), λ l. h.1 (subst IsLargeCall is l))
-tells_added bytes at start is fault.TooLarge h = (λ call rest fits may e. h.0 call rest fits may (sym is ∙ e), subst IsLargeCall (sym is) h.1)
-
-tells_added_call : (bytes : List ℕ) (at start : ℕ) → drop at bytes ≡ behind_add (drop start bytes) → (x : Call × ℕ) → TellsAdded bytes start (Ok x)
-    → Tells call_text IsCall EndsCall IsLargeCall call_at bytes at (Ok x)
-tells_added_call bytes at start is x h = (h.0, h.1, is ∙ h.2, ap call_at is ∙ h.3)
-
-pub tells_add : (bytes : List ℕ) (at start : ℕ) → drop at bytes ≡ behind_add (drop start bytes) → (r : Result (Call × ℕ) LineFault) → TellsAdded bytes start r
-    → Tells call_text IsCall EndsCall IsLargeCall call_at bytes at r
-tells_add bytes at start is (Ok x) h = tells_added_call bytes at start is x h
-tells_add bytes at start is (Err f) h = tells_added bytes at start is f h
-
-pub add_stands : (bytes rest : List ℕ) → text_at (word (codes "add")) bytes ≡ Ok (word (codes "add"), rest) → bytes ≡ behind_add rest
-add_stands bytes rest e = (text_found (word (codes "add")) bytes (word (codes "add")) rest e).1
+pub add_stands : (bytes : List ℕ) (at start : ℕ) → text_at (word (codes "add")) (drop at bytes) ≡ Ok (word (codes "add"), drop start bytes)
+    → drop at bytes ≡ behind_add (drop start bytes)
+add_stands bytes at start e = (text_found (word (codes "add")) (drop at bytes) (word (codes "add")) (drop start bytes) e).1
 
 -- where `add` doesn't stand, the call is one of the other kinds
 no_add : (bytes : List ℕ) → IsStopped (text_at (word (codes "add")) bytes) → call_at bytes ≡ kinds_at plain_kinds bytes
@@ -156,7 +142,7 @@ plain_is bytes call rest s fits may is =
     sym (no_add bytes s) ∙ ap call_at is ∙ call_back call rest fits may.0 may.1
 
 no_plain : (bytes : List ℕ) (stop : Stop ℕ) → IsStopped (text_at (word (codes "add")) bytes) → kinds_at plain_kinds bytes ≡ Err stop
-    → IsUnspelled call_text IsCall EndsCall bytes × ¬ IsLargeCall bytes
+    → IsNoCall bytes × ¬ IsLargeCall bytes
 no_plain bytes stop s e = (
   λ call rest fits may is. not_both (call, rest) stop (sym (plain_is bytes call rest s fits may is) ∙ e),
   λ l. not_both (word (codes "add"), word (decimal l.h) ++ l.rest) s.0

@@ -1,38 +1,16 @@
 -- Entries that are spelled are read back.
-use Rattle.std.proofs.Common.{◌≡◌, ℕ, ◌+◌, ◌<◌, true, false, eqb, eq-eqb, List, [], ◌∷◌, ◌++◌, length, map, Option, Some, None, Ok, codes, refl, sym, ap, ◌∙◌}
-use Rattle.std.proofs.Common.{append_assoc, arith, inl, inr}
-use Rattle.std.specs.List.{AllByRecursion, flat_map}
-use Rattle.std.proofs.lemmas.List.Elements.{recursion_from_All}
-use Rattle.std.proofs.lemmas.List.Concat.{flat_map-append}
-use Rattle.df_format.specs.Reading.{Read}
-use Rattle.df_format.proofs.Backs.{Back, all_back}
-use Rattle.df_label.specs.declared.label.Label.{Label}
-use Rattle.df_part.specs.declared.part.Part.{Part}
+use Rattle.df_journal_text.proofs.Names.{◌≡◌, ℕ, ◌+◌, ◌<◌, true, false, eqb, eq-eqb, List, [], ◌∷◌, ◌++◌, length, map, Option, Some, None, Ok, codes, refl, sym}
+use Rattle.df_journal_text.proofs.Names.{ap, ◌∙◌, append_assoc, arith, inl, inr, AllByRecursion, flat_map, recursion_from_All, flat_map-append, Read, Back}
+use Rattle.df_journal_text.proofs.Names.{all_back, Label, Part, UnitName, Commit, PartRead, Call, Reply, Effect, Done, IsLabel, IsPrivilege, label_text}
+use Rattle.df_journal_text.proofs.Names.{privilege_text, label_at, value_text, call_words, part_line, spot_line, edit_text, given_text, effect_text, reads_text}
+use Rattle.df_journal_text.proofs.Names.{call_line, note_text, entry_text, IsCall, IsCommit, IsEdit, IsEffectOf, IsEvent, IsPart, IsPartRead, IsReply, IsSpot}
+use Rattle.df_journal_text.proofs.Names.{IsUnit, line, spaced, word, event_text, unit_text, IsUnmarked, all_marked_at, call_line_at, commit_at, deleted_at}
+use Rattle.df_journal_text.proofs.Names.{done_at, done_of, edit_at, effect_at, marked_at, note_at, part_at, part_read_at, shown_at, event_at, begins_pair}
+use Rattle.df_journal_text.proofs.Names.{line_at, word_at, reply_words}
 use Rattle.df_part.specs.declared.edit.Spot.{Spot}
-use Rattle.df_unit.specs.declared.name.UnitName.{UnitName}
-use Rattle.df_unit.specs.declared.commit.Commit.{Commit}
 use Rattle.df_unit.specs.declared.commit.Given.{Given}
-use Rattle.df_unit.specs.declared.parts.PartRead.{PartRead}
-use Rattle.df_unit.specs.declared.call.Call.{Call}
-use Rattle.df_unit.specs.declared.reply.Reply.{Reply}
 use Rattle.df_unit.specs.declared.reply.Reply.TheVariants as reply
-use Rattle.df_unit.specs.declared.entry.Effect.{Effect}
 use Rattle.df_unit.specs.declared.entry.Effect.TheVariants as effect
-use Rattle.df_unit.specs.declared.entry.Entry.TheVariants.{Done}
-use Rattle.df_value_text.specs.Fits.{IsLabel, IsPrivilege}
-use Rattle.df_value_text.specs.Label.{label_text, privilege_text}
-use Rattle.df_value_text.specs.ReadLabel.{label_at}
-use Rattle.df_value_text.specs.Value.{value_text}
-use Rattle.df_journal_text.specs.Call.{call_words}
-use Rattle.df_journal_text.specs.Entry.{part_line, spot_line, edit_text, given_text, effect_text, reads_text, call_line, note_text, entry_text}
-use Rattle.df_journal_text.specs.Fits.{IsCall, IsCommit, IsEdit, IsEffectOf, IsEvent, IsPart, IsPartRead, IsReply, IsSpot, IsUnit}
-use Rattle.df_journal_text.specs.Line.{line, spaced, word}
-use Rattle.df_journal_text.specs.Name.{event_text, unit_text}
-use Rattle.df_journal_text.specs.ReadEntry.{IsUnmarked, all_marked_at, call_line_at, commit_at, deleted_at, done_at, done_of, edit_at, effect_at, marked_at}
-use Rattle.df_journal_text.specs.ReadEntry.{note_at, part_at, part_read_at, shown_at}
-use Rattle.df_journal_text.specs.ReadName.{event_at}
-use Rattle.df_journal_text.specs.ReadWords.{begins_pair, line_at, word_at}
-use Rattle.df_journal_text.specs.Reply.{reply_words}
 use Rattle.df_journal_text.proofs.CallBacks.{call_back}
 use Rattle.df_journal_text.proofs.NameBacks.{event_word, unit_word}
 use Rattle.df_journal_text.proofs.ReplyBacks.{bare_of, reply_back}

@@ -1,36 +1,16 @@
 -- What reading gives is spelled so, and fits.
-use Rattle.std.proofs.Common.{◌≡◌, ℕ, suc, zero, ◌<◌, ◌^◌, true, eqb, Bool, Option, Some, None, List, [], ◌∷◌, ◌++◌, length, map, Ok, Err, decimal, refl, sym}
-use Rattle.std.proofs.Common.{ap, subst, ◌∙◌, arith, append_assoc, ◌⊎◌, inl, inr}
-use Rattle.std.specs.List.{AllByRecursion, flat_map}
-use Rattle.std.proofs.lemmas.List.Elements.{All-from_recursion}
-use Rattle.df_format.specs.Reading.{Bad, Low, Read, ◌>>=◌, as_at, then_at, maybe_at, text_at, behind_at, closed_at, while_at}
-use Rattle.df_format.specs.Format.{Format}
-use Rattle.df_format.proofs.Laws.{bind_ok, chosen, ok_is, not_both}
-use Rattle.df_format.proofs.Texts.{text_found}
-use Rattle.df_frozen.specs.Name.{is_name}
-use Rattle.df_label.specs.declared.privilege.Privilege.{Privilege}
-use Rattle.df_unit.specs.declared.name.UnitName.{UnitName}
-use Rattle.df_unit.specs.declared.name.UnitName.TheVariants.{Root, Managed}
-use Rattle.df_value_text.specs.Fits.{IsLabel, IsPrivilege, IsTag, IsTagSet}
-use Rattle.df_value_text.specs.Label.{label_text, path_text, privilege_text, tag_text}
-use Rattle.df_value_text.specs.ReadLabel.{label_at, privilege_at}
-use Rattle.df_value_text.specs.ReadName.{name_at}
-use Rattle.df_value_text.specs.ReadTag.{numbers_at, short_at, tag_at}
-use Rattle.df_value_text.proofs.LabelLaws.{label_format, privilege_format}
+use Rattle.df_journal_text.proofs.Names.{◌≡◌, ℕ, suc, zero, ◌<◌, ◌^◌, true, eqb, Bool, Option, Some, None, List, [], ◌∷◌, ◌++◌, length, map, Ok, Err, decimal}
+use Rattle.df_journal_text.proofs.Names.{refl, sym, ap, subst, ◌∙◌, arith, append_assoc, append-nil, inl, inr, AllByRecursion, flat_map, All-from_recursion}
+use Rattle.df_journal_text.proofs.Names.{Bad, Low, Read, ◌>>=◌, as_at, then_at, maybe_at, text_at, behind_at, closed_at, while_at, Format, maybe_spell, bind_ok}
+use Rattle.df_journal_text.proofs.Names.{chosen, ok_is, not_both, text_found, is_name, Privilege, IsLabel, IsPrivilege, IsTag, IsTagSet, label_text, path_text}
+use Rattle.df_journal_text.proofs.Names.{privilege_text, tag_text, label_at, privilege_at, name_at, numbers_at, short_at, tag_at, label_format}
+use Rattle.df_journal_text.proofs.Names.{privilege_format, nowhere, nowhere_is_local, behind_byte, long_found, short_format, tag_format, filter_text, IsFilter}
+use Rattle.df_journal_text.proofs.Names.{filter_at, ArePrivileges, IsUnit, spaced, word, unit_text, braced_at, instance_at, unit_at, unit_of, ascend, ascending}
+use Rattle.df_journal_text.proofs.Names.{bare_at, begins_pair, each_privilege_at, keyed, kinds_at, privileges_at, word_at}
+use Rattle.df_format.proofs.Choices.{MaybeFits}
 use Rattle.df_value_text.proofs.NameLaws.{name_format}
-use Rattle.df_format.proofs.Tokens.{nowhere, nowhere_is_local}
-use Rattle.df_value_text.proofs.TagLaws.{behind_byte, long_found, short_format, tag_format}
 use Rattle.df_value_text.proofs.TagSetLaws.{tags_format}
-use Rattle.df_filter_text.specs.Filter.{filter_text}
-use Rattle.df_filter_text.specs.Fits.{IsFilter}
-use Rattle.df_filter_text.specs.ReadFilter.{filter_at}
 use Rattle.df_filter_text.proofs.FilterLaws.{filter_format}
-use Rattle.df_journal_text.specs.Fits.{ArePrivileges, IsUnit}
-use Rattle.df_journal_text.specs.Line.{spaced, word}
-use Rattle.df_journal_text.specs.Name.{unit_text}
-use Rattle.df_journal_text.specs.ReadCall.{braced_at}
-use Rattle.df_journal_text.specs.ReadName.{instance_at, unit_at, unit_of}
-use Rattle.df_journal_text.specs.ReadWords.{ascend, ascending, bare_at, begins_pair, each_privilege_at, keyed, kinds_at, privileges_at, word_at}
 use Rattle.df_journal_text.proofs.WordBacks.{braced, spaced-privileges}
 use Rattle.df_journal_text.proofs.Words.{ascending_of}
 
@@ -103,23 +83,21 @@ pub finds_word : {X : Type 0} {spell : X → List ℕ} {Fits : X → Type 0} {re
     → Finds (λ (x : X). word (spell x)) Fits (word_at read)
 finds_word f = finds_behind (32 ∷ []) f
 
--- nothing was read, or something
-maybe_found : {X : Type 0} (begins : ℕ → Bool) (read : List ℕ → Read ℕ X) (bytes : List ℕ) (o : Option X) (rest : List ℕ)
-    → maybe_at begins read bytes ≡ Ok (o, rest)
-    → ((o ≡ None) × (bytes ≡ rest)) ⊎ ((x : X) × (o ≡ Some x) × (read bytes ≡ Ok (x, rest)))
-maybe_found {X} begins read [] o rest e =
-    let p = ok_is (None, []) (o, rest) e in
-    inl (sym (ap (λ (q : Option X × List ℕ). q.0) p), ap (λ (q : Option X × List ℕ). q.1) p)
-maybe_found {X} begins read (c ∷ cs) o rest e =
-    elim (chosen (begins c) (read (c ∷ cs) >>= λ x. Ok (Some x.0, x.1)) (Ok (None, c ∷ cs)) (Ok (o, rest)) e) [
-      | inl h ↦
-          let b = bind_ok (read (c ∷ cs)) (λ x. Ok (Some x.0, x.1)) (o, rest) h.1 in
-          let p = ok_is (Some b.0.0, b.0.1) (o, rest) b.2 in
-          inr (b.0.0, sym (ap (λ (q : Option X × List ℕ). q.0) p), b.1 ∙ ap (λ (q : Option X × List ℕ). Ok (b.0.0, q.1)) p)
-      | inr h ↦
-          let p = ok_is (None, c ∷ cs) (o, rest) h.1 in
-          inl (sym (ap (λ (q : Option X × List ℕ). q.0) p), ap (λ (q : Option X × List ℕ). q.1) p)
-    ]
+-- something or nothing
+finds_maybe : {X : Type 0} {spell : X → List ℕ} {Fits : X → Type 0} {read : List ℕ → Read ℕ X} (begins : ℕ → Bool) → Finds spell Fits read
+    → Finds (maybe_spell spell) (MaybeFits Fits) (maybe_at begins read)
+finds_maybe {X} {spell} {Fits} {read} begins f = record { found = by }
+  where
+    by : (bytes : List ℕ) (o : Option X) (rest : List ℕ) → maybe_at begins read bytes ≡ Ok (o, rest) → (bytes ≡ maybe_spell spell o ++ rest) × MaybeFits Fits o
+    by [] o rest e = subst (λ (q : Option X × List ℕ). ([] ≡ maybe_spell spell q.0 ++ q.1) × MaybeFits Fits q.0) (ok_is (None, []) (o, rest) e) (refl, tt)
+    by (c ∷ cs) o rest e =
+        let Told : Option X × List ℕ → Type 0 = λ q. (c ∷ cs ≡ maybe_spell spell q.0 ++ q.1) × MaybeFits Fits q.0 in
+        elim (chosen (begins c) (read (c ∷ cs) >>= λ x. Ok (Some x.0, x.1)) (Ok (None, c ∷ cs)) (Ok (o, rest)) e) [
+          | inl h ↦
+              let b = bind_ok (read (c ∷ cs)) (λ x. Ok (Some x.0, x.1)) (o, rest) h.1 in
+              subst Told (ok_is (Some b.0.0, b.0.1) (o, rest) b.2) (f.found (c ∷ cs) b.0.0 b.0.1 b.1)
+          | inr h ↦ subst Told (ok_is (None, c ∷ cs) (o, rest) h.1) (refl, tt)
+        ]
 
 -- ---- keywords
 
@@ -229,31 +207,27 @@ privileges_finds = record {
 
 -- ---- units
 
-numbers_found : (bytes path rest : List ℕ) → numbers_at bytes ≡ Ok (path, rest) → (bytes ≡ path_text path ++ rest) × IsTag path
-numbers_found bytes path rest e =
-    let f = long_found (35 ∷ bytes) path rest (behind_byte 35 numbers_at bytes ∙ e) in
-    let same : 35 ∷ bytes ≡ 35 ∷ (path_text path ++ rest) = f.parts in
-    (cc, f.fits)
+numbers_finds : Finds path_text IsTag numbers_at
+numbers_finds = record {
+  found = λ bytes path rest e.
+      let f = long_found (35 ∷ bytes) path rest (behind_byte 35 numbers_at bytes ∙ e) in
+      let same : 35 ∷ bytes ≡ 35 ∷ (path_text path ++ rest) = f.parts in
+      (cc, f.fits);
+}
 
-instance_finds : Finds (λ (i : ℕ × List (List ℕ)). 47 ∷ (decimal i.0 ++ braced i.1)) (λ (i : ℕ × List (List ℕ)). (i.0 < 2 ^ 32) × IsTagSet i.1) instance_at
+abbrev instance_text : ℕ × List (List ℕ) → List ℕ
+instance_text i = 47 ∷ (decimal i.0 ++ braced i.1)
+
+abbrev IsInstance : ℕ × List (List ℕ) → Type 0
+IsInstance i = (i.0 < 2 ^ 32) × IsTagSet i.1
+
+instance_finds : Finds instance_text IsInstance instance_at
 instance_finds = finds_behind (47 ∷ []) (finds_then short_finds braced_finds)
 
-unit_found : (bytes : List ℕ) (u : UnitName) (rest : List ℕ) → unit_at bytes ≡ Ok (u, rest) → (bytes ≡ unit_text u ++ rest) × IsUnit u
-unit_found bytes u rest e =
-    let a = as_found unit_of (then_at numbers_at (maybe_at (λ c. eqb c 47) instance_at)) bytes u rest e in
-    let t = then_found numbers_at (maybe_at (λ c. eqb c 47) instance_at) bytes a.0.0 a.0.1 rest a.1 in
-    let n = numbers_found bytes a.0.0 t.0 t.1 in
-    elim (maybe_found (λ c. eqb c 47) instance_at t.0 a.0.1 rest t.2) [
-      | inl m ↦
-          let is : Root a.0.0 ≡ u = ap (λ (o : Option (ℕ × List (List ℕ))). unit_of (a.0.0, o)) (sym m.0) ∙ a.2 in
-          subst (λ (v : UnitName). (bytes ≡ unit_text v ++ rest) × IsUnit v) is (n.0 ∙ ap (λ (w : List ℕ). path_text a.0.0 ++ w) m.1, n.1)
-      | inr m ↦
-          let is : Managed a.0.0 m.0.0 m.0.1 ≡ u = ap (λ (o : Option (ℕ × List (List ℕ))). unit_of (a.0.0, o)) (sym m.1) ∙ a.2 in
-          let i = instance_finds.found t.0 m.0 rest m.2 in
-          let whole : unit_text (Managed a.0.0 m.0.0 m.0.1) ++ rest ≡ path_text a.0.0 ++ ((47 ∷ (decimal m.0.0 ++ braced m.0.1)) ++ rest) = simp append_assoc in
-          subst (λ (v : UnitName). (bytes ≡ unit_text v ++ rest) × IsUnit v) is
-          (n.0 ∙ ap (λ (w : List ℕ). path_text a.0.0 ++ w) i.0 ∙ sym whole, (n.1, i.1.0, i.1.1))
-    ]
+unit_is : (p : List ℕ × Option (ℕ × List (List ℕ))) → IsTag p.0 × MaybeFits IsInstance p.1
+    → (unit_text (unit_of p) ≡ path_text p.0 ++ maybe_spell instance_text p.1) × IsUnit (unit_of p)
+unit_is (path, None) f = (sym (append-nil (path_text path)), f.0)
+unit_is (path, Some i) f = (simp append_assoc, (f.0, f.1.0, f.1.1))
 
 pub unit_finds : Finds unit_text IsUnit unit_at
-unit_finds = record { found = unit_found }
+unit_finds = finds_as unit_of (finds_then numbers_finds (finds_maybe (λ c. eqb c 47) instance_finds)) unit_text IsUnit unit_is

@@ -1,12 +1,7 @@
 -- Whole lines: something in front, what may be too large, and something behind it.
-use Rattle.std.proofs.Common.{◌≡◌, ◌≢◌, ℕ, ◌≤◌, List, [], ◌∷◌, ◌++◌, length, drop, length-drop, Result, Ok, Err, sym, ap, subst, ◌∙◌, arith, append-nil}
-use Rattle.std.proofs.lemmas.List.{append_cancel_right, drop_all}
-use Rattle.df_format.specs.Reading.{Stop, Read}
-use Rattle.df_format.proofs.Laws.{not_both, ok_is}
-use Rattle.df_value_text.specs.code.Answer.{Fails, Gives}
-use Rattle.df_value_text.specs.declared.refused.Fault.{Fault}
-use Rattle.df_journal_text.specs.code.Judging.{IsNoLine, IsUnspelled, IsWhole, Tells, TellsLine, ended, line_fault}
-use Rattle.df_journal_text.specs.declared.line_fault.LineFault.{LineFault}
+use Rattle.df_journal_text.proofs.Names.{◌≡◌, ◌≢◌, ℕ, ◌≤◌, List, [], ◌∷◌, ◌++◌, length, drop, length-drop, Result, Ok, Err, sym, ap, subst, ◌∙◌, arith}
+use Rattle.df_journal_text.proofs.Names.{append-nil, append_cancel_right, drop_all, Stop, Read, not_both, ok_is, Fails, Gives, Fault, IsNoLine, IsUnspelled}
+use Rattle.df_journal_text.proofs.Names.{IsWhole, Tells, TellsLine, ended, line_fault, LineFault}
 use Rattle.df_journal_text.specs.declared.line_fault.LineFault.TheVariants as fault
 use Rattle.df_journal_text.proofs.Stopped.{on_fault}
 

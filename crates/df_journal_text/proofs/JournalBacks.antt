@@ -1,38 +1,13 @@
 -- Journals that are spelled are read back, so a text is that of one journal.
-use Rattle.std.proofs.Common.{◌≡◌, ℕ, ◌<◌, ◌||◌, true, false, eqb, List, [], ◌∷◌, ◌++◌, length, Option, Some, None, Ok, codes, decimal, refl, sym, ap, subst}
-use Rattle.std.proofs.Common.{◌∙◌, append_assoc, arith, inl, inr}
-use Rattle.std.specs.Char.{is_ascii_digit}
-use Rattle.std.specs.List.{flat_map}
-use Rattle.std.proofs.lemmas.Bool.{eqb-true}
+use Rattle.df_journal_text.proofs.Names.{◌≡◌, ℕ, ◌<◌, ◌||◌, true, false, eqb, List, [], ◌∷◌, ◌++◌, length, Option, Some, None, Ok, codes, decimal, refl, sym}
+use Rattle.df_journal_text.proofs.Names.{ap, subst, ◌∙◌, append_assoc, arith, inl, inr, is_ascii_digit, flat_map, eqb-true, recursion_from_All, more_spell}
+use Rattle.df_journal_text.proofs.Names.{Read, Back, all_back, ok_is, told, Label, RootStart, UnitName, Root, Managed, Commit, Done, Emitted, IsTag, path_text}
+use Rattle.df_journal_text.proofs.Names.{tags_text, begins_with, begins_digit, digit_first, joined_items, Call, Reply, Effect, call_words, effect_text}
+use Rattle.df_journal_text.proofs.Names.{entry_text, note_text, noted_text, reads_text, spaced, reply_words, IsEntry, IsJournal, IsNoteOf, IsNoted, IsRoot}
+use Rattle.df_journal_text.proofs.Names.{IsUnit, unit_text, EndsJournal, IsUnmarked, begins_entry, journal_at, noted_at, journal_text, start_text}
 use Rattle.std.proofs.lemmas.List.{append-nil}
-use Rattle.std.proofs.lemmas.List.Elements.{recursion_from_All}
-use Rattle.df_format.specs.Spelling.{more_spell}
-use Rattle.df_format.proofs.Backs.{Back, all_back}
-use Rattle.df_format.proofs.Laws.{ok_is, told}
-use Rattle.df_label.specs.declared.label.Label.{Label}
-use Rattle.df_start.specs.declared.start.RootStart.{RootStart}
-use Rattle.df_unit.specs.declared.name.UnitName.{UnitName}
-use Rattle.df_unit.specs.declared.name.UnitName.TheVariants.{Root, Managed}
-use Rattle.df_unit.specs.declared.commit.Commit.{Commit}
 use Rattle.df_unit.specs.declared.entry.Entry.{Entry}
-use Rattle.df_unit.specs.declared.entry.Entry.TheVariants.{Done, Emitted}
 use Rattle.df_unit.specs.declared.entry.Noted.{Noted}
-use Rattle.df_value_text.specs.Fits.{IsTag}
-use Rattle.df_value_text.specs.Label.{path_text, tags_text}
-use Rattle.df_value_text.specs.Number.{begins_with}
-use Rattle.df_value_text.specs.ReadTag.{begins_digit}
-use Rattle.df_value_text.proofs.TagLaws.{digit_first, joined_items}
-use Rattle.df_unit.specs.declared.call.Call.{Call}
-use Rattle.df_unit.specs.declared.reply.Reply.{Reply}
-use Rattle.df_unit.specs.declared.entry.Effect.{Effect}
-use Rattle.df_journal_text.specs.Call.{call_words}
-use Rattle.df_journal_text.specs.Entry.{effect_text, entry_text, note_text, noted_text, reads_text}
-use Rattle.df_journal_text.specs.Line.{spaced}
-use Rattle.df_journal_text.specs.Reply.{reply_words}
-use Rattle.df_journal_text.specs.Fits.{IsEntry, IsJournal, IsNoteOf, IsNoted, IsRoot, IsUnit}
-use Rattle.df_journal_text.specs.Name.{unit_text}
-use Rattle.df_journal_text.specs.ReadEntry.{EndsJournal, IsUnmarked, begins_entry, journal_at, noted_at}
-use Rattle.df_journal_text.specs.Start.{journal_text, start_text}
 use Rattle.df_journal_text.proofs.EntryBacks.{commit-rest, commit_back, commit_text, done_back}
 use Rattle.df_journal_text.proofs.StartBacks.{start_back}
 
@@ -147,12 +122,15 @@ journal_back roots noted rest fits end =
 nothing_ends : EndsJournal []
 nothing_ends = record { unmarked = record { note = refl; shown = refl; commit = refl; given = refl; deleted = refl; added = refl; part = refl }; last = refl }
 
+-- what is read back is the only thing that is spelled so
+pub one_text : {X : Type 0} (read : List ℕ → Read ℕ X) (a b : List ℕ) (x y : X) → read (a ++ []) ≡ Ok (x, []) → read (b ++ []) ≡ Ok (y, []) → a ≡ b → x ≡ y
+one_text {X} read a b x y e f same =
+    let first : X × List ℕ = (x, []) in
+    ap (λ (q : X × List ℕ). q.0) (ok_is first (y, []) (sym e ∙ ap (λ (u : List ℕ). read (u ++ [])) same ∙ f))
+
 pub journal_is_one : (roots others : List RootStart) (noted more : List Noted) → IsJournal roots noted → IsJournal others more
     → journal_text roots noted ≡ journal_text others more → (roots ≡ others) × (noted ≡ more)
 journal_is_one roots others noted more fits fits' same =
-    let one : (List RootStart × List Noted) × List ℕ = ((roots, noted), []) in
-    let two : (List RootStart × List Noted) × List ℕ = ((others, more), []) in
-    let both : one ≡ two = ok_is one two
-    (sym (journal_back roots noted [] fits nothing_ends) ∙ ap (λ (u : List ℕ). journal_at (u ++ [])) same
-    ∙ journal_back others more [] fits' nothing_ends) in
-    (ap (λ (q : (List RootStart × List Noted) × List ℕ). q.0.0) both, ap (λ (q : (List RootStart × List Noted) × List ℕ). q.0.1) both)
+    let both = one_text journal_at (journal_text roots noted) (journal_text others more) (roots, noted) (others, more)
+    (journal_back roots noted [] fits nothing_ends) (journal_back others more [] fits' nothing_ends) same in
+    (ap (λ (q : List RootStart × List Noted). q.0) both, ap (λ (q : List RootStart × List Noted). q.1) both)

@@ -1,9 +1,10 @@
+mod Names
 pub mod Stopped
 pub mod Appends
 pub mod Orders
 pub mod Loops
 pub mod Words
-pub mod Names
+pub mod Units
 pub mod WordBacks
 pub mod NameBacks
 pub mod CallBacks

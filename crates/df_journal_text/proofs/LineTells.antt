@@ -1,36 +1,11 @@
 -- What the readers of lines with a value answer.
-use Rattle.std.proofs.Common.{◌≡◌, ℕ, true, List, [], ◌∷◌, ◌++◌, map, Ok, codes, refl, sym, ap, subst, ◌∙◌, append_assoc, append-nil, inl}
-use Rattle.std.proofs.lemmas.List.Concat.{flat_map-append}
-use Rattle.std.proofs.lemmas.List.Elements.{recursion_from_All}
-use Rattle.df_format.specs.Reading.{Read, behind_at}
-use Rattle.df_frozen.specs.Name.{is_name}
-use Rattle.df_label.specs.declared.label.Label.{Label}
-use Rattle.df_label.specs.declared.privilege.Privilege.{Privilege}
-use Rattle.df_part.specs.declared.part.Part.{Part}
-use Rattle.df_unit.specs.declared.call.Call.{Call}
-use Rattle.df_unit.specs.declared.name.UnitName.{UnitName}
-use Rattle.df_unit.specs.declared.parts.PartRead.{PartRead}
-use Rattle.df_unit.specs.declared.reply.Reply.{Reply}
+use Rattle.df_journal_text.proofs.Names.{◌≡◌, ℕ, true, List, [], ◌∷◌, ◌++◌, map, Ok, codes, refl, sym, ap, subst, ◌∙◌, append_assoc, append-nil, inl}
+use Rattle.df_journal_text.proofs.Names.{flat_map-append, recursion_from_All, Read, behind_at, is_name, Label, Privilege, Part, Call, UnitName, PartRead, Reply}
+use Rattle.df_journal_text.proofs.Names.{IsLabel, IsPrivilege, IsValue, label_text, privilege_text, label_at, name_at, value_at, EndsWord, value_back}
+use Rattle.df_journal_text.proofs.Names.{call_words, call_line, part_line, read_line, ArePrivileges, IsAnswer, IsBare, IsCall, IsCalled, IsPart, IsPartRead}
+use Rattle.df_journal_text.proofs.Names.{IsUnit, IsLargeCall, IsLargeWord, spaced, word, unit_text, call_at, unit_at, reply_at, named_at, privileges_at}
+use Rattle.df_journal_text.proofs.Names.{word_at, reply_words, EndsCall, answer_at, call_text, ended, reply_text}
 use Rattle.df_unit.specs.declared.reply.Reply.TheVariants as reply
-use Rattle.df_value_text.specs.Fits.{IsLabel, IsPrivilege, IsValue}
-use Rattle.df_value_text.specs.Label.{label_text, privilege_text}
-use Rattle.df_value_text.specs.ReadLabel.{label_at}
-use Rattle.df_value_text.specs.ReadName.{name_at}
-use Rattle.df_value_text.specs.ReadValue.{value_at}
-use Rattle.df_value_text.specs.code.WordEnd.{EndsWord}
-use Rattle.df_value_text.proofs.Backs.{value_back}
-use Rattle.df_journal_text.specs.Call.{call_words}
-use Rattle.df_journal_text.specs.Entry.{call_line, part_line, read_line}
-use Rattle.df_journal_text.specs.Fits.{ArePrivileges, IsAnswer, IsBare, IsCall, IsCalled, IsPart, IsPartRead, IsUnit}
-use Rattle.df_journal_text.specs.Large.{IsLargeCall, IsLargeWord}
-use Rattle.df_journal_text.specs.Line.{spaced, word}
-use Rattle.df_journal_text.specs.Name.{unit_text}
-use Rattle.df_journal_text.specs.ReadCall.{call_at}
-use Rattle.df_journal_text.specs.ReadName.{unit_at}
-use Rattle.df_journal_text.specs.ReadReply.{reply_at}
-use Rattle.df_journal_text.specs.ReadWords.{named_at, privileges_at, word_at}
-use Rattle.df_journal_text.specs.Reply.{reply_words}
-use Rattle.df_journal_text.specs.code.Judging.{EndsCall, answer_at, call_text, ended, reply_text}
 use Rattle.df_journal_text.proofs.Appends.{part_apart, shown_apart}
 use Rattle.df_journal_text.proofs.CallBacks.{call_back}
 use Rattle.df_journal_text.proofs.CallFounds.{named_finds}

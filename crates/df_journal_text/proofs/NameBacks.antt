@@ -1,17 +1,7 @@
 -- Names of units and events that are spelled are read back.
-use Rattle.std.proofs.Common.{◌≡◌, ℕ, false, eqb, List, [], ◌∷◌, ◌++◌, None, Ok, decimal, refl, ap, ◌∙◌, append_assoc}
-use Rattle.std.specs.Char.{is_ascii_digit}
-use Rattle.df_format.specs.Reading.{maybe_at, closed_at}
-use Rattle.df_value_text.specs.Label.{path_text, tags_text}
-use Rattle.df_value_text.specs.ReadTag.{numbers_at, short_at, tags_at}
-use Rattle.df_value_text.specs.code.WordEnd.{EndsWord}
-use Rattle.df_value_text.proofs.Backs.{EndsPath, path_back, digits_back, short_back, braced_back}
-use Rattle.df_value_text.proofs.WordEnds.{at_break}
-use Rattle.df_unit.specs.declared.name.UnitName.{UnitName}
-use Rattle.df_unit.specs.declared.name.UnitName.TheVariants.{Root, Managed}
-use Rattle.df_journal_text.specs.Fits.{IsUnit, IsEvent}
-use Rattle.df_journal_text.specs.Name.{unit_text, event_text}
-use Rattle.df_journal_text.specs.ReadName.{instance_at, unit_at, event_at}
+use Rattle.df_journal_text.proofs.Names.{◌≡◌, ℕ, false, eqb, List, [], ◌∷◌, ◌++◌, None, Ok, decimal, refl, ap, ◌∙◌, append_assoc, is_ascii_digit, maybe_at}
+use Rattle.df_journal_text.proofs.Names.{closed_at, path_text, tags_text, numbers_at, short_at, tags_at, EndsWord, EndsPath, path_back, digits_back, short_back}
+use Rattle.df_journal_text.proofs.Names.{braced_back, at_break, UnitName, Root, Managed, IsUnit, IsEvent, unit_text, event_text, instance_at, unit_at, event_at}
 use Rattle.df_journal_text.proofs.WordBacks.{Word}
 
 -- no path and no instance goes on with what stands there
@@ -32,7 +22,8 @@ unit_back (Root path) rest fits end = rw (path_back path rest fits (path_ends re
 unit_back (Managed owner sub s) rest fits end =
     let braces : List ℕ = (123 ∷ tags_text s) ++ 125 ∷ [] in
     let whole : unit_text (Managed owner sub s) ++ rest ≡ path_text owner ++ (47 ∷ (decimal sub ++ (braces ++ rest))) = simp append_assoc in
-    let one : numbers_at (path_text owner ++ (47 ∷ (decimal sub ++ (braces ++ rest)))) ≡ Ok (owner, 47 ∷ (decimal sub ++ (braces ++ rest))) = path_back owner (47 ∷ (decimal sub ++ (braces ++ rest))) fits.0 (refl, refl) in
+    let one : numbers_at (path_text owner ++ (47 ∷ (decimal sub ++ (braces ++ rest)))) ≡ Ok (owner, 47 ∷ (decimal sub ++ (braces ++ rest))) = path_back owner
+    (47 ∷ (decimal sub ++ (braces ++ rest))) fits.0 (refl, refl) in
     let two : short_at (decimal sub ++ (braces ++ rest)) ≡ Ok (sub, braces ++ rest) = digits_back sub (braces ++ rest) fits.1 (refl, refl) in
     let three : closed_at (125 ∷ []) tags_at ((tags_text s ++ 125 ∷ []) ++ rest) ≡ Ok (s, rest) = braced_back s rest fits.2 in
     ap unit_at whole ∙ rw (one, two, three) refl
@@ -49,7 +40,8 @@ pub event_word : Word event_text IsEvent event_at
 event_word = record {
   back = λ event rest fits end.
       let whole : event_text event ++ rest ≡ unit_text event.unit ++ (33 ∷ (decimal event.number ++ rest)) = simp append_assoc in
-      let one : unit_at (unit_text event.unit ++ (33 ∷ (decimal event.number ++ rest))) ≡ Ok (event.unit, 33 ∷ (decimal event.number ++ rest)) = unit_back event.unit (33 ∷ (decimal event.number ++ rest)) fits.0 (refl, refl, refl) in
+      let one : unit_at (unit_text event.unit ++ (33 ∷ (decimal event.number ++ rest))) ≡ Ok (event.unit, 33 ∷ (decimal event.number ++ rest)) = unit_back
+      event.unit (33 ∷ (decimal event.number ++ rest)) fits.0 (refl, refl, refl) in
       let two : short_at (decimal event.number ++ rest) ≡ Ok (event.number, rest) = short_back event.number rest fits.1 end in
       ap event_at whole ∙ rw (one, two) refl;
 }

@@ -1,13 +1,6 @@
 -- Replies that are spelled are read back.
-use Rattle.std.proofs.Common.{◌≡◌, ℕ, List, [], ◌∷◌, ◌++◌, Ok, decimal, refl}
-use Rattle.df_unit.specs.declared.reply.Reply.{Reply}
+use Rattle.df_journal_text.proofs.Names.{◌≡◌, ℕ, List, [], ◌∷◌, ◌++◌, Ok, decimal, refl, Reply, label_text, EndsWord, IsReply, spaced, reply_at, reply_words}
 use Rattle.df_unit.specs.declared.reply.Reply.TheVariants as reply
-use Rattle.df_value_text.specs.Label.{label_text}
-use Rattle.df_value_text.specs.code.WordEnd.{EndsWord}
-use Rattle.df_journal_text.specs.Fits.{IsReply}
-use Rattle.df_journal_text.specs.Line.{spaced}
-use Rattle.df_journal_text.specs.ReadReply.{reply_at}
-use Rattle.df_journal_text.specs.Reply.{reply_words}
 use Rattle.df_journal_text.proofs.WordBacks.{word_back, short_word, long_word, label_word, privilege_word, tag_word}
 
 -- the reply without what a read shows

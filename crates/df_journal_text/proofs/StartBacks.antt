@@ -1,17 +1,8 @@
 -- Starts that are spelled are read back.
-use Rattle.std.proofs.Common.{◌≡◌, ℕ, zero, suc, ◌+◌, ◌≤◌, false, List, [], ◌∷◌, ◌++◌, length, map, Ok, codes, decimal, refl, ap, ◌∙◌, append_assoc, arith, length-append, inr}
-use Rattle.std.specs.List.{AllByRecursion}
-use Rattle.std.proofs.lemmas.List.Elements.{recursion_from_All}
-use Rattle.df_format.specs.Reading.{Read, behind_at}
-use Rattle.df_format.proofs.Texts.{text_again}
-use Rattle.df_start.specs.declared.start.RootStart.{RootStart}
-use Rattle.df_value_text.specs.Fits.{IsPrivilege}
-use Rattle.df_value_text.specs.Label.{label_text, privilege_text}
-use Rattle.df_value_text.specs.Number.{begins_with}
-use Rattle.df_journal_text.specs.Fits.{IsRoot}
-use Rattle.df_journal_text.specs.Line.{spaced}
+use Rattle.df_journal_text.proofs.Names.{◌≡◌, ℕ, zero, suc, ◌+◌, ◌≤◌, false, List, [], ◌∷◌, ◌++◌, length, map, Ok, codes, decimal, refl, ap, ◌∙◌, append_assoc}
+use Rattle.df_journal_text.proofs.Names.{arith, length-append, inr, AllByRecursion, recursion_from_All, Read, behind_at, text_again, RootStart, IsPrivilege}
+use Rattle.df_journal_text.proofs.Names.{label_text, privilege_text, begins_with, IsRoot, spaced, root_line, roots_text, start_text}
 use Rattle.df_journal_text.specs.ReadStart.{root_at, roots_within, start_at}
-use Rattle.df_journal_text.specs.Start.{root_line, roots_text, start_text}
 use Rattle.df_journal_text.proofs.WordBacks.{line-rest, word_back, label_word, privileges_back}
 
 -- what stands behind fixed bytes
@@ -22,7 +13,8 @@ behind_back ws read rest = rw (text_again ws rest) refl
 abbrev root_words : RootStart → List ℕ
 root_words root = spaced (label_text root.label ∷ map privilege_text root.privileges)
 
-root_split : (number : ℕ) (root : RootStart) (rest : List ℕ) → root_line number root ++ rest ≡ (codes "unit " ++ decimal number) ++ (root_words root ++ 10 ∷ rest)
+root_split : (number : ℕ) (root : RootStart) (rest : List ℕ)
+    → root_line number root ++ rest ≡ (codes "unit " ++ decimal number) ++ (root_words root ++ 10 ∷ rest)
 root_split number root rest =
     let words : List (List ℕ) = label_text root.label ∷ map privilege_text root.privileges in
     line-rest (codes "unit") (decimal number ∷ words) rest ∙ ap (λ (u : List ℕ). codes "unit " ++ u) (append_assoc (decimal number) (spaced words) (10 ∷ rest))
@@ -35,7 +27,8 @@ root_back number root rest fits =
     ∙ behind_back (codes "unit " ++ decimal number) _ (root_words root ++ 10 ∷ rest)
     ∙ rw (e1, e2) refl
 
-roots_back : (n number : ℕ) (roots : List RootStart) (rest : List ℕ) → length roots ≤ n → AllByRecursion IsRoot roots → begins_with 117 rest ≡ false → roots_within n number (roots_text number roots ++ rest) ≡ Ok (roots, rest)
+roots_back : (n number : ℕ) (roots : List RootStart) (rest : List ℕ) → length roots ≤ n → AllByRecursion IsRoot roots → begins_with 117 rest ≡ false
+    → roots_within n number (roots_text number roots ++ rest) ≡ Ok (roots, rest)
 roots_back zero number [] rest le fits end = refl
 roots_back zero number (root ∷ roots) rest le fits end = absurd (omega arith)
 roots_back (suc n) number [] rest le fits end = rw end refl
@@ -48,5 +41,7 @@ few : (number : ℕ) (roots : List RootStart) → length roots ≤ length (roots
 few number [] = omega arith
 few number (root ∷ roots) = omega (arith, few (number + 1) roots, length-append (root_line number root) (roots_text (number + 1) roots))
 
-pub start_back : (roots : List RootStart) (rest : List ℕ) → AllByRecursion IsRoot roots → begins_with 117 rest ≡ false → start_at (start_text roots ++ rest) ≡ Ok (roots, rest)
-start_back roots rest fits end = roots_back (length (start_text roots ++ rest)) 0 roots rest (omega (arith, few 0 roots, length-append (start_text roots) rest)) fits end
+pub start_back : (roots : List RootStart) (rest : List ℕ) → AllByRecursion IsRoot roots → begins_with 117 rest ≡ false
+    → start_at (start_text roots ++ rest) ≡ Ok (roots, rest)
+start_back roots rest fits end = roots_back (length (start_text roots ++ rest)) 0 roots rest
+    (omega (arith, few 0 roots, length-append (start_text roots) rest)) fits end

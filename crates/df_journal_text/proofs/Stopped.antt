@@ -1,11 +1,6 @@
 -- Where a literal wasn't read: without memory, or because reading stopped.
-use Rattle.std.proofs.Common.{◌≡◌, ℕ, List, drop, Err}
-use Rattle.df_format.specs.Reading.{Stop, Bad, Low, Read}
-use Rattle.df_value_text.specs.code.Answer.{Fails}
-use Rattle.df_value_text.specs.declared.refused.Fault.{Fault}
+use Rattle.df_journal_text.proofs.Names.{◌≡◌, ℕ, List, drop, Err, Stop, Bad, Low, Read, Fails, Fault, line_fault, LineFault}
 use Rattle.df_value_text.specs.declared.refused.Fault.TheVariants as literal
-use Rattle.df_journal_text.specs.code.Judging.{line_fault}
-use Rattle.df_journal_text.specs.declared.line_fault.LineFault.{LineFault}
 use Rattle.df_journal_text.specs.declared.line_fault.LineFault.TheVariants as fault
 
 pub on_fault : {X : Type 0} (Told : LineFault → Type 0) (bytes : List ℕ) (read : Read ℕ X) (e : Fault) → Fails bytes e read → Told fault.NoMemory

@@ -1,40 +1,25 @@
 -- What the reader of values answers, as a word of a line.
-use Rattle.std.proofs.Common.{◌≡◌, ℕ, ◌+◌, ◌≤◌, true, false, cond, List, [], ◌∷◌, ◌++◌, length, drop, Ok, Err, refl, sym, ap, subst, ◌∙◌, arith, append-nil}
-use Rattle.std.proofs.Common.{length-append, inl, inr}
+use Rattle.df_journal_text.proofs.Names.{◌≡◌, ℕ, ◌+◌, ◌≤◌, true, false, cond, List, [], ◌∷◌, ◌++◌, length, drop, Ok, Err, refl, sym, ap, subst, ◌∙◌, arith}
+use Rattle.df_journal_text.proofs.Names.{append-nil, length-append, inl, inr, text_at, Ends, not_both, told, text_found, IsSpelled, IsValue, value_at}
+use Rattle.df_journal_text.proofs.Names.{value_within, value_text, Fails, IsFound, IsRead, IsSyntaxAt, EndsWord, Fault, nowhere, nowhere_is_local, value_format}
+use Rattle.df_journal_text.proofs.Names.{value_goes, value_stands, IsLargeWord, IsTooLarge, word, word_at, Tells, line_fault, value_fault}
 use Rattle.std.specs.Prelude.{nat_lt}
 use Rattle.std.proofs.lemmas.Bool.Decides.{nat_tests}
-use Rattle.df_format.specs.Reading.{text_at}
-use Rattle.df_format.specs.Format.{Ends}
 use Rattle.df_format.specs.Grammar.{CanGoOn, Stands}
-use Rattle.df_format.proofs.Laws.{not_both, told}
 use Rattle.df_format.proofs.Longest.{goes_on}
-use Rattle.df_format.proofs.Texts.{text_found}
-use Rattle.df_frozen.specs.Plain.{Plain, int, words, bytes as blob, items, entries, node_count}
 use Rattle.df_value_text.specs.Counting.{AreWithin, FirstOver, begins, counts_of, start, walk, walked}
-use Rattle.df_value_text.specs.Fits.{IsSpelled, IsValue}
 use Rattle.df_value_text.specs.declared.counting.Walk.{Walk}
-use Rattle.df_value_text.specs.ReadValue.{value_at, value_within}
 use Rattle.df_value_text.specs.OrderNames.{LowInValue}
-use Rattle.df_value_text.specs.Value.{value_text}
 use Rattle.df_value_text.specs.ValueFault.{FirstTooLarge, IsTooLargeAt, IsWithinBefore, NamesTooLarge, NoLowBefore}
-use Rattle.df_value_text.specs.code.Answer.{Fails, IsFound, IsRead, IsSyntaxAt}
-use Rattle.df_value_text.specs.code.WordEnd.{EndsWord}
-use Rattle.df_value_text.specs.declared.refused.Fault.{Fault}
 use Rattle.df_value_text.specs.declared.refused.TextRefused.{TextRefused}
-use Rattle.df_value_text.specs.declared.refused.TextRefused.TheVariants as refused
 use Rattle.df_value_text.proofs.CountingEnds.{counted_behind}
 use Rattle.df_value_text.proofs.CountingFronts.{walked_on, within_before}
 use Rattle.df_value_text.proofs.CountingLaws.{walked-append}
 use Rattle.df_value_text.proofs.LimitLaws.{no_value}
-use Rattle.df_format.proofs.Tokens.{nowhere, nowhere_is_local}
 use Rattle.df_value_text.proofs.ValueAnswers.{level_fits, value_ends}
-use Rattle.df_value_text.proofs.ValueLaws.{value_format, value_goes}
 use Rattle.df_value_text.proofs.WholeLaws.{whole_format}
-use Rattle.df_value_text.proofs.WordEnds.{value_stands}
-use Rattle.df_journal_text.specs.Large.{IsLargeWord, IsTooLarge}
-use Rattle.df_journal_text.specs.Line.{word}
-use Rattle.df_journal_text.specs.ReadWords.{word_at}
-use Rattle.df_journal_text.specs.code.Judging.{Tells, line_fault, value_fault}
+use Rattle.df_frozen.specs.Plain.{Plain, int, words, bytes as blob, items, entries, node_count}
+use Rattle.df_value_text.specs.declared.refused.TextRefused.TheVariants as refused
 use Rattle.df_journal_text.proofs.Stopped.{on_fault}
 
 abbrev pub value_word_text : Plain → List ℕ

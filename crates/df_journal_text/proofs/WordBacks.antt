@@ -1,29 +1,11 @@
 -- Words and lines that are spelled are read back.
-use Rattle.std.proofs.Common.{◌≡◌, ℕ, ◌+◌, ◌<◌, ◌^◌, true, false, List, [], ◌∷◌, ◌++◌, map, Ok, decimal, refl, ap, ◌∙◌, append_assoc, arith, inl}
-use Rattle.std.specs.List.{AllByRecursion, flat_map}
-use Rattle.df_format.specs.Reading.{Read}
-use Rattle.df_format.proofs.Backs.{Back, all_back}
-use Rattle.df_frozen.specs.Name.{is_name}
-use Rattle.df_label.specs.Ascending.{IsAscending}
-use Rattle.df_label.specs.Privilege.{privilege_cmp}
-use Rattle.df_label.specs.declared.privilege.Privilege.{Privilege}
-use Rattle.df_value_text.specs.Fits.{IsLabel, IsPrivilege, IsTag, IsTagSet, IsValue}
-use Rattle.df_value_text.specs.Label.{label_text, privilege_text, tag_text, tags_text}
-use Rattle.df_value_text.specs.ReadLabel.{label_at, privilege_at}
-use Rattle.df_value_text.specs.ReadName.{name_at}
-use Rattle.df_value_text.specs.ReadTag.{short_at, tag_at}
-use Rattle.df_value_text.specs.ReadValue.{value_at}
-use Rattle.df_value_text.specs.Value.{value_text}
-use Rattle.df_value_text.specs.code.WordEnd.{EndsWord}
-use Rattle.df_value_text.proofs.Backs.{short_back, number_back, tag_back, label_back, privilege_back, name_back, value_back, braced_back}
-use Rattle.df_filter_text.specs.Filter.{filter_text}
-use Rattle.df_filter_text.specs.Fits.{IsFilter}
-use Rattle.df_filter_text.specs.ReadFilter.{filter_at}
+use Rattle.df_journal_text.proofs.Names.{◌≡◌, ℕ, ◌+◌, ◌<◌, ◌^◌, true, false, List, [], ◌∷◌, ◌++◌, map, Ok, decimal, refl, ap, ◌∙◌, append_assoc, arith, inl}
+use Rattle.df_journal_text.proofs.Names.{AllByRecursion, flat_map, Read, Back, all_back, is_name, IsAscending, privilege_cmp, Privilege, IsLabel, IsPrivilege}
+use Rattle.df_journal_text.proofs.Names.{IsTag, IsTagSet, IsValue, label_text, privilege_text, tag_text, tags_text, label_at, privilege_at, name_at, short_at}
+use Rattle.df_journal_text.proofs.Names.{tag_at, value_at, value_text, EndsWord, short_back, number_back, tag_back, label_back, privilege_back, name_back}
+use Rattle.df_journal_text.proofs.Names.{value_back, braced_back, filter_text, IsFilter, filter_at, word, spaced, line, braced_at, long_at, word_at, line_at}
+use Rattle.df_journal_text.proofs.Names.{begins_pair, each_privilege_at, privileges_at}
 use Rattle.df_filter_text.proofs.Backs.{filter_back}
-use Rattle.df_journal_text.specs.Line.{word, spaced, line}
-use Rattle.df_journal_text.specs.ReadCall.{braced_at}
-use Rattle.df_journal_text.specs.ReadReply.{long_at}
-use Rattle.df_journal_text.specs.ReadWords.{word_at, line_at, begins_pair, each_privilege_at, privileges_at}
 use Rattle.df_journal_text.proofs.Words.{ascend_of}
 
 -- what is spelled is read back, where a word ends
@@ -68,8 +50,11 @@ pub ends_spaced : (words : List (List ℕ)) (rest : List ℕ) → EndsWord rest 
 ends_spaced [] rest end = end
 ends_spaced (w ∷ ws) rest end = inl refl
 
-pub word_back : {X : Type 0} {spell : X → List ℕ} {Fits : X → Type 0} {read : List ℕ → Read ℕ X} (w : Word spell Fits read) (x : X) (words : List (List ℕ)) (rest : List ℕ) → Fits x → EndsWord rest → word_at read (spaced (spell x ∷ words) ++ rest) ≡ Ok (x, spaced words ++ rest)
-word_back {X} {spell} {Fits} {read} w x words rest fits end = ap read (append_assoc (spell x) (spaced words) rest) ∙ w.back x (spaced words ++ rest) fits (ends_spaced words rest end)
+pub word_back : {X : Type 0} {spell : X → List ℕ} {Fits : X → Type 0} {read : List ℕ
+    → Read ℕ X} (w : Word spell Fits read) (x : X) (words : List (List ℕ)) (rest : List ℕ) → Fits x → EndsWord rest
+    → word_at read (spaced (spell x ∷ words) ++ rest) ≡ Ok (x, spaced words ++ rest)
+word_back {X} {spell} {Fits} {read} w x words rest fits end = ap read (append_assoc (spell x) (spaced words) rest)
+    ∙ w.back x (spaced words ++ rest) fits (ends_spaced words rest end)
 
 -- ---- privileges
 
@@ -88,9 +73,11 @@ pub spaced-privileges : (ps : List Privilege) → spaced (map privilege_text ps)
 spaced-privileges [] = refl
 spaced-privileges (p ∷ ps) = ap (λ (u : List ℕ). privilege_words p ++ u) (spaced-privileges ps)
 
-pub privileges_back : (ps : List Privilege) (rest : List ℕ) → AllByRecursion IsPrivilege ps → IsAscending privilege_cmp ps → EndsWord rest → begins_pair 32 35 rest ≡ false → privileges_at (spaced (map privilege_text ps) ++ rest) ≡ Ok (ps, rest)
+pub privileges_back : (ps : List Privilege) (rest : List ℕ) → AllByRecursion IsPrivilege ps → IsAscending privilege_cmp ps → EndsWord rest
+    → begins_pair 32 35 rest ≡ false → privileges_at (spaced (map privilege_text ps) ++ rest) ≡ Ok (ps, rest)
 privileges_back ps rest fits above end last =
-    let each : each_privilege_at (spaced (map privilege_text ps) ++ rest) ≡ Ok (ps, rest) = ap (λ (u : List ℕ). each_privilege_at (u ++ rest)) (spaced-privileges ps) ∙ all_back privileges_are ps rest fits end last in
+    let each : each_privilege_at (spaced (map privilege_text ps) ++ rest) ≡ Ok (ps, rest) = ap (λ (u : List ℕ). each_privilege_at (u ++ rest))
+    (spaced-privileges ps) ∙ all_back privileges_are ps rest fits end last in
     rw (each, ascend_of ps above) refl
 
 -- ---- lines
@@ -99,5 +86,6 @@ privileges_back ps rest fits above end last =
 pub line-rest : (first : List ℕ) (words : List (List ℕ)) (rest : List ℕ) → line first words ++ rest ≡ first ++ (spaced words ++ 10 ∷ rest)
 line-rest first words rest = simp append_assoc
 
-pub line_back : {X : Type 0} (read : List ℕ → Read ℕ X) (bytes : List ℕ) (x : X) (rest : List ℕ) → read bytes ≡ Ok (x, 10 ∷ rest) → line_at read bytes ≡ Ok (x, rest)
+pub line_back : {X : Type 0} (read : List ℕ → Read ℕ X) (bytes : List ℕ) (x : X) (rest : List ℕ) → read bytes ≡ Ok (x, 10 ∷ rest)
+    → line_at read bytes ≡ Ok (x, rest)
 line_back read bytes x rest e = rw e refl

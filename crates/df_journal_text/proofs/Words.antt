@@ -1,26 +1,9 @@
 -- Keywords, instances and privileges, as the code reads them.
-use Rattle.std.proofs.Common.{◌≡◌, ℕ, ◌+◌, ◌<◌, ◌≤◌, true, false, eqb, List, [], ◌∷◌, length, get_or, take, drop, length-drop, Some, None, Ok, Err, refl, sym}
-use Rattle.std.proofs.Common.{ap, ◌∙◌, arith, inl, inr}
-use Rattle.std.specs.Ordering.{is_lt}
-use Rattle.std.specs.declared.cmp.Ordering.TheVariants.{Less}
-use Rattle.std.proofs.lemmas.Bool.{and_parts}
-use Rattle.std.proofs.lemmas.List.{drop_more}
-use Rattle.df_format.specs.Reading.{Bad, Low, Read, ◌>>=◌, maybe_at, text_at, with_front}
-use Rattle.df_format.proofs.ItemSteps.{format_shrinks}
-use Rattle.df_format.proofs.Laws.{bind_ok, told}
-use Rattle.df_format.proofs.Texts.{text_found}
-use Rattle.df_label.specs.Ascending.{IsAscending}
-use Rattle.df_label.specs.Privilege.{privilege_cmp}
-use Rattle.df_label.specs.declared.privilege.Privilege.{Privilege}
-use Rattle.df_label.proofs.PrivilegeFacts.{privilege_cmp_exact}
-use Rattle.df_label.proofs.SetFacts.{below_trans}
-use Rattle.df_value_text.specs.Label.{privilege_text}
-use Rattle.df_value_text.specs.Fits.{IsPrivilege}
-use Rattle.df_value_text.specs.Number.{begins_with}
-use Rattle.df_value_text.specs.ReadLabel.{privilege_at}
-use Rattle.df_value_text.proofs.LabelLaws.{privilege_format, privilege_goes}
-use Rattle.df_format.proofs.Tokens.{nowhere}
-use Rattle.df_journal_text.specs.ReadWords.{ascend, ascending, begins_pair, each_privilege_at, privileges_at, word_at}
+use Rattle.df_journal_text.proofs.Names.{◌≡◌, ℕ, ◌+◌, ◌<◌, ◌≤◌, true, false, eqb, List, [], ◌∷◌, length, get_or, take, drop, length-drop, Some, None, Ok, Err}
+use Rattle.df_journal_text.proofs.Names.{refl, sym, ap, ◌∙◌, arith, inl, inr, is_lt, Less, and_parts, drop_more, Bad, Low, Read, ◌>>=◌, maybe_at, text_at}
+use Rattle.df_journal_text.proofs.Names.{with_front, format_shrinks, bind_ok, told, text_found, IsAscending, privilege_cmp, Privilege, privilege_cmp_exact}
+use Rattle.df_journal_text.proofs.Names.{below_trans, privilege_text, IsPrivilege, begins_with, privilege_at, privilege_format, privilege_goes, nowhere, ascend}
+use Rattle.df_journal_text.proofs.Names.{ascending, begins_pair, each_privilege_at, privileges_at, word_at}
 use Rattle.df_journal_text.proofs.Loops.{Several}
 use Rattle.df_journal_text.proofs.Orders.{is_less}
 

@@ -5,7 +5,7 @@ ghost use Rattle.df_journal_text.specs.Fits.{IsCall};
 ghost use Rattle.df_journal_text.specs.Large.{IsLargeCall};
 ghost use Rattle.df_journal_text.specs.ReadCall.{act_at, braced_at, call_at, change_at, half_at, last_kinds, named_kinds, plain_kinds, spot_at};
 ghost use Rattle.df_journal_text.specs.ReadWords.{kinds_at, word_at};
-ghost use Rattle.df_journal_text.specs.code.Judging.{EndsCall, Tells, TellsAdded, call_text};
+ghost use Rattle.df_journal_text.specs.code.Judging.{EndsCall, Tells, call_text};
 
 use crate::ask::ask_at;
 use crate::known_label::KnownLabel;
@@ -82,8 +82,7 @@ fn braced_word(alloc: Global, bytes: &[u8], at: usize) -> Result<(TagSet, usize)
     ensures { Gives (λ s. s) bytes.now result (word_at braced_at (drop at bytes.now)) }
 {
     let (_, start) = byte_at(bytes, at, b' ')?;
-    let (s, end) = braced_at(alloc, bytes, start)?;
-    Ok((s, end))
+    braced_at(alloc, bytes, start)
 }
 
 /// The call of one of the last kinds, and the place behind it.
@@ -167,29 +166,6 @@ fn plain_call_at(
     }
 }
 
-/// What an `add` before the place asks for, and the place behind it.
-fn added_at(
-    alloc: Global,
-    known: &mut KnownLabel,
-    bytes: &[u8],
-    at: usize,
-) -> Result<(Call, usize), LineFault>
-    requires { at ≤ length bytes.now }
-    ensures { TellsAdded bytes.now at result }
-{
-    let ((h, (label, name)), behind) = spot_at(alloc, known, bytes, at)?;
-    let (value, end) = read_value_word(alloc, bytes, behind)?;
-    Ok((
-        Call::AddPart {
-            h,
-            label,
-            name,
-            value,
-        },
-        end,
-    ))
-}
-
 /// The call at the place, and the place behind it. A space stands before each of its words.
 pub fn read_call_at(
     alloc: Global,
@@ -200,9 +176,17 @@ pub fn read_call_at(
     requires { at ≤ length bytes.now }
     ensures { Tells call_text IsCall EndsCall IsLargeCall call_at bytes.now at result }
 {
-    if let Some(start) = keyword_at(bytes, at, b" add") {
-        return added_at(alloc, known, bytes, start);
-    }
-    let (call, end) = plain_call_at(alloc, known, bytes, at)?;
+    let Some(start) = keyword_at(bytes, at, b" add") else {
+        let (call, end) = plain_call_at(alloc, known, bytes, at)?;
+        return Ok((call, end));
+    };
+    let ((h, (label, name)), behind) = spot_at(alloc, known, bytes, start)?;
+    let (value, end) = read_value_word(alloc, bytes, behind)?;
+    let call = Call::AddPart {
+        h,
+        label,
+        name,
+        value,
+    };
     Ok((call, end))
 }

@@ -45,8 +45,7 @@ fn answer_at(alloc: Global, line: &[u8], at: usize) -> Result<(Reply, usize), Fa
     ensures { Gives (λ r. r) line.now result (answer_at (drop at line.now)) }
 {
     let (_, start) = text_at(line, at, b" ->")?;
-    let (reply, end) = reply_at(alloc, line, start)?;
-    Ok((reply, end))
+    reply_at(alloc, line, start)
 }
 
 /// The line of a unit's call and its reply. What a read shows stands in lines of its own.
@@ -64,8 +63,7 @@ fn marked_at(alloc: Global, line: &[u8], mark: &[u8]) -> Result<((Label, Name), 
     ensures { Gives (λ n. (n.0, n.1)) line.now result (behind_at mark.now named_at line.now) }
 {
     let (_, start) = text_at(line, 0, mark)?;
-    let (named, end) = named_at(alloc, line, start)?;
-    Ok((named, end))
+    named_at(alloc, line, start)
 }
 
 /// The line of a part behind a mark.
@@ -88,8 +86,7 @@ fn shown_at(alloc: Global, line: &[u8]) -> Result<(Label, usize), Fault>
     ensures { Gives (λ l. l) line.now result (behind_at (58 ∷ []) (word_at label_at) line.now) }
 {
     let (_, start) = text_at(line, 0, b":")?;
-    let (label, end) = label_word(alloc, line, start)?;
-    Ok((label, end))
+    label_word(alloc, line, start)
 }
 
 /// The line of what a read shows of a part.

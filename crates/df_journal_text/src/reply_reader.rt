@@ -15,8 +15,7 @@ fn long_word(bytes: &[u8], at: usize) -> Result<(u64, usize), Fault>
     ensures { Gives (λ n. n) bytes.now result (word_at long_at (drop at bytes.now)) }
 {
     let (_, start) = byte_at(bytes, at, b' ')?;
-    let (number, end) = number_at(bytes, start, u64::MAX)?;
-    Ok((number, end))
+    number_at(bytes, start, u64::MAX)
 }
 
 /// The reply of one of the last kinds, and the place behind it.

@@ -43,8 +43,7 @@ pub fn number_word(bytes: &[u8], at: usize) -> Result<(u32, usize), Fault>
     ensures { Gives (λ n. n) bytes.now result (word_at short_at (drop at bytes.now)) }
 {
     let (_, start) = byte_at(bytes, at, b' ')?;
-    let (number, end) = short_at(bytes, start)?;
-    Ok((number, end))
+    short_at(bytes, start)
 }
 
 /// The tag that is the next word, and the place behind it.
@@ -53,8 +52,7 @@ pub fn tag_word(alloc: Global, bytes: &[u8], at: usize) -> Result<(Tag, usize), 
     ensures { Gives (λ t. t) bytes.now result (word_at tag_at (drop at bytes.now)) }
 {
     let (_, start) = byte_at(bytes, at, b' ')?;
-    let (tag, end) = tag_at(alloc, bytes, start)?;
-    Ok((tag, end))
+    tag_at(alloc, bytes, start)
 }
 
 /// The label that is the next word, and the place behind it.
@@ -63,8 +61,7 @@ pub fn label_word(alloc: Global, bytes: &[u8], at: usize) -> Result<(Label, usiz
     ensures { Gives (λ l. l) bytes.now result (word_at label_at (drop at bytes.now)) }
 {
     let (_, start) = byte_at(bytes, at, b' ')?;
-    let (label, end) = label_at(alloc, bytes, start)?;
-    Ok((label, end))
+    label_at(alloc, bytes, start)
 }
 
 /// The name that is the next word, and the place behind it.
@@ -73,8 +70,7 @@ pub fn name_word(bytes: &[u8], at: usize) -> Result<(Name, usize), Fault>
     ensures { Gives (λ n. n) bytes.now result (word_at name_at (drop at bytes.now)) }
 {
     let (_, start) = byte_at(bytes, at, b' ')?;
-    let (name, end) = name_at(bytes, start)?;
-    Ok((name, end))
+    name_at(bytes, start)
 }
 
 /// The label and the name that are the next two words, and the place behind them.
@@ -104,8 +100,7 @@ pub fn filter_word(alloc: Global, bytes: &[u8], at: usize) -> Result<(Filter, us
     ensures { Gives (λ f. f) bytes.now result (word_at filter_at (drop at bytes.now)) }
 {
     let (_, start) = byte_at(bytes, at, b' ')?;
-    let (filter, end) = filter_at(alloc, bytes, start)?;
-    Ok((filter, end))
+    filter_at(alloc, bytes, start)
 }
 
 /// Whether a space and a `#` stand at the place.

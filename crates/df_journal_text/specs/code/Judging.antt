@@ -9,10 +9,7 @@ use Rattle.df_value_text.specs.declared.refused.Fault.TheVariants as literal
 use Rattle.df_value_text.specs.declared.refused.TextRefused.{TextRefused}
 use Rattle.df_value_text.specs.declared.refused.TextRefused.TheVariants as refused
 use Rattle.df_journal_text.specs.Call.{call_words}
-use Rattle.df_journal_text.specs.Fits.{IsCall}
-use Rattle.df_journal_text.specs.Large.{IsLargeCall}
 use Rattle.df_journal_text.specs.Line.{spaced, word}
-use Rattle.df_journal_text.specs.ReadCall.{added_at}
 use Rattle.df_journal_text.specs.ReadReply.{reply_at}
 use Rattle.df_journal_text.specs.ReadWords.{begins_pair}
 use Rattle.df_journal_text.specs.Reply.{reply_words}
@@ -69,19 +66,6 @@ EndsCall rest = EndsWord rest × (begins_pair 32 35 rest ≡ false)
 -- what stands behind `add`
 abbrev pub behind_add : List ℕ → List ℕ
 behind_add bytes = word (codes "add") ++ bytes
-
--- of what stands behind `add` it is told what of a call
-abbrev pub TellsAdded : List ℕ → ℕ → Result (Call × ℕ) LineFault → Type 0
-TellsAdded bytes at (Ok x) = (x.1 ≤ length bytes) × IsCall x.0
-    × (behind_add (drop at bytes) ≡ call_text x.0 ++ drop x.1 bytes)
-    × (added_at (drop at bytes) ≡ Ok (x.0, drop x.1 bytes))
-TellsAdded bytes at (Err fault.Syntax) =
-    IsUnspelled call_text IsCall EndsCall (behind_add (drop at bytes))
-    × ¬ IsLargeCall (behind_add (drop at bytes))
-TellsAdded bytes at (Err fault.TooLarge) =
-    IsUnspelled call_text IsCall EndsCall (behind_add (drop at bytes))
-    × IsLargeCall (behind_add (drop at bytes))
-TellsAdded bytes at (Err fault.NoMemory) = ⊤
 
 -- ---- whole lines
 

@@ -6,10 +6,12 @@ pub returns-in_err-value : goal.returns-in_err-value
 returns-in_err-value c =
     let p = err_from_is_err_and c.from_residual-in_err-value.result c.from_residual-in_err-value.ensures.1 in
     let e = c.in_err-value.ensures in
-    rw (p.1, p.2) (refused_tells c.args.bytes.now c.args.at c.in_ok-start.start c.in_ok-start.ensures.exact.1 c.in_err-value.field-0.0 e.only e.too_large e.over e.order)
+    rw (p.1, p.2) (refused_tells c.args.bytes.now c.args.at c.in_ok-start.start c.in_ok-start.ensures.exact.1 c.in_err-value.field-0.0 e.only e.too_large
+    e.over e.order)
 
 pub returns : goal.returns
-returns c = found_tells c.args.bytes.now c.args.at c.in_ok-start.start c.in_ok-start.ensures.exact.1 c.in_ok-value.value c.in_ok-value.end c.in_ok-value.ensures.found
+returns c = found_tells c.args.bytes.now c.args.at c.in_ok-start.start c.in_ok-start.ensures.exact.1 c.in_ok-value.value c.in_ok-value.end
+    c.in_ok-value.ensures.found
 
 pub returns-in_err-start : goal.returns-in_err-start
 returns-in_err-start c =

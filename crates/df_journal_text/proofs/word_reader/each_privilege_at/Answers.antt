@@ -1,26 +1,28 @@
 use Rattle.std.proofs.Common.{drop, sym, ◌∙◌}
 use Rattle.std.proofs.lemmas.Result.{err_from_is_err_and}
-use Rattle.df_value_text.specs.ReadLabel.{privilege_at}
 use Rattle.df_value_text.proofs.Loops.{fails_by}
-use Rattle.df_journal_text.specs.ReadWords.{begins_pair, word_at}
 use Rattle.df_journal_text.proofs.Loops.{all_done, all_failed, all_read, front_nil}
 use Rattle.df_journal_text.proofs.Words.{several_privileges}
 use Rattle.df_journal_text.proofs.word_reader.each_privilege_at.Goals as goal
 
 pub returns-in_err-privilege : goal.returns-in_err-privilege
 returns-in_err-privilege c =
-    let inv = c.words.invariant in
     let p = err_from_is_err_and c.from_residual.result c.from_residual.ensures.1 in
-    rw (p.1, p.2) (fails_by c.in_err-privilege.field-0.0 c.args.bytes.now _ _ (λ stop e. sym (front_nil _) ∙ all_failed several_privileges c.words.privileges.items (drop c.words.place c.args.bytes.now) stop _ (sym c.privilege_stands.ensures ∙ c.words-test.true) e inv.0) c.in_err-privilege.ensures.exact)
+    rw (p.1, p.2) (fails_by c.in_err-privilege.field-0.0 c.args.bytes.now _ _
+    (λ stop e. sym (front_nil _) ∙ all_failed several_privileges c.words.privileges.items (drop c.words.place c.args.bytes.now) _ c.words.invariant.0 stop
+    (sym c.privilege_stands.ensures ∙ c.words-test.true) e) c.in_err-privilege.ensures.exact)
 
 pub words-preserved : goal.words-preserved
-words-preserved c =
-    let inv = c.words.invariant in (
-      all_read several_privileges c.words.privileges.items c.push.new.self.items (drop c.words.place c.args.bytes.now) c.in_ok-privilege.privilege (drop c.in_ok-privilege.after c.args.bytes.now) _ (sym c.privilege_stands.ensures ∙ c.words-test.true) c.in_ok-privilege.ensures.exact.1 c.in_ok-push.ensures.items inv.0,
-      c.in_ok-privilege.ensures.exact.0,
-    )
+words-preserved c = (
+  all_read several_privileges c.words.privileges.items (drop c.words.place c.args.bytes.now) _ c.words.invariant.0 c.push.new.self.items
+      c.in_ok-privilege.privilege (drop c.in_ok-privilege.after c.args.bytes.now) (sym c.privilege_stands.ensures ∙ c.words-test.true)
+      c.in_ok-privilege.ensures.exact.1 c.in_ok-push.ensures.items,
+  c.in_ok-privilege.ensures.exact.0,
+)
 
 pub returns : goal.returns
-returns c =
-    let inv = c.words.invariant in
-    (inv.1, sym (front_nil _) ∙ all_done (begins_pair 32 35) (word_at privilege_at) c.words.privileges.items (drop c.words.place c.args.bytes.now) _ (sym c.privilege_stands.ensures ∙ c.words-test.false) inv.0)
+returns c = (
+  c.words.invariant.1,
+  sym (front_nil _) ∙ all_done several_privileges c.words.privileges.items (drop c.words.place c.args.bytes.now) _ c.words.invariant.0
+      (sym c.privilege_stands.ensures ∙ c.words-test.false),
+)
