@@ -1,6 +1,6 @@
 -- Entries that are spelled are read back.
-use Rattle.df_journal_text.proofs.Names.{◌≡◌, ℕ, ◌+◌, ◌<◌, true, false, eqb, eq-eqb, List, [], ◌∷◌, ◌++◌, length, map, Option, Some, None, Ok, codes, refl, sym}
-use Rattle.df_journal_text.proofs.Names.{ap, ◌∙◌, append_assoc, arith, inl, inr, AllByRecursion, flat_map, recursion_from_All, flat_map-append, Read, Back}
+use Rattle.df_journal_text.proofs.Names.{◌≡◌, ℕ, ◌<◌, true, false, eqb, eq-eqb, List, [], ◌∷◌, ◌++◌, length, map, Option, Some, None, Ok, codes, refl, sym, ap}
+use Rattle.df_journal_text.proofs.Names.{◌∙◌, append_assoc, arith, inl, inr, AllByRecursion, flat_map, recursion_from_All, flat_map-append, Read, Back}
 use Rattle.df_journal_text.proofs.Names.{all_back, Label, Part, UnitName, Commit, PartRead, Call, Reply, Effect, Done, IsLabel, IsPrivilege, label_text}
 use Rattle.df_journal_text.proofs.Names.{privilege_text, label_at, value_text, call_words, part_line, spot_line, edit_text, given_text, effect_text, reads_text}
 use Rattle.df_journal_text.proofs.Names.{call_line, note_text, entry_text, IsCall, IsCommit, IsEdit, IsEffectOf, IsEvent, IsPart, IsPartRead, IsReply, IsSpot}
