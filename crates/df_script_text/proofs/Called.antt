@@ -1,21 +1,9 @@
 -- Calls where they stand, as their readers find them.
-use Rattle.std.proofs.Common.{◌≡◌, ℕ, ◌-◌, ◌≤◌, List, [], ◌∷◌, ◌++◌, length, take, drop, Ok, sym, refl, ap, subst, ◌∙◌, append_assoc}
-use Rattle.df_unit.specs.declared.call.Call.{Call}
-use Rattle.df_unit.specs.declared.name.UnitName.{UnitName}
-use Rattle.df_unit.specs.declared.name.UnitName.TheVariants.{Root}
-use Rattle.df_value_text.specs.ReadTag.{short_at}
-use Rattle.df_journal_text.specs.Fits.{IsCall, IsUnit}
-use Rattle.df_journal_text.specs.Name.{unit_text}
-use Rattle.df_journal_text.specs.ReadCall.{plain_kinds}
-use Rattle.df_journal_text.specs.ReadName.{unit_at}
-use Rattle.df_journal_text.specs.ReadWords.{kinds_at}
-use Rattle.df_journal_text.specs.code.Judging.{call_text}
+use Rattle.df_script_text.proofs.Names.{◌≡◌, ℕ, ◌-◌, ◌≤◌, List, [], ◌∷◌, ◌++◌, length, take, drop, Ok, sym, refl, ap, subst, ◌∙◌, append_assoc}
+use Rattle.df_script_text.proofs.Names.{Call, UnitName, Root, short_at, IsCall, IsUnit, unit_text, plain_kinds}
+use Rattle.df_script_text.proofs.Names.{unit_at, kinds_at, call_text, kinds_found, short_finds, unit_finds, IsCallAt, call_line, ScriptLine}
 use Rattle.df_journal_text.proofs.Between.{between, onward}
 use Rattle.df_journal_text.proofs.CallFounds.{plain_find}
-use Rattle.df_journal_text.proofs.Founds.{kinds_found, short_finds, unit_finds}
-use Rattle.df_script_text.specs.Called.{IsCallAt}
-use Rattle.df_script_text.specs.code.Lines.{call_line}
-use Rattle.df_script_text.specs.declared.line.ScriptLine.{ScriptLine}
 
 -- this unit's name stands at the one place, up to the other
 abbrev UnitStands : List ℕ → ℕ → ℕ → UnitName → Type 0

@@ -1,18 +1,8 @@
 -- The lines of calls have no line feed.
-use Rattle.std.proofs.Common.{codes, decimal, refl}
-use Rattle.std.specs.List.{AllByRecursion}
-use Rattle.std.proofs.lemmas.List.Elements.{recursion_from_All}
-use Rattle.df_unit.specs.declared.call.Call.{Call}
+use Rattle.df_script_text.proofs.Names.{codes, decimal, refl, AllByRecursion, recursion_from_All, Call, IsPrivilege, label_text, call_words, IsCall, unit_text}
+use Rattle.df_script_text.proofs.Names.{IsScriptLine, call_line, ScriptLine}
 use Rattle.df_unit.specs.declared.call.Call.TheVariants.{CreateEvent, AddPart, DelPart, ReadPart, CloneEvent, AttachPrivilege, ChangeOutLabel, CreateTag}
 use Rattle.df_unit.specs.declared.call.Call.TheVariants.{DropEvent, Subscribe, SubscribeManaged, Get, Publish, Release, ChangeInOut, Instantiate}
-use Rattle.df_value_text.specs.Fits.{IsPrivilege}
-use Rattle.df_value_text.specs.Label.{label_text}
-use Rattle.df_journal_text.specs.Call.{call_words}
-use Rattle.df_journal_text.specs.Fits.{IsCall}
-use Rattle.df_journal_text.specs.Name.{unit_text}
-use Rattle.df_script_text.specs.Script.{IsScriptLine}
-use Rattle.df_script_text.specs.code.Lines.{call_line}
-use Rattle.df_script_text.specs.declared.line.ScriptLine.{ScriptLine}
 use Rattle.df_script_text.proofs.Splits.{Avoids, Avoids-line, Avoids-words}
 use Rattle.df_script_text.proofs.Values.{IsLine-filter, IsLine-value, IsLine-word}
 use Rattle.df_script_text.proofs.Words.{AreWords, AreWords-privileges, is_word-act, is_word-actor, is_word-braced, is_word-half, is_word-label, is_word-name}

@@ -1,16 +1,10 @@
 -- Lines of roots' calls, as their readers find them.
-use Rattle.std.proofs.Common.{◌≡◌, ℕ, ◌+◌, ◌<◌, ◌≤◌, List, [], ◌∷◌, ◌++◌, length, drop, Ok, sym, ap, subst, ◌∙◌, arith, length-append}
+use Rattle.df_script_text.proofs.Names.{◌≡◌, ℕ, ◌+◌, ◌<◌, ◌≤◌, List, [], ◌∷◌, ◌++◌, length, drop, Ok, sym, ap, subst, ◌∙◌, arith, length-append, text_at, ended}
+use Rattle.df_script_text.proofs.Names.{RootStart, Call, IsCallAt, HasReadUpTo, ScriptLine}
 use Rattle.std.proofs.lemmas.List.{length-drop}
-use Rattle.df_format.specs.Reading.{text_at}
 use Rattle.df_format.proofs.Texts.{text_found}
-use Rattle.df_lines.specs.Lines.{ended}
-use Rattle.df_start.specs.declared.start.RootStart.{RootStart}
-use Rattle.df_unit.specs.declared.call.Call.{Call}
-use Rattle.df_script_text.specs.Called.{IsCallAt}
 use Rattle.df_script_text.specs.Common.{root_call}
-use Rattle.df_script_text.specs.Reader.{HasReadUpTo}
 use Rattle.df_script_text.specs.code.Common.{IsRootCallAt}
-use Rattle.df_script_text.specs.declared.line.ScriptLine.{ScriptLine}
 use Rattle.df_script_text.proofs.Calls.{Avoids-call}
 use Rattle.df_script_text.proofs.Splits.{Avoids}
 use Rattle.df_script_text.proofs.Stops.{call_read}

@@ -1,22 +1,13 @@
 -- Scripts and their lines.
-use Rattle.std.proofs.Common.{◌≡◌, ℕ, ◌+◌, ◌<◌, ◌≤◌, ◌^◌, List, [], ◌∷◌, ◌++◌, length, take, drop, map, codes, decimal, get_or, refl, sym, ap, ◌∙◌, arith, lit≤, append_assoc, length-append, length-drop, inl, inr}
-use Rattle.std.specs.List.{All, AllByRecursion, flat_map}
-use Rattle.std.proofs.lemmas.List.{take_at}
-use Rattle.std.proofs.lemmas.List.Elements.{All-cons, All-append, All-from_recursion, recursion_from_All}
-use Rattle.std.proofs.lemmas.List.Concat.{flat_map-append}
-use Rattle.df_lines.specs.Lines.{IsLine, ended, lines_text}
-use Rattle.df_lines.proofs.FirstBad.{IsGrammar}
-use Rattle.df_start.specs.declared.start.RootStart.{RootStart}
-use Rattle.df_value_text.specs.Label.{label_text, privilege_text}
-use Rattle.df_journal_text.specs.Fits.{IsRoot}
-use Rattle.df_journal_text.specs.Start.{root_text, roots_text, start_text}
-use Rattle.df_script_text.specs.Script.{IsScript, IsScriptLine, IsScriptText, script_line, script_text}
-use Rattle.df_script_text.specs.code.Lines.{call_line, head_lines, numbered, script_lines}
-use Rattle.df_script_text.specs.code.Stops.{ArePassed, AreRootsAt, IsCallLine, IsFirstAt, IsHeadLine}
-use Rattle.df_script_text.specs.declared.line.ScriptLine.{ScriptLine}
+use Rattle.df_script_text.proofs.Names.{◌≡◌, ℕ, ◌+◌, ◌<◌, ◌≤◌, ◌^◌, List, [], ◌∷◌, ◌++◌, length, take, drop, map, codes, decimal, get_or, refl, sym, ap, ◌∙◌}
+use Rattle.df_script_text.proofs.Names.{arith, append_assoc, length-append, length-drop, inl, inr, All, AllByRecursion, flat_map, take_at, All-cons, All-append}
+use Rattle.df_script_text.proofs.Names.{All-from_recursion, recursion_from_All, flat_map-append, IsLine, ended, lines_text, IsGrammar, RootStart, label_text}
+use Rattle.df_script_text.proofs.Names.{privilege_text, IsRoot, root_text, roots_text, start_text, IsScript, IsScriptLine, IsScriptText, script_line}
+use Rattle.df_script_text.proofs.Names.{script_text, call_line, head_lines, numbered, script_lines, ArePassed, AreRootsAt, IsCallLine, IsFirstAt, IsHeadLine}
+use Rattle.df_script_text.proofs.Names.{ScriptLine}
 use Rattle.df_script_text.proofs.Calls.{Avoids-call}
 use Rattle.df_script_text.proofs.Numbered.{numbered-each}
-use Rattle.df_script_text.proofs.Splits.{Avoids-word, Avoids-words, Avoids-line, AreWords-root}
+use Rattle.df_script_text.proofs.Splits.{Avoids-text, Avoids-words, Avoids-line, AreWords-root, IsLine-word}
 
 -- the line `run`, and the first
 abbrev pub run : List ℕ
@@ -49,13 +40,15 @@ script_text-lines roots ls =
 -- a root's line has no line feed
 IsLine-root : (k : ℕ) (root : RootStart) → k < 2 ^ 32 → IsRoot root → IsLine (root_text k root)
 IsLine-root k root small f =
+    let words : List (List ℕ) = decimal k ∷ label_text root.label ∷ map privilege_text root.privileges in
     let w = AreWords-root k small root f in
-    Avoids-line (codes "unit") (decimal k ∷ label_text root.label ∷ map privilege_text root.privileges) (Avoids-word 10 (codes "unit") (lit≤ tt) w.0) (Avoids-words (decimal k ∷ label_text root.label ∷ map privilege_text root.privileges) w.1)
+    Avoids-line (codes "unit") words (IsLine-word (codes "unit") w.0) (Avoids-words words w.1)
 
 -- lines of roots
 pub AreLines-roots : (roots : List RootStart) → length roots < 2 ^ 32 → All IsRoot roots → All IsLine (numbered root_text 0 roots)
 AreLines-roots roots few fit =
-    All-from_recursion IsLine (numbered root_text 0 roots) (numbered-each root_text IsLine IsRoot (2 ^ 32) IsLine-root 0 roots (omega (arith, few)) (recursion_from_All IsRoot roots fit))
+    All-from_recursion IsLine (numbered root_text 0 roots)
+    (numbered-each root_text IsLine IsRoot (2 ^ 32) IsLine-root 0 roots (omega (arith, few)) (recursion_from_All IsRoot roots fit))
 
 -- lines of calls
 each_call : (ls : List ScriptLine) → AllByRecursion IsScriptLine ls → AllByRecursion IsLine (map call_line ls)
@@ -66,14 +59,16 @@ pub AreLines-calls : (ls : List ScriptLine) → All IsScriptLine ls → All IsLi
 AreLines-calls ls fit = All-from_recursion IsLine (map call_line ls) (each_call ls (recursion_from_All IsScriptLine ls fit))
 
 IsLine-first : IsLine first
-IsLine-first = Avoids-line (codes "defcon-script") (codes "1" ∷ []) (Avoids-word 10 (codes "defcon-script") (lit≤ tt) refl) (Avoids-words (codes "1" ∷ []) (refl, tt))
+IsLine-first = Avoids-text first refl
 
 pub AreLines-head : (roots : List RootStart) → length roots < 2 ^ 32 → All IsRoot roots → All IsLine (head_lines roots)
 AreLines-head roots few fit = All-cons IsLine first (numbered root_text 0 roots) IsLine-first (AreLines-roots roots few fit)
 
-pub AreLines-script : (roots : List RootStart) (ls : List ScriptLine) → length roots < 2 ^ 32 → All IsRoot roots → All IsScriptLine ls → All IsLine (script_lines (roots, ls))
+pub AreLines-script : (roots : List RootStart) (ls : List ScriptLine) → length roots < 2 ^ 32 → All IsRoot roots → All IsScriptLine ls
+    → All IsLine (script_lines (roots, ls))
 AreLines-script roots ls few fit calls =
-    All-append IsLine (head_lines roots) (run ∷ map call_line ls) (AreLines-head roots few fit) (All-cons IsLine run (map call_line ls) (Avoids-word 10 run (lit≤ tt) refl) (AreLines-calls ls calls))
+    All-append IsLine (head_lines roots) (run ∷ map call_line ls) (AreLines-head roots few fit)
+    (All-cons IsLine run (map call_line ls) (Avoids-text run refl) (AreLines-calls ls calls))
 
 -- ---- which line stands behind lines of a script
 
@@ -81,8 +76,8 @@ run_is_no_root : {A : Type 0} (n : ℕ) (root : RootStart) → run ≡ root_text
 run_is_no_root n root e = let head : 114 ≡ 117 = ap (λ (l : List ℕ). get_or l 0 0) e in absurd (omega (arith, head))
 
 -- behind lines of roots stands `run` or the line of the next root
-pub next_head : (n k : ℕ) (rs ss : List RootStart) (calls : List (List ℕ)) (bad : List ℕ) (rest : List (List ℕ)) → k ≡ n + length rs → AllByRecursion IsRoot ss → n + length ss < 2 ^ 32
-    → numbered root_text n ss ++ run ∷ calls ≡ numbered root_text n rs ++ bad ∷ rest → IsHeadLine k bad
+pub next_head : (n k : ℕ) (rs ss : List RootStart) (calls : List (List ℕ)) (bad : List ℕ) (rest : List (List ℕ)) → k ≡ n + length rs
+    → AllByRecursion IsRoot ss → n + length ss < 2 ^ 32 → numbered root_text n ss ++ run ∷ calls ≡ numbered root_text n rs ++ bad ∷ rest → IsHeadLine k bad
 next_head n k [] [] calls bad rest at f small e = let same : bad ≡ run = cc in inl same
 next_head n k [] (s ∷ ss) calls bad rest at f small e =
     let here : k ≡ n = omega (arith, at) in
@@ -93,28 +88,24 @@ next_head n k (r ∷ rs) (s ∷ ss) calls bad rest at f small e =
     let tail : numbered root_text (n + 1) ss ++ run ∷ calls ≡ numbered root_text (n + 1) rs ++ bad ∷ rest = cc in
     next_head (n + 1) k rs ss calls bad rest (omega (arith, at)) f.1 (omega (arith, small)) tail
 
--- behind lines of roots stands another line
-pub more_head : (n : ℕ) (rs ss : List RootStart) (calls : List (List ℕ)) → numbered root_text n ss ++ run ∷ calls ≡ numbered root_text n rs → ⊥
-more_head n [] [] calls e = cc
-more_head n [] (s ∷ ss) calls e = cc
-more_head n (r ∷ rs) [] calls e = let same : run ≡ root_text n r = cc in run_is_no_root n r same
-more_head n (r ∷ rs) (s ∷ ss) calls e =
-    let tail : numbered root_text (n + 1) ss ++ run ∷ calls ≡ numbered root_text (n + 1) rs = cc in
-    more_head (n + 1) rs ss calls tail
-
--- none of them is `run`
+-- none of the lines of roots is `run`
 pub no_run : (n : ℕ) (rs : List RootStart) (head calls : List (List ℕ)) → numbered root_text n rs ≡ head ++ run ∷ calls → ⊥
 no_run n [] [] calls e = cc
 no_run n [] (h ∷ head) calls e = cc
 no_run n (r ∷ rs) [] calls e = let same : run ≡ root_text n r = cc in run_is_no_root n r same
-no_run n (r ∷ rs) (h ∷ head) calls e = let tail : numbered root_text (n + 1) rs ≡ head ++ run ∷ calls = cc in no_run (n + 1) rs head calls tail
+no_run n (r ∷ rs) (h ∷ head) calls e =
+    let tail : numbered root_text (n + 1) rs ≡ head ++ run ∷ calls = cc in
+    no_run (n + 1) rs head calls tail
 
 -- behind lines of calls stands the line of a call
-next_of : (ls ms : List ScriptLine) (bad : List ℕ) (rest : List (List ℕ)) → AllByRecursion IsScriptLine ms → map call_line ms ≡ map call_line ls ++ bad ∷ rest → IsCallLine bad
+next_of : (ls ms : List ScriptLine) (bad : List ℕ) (rest : List (List ℕ)) → AllByRecursion IsScriptLine ms
+    → map call_line ms ≡ map call_line ls ++ bad ∷ rest → IsCallLine bad
 next_of [] [] bad rest f e = cc
 next_of [] (m ∷ ms) bad rest f e = let same : bad ≡ call_line m = cc in (m, f.0, same)
 next_of (l ∷ ls) [] bad rest f e = cc
-next_of (l ∷ ls) (m ∷ ms) bad rest f e = let tail : map call_line ms ≡ map call_line ls ++ bad ∷ rest = cc in next_of ls ms bad rest f.1 tail
+next_of (l ∷ ls) (m ∷ ms) bad rest f e =
+    let tail : map call_line ms ≡ map call_line ls ++ bad ∷ rest = cc in
+    next_of ls ms bad rest f.1 tail
 
 pub next_call : (n : ℕ) (rs ss : List RootStart) (ls ms : List ScriptLine) (bad : List ℕ) (rest : List (List ℕ)) → AllByRecursion IsScriptLine ms
     → numbered root_text n ss ++ run ∷ map call_line ms ≡ numbered root_text n rs ++ run ∷ (map call_line ls ++ bad ∷ rest) → IsCallLine bad
@@ -133,11 +124,13 @@ front_is bytes front place inside e =
     let n : place ≡ length front = omega (arith, inside, ap length e, length-append front (drop place bytes), length-drop place bytes) in
     ap (take place) e ∙ take_at front (drop place bytes) place (sym n)
 
-pub roots_before : (bytes : List ℕ) (at : ℕ) (rs : List RootStart) (place : ℕ) → IsFirstAt bytes at → ArePassed bytes at rs place → bytes ≡ lines_text (head_lines rs) ++ drop place bytes
+pub roots_before : (bytes : List ℕ) (at : ℕ) (rs : List RootStart) (place : ℕ) → IsFirstAt bytes at → ArePassed bytes at rs place
+    → bytes ≡ lines_text (head_lines rs) ++ drop place bytes
 roots_before bytes at rs place i a =
     i.1 ∙ ap (λ (u : List ℕ). ended first ++ u) a.text ∙ sym (append_assoc (ended first) (lines_text (numbered root_text 0 rs)) (drop place bytes))
 
-pub start_before : (bytes : List ℕ) (at : ℕ) (rs : List RootStart) (mid : ℕ) → IsFirstAt bytes at → AreRootsAt bytes at rs mid → bytes ≡ script_text rs [] ++ drop mid bytes
+pub start_before : (bytes : List ℕ) (at : ℕ) (rs : List RootStart) (mid : ℕ) → IsFirstAt bytes at → AreRootsAt bytes at rs mid
+    → bytes ≡ script_text rs [] ++ drop mid bytes
 start_before bytes at rs mid i r =
     let heads : List (List ℕ) = head_lines rs in
     let behind : List ℕ = drop mid bytes in

@@ -1,3 +1,4 @@
+mod Names
 pub mod Called
 pub mod Calls
 pub mod Files

@@ -1,10 +1,9 @@
 -- Lines of which each has a number.
-use Rattle.std.proofs.Common.{◌≡◌, ℕ, ◌+◌, ◌<◌, ◌≤◌, List, [], ◌∷◌, ◌++◌, length, suc, refl, sym, ap, ◌∙◌, arith, add-zero}
-use Rattle.std.specs.List.{AllByRecursion}
-use Rattle.df_script_text.specs.code.Lines.{numbered}
+use Rattle.df_script_text.proofs.Names.{◌≡◌, ℕ, ◌+◌, ◌<◌, ◌≤◌, List, [], ◌∷◌, ◌++◌, length, suc, refl, sym, ap, ◌∙◌, arith, add-zero, AllByRecursion, numbered}
 
 -- one more line behind others
-pub numbered-push : {X : Type 0} (spell : ℕ → X → List ℕ) (n : ℕ) (xs : List X) (x : X) → numbered spell n (xs ++ x ∷ []) ≡ numbered spell n xs ++ spell (n + length xs) x ∷ []
+pub numbered-push : {X : Type 0} (spell : ℕ → X → List ℕ) (n : ℕ) (xs : List X) (x : X)
+    → numbered spell n (xs ++ x ∷ []) ≡ numbered spell n xs ++ spell (n + length xs) x ∷ []
 numbered-push spell n [] x = ap (λ (k : ℕ). spell k x ∷ []) (sym (add-zero n))
 numbered-push spell n (y ∷ ys) x =
     let e : (n + 1) + length ys ≡ n + suc (length ys) = omega arith in
@@ -16,7 +15,9 @@ length-numbered spell n [] = refl
 length-numbered spell n (x ∷ xs) = ap suc (length-numbered spell (n + 1) xs)
 
 -- what holds of each line of what fits
-pub numbered-each : {X : Type 0} (spell : ℕ → X → List ℕ) (P : List ℕ → Type 0) (Fits : X → Type 0) (bound : ℕ) → ((k : ℕ) (x : X) → k < bound → Fits x → P (spell k x)) → (n : ℕ) (xs : List X) → n + length xs ≤ bound → AllByRecursion Fits xs → AllByRecursion P (numbered spell n xs)
+pub numbered-each : {X : Type 0} (spell : ℕ → X → List ℕ) (P : List ℕ → Type 0) (Fits : X → Type 0) (bound : ℕ)
+    → ((k : ℕ) (x : X) → k < bound → Fits x → P (spell k x)) → (n : ℕ) (xs : List X) → n + length xs ≤ bound → AllByRecursion Fits xs
+    → AllByRecursion P (numbered spell n xs)
 numbered-each spell P Fits bound each n [] le f = tt
 numbered-each spell P Fits bound each n (x ∷ xs) le f =
     (each n x (omega arith) f.0, numbered-each spell P Fits bound each (n + 1) xs (omega arith) f.1)

@@ -1,21 +1,11 @@
 -- The lines of roots, as they are read.
-use Rattle.std.proofs.Common.{◌≡◌, ℕ, List, [], ◌++◌, map, Ok, codes, decimal, refl, sym, ap, ◌∙◌, append-nil}
-use Rattle.std.proofs.lemmas.List.Elements.{recursion_from_All}
-use Rattle.df_format.specs.Reading.{Read, as_at, behind_at, then_at}
-use Rattle.df_start.specs.declared.start.RootStart.{RootStart}
-use Rattle.df_value_text.specs.Fits.{IsPrivilege}
-use Rattle.df_value_text.specs.Label.{label_text, privilege_text}
+use Rattle.df_script_text.proofs.Names.{◌≡◌, ℕ, List, [], ◌++◌, map, Ok, codes, decimal, refl, sym, ap, ◌∙◌, append-nil, recursion_from_All, Read, as_at}
+use Rattle.df_script_text.proofs.Names.{behind_at, then_at, RootStart, IsPrivilege, label_text, privilege_text, IsRoot, spaced, word, privileges_at, word_at}
+use Rattle.df_script_text.proofs.Names.{root_line, root_text, Finds, finds_as, finds_behind, finds_then, finds_word, label_finds, privileges_finds, behind_back}
+use Rattle.df_script_text.proofs.Names.{label_word, privileges_back, word_back, root_line_at}
 use Rattle.df_value_text.specs.ReadLabel.{label_at}
-use Rattle.df_journal_text.specs.Fits.{IsRoot}
-use Rattle.df_journal_text.specs.Line.{spaced, word}
 use Rattle.df_journal_text.specs.ReadStart.{root_of}
-use Rattle.df_journal_text.specs.ReadWords.{privileges_at, word_at}
-use Rattle.df_journal_text.specs.Start.{root_line, root_text}
-use Rattle.df_journal_text.proofs.Founds.{Finds, finds_as, finds_behind, finds_then, finds_word, label_finds, privileges_finds}
-use Rattle.df_journal_text.proofs.StartBacks.{behind_back}
 use Rattle.df_journal_text.proofs.Wholes.{WholeLine}
-use Rattle.df_journal_text.proofs.WordBacks.{label_word, privileges_back, word_back}
-use Rattle.df_script_text.specs.code.Lines.{root_line_at}
 
 -- what stands behind a root's number
 abbrev behind_number : RootStart → List ℕ

@@ -1,25 +1,11 @@
 -- Scripts that are spelled are read back, so a text is that of one script.
-use Rattle.std.proofs.Common.{◌≡◌, ℕ, ◌<◌, true, false, List, [], ◌∷◌, ◌++◌, length, Ok, codes, refl, sym, ap, subst, ◌∙◌, append_assoc, inr}
-use Rattle.std.specs.List.{flat_map}
+use Rattle.df_script_text.proofs.Names.{◌≡◌, ℕ, ◌<◌, true, false, List, [], ◌∷◌, ◌++◌, length, Ok, codes, refl, sym, ap, subst, ◌∙◌, append_assoc, inr}
+use Rattle.df_script_text.proofs.Names.{flat_map, recursion_from_All, ok_is, RootStart, begins_digit, call_words, IsRoot, spaced, unit_text, start_text}
+use Rattle.df_script_text.proofs.Names.{call_back, unit_word, start_back, ends_spaced, line-rest, IsScript, IsScriptLine, script_line, script_text, ScriptLine}
 use Rattle.std.proofs.lemmas.List.{append-nil}
-use Rattle.std.proofs.lemmas.List.Elements.{recursion_from_All}
 use Rattle.df_format.proofs.Backs.{Back, all_back}
-use Rattle.df_format.proofs.Laws.{ok_is}
-use Rattle.df_start.specs.declared.start.RootStart.{RootStart}
-use Rattle.df_value_text.specs.ReadTag.{begins_digit}
-use Rattle.df_journal_text.specs.Call.{call_words}
-use Rattle.df_journal_text.specs.Fits.{IsRoot}
-use Rattle.df_journal_text.specs.Line.{spaced}
-use Rattle.df_journal_text.specs.Name.{unit_text}
-use Rattle.df_journal_text.specs.Start.{start_text}
-use Rattle.df_journal_text.proofs.CallBacks.{call_back}
 use Rattle.df_journal_text.proofs.JournalBacks.{digit_some, more_first, unit_first}
-use Rattle.df_journal_text.proofs.NameBacks.{unit_word}
-use Rattle.df_journal_text.proofs.StartBacks.{start_back}
-use Rattle.df_journal_text.proofs.WordBacks.{ends_spaced, line-rest}
 use Rattle.df_script_text.specs.ReadScript.{script_at, script_line_at}
-use Rattle.df_script_text.specs.Script.{IsScript, IsScriptLine, script_line, script_text}
-use Rattle.df_script_text.specs.declared.line.ScriptLine.{ScriptLine}
 
 -- ---- lines
 
@@ -52,19 +38,18 @@ script_back roots lines rest fits end =
     let e2 = all_back lines_are lines rest (recursion_from_All IsScriptLine lines fits.1) tt end in
     ap script_at whole ∙ rw (e1, e2) refl
 
-pub script_is_one : (roots others : List RootStart) (lines more : List ScriptLine) → IsScript roots lines → IsScript others more
-    → script_text roots lines ≡ script_text others more → (roots ≡ others) × (lines ≡ more)
-script_is_one roots others lines more fits fits' same =
-    let one : (List RootStart × List ScriptLine) × List ℕ = ((roots, lines), []) in
-    let two : (List RootStart × List ScriptLine) × List ℕ = ((others, more), []) in
-    let both : one ≡ two = ok_is one two
-    (sym (script_back roots lines [] fits refl) ∙ ap (λ (u : List ℕ). script_at (u ++ [])) same ∙ script_back others more [] fits' refl) in
-    (ap (λ (q : (List RootStart × List ScriptLine) × List ℕ). q.0.0) both, ap (λ (q : (List RootStart × List ScriptLine) × List ℕ). q.0.1) both)
-
 -- ---- what is answered
 
 pub only_script : (bytes : List ℕ) (read : List RootStart × List ScriptLine) → IsScript read.0 read.1 × (bytes ≡ script_text read.0 read.1)
     → (roots : List RootStart) (lines : List ScriptLine) → IsScript roots lines → bytes ≡ script_text roots lines → read ≡ (roots, lines)
 only_script bytes read found roots lines fits is =
-    let same = script_is_one read.0 roots read.1 lines found.0 fits (sym found.1 ∙ is) in
-    ap (λ (rs : List RootStart). (rs, read.1)) same.0 ∙ ap (λ (ls : List ScriptLine). (roots, ls)) same.1
+    let one : (List RootStart × List ScriptLine) × List ℕ = (read, []) in
+    let same = ap (λ (u : List ℕ). script_at (u ++ [])) (sym found.1 ∙ is) in
+    ap (λ (q : (List RootStart × List ScriptLine) × List ℕ). q.0) (ok_is one ((roots, lines), [])
+    (sym (script_back read.0 read.1 [] found.0 refl) ∙ same ∙ script_back roots lines [] fits refl))
+
+pub script_is_one : (roots others : List RootStart) (lines more : List ScriptLine) → IsScript roots lines → IsScript others more
+    → script_text roots lines ≡ script_text others more → (roots ≡ others) × (lines ≡ more)
+script_is_one roots others lines more fits fits' same =
+    let both = only_script (script_text roots lines) (roots, lines) (fits, refl) others more fits' same in
+    (ap (λ (q : List RootStart × List ScriptLine). q.0) both, ap (λ (q : List RootStart × List ScriptLine). q.1) both)

@@ -1,23 +1,11 @@
 -- What the reader of a call's line answers: who makes it, the call, and nothing behind it.
-use Rattle.std.proofs.Common.{◌≡◌, ℕ, List, [], ◌∷◌, ◌++◌, Ok, refl, sym, ap, subst, append-nil, inl}
-use Rattle.df_format.specs.Reading.{Read}
-use Rattle.df_format.proofs.Laws.{ok_is}
+use Rattle.df_script_text.proofs.Names.{◌≡◌, ℕ, List, [], ◌∷◌, ◌++◌, Ok, refl, sym, ap, subst, append-nil, inl, Read, ok_is, call_words, IsCall, IsUnit}
+use Rattle.df_script_text.proofs.Names.{IsLargeCall, IsLargeCalled, unit_text, call_at, unit_at, EndsCall, call_text, call_back, unit_finds, unit_word}
+use Rattle.df_script_text.proofs.Names.{ends_spaced, IsScriptLine, script_line, ScriptLine}
 use Rattle.df_value_text.specs.code.WordEnd.{EndsWord}
-use Rattle.df_journal_text.specs.Call.{call_words}
-use Rattle.df_journal_text.specs.Fits.{IsCall, IsUnit}
-use Rattle.df_journal_text.specs.Large.{IsLargeCall, IsLargeCalled}
-use Rattle.df_journal_text.specs.Name.{unit_text}
-use Rattle.df_journal_text.specs.ReadCall.{call_at}
-use Rattle.df_journal_text.specs.ReadName.{unit_at}
-use Rattle.df_journal_text.specs.code.Judging.{EndsCall, call_text, ended}
-use Rattle.df_journal_text.proofs.CallBacks.{call_back}
+use Rattle.df_journal_text.specs.code.Judging.{ended}
 use Rattle.df_journal_text.proofs.CallTells.{call_apart}
-use Rattle.df_journal_text.proofs.Founds.{unit_finds}
 use Rattle.df_journal_text.proofs.Frames.{Frame, Parted, spelled_small}
-use Rattle.df_journal_text.proofs.NameBacks.{unit_word}
-use Rattle.df_journal_text.proofs.WordBacks.{ends_spaced}
-use Rattle.df_script_text.specs.Script.{IsScriptLine, script_line}
-use Rattle.df_script_text.specs.declared.line.ScriptLine.{ScriptLine}
 
 -- what stands behind a call
 abbrev pub nothing : Unit {0} → List ℕ

@@ -1,30 +1,22 @@
 -- Where reading a script stops, there is its first bad line.
-use Rattle.std.proofs.Common.{◌≡◌, ℕ, ◌+◌, ◌<◌, ◌≤◌, List, [], ◌∷◌, ◌++◌, length, length-drop, take, drop, map, false, eqb, Some, None, Ok, Err, refl, sym, ap, subst, ◌∙◌, arith, append-nil, append_assoc, length-append, zero-add}
-use Rattle.std.proofs.lemmas.List.{map-append}
-use Rattle.std.proofs.lemmas.List.Concat.{flat_map-append}
-use Rattle.std.proofs.lemmas.List.Elements.{All-nil, All-push, recursion_from_All}
-use Rattle.df_lines.specs.Lines.{IsLine, ended, lines_text}
+use Rattle.df_script_text.proofs.Names.{◌≡◌, ℕ, ◌+◌, ◌<◌, ◌≤◌, List, [], ◌∷◌, ◌++◌, length, length-drop, take, drop, map, false, eqb, Some, None, Ok, Err, refl}
+use Rattle.df_script_text.proofs.Names.{sym, ap, subst, ◌∙◌, arith, append-nil, append_assoc, length-append, zero-add, All, map-append, flat_map-append}
+use Rattle.df_script_text.proofs.Names.{All-nil, All-push, recursion_from_All, IsLine, ended, lines_text, first_bad, names_line, IsRoot, IsLargeCalled}
+use Rattle.df_script_text.proofs.Names.{root_text, RootStart, HasReadUpTo, IsScript, IsScriptLine, IsScriptText, script_line, call_line, head_lines, numbered}
+use Rattle.df_script_text.proofs.Names.{script_lines, ArePassed, AreRootsAt, IsCallLine, IsFirstAt, IsHeadLine, RootsStop, StopsAt, StopsCall, StopsFirst}
+use Rattle.df_script_text.proofs.Names.{TellsRoot, fault_of, ScriptLine}
 use Rattle.df_lines.specs.Refused.{NamesBadLine}
 use Rattle.df_lines.specs.code.Faults.{IsBadPlace, NamesBadPlace, TellsLine, refusal}
 use Rattle.df_lines.specs.declared.refused.FileRefused.{FileRefused}
-use Rattle.df_lines.specs.declared.refused.FileRefused.TheVariants as refused
 use Rattle.df_lines.specs.declared.fault.FileFault.{FileFault}
-use Rattle.df_lines.specs.declared.fault.FileFault.TheVariants as fault
-use Rattle.df_lines.proofs.FirstBad.{first_bad, names_line}
-use Rattle.df_journal_text.specs.Fits.{IsRoot}
-use Rattle.df_journal_text.specs.Large.{IsLargeCalled}
-use Rattle.df_journal_text.specs.Start.{root_text}
-use Rattle.df_journal_text.specs.code.Judging.{IsNoLine, TellsLine as Told}
 use Rattle.df_journal_text.specs.declared.line_fault.LineFault.{LineFault}
-use Rattle.df_journal_text.specs.declared.line_fault.LineFault.TheVariants as line_fault
-use Rattle.df_start.specs.declared.start.RootStart.{RootStart}
-use Rattle.df_script_text.specs.Reader.{HasReadUpTo}
-use Rattle.df_script_text.specs.Script.{IsScript, IsScriptLine, IsScriptText, script_line}
 use Rattle.df_script_text.specs.TooLarge.{IsTooLargeIn}
-use Rattle.df_script_text.specs.code.Lines.{call_line, head_lines, numbered, script_lines}
-use Rattle.df_script_text.specs.code.Stops.{ArePassed, AreRootsAt, IsCallLine, IsFirstAt, RootsStop, StopsAt, StopsCall, StopsFirst, TellsRoot, fault_of}
-use Rattle.df_script_text.specs.declared.line.ScriptLine.{ScriptLine}
-use Rattle.df_script_text.proofs.Files.{run, first, script_text-lines, AreLines-head, AreLines-script, next_head, more_head, no_run, next_call, front_is, roots_before, start_before, script_grammar}
+use Rattle.df_lines.specs.declared.refused.FileRefused.TheVariants as refused
+use Rattle.df_lines.specs.declared.fault.FileFault.TheVariants as fault
+use Rattle.df_journal_text.specs.code.Judging.{IsNoLine, TellsLine as Told}
+use Rattle.df_journal_text.specs.declared.line_fault.LineFault.TheVariants as line_fault
+use Rattle.df_script_text.proofs.Files.{run, first, script_text-lines, AreLines-head, AreLines-script, next_head, no_run, next_call, front_is, roots_before}
+use Rattle.df_script_text.proofs.Files.{start_before, script_grammar}
 use Rattle.df_script_text.proofs.Numbered.{numbered-push}
 use Rattle.df_script_text.proofs.ScriptLines.{made_small}
 
@@ -36,7 +28,8 @@ lines_push ls l rest =
     sym (append_assoc (lines_text ls) (ended l) rest)
     ∙ ap (λ (u : List ℕ). u ++ rest) (ap (λ (u : List ℕ). lines_text ls ++ u) (sym (append-nil (ended l))) ∙ sym (flat_map-append ended ls (l ∷ [])))
 
-pub roots_more : (bytes : List ℕ) (at place : ℕ) (rs ss : List RootStart) (r : RootStart) (next n : ℕ) → n ≡ length rs → ArePassed bytes at rs place → TellsRoot n bytes place (Some (r, next)) → ss ≡ rs ++ r ∷ [] → ArePassed bytes at ss next
+pub roots_more : (bytes : List ℕ) (at place : ℕ) (rs ss : List RootStart) (r : RootStart) (next n : ℕ) → n ≡ length rs → ArePassed bytes at rs place
+    → TellsRoot n bytes place (Some (r, next)) → ss ≡ rs ++ r ∷ [] → ArePassed bytes at ss next
 roots_more bytes at place rs ss r next n is a t pushed =
     subst (λ (ss : List RootStart). ArePassed bytes at ss next) (sym pushed) (record {
       inside = t.2;
@@ -50,6 +43,10 @@ roots_more bytes at place rs ss r next n is a t pushed =
 
 -- ---- the first bad line
 
+-- the roots and the calls of a script
+abbrev Script : Type 0
+Script = List RootStart × List ScriptLine
+
 -- behind the lines of the head no value stands
 not_large_first : (bad : List ℕ) → ¬ IsTooLargeIn [] bad
 not_large_first bad l = let n = length-append l.0.0 (run ∷ l.0.1) in omega (arith, ap length l.0.2, n)
@@ -61,82 +58,70 @@ not_large_head rs bad l = behind l.0.0 l.0.1 l.0.2
     behind [] calls e = let same : first ≡ run = cc in omega (arith, ap length same)
     behind (h ∷ head) calls e = let tail : numbered root_text 0 rs ≡ head ++ run ∷ calls = cc in no_run 0 rs head calls tail
 
+-- a place is in the first bad line where lines of a script stand before it, and none of a script goes on with this one
+bad_at : (Is : List ℕ → Type 0) (bytes : List ℕ) (before : List (List ℕ)) (place here : ℕ) (bad : List ℕ) → place ≤ length bytes
+    → bytes ≡ lines_text before ++ drop place bytes → here ≡ place → StopsAt Is (drop place bytes) bad → All IsLine before
+    → (x : Script) → IsScript x.0 x.1 → (more : List (List ℕ)) → script_lines x ≡ before ++ more
+    → ((x : Script) → IsScript x.0 x.1 → (rest : List (List ℕ)) → script_lines x ≡ before ++ bad ∷ rest → Is bad)
+    → (drop place bytes ≡ [] → (x : Script) → IsScript x.0 x.1 → script_lines x ≡ before → ⊥) → IsBadPlace IsScriptText bytes here before bad
+bad_at Is bytes before place here bad inside whole at stop lines x fits more is next last = record {
+  first = first_bad script_lines (λ s. IsScript s.0 s.1) IsScriptText script_grammar bytes before bad stop.behind
+      (whole ∙ ap (λ (u : List ℕ). lines_text before ++ u) stop.parts) lines stop.line stop.end x fits more is
+      (λ more feed y f rest e. stop.refused more feed (next y f rest e))
+      (λ none nothing y f e. last (stop.parts ∙ ap (λ (u : List ℕ). u ++ stop.behind) none ∙ nothing) y f e);
+  part = [];
+  parts = ap (λ (k : ℕ). take k bytes) at ∙ front_is bytes (lines_text before) place inside whole ∙ sym (append-nil (lines_text before));
+  line = All-nil (λ b. eqb b 10 ≡ false);
+}
+
 pub first_stop : (bytes : List ℕ) (f : FileFault) → StopsFirst bytes f → NamesBadPlace IsScriptText IsTooLargeIn bytes f
 first_stop bytes fault.NoMemory s = tt
-first_stop bytes (fault.Bad place) s =
-    let bad = s.1.0 in
-    let stop = s.1.1 in (
+first_stop bytes (fault.Bad here) s =
+    let bad = s.1.0 in (
       [],
       bad,
-      record {
-        first = first_bad script_lines (λ s. IsScript s.0 s.1) IsScriptText script_grammar bytes [] bad stop.behind stop.parts (All-nil IsLine) stop.line stop.end ([], []) ((omega arith, All-nil IsRoot), All-nil IsScriptLine) (script_lines ([], [])) refl
-            (λ more feed x fits rest e. let same : bad ≡ first = cc in stop.refused more feed same)
-            (λ none nothing x fits e. cc);
-        part = [];
-        parts = ap (λ (k : ℕ). take k bytes) s.0;
-        line = All-nil (λ b. eqb b 10 ≡ false);
-      },
+      bad_at (λ line. line ≡ first) bytes [] 0 here bad (omega arith) refl s.0 s.1.1 (All-nil IsLine) ([], [])
+          ((omega arith, All-nil IsRoot), All-nil IsScriptLine) (script_lines ([], [])) refl
+          (λ x f rest e. let same : bad ≡ first = cc in same) (λ none x f e. cc),
       not_large_first bad,
     )
-first_stop bytes (fault.TooLarge place) s = absurd s
-
--- the text from a place on, put behind lines
-parts_at : (bytes : List ℕ) (before : List (List ℕ)) (place : ℕ) (bad behind : List ℕ) → bytes ≡ lines_text before ++ drop place bytes → drop place bytes ≡ bad ++ behind → bytes ≡ lines_text before ++ (bad ++ behind)
-parts_at bytes before place bad behind e f = e ∙ ap (λ (u : List ℕ). lines_text before ++ u) f
-
--- the lines in front of a place
-place_at : (bytes : List ℕ) (before : List (List ℕ)) (place here : ℕ) → place ≤ length bytes → bytes ≡ lines_text before ++ drop place bytes → here ≡ place → take here bytes ≡ lines_text before ++ []
-place_at bytes before place here inside e is =
-    ap (λ (k : ℕ). take k bytes) is ∙ front_is bytes (lines_text before) place inside e ∙ sym (append-nil (lines_text before))
+first_stop bytes (fault.TooLarge here) s = absurd s
 
 pub roots_stop : (bytes : List ℕ) (at : ℕ) (f : FileFault) → IsFirstAt bytes at → RootsStop bytes at f → NamesBadPlace IsScriptText IsTooLargeIn bytes f
 roots_stop bytes at fault.NoMemory i s = tt
 roots_stop bytes at (fault.Bad here) i s =
     let rs = s.0 in
-    let place = s.1 in
-    let passed = s.2 in
-    let bad = s.3.1.0 in
-    let stop = s.3.1.1 in
-    let whole = roots_before bytes at rs place i passed in (
+    let bad = s.3.1.0 in (
       head_lines rs,
       bad,
-      record {
-        first = first_bad script_lines (λ s. IsScript s.0 s.1) IsScriptText script_grammar bytes (head_lines rs) bad stop.behind (parts_at bytes (head_lines rs) place bad stop.behind whole stop.parts) (AreLines-head rs passed.few passed.fit) stop.line stop.end (rs, []) ((passed.few, passed.fit), All-nil IsScriptLine) (run ∷ []) refl
-            (λ more feed x fits rest e.
-            let tail : numbered root_text 0 x.0 ++ run ∷ map call_line x.1 ≡ numbered root_text 0 rs ++ bad ∷ rest = cc in
-            stop.refused more feed (next_head 0 (length rs) rs x.0 (map call_line x.1) bad rest (sym (zero-add (length rs))) (recursion_from_All IsRoot x.0 fits.0.1) (omega (arith, fits.0.0)) tail))
-            (λ none nothing x fits e.
-            let tail : numbered root_text 0 x.0 ++ run ∷ map call_line x.1 ≡ numbered root_text 0 rs = cc in
-            more_head 0 rs x.0 (map call_line x.1) tail);
-        part = [];
-        parts = place_at bytes (head_lines rs) place here passed.inside whole s.3.0;
-        line = All-nil (λ b. eqb b 10 ≡ false);
-      },
+      bad_at (IsHeadLine (length rs)) bytes (head_lines rs) s.1 here bad s.2.inside (roots_before bytes at rs s.1 i s.2) s.3.0 s.3.1.1
+          (AreLines-head rs s.2.few s.2.fit) (rs, []) ((s.2.few, s.2.fit), All-nil IsScriptLine) (run ∷ []) refl
+          (λ x f rest e.
+          let tail : numbered root_text 0 x.0 ++ run ∷ map call_line x.1 ≡ numbered root_text 0 rs ++ bad ∷ rest = cc in
+          next_head 0 (length rs) rs x.0 (map call_line x.1) bad rest (sym (zero-add (length rs))) (recursion_from_All IsRoot x.0 f.0.1)
+          (omega (arith, f.0.0)) tail)
+          (λ none x f e.
+          let tail : numbered root_text 0 rs ≡ numbered root_text 0 x.0 ++ run ∷ map call_line x.1 = cc in
+          no_run 0 rs (numbered root_text 0 x.0) (map call_line x.1) tail),
       not_large_head rs bad,
     )
 roots_stop bytes at (fault.TooLarge here) i s = absurd s.3
 
 -- a line among those of calls
-call_stop : (bytes : List ℕ) (rs : List RootStart) (ls : List ScriptLine) (place here : ℕ) (bad : List ℕ) → HasReadUpTo bytes rs ls place → here ≡ place → place < length bytes
-    → StopsAt IsCallLine (drop place bytes) bad → IsBadPlace IsScriptText bytes here (script_lines (rs, ls)) bad
+call_stop : (bytes : List ℕ) (rs : List RootStart) (ls : List ScriptLine) (place here : ℕ) (bad : List ℕ) → HasReadUpTo bytes rs ls place → here ≡ place
+    → place < length bytes → StopsAt IsCallLine (drop place bytes) bad → IsBadPlace IsScriptText bytes here (script_lines (rs, ls)) bad
 call_stop bytes rs ls place here bad h is some stop =
-    let whole : bytes ≡ lines_text (script_lines (rs, ls)) ++ drop place bytes = h.text ∙ ap (λ (u : List ℕ). u ++ drop place bytes) (script_text-lines rs ls) in
-    record {
-      first = first_bad script_lines (λ s. IsScript s.0 s.1) IsScriptText script_grammar bytes (script_lines (rs, ls)) bad stop.behind (parts_at bytes (script_lines (rs, ls)) place bad stop.behind whole stop.parts) (AreLines-script rs ls h.script.0.0 h.script.0.1 h.script.1) stop.line stop.end (rs, ls) h.script [] (sym (append-nil (script_lines (rs, ls))))
-          (λ more feed x fits rest e.
-          let grouped : script_lines (rs, ls) ++ bad ∷ rest ≡ head_lines rs ++ run ∷ (map call_line ls ++ bad ∷ rest) = append_assoc (head_lines rs) (run ∷ map call_line ls) (bad ∷ rest) in
-          let both : script_lines x ≡ head_lines rs ++ run ∷ (map call_line ls ++ bad ∷ rest) = e ∙ grouped in
-          let tail : numbered root_text 0 x.0 ++ run ∷ map call_line x.1 ≡ numbered root_text 0 rs ++ run ∷ (map call_line ls ++ bad ∷ rest) = cc in
-          stop.refused more feed (next_call 0 rs x.0 ls x.1 bad rest (recursion_from_All IsScriptLine x.1 fits.1) tail))
-          (λ none nothing x fits e.
-          let left : drop place bytes ≡ [] = stop.parts ∙ ap (λ (u : List ℕ). u ++ stop.behind) none ∙ nothing in
-          omega (arith, some, ap length left, length-drop place bytes));
-      part = [];
-      parts = place_at bytes (script_lines (rs, ls)) place here h.inside whole is;
-      line = All-nil (λ b. eqb b 10 ≡ false);
-    }
+    bad_at IsCallLine bytes (script_lines (rs, ls)) place here bad h.inside (h.text ∙ ap (λ (u : List ℕ). u ++ drop place bytes) (script_text-lines rs ls))
+    is stop (AreLines-script rs ls h.script.0.0 h.script.0.1 h.script.1) (rs, ls) h.script [] (sym (append-nil (script_lines (rs, ls))))
+    (λ x f rest e.
+    let both : script_lines x ≡ head_lines rs ++ run ∷ (map call_line ls ++ bad ∷ rest) =
+    e ∙ append_assoc (head_lines rs) (run ∷ map call_line ls) (bad ∷ rest) in
+    let tail : numbered root_text 0 x.0 ++ run ∷ map call_line x.1 ≡ numbered root_text 0 rs ++ run ∷ (map call_line ls ++ bad ∷ rest) = cc in
+    next_call 0 rs x.0 ls x.1 bad rest (recursion_from_All IsScriptLine x.1 f.1) tail)
+    (λ none x f e. omega (arith, some, ap length none, length-drop place bytes))
 
-pub calls_stop : (bytes : List ℕ) (rs : List RootStart) (ls : List ScriptLine) (place : ℕ) (f : FileFault) → HasReadUpTo bytes rs ls place → StopsCall bytes place f → NamesBadPlace IsScriptText IsTooLargeIn bytes f
+pub calls_stop : (bytes : List ℕ) (rs : List RootStart) (ls : List ScriptLine) (place : ℕ) (f : FileFault) → HasReadUpTo bytes rs ls place
+    → StopsCall bytes place f → NamesBadPlace IsScriptText IsTooLargeIn bytes f
 calls_stop bytes rs ls place fault.NoMemory h s = tt
 calls_stop bytes rs ls place (fault.Bad here) h s =
     (script_lines (rs, ls), s.2.0, call_stop bytes rs ls place here s.2.0 h s.0 s.1 s.2.1, λ l. s.2.2 l.1)
@@ -157,25 +142,26 @@ calls_refused bytes rs ls place f r is h s =
 pub open_stop : (Is : List ℕ → Type 0) (bytes : List ℕ) → IsLine bytes → StopsAt Is bytes bytes
 open_stop Is bytes line = record { behind = []; parts = sym (append-nil bytes); line = line; end = tt; refused = λ more e. cc }
 
-pub open_call : (bytes : List ℕ) (at : ℕ) → at < length bytes → IsLine (drop at bytes) → (l : ScriptLine) → Told script_line IsScriptLine IsLargeCalled (drop at bytes) (Ok l) → StopsCall bytes at (fault.Bad at)
+-- of a line no call is read
+unread : (bytes : List ℕ) (at : ℕ) (line : List ℕ) → at < length bytes → (IsNoLine script_line IsScriptLine line → StopsAt IsCallLine (drop at bytes) line)
+    → (f : LineFault) → Told script_line IsScriptLine IsLargeCalled line (Err f) → StopsCall bytes at (fault_of at f)
+unread bytes at line some stop line_fault.NoMemory t = tt
+unread bytes at line some stop line_fault.Syntax t = (refl, some, (line, stop t.0, t.1))
+unread bytes at line some stop line_fault.TooLarge t = (refl, some, (line, stop t.0, t.1))
+
+pub open_call : (bytes : List ℕ) (at : ℕ) → at < length bytes → IsLine (drop at bytes) → (l : ScriptLine)
+    → Told script_line IsScriptLine IsLargeCalled (drop at bytes) (Ok l) → StopsCall bytes at (fault.Bad at)
 open_call bytes at some line l t = (refl, some, (drop at bytes, open_stop IsCallLine (drop at bytes) line, made_small (drop at bytes) l t.0 t.1))
 
-pub open_unread : (bytes : List ℕ) (at : ℕ) → at < length bytes → IsLine (drop at bytes) → (f : LineFault) → Told script_line IsScriptLine IsLargeCalled (drop at bytes) (Err f) → StopsCall bytes at (fault_of at f)
-open_unread bytes at some line line_fault.NoMemory t = tt
-open_unread bytes at some line line_fault.Syntax t = (refl, some, (drop at bytes, open_stop IsCallLine (drop at bytes) line, t.1))
-open_unread bytes at some line line_fault.TooLarge t = (refl, some, (drop at bytes, open_stop IsCallLine (drop at bytes) line, t.1))
+pub open_unread : (bytes : List ℕ) (at : ℕ) → at < length bytes → IsLine (drop at bytes) → (f : LineFault)
+    → Told script_line IsScriptLine IsLargeCalled (drop at bytes) (Err f) → StopsCall bytes at (fault_of at f)
+open_unread bytes at some line = unread bytes at (drop at bytes) some (λ _. open_stop IsCallLine (drop at bytes) line)
 
 -- a line is bad where no call is spelled so
-line_stop : (bytes : List ℕ) (at : ℕ) (line : List ℕ) (next : ℕ) → TellsLine bytes at (Some (line, next)) → IsNoLine script_line IsScriptLine line → StopsAt IsCallLine (drop at bytes) line
-line_stop bytes at line next l none =
-    record { behind = 10 ∷ drop next bytes; parts = l.3; line = l.0; end = refl; refused = λ more e k. none k.0 k.1 (ap ended k.2) }
-
--- a line of which no call is read
 pub line_unread : (bytes : List ℕ) (at : ℕ) (line : List ℕ) (next : ℕ) → TellsLine bytes at (Some (line, next))
     → (f : LineFault) → Told script_line IsScriptLine IsLargeCalled line (Err f) → StopsCall bytes at (fault_of at f)
-line_unread bytes at line next l line_fault.NoMemory t = tt
-line_unread bytes at line next l line_fault.Syntax t = (refl, omega (arith, l.1, l.2), (line, line_stop bytes at line next l t.0, t.1))
-line_unread bytes at line next l line_fault.TooLarge t = (refl, omega (arith, l.1, l.2), (line, line_stop bytes at line next l t.0, t.1))
+line_unread bytes at line next l = unread bytes at line (omega (arith, l.1, l.2)) (λ none.
+    record { behind = 10 ∷ drop next bytes; parts = l.3; line = l.0; end = refl; refused = λ more e k. none k.0 k.1 (ap ended k.2) })
 
 -- a line with its line feed, and what stands behind it
 line_is : (bytes : List ℕ) (at : ℕ) (line : List ℕ) (next : ℕ) → TellsLine bytes at (Some (line, next)) → drop at bytes ≡ ended line ++ drop next bytes
@@ -191,7 +177,8 @@ run_at bytes at line next is l =
 -- ---- scripts up to a place
 
 pub start_read : (bytes : List ℕ) (at : ℕ) (rs : List RootStart) (mid : ℕ) → IsFirstAt bytes at → AreRootsAt bytes at rs mid → HasReadUpTo bytes rs [] mid
-start_read bytes at rs mid i r = record { inside = r.inside; script = ((r.passed.few, r.passed.fit), All-nil IsScriptLine); text = start_before bytes at rs mid i r }
+start_read bytes at rs mid i r =
+    record { inside = r.inside; script = ((r.passed.few, r.passed.fit), All-nil IsScriptLine); text = start_before bytes at rs mid i r }
 
 -- one more call
 pub call_read : (bytes : List ℕ) (rs : List RootStart) (ls : List ScriptLine) (l : ScriptLine) (place : ℕ) (line : List ℕ) (next : ℕ)
@@ -199,7 +186,8 @@ pub call_read : (bytes : List ℕ) (rs : List RootStart) (ls : List ScriptLine) 
     → HasReadUpTo bytes rs (ls ++ l ∷ []) next
 call_read bytes rs ls l place line next h t read =
     let more : script_lines (rs, ls) ++ call_line l ∷ [] ≡ script_lines (rs, ls ++ l ∷ []) =
-    append_assoc (head_lines rs) (run ∷ map call_line ls) (call_line l ∷ []) ∙ ap (λ (m : List (List ℕ)). head_lines rs ++ run ∷ m) (sym (map-append call_line ls (l ∷ []))) in
+    append_assoc (head_lines rs) (run ∷ map call_line ls) (call_line l ∷ [])
+    ∙ ap (λ (m : List (List ℕ)). head_lines rs ++ run ∷ m) (sym (map-append call_line ls (l ∷ []))) in
     record {
       inside = t.2;
       script = (h.script.0, All-push IsScriptLine ls l h.script.1 read.0);

@@ -1,15 +1,14 @@
 -- Words: each of their bytes is above a space.
-use Rattle.std.proofs.Common.{◌≡◌, ℕ, ◌<◌, ◌^◌, Bool, true, nat_lt, List, [], ◌∷◌, ◌++◌, map, codes, decimal, ℤ, pos, negsuc, suc, refl, arith, lit<}
-use Rattle.std.specs.List.{list_all, AllByRecursion, join_with_byte}
+use Rattle.df_script_text.proofs.Names.{◌≡◌, ℕ, ◌<◌, ◌^◌, Bool, true, nat_lt, List, [], ◌∷◌, ◌++◌, map, codes, decimal, ℤ, pos, negsuc, suc, refl, arith}
+use Rattle.df_script_text.proofs.Names.{list_all, AllByRecursion, join_with_byte, signed_decimal, nat_tests, list_all-append, is_name, is_name_byte, is_letter}
+use Rattle.df_script_text.proofs.Names.{UnitName, Root, Managed, AreNumbers, AreTags, IsLabel, IsPrivilege, IsTag, IsTagSet, label_text, path_text}
+use Rattle.df_script_text.proofs.Names.{privilege_text, right_text, tag_text, tags_text, IsWhole, act_text, half_text, unit_text, IsUnit, braced}
 use Rattle.std.specs.Str.{all_ascii_digits}
 use Rattle.std.specs.Char.{is_ascii_digit}
 use Rattle.std.specs.Str.Parse.{digits_value}
-use Rattle.std.specs.Fmt.{signed_decimal}
 use Rattle.std.proofs.lemmas.Fmt.{digits_decimal}
 use Rattle.std.proofs.lemmas.Str.Parse.{IsNumeralModel, numerals_by_value, tells_all_ascii_digits}
 use Rattle.std.proofs.lemmas.Bool.{and_parts}
-use Rattle.std.proofs.lemmas.Bool.Decides.{nat_tests}
-use Rattle.std.proofs.lemmas.List.Folds.{list_all-append}
 use Rattle.df_label.specs.declared.label.Label.{Label}
 use Rattle.df_label.specs.declared.privilege.Privilege.{Privilege}
 use Rattle.df_label.specs.declared.privilege.Right.{Right}
@@ -18,16 +17,6 @@ use Rattle.df_priv.specs.declared.need.Half.{Half}
 use Rattle.df_priv.specs.declared.need.Half.TheVariants.{S, I}
 use Rattle.df_priv.specs.declared.need.Act.{Act}
 use Rattle.df_priv.specs.declared.need.Act.TheVariants.{Add, Del}
-use Rattle.df_frozen.specs.Name.{is_name, is_name_byte, is_letter}
-use Rattle.df_unit.specs.declared.name.UnitName.{UnitName}
-use Rattle.df_unit.specs.declared.name.UnitName.TheVariants.{Root, Managed}
-use Rattle.df_value_text.specs.Fits.{AreNumbers, AreTags, IsLabel, IsPrivilege, IsTag, IsTagSet}
-use Rattle.df_value_text.specs.Label.{label_text, path_text, privilege_text, right_text, tag_text, tags_text}
-use Rattle.df_value_text.specs.ReadWhole.{IsWhole}
-use Rattle.df_journal_text.specs.Call.{act_text, half_text}
-use Rattle.df_journal_text.specs.Name.{unit_text}
-use Rattle.df_journal_text.specs.Fits.{IsUnit}
-use Rattle.df_journal_text.proofs.WordBacks.{braced}
 
 -- whether each byte is above a space
 abbrev pub is_word : List ℕ → Bool
@@ -37,20 +26,18 @@ is_word text = list_all (λ b. nat_lt 32 b) text
 abbrev pub AreWords : List (List ℕ) → Type 0
 AreWords ws = AllByRecursion (λ w. is_word w ≡ true) ws
 
--- one more byte above a space
-pub above : (b : ℕ) (bs : List ℕ) → 32 < b → is_word bs ≡ true → is_word (b ∷ bs) ≡ true
-above b bs h t = let e : nat_lt 32 b ≡ true = grind (arith, nat_tests) in rw e t
+-- what passes this test passes that one
+pub each_passes : (p q : ℕ → Bool) → ((b : ℕ) → p b ≡ true → q b ≡ true) → (bs : List ℕ) → list_all p bs ≡ true → list_all q bs ≡ true
+each_passes p q f [] h = refl
+each_passes p q f (b ∷ bs) h = let t = and_parts (p b) (list_all p bs) h in rw (f b t.0, each_passes p q f bs t.1) refl
 
--- a digit is above a space
-digit_above : (d : ℕ) → is_ascii_digit d ≡ true → 32 < d
+digit_above : (d : ℕ) → is_ascii_digit d ≡ true → nat_lt 32 d ≡ true
 digit_above d h = grind (arith, nat_tests)
 
--- a byte of a name is above a space
-name_byte_above : (b : ℕ) → is_name_byte b ≡ true → 32 < b
+name_byte_above : (b : ℕ) → is_name_byte b ≡ true → nat_lt 32 b ≡ true
 name_byte_above b h = grind (arith, nat_tests)
 
--- a letter is above a space
-letter_above : (b : ℕ) → is_letter b ≡ true → 32 < b
+letter_above : (b : ℕ) → is_letter b ≡ true → nat_lt 32 b ≡ true
 letter_above b h = grind (arith, nat_tests)
 
 -- digits are a word
@@ -58,7 +45,7 @@ is_word-digits : (ds : List ℕ) → all_ascii_digits ds ≡ true → is_word ds
 is_word-digits [] h = refl
 is_word-digits (d ∷ ds) h =
     let p = and_parts (is_ascii_digit d) (all_ascii_digits ds) h in
-    above d ds (digit_above d p.0) (is_word-digits ds p.1)
+    rw (digit_above d p.0, is_word-digits ds p.1) refl
 
 -- digits and their value, as std reads them
 digits_model : IsNumeralModel (λ ds. all_ascii_digits ds ≡ true) (digits_value 10)
@@ -71,14 +58,7 @@ is_word-decimal n h = is_word-digits (decimal n) (digits_decimal digits_model n 
 -- a whole number is a word
 pub is_word-signed : (z : ℤ) → IsWhole z → is_word (signed_decimal z) ≡ true
 is_word-signed (pos n) h = is_word-decimal n (omega (arith, h))
-is_word-signed (negsuc n) h = above 45 (decimal (suc n)) (lit< tt) (is_word-decimal (suc n) (omega (arith, h)))
-
--- the bytes of a name are a word
-name_bytes : (bs : List ℕ) → list_all is_name_byte bs ≡ true → is_word bs ≡ true
-name_bytes [] h = refl
-name_bytes (b ∷ bs) h =
-    let p = and_parts (is_name_byte b) (list_all is_name_byte bs) h in
-    above b bs (name_byte_above b p.0) (name_bytes bs p.1)
+is_word-signed (negsuc n) h = is_word-decimal (suc n) (omega (arith, h))
 
 -- a name is a word
 pub is_word-name : (bs : List ℕ) → is_name bs ≡ true → is_word bs ≡ true
@@ -86,7 +66,7 @@ is_word-name [] h = refl
 is_word-name (b ∷ bs) h =
     let p = and_parts (is_letter b) _ h in
     let q = and_parts _ (list_all is_name_byte bs) p.1 in
-    above b bs (letter_above b p.0) (name_bytes bs q.1)
+    rw (letter_above b p.0, each_passes is_name_byte (λ b. nat_lt 32 b) name_byte_above bs q.1) refl
 
 -- two words in a row are a word
 pub is_word-append : (xs ys : List ℕ) → is_word xs ≡ true → is_word ys ≡ true → is_word (xs ++ ys) ≡ true
@@ -96,12 +76,11 @@ is_word-append xs ys h t = rw (list_all-append (λ b. nat_lt 32 b) xs ys, h, t) 
 pub number_word : (n : ℕ) → n < 2 ^ 32 → is_word (decimal n) ≡ true
 number_word n h = is_word-decimal n (omega (arith, h))
 
--- words with a byte above a space between each two are a word
-is_word-joined : (sep : ℕ) (ws : List (List ℕ)) → 32 < sep → AreWords ws → is_word (join_with_byte sep ws) ≡ true
+-- words with such a byte between each two are a word
+is_word-joined : (sep : ℕ) (ws : List (List ℕ)) → nat_lt 32 sep ≡ true → AreWords ws → is_word (join_with_byte sep ws) ≡ true
 is_word-joined sep [] h t = refl
 is_word-joined sep (w ∷ []) h t = t.0
-is_word-joined sep (w ∷ v ∷ vs) h t =
-    is_word-append w (sep ∷ join_with_byte sep (v ∷ vs)) t.0 (above sep (join_with_byte sep (v ∷ vs)) h (is_word-joined sep (v ∷ vs) h t.1))
+is_word-joined sep (w ∷ v ∷ vs) h t = is_word-append w (sep ∷ join_with_byte sep (v ∷ vs)) t.0 (rw (h, is_word-joined sep (v ∷ vs) h t.1) refl)
 
 -- numbers of 32 bits are words
 AreWords-numbers : (ns : List ℕ) → AreNumbers ns → AreWords (map decimal ns)
@@ -111,7 +90,7 @@ AreWords-numbers (n ∷ ns) h = (number_word n h.0, AreWords-numbers ns h.1)
 -- a path is a word
 is_word-path : (path : List ℕ) → IsTag path → is_word (path_text path) ≡ true
 is_word-path [] h = absurd h
-is_word-path (n ∷ ns) h = is_word-joined 46 (map decimal (n ∷ ns)) (lit< tt) (number_word n h.0, AreWords-numbers ns h.1)
+is_word-path (n ∷ ns) h = is_word-joined 46 (map decimal (n ∷ ns)) refl (AreWords-numbers (n ∷ ns) h)
 
 -- a tag is a word
 pub is_word-tag : (tag : List ℕ) → IsTag tag → is_word (tag_text tag) ≡ true
@@ -124,7 +103,7 @@ AreWords-tags (tag ∷ tags) h = (is_word-tag tag h.0, AreWords-tags tags h.1)
 
 -- a set of tags is a word
 is_word-tags : (tags : List (List ℕ)) → IsTagSet tags → is_word (tags_text tags) ≡ true
-is_word-tags tags h = is_word-joined 44 (map tag_text tags) (lit< tt) (AreWords-tags tags h.0)
+is_word-tags tags h = is_word-joined 44 (map tag_text tags) refl (AreWords-tags tags h.0)
 
 -- a label is a word
 pub is_word-label : (l : Label) → IsLabel l → is_word (label_text l) ≡ true
@@ -158,7 +137,7 @@ is_word-act Del = refl
 
 -- tags in braces are a word
 pub is_word-braced : (tags : List (List ℕ)) → IsTagSet tags → is_word (braced tags) ≡ true
-is_word-braced tags h = is_word-append (123 ∷ tags_text tags) (codes "}") (above 123 (tags_text tags) (lit< tt) (is_word-tags tags h)) refl
+is_word-braced tags h = is_word-append (123 ∷ tags_text tags) (codes "}") (is_word-tags tags h) refl
 
 -- who makes a call is a word
 pub is_word-actor : (u : UnitName) → IsUnit u → is_word (unit_text u) ≡ true

@@ -44,14 +44,9 @@ fn whole_script(alloc: Global, bytes: &[u8]) -> Result<(Start, Vec<ScriptLine>),
         (bytes.now ≡ script_text s.0 s.1.items)) }
     ensures refused { IfErr result (NamesBadLine IsScriptText IsTooLargeIn bytes.now) }
 {
-    let (start, mut reader) = match ScriptReader::begin(alloc, bytes) {
-        Ok(begun) => begun,
-        Err(refused) => return Err(refused),
-    };
-    match lines_of(alloc, &mut reader) {
-        Ok(lines) => Ok((start, lines)),
-        Err(refused) => Err(refused),
-    }
+    let (start, mut reader) = ScriptReader::begin(alloc, bytes)?;
+    let lines = lines_of(alloc, &mut reader)?;
+    Ok((start, lines))
 }
 
 /// Reads a script. Where a file isn't spelled as one, the first bad line is told, and whether a

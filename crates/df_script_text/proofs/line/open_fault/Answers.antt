@@ -15,4 +15,5 @@ returns-in-Ok c =
 pub returns-in-Err : goal.returns-in-Err
 returns-in-Err c =
     let told = subst (λ (l : List ℕ). TellsLine script_line IsScriptLine IsLargeCalled l (Err c.in-Err.fault)) c.rest_at.ensures c.in-Err.ensures in
-    subst (λ (f : FileFault). StopsCall c.args.bytes.now c.args.at f) (sym c.fault_of.ensures) (open_unread c.args.bytes.now c.args.at c.requires.some c.requires.open c.in-Err.fault told)
+    subst (λ (f : FileFault). StopsCall c.args.bytes.now c.args.at f) (sym c.fault_of.ensures)
+    (open_unread c.args.bytes.now c.args.at c.requires.some c.requires.open c.in-Err.fault told)
