@@ -1,14 +1,9 @@
 -- A filter that is spelled is read back, where a word ends, and what stands behind it is left.
-use Rattle.std.proofs.Common.{◌≡◌, ℕ, zero, suc, false, eqb, List, [], ◌∷◌, ◌++◌, Ok, refl}
-use Rattle.df_filter.specs.declared.clause.Clause.{Clause}
-use Rattle.df_format.specs.Format.{Ends}
-use Rattle.df_filter_text.specs.Filter.{filter_text}
-use Rattle.df_filter_text.specs.Fits.{IsFilter}
-use Rattle.df_filter_text.specs.ReadFilter.{filter_at}
-use Rattle.df_filter_text.proofs.ClauseLaws.{clause_goes, clause_ends}
-use Rattle.df_filter_text.proofs.FilterLaws.{filter_format, filter_goes, more_goes}
+use Rattle.df_filter_text.proofs.Names.{◌≡◌, ℕ, zero, suc, false, eqb, List, [], ◌∷◌, ◌++◌, Ok, refl, Clause, Ends, filter_text, IsFilter, filter_at}
 use Rattle.df_value_text.specs.code.WordEnd.{IsBreak, EndsWord}
 use Rattle.df_value_text.proofs.WordEnds.{at_break}
+use Rattle.df_filter_text.proofs.ClauseLaws.{clause_goes, clause_ends}
+use Rattle.df_filter_text.proofs.FilterLaws.{filter_format, filter_goes, more_goes}
 
 more_stop : (most : ℕ) (clauses : List Clause) (c : ℕ) → IsBreak c → more_goes most clauses c ≡ false
 more_stop zero clauses c end = refl

@@ -1,13 +1,9 @@
 -- The loop that reads clauses, step by step.
-use Rattle.df_filter_text.proofs.Names.{◌≡◌, ℕ, zero, suc, ◌+◌, ◌-◌, ◌<◌, ◌≤◌, true, false, eqb, List, [], ◌∷◌, ◌++◌, length, drop, Option, Some, Ok, Err}
-use Rattle.df_filter_text.proofs.Names.{refl, sym, ap, ◌∙◌, ◌⊎◌, inl, inr, arith, append-nil, Read, ◌>>=◌, listed, optional}
-use Rattle.std.proofs.lemmas.List.{length_push}
-use Rattle.df_filter.specs.declared.clause.Clause.{Clause}
-use Rattle.df_format.specs.Reading.{Stop, with_front}
+use Rattle.df_filter_text.proofs.Names.{◌≡◌, ℕ, zero, suc, ◌+◌, ◌-◌, ◌<◌, ◌≤◌, true, false, eqb, List, [], ◌∷◌, ◌++◌, length, drop, Option, Some, Ok, Err, refl}
+use Rattle.df_filter_text.proofs.Names.{sym, ap, ◌∙◌, ◌⊎◌, inl, inr, arith, append-nil, Read, ◌>>=◌, listed, optional, length_push, Clause, Stop, with_front}
+use Rattle.df_filter_text.proofs.Names.{begins_with, clause_at, more_clauses_at, filter_at}
 use Rattle.df_format.proofs.ItemSteps.{onto, regroup}
-use Rattle.df_value_text.specs.Number.{begins_with}
 use Rattle.df_value_text.proofs.TagSteps.{behind_it}
-use Rattle.df_filter_text.specs.ReadFilter.{clause_at, more_clauses_at, filter_at}
 
 abbrev paired : Clause → List Clause × List ℕ → Read ℕ (Clause × List Clause)
 paired x y = Ok ((x, y.0), y.1)
@@ -52,7 +48,8 @@ pub clauses_begun : (bytes : List ℕ) (at start : ℕ) (first : Clause) (clause
 clauses_begun bytes at start first clauses e is = record {
   left = 3;
   room = omega (arith, ap length is);
-  rest = ap (λ (xs : List Clause). with_front xs (more_clauses_at 3 (drop start bytes))) is ∙ sym (first_listed first (more_clauses_at 3 (drop start bytes))) ∙ rw e refl;
+  rest = ap (λ (xs : List Clause). with_front xs (more_clauses_at 3 (drop start bytes))) is
+      ∙ sym (first_listed first (more_clauses_at 3 (drop start bytes))) ∙ rw e refl;
 }
 
 module _ {bytes : List ℕ} {at place : ℕ} {clauses : List Clause} (s : SoFar bytes at place clauses) where

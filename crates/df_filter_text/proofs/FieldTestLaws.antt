@@ -1,20 +1,18 @@
 -- Tests of fields are read as they are spelled.
 use Rattle.df_filter_text.proofs.Names.{◌≡◌, ℕ, Bool, false, eqb, List, [], ◌∷◌, ◌++◌, Option, Some, None, drop, refl, sym, ap, subst, ◌∙◌, arith, ◌⊎◌, inl}
-use Rattle.df_filter_text.proofs.Names.{inr}
-use Rattle.df_filter_text.proofs.Names.{ℤ, pos, negsuc, IsUtf8, is_ascii_digit, signed_decimal, nat_tests, Begins, either_at, then_at, closed_at, Format}
-use Rattle.df_filter_text.proofs.Names.{never, ends_never, then_second_format, then_goes, behind_format, closed_format, nowhere, nowhere_is_local, Of, made}
-use Rattle.df_filter_text.proofs.Names.{told_as, either_of, IsWhole, whole_at, words_at}
+use Rattle.df_filter_text.proofs.Names.{inr, ℤ, pos, negsuc, is_ascii_digit, nat_tests, Begins, either_at, then_at, closed_at, Format, never, ends_never}
+use Rattle.df_filter_text.proofs.Names.{then_second_format, then_goes, behind_format, closed_format, nowhere, nowhere_is_local, Of, made, told_as, either_of}
+use Rattle.df_filter_text.proofs.Names.{FieldTest, then_spell, ThenFits, field_test_text, IsFieldTest}
+use Rattle.std.specs.Prelude.{IsUtf8}
+use Rattle.std.specs.Fmt.{signed_decimal}
 use Rattle.std.proofs.lemmas.Str.{IsUtf8-nil}
-use Rattle.df_filter.specs.declared.field_test.FieldTest.{FieldTest}
+use Rattle.df_value_text.specs.ReadWhole.{IsWhole, whole_at}
+use Rattle.df_value_text.specs.ReadWords.{words_at}
 use Rattle.df_filter.specs.declared.field_test.FieldTest.TheVariants.{IntEq, IntLess, IntMore, IntIn, TextEq, TextPrefix}
-use Rattle.df_format.specs.Spelling.{then_spell}
-use Rattle.df_format.proofs.Thens.{ThenFits}
 use Rattle.df_value_text.specs.Value.{words_text}
 use Rattle.df_value_text.proofs.NumberLaws.{no_digit_begins}
 use Rattle.df_value_text.proofs.WholeLaws.{whole_goes, whole_format}
 use Rattle.df_value_text.proofs.WordsLaws.{words_format}
-use Rattle.df_filter_text.specs.FieldTest.{field_test_text}
-use Rattle.df_filter_text.specs.Fits.{IsFieldTest}
 use Rattle.df_filter_text.specs.ReadFieldTest.{words_equal_at, whole_equal_at, equal_at, below_at, above_at, range_of, range_at, prefix_at, field_test_at}
 use Rattle.df_filter_text.proofs.Signs.{Kind, signed, kind_as, choose}
 

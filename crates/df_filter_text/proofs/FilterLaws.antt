@@ -1,17 +1,12 @@
 -- Filters are read as they are spelled.
 use Rattle.df_filter_text.proofs.Names.{◌≡◌, ℕ, zero, suc, ◌≤◌, Bool, true, false, cond, eqb, List, [], ◌∷◌, ◌++◌, length, Option, Some, None, Ok, refl, sym}
-use Rattle.df_filter_text.proofs.Names.{ap, subst, ◌∙◌, append_assoc, arith, inl, inr, nat_lt, nat_tests, eqb-true, append-nil, then_at, behind_at}
-use Rattle.df_filter_text.proofs.Names.{maybe_spell, more_spell, CanGoOn, Ends, Found, Format, ok_is, not_both, told, ends_never, nowhere, nowhere_is_local}
-use Rattle.df_filter_text.proofs.Names.{viewed}
-use Rattle.df_filter_text.proofs.Names.{behind_format, MaybeFits, maybe_goes, maybe_format, listed, optional}
-use Rattle.df_filter.specs.declared.clause.Clause.{Clause}
-use Rattle.df_filter.specs.declared.clause.Test.TheVariants as test
-use Rattle.df_format.specs.Spelling.{then_spell}
-use Rattle.df_format.proofs.Thens.{ThenFits, then_extend, then_behind, then_format}
+use Rattle.df_filter_text.proofs.Names.{ap, subst, ◌∙◌, append_assoc, arith, inl, inr, nat_lt, nat_tests, eqb-true, append-nil, then_at, behind_at, maybe_spell}
+use Rattle.df_filter_text.proofs.Names.{more_spell, CanGoOn, Ends, Found, Format, ok_is, not_both, told, ends_never, nowhere, nowhere_is_local, viewed}
+use Rattle.df_filter_text.proofs.Names.{behind_format, MaybeFits, maybe_goes, maybe_format, listed, optional, Clause, then_spell, ThenFits, then_extend}
+use Rattle.df_filter_text.proofs.Names.{then_behind, then_format, clause_text, filter_text, IsClause, AreClauses, IsFilter, clause_at, more_clauses_at}
+use Rattle.df_filter_text.proofs.Names.{filter_at}
 use Rattle.df_value_text.proofs.TagLaws.{joined_items}
-use Rattle.df_filter_text.specs.Filter.{clause_text, filter_text}
-use Rattle.df_filter_text.specs.Fits.{IsClause, AreClauses, IsFilter}
-use Rattle.df_filter_text.specs.ReadFilter.{clause_at, more_clauses_at, filter_at}
+use Rattle.df_filter.specs.declared.clause.Test.TheVariants as test
 use Rattle.df_filter_text.proofs.ClauseLaws.{clause_goes, clause_ends, clause_format}
 
 -- a clause of the shortest kind

@@ -1,12 +1,10 @@
 -- Kinds of things that the first byte of their spelling tells apart.
-use Rattle.df_filter_text.proofs.Names.{◌≡◌, ℕ, Bool, false, eqb, eq-eqb, List, [], ◌∷◌, ◌++◌, refl, sym, ap, subst, ◌∙◌, ◌⊎◌, inl, inr, AllByRecursion}
-use Rattle.df_filter_text.proofs.Names.{nat_tests, arith}
-use Rattle.df_filter_text.proofs.Names.{Read, as_at, then_at, behind_at, either_at, is_name_byte, Ends, Format, own, then_second_format, then_goes}
-use Rattle.df_filter_text.proofs.Names.{behind_format}
-use Rattle.df_filter_text.proofs.Names.{nowhere, nowhere_is_local, Of, made, fitting, either_of, name_at}
-use Rattle.df_format.specs.Spelling.{then_spell}
-use Rattle.df_format.proofs.Thens.{ThenFits}
-use Rattle.df_value_text.proofs.NameLaws.{IsName, name_goes, name_format}
+use Rattle.df_filter_text.proofs.Names.{◌≡◌, ℕ, Bool, false, eqb, eq-eqb, List, [], ◌∷◌, ◌++◌, refl, sym, ap, subst, ◌∙◌, ◌⊎◌, inl, inr, nat_tests, arith, Read}
+use Rattle.df_filter_text.proofs.Names.{as_at, then_at, behind_at, either_at, Ends, Format, own, then_second_format, then_goes, behind_format, nowhere}
+use Rattle.df_filter_text.proofs.Names.{nowhere_is_local, Of, made, fitting, either_of, then_spell, ThenFits, IsName, name_goes, name_format}
+use Rattle.std.specs.List.{AllByRecursion}
+use Rattle.df_frozen.specs.Name.{is_name_byte}
+use Rattle.df_value_text.specs.ReadName.{name_at}
 
 -- one of these bytes
 abbrev pub Among : List ℕ → ℕ → Type 0

@@ -1,21 +1,13 @@
 -- What the laws of filters say of the reader of whole texts.
-use Rattle.df_filter_text.proofs.Names.{◌≡◌, ℕ, ◌-◌, ◌<◌, ◌≤◌, true, false, eqb, List, [], ◌∷◌, ◌++◌, length, drop, Ok, Err, refl, sym, ap, subst, ◌∙◌}
-use Rattle.df_filter_text.proofs.Names.{arith, nat_lt, eqb-true, nat_tests, append-nil, ok_is, not_both, Read, nowhere}
-use Rattle.std.proofs.Common.{Result, length-drop}
+use Rattle.df_filter_text.proofs.Names.{◌≡◌, ℕ, ◌-◌, ◌≤◌, true, false, eqb, List, [], ◌∷◌, ◌++◌, length, drop, Ok, Err, refl, sym, ap, subst, ◌∙◌, arith}
+use Rattle.df_filter_text.proofs.Names.{nat_lt, eqb-true, nat_tests, append-nil, ok_is, not_both, Read, nowhere, Result, length-drop, Clause, Bad, Low}
+use Rattle.df_filter_text.proofs.Names.{FirstBad, ends_of, first_bad, begins_with, filter_text, IsFilter, filter_at}
 use Rattle.df_filter.specs.Filter.{filter_of}
-use Rattle.df_filter.specs.declared.clause.Clause.{Clause}
 use Rattle.df_filter.specs.declared.filter.FilterRefused.{FilterRefused}
-use Rattle.df_format.specs.Reading.{Bad, Low}
-use Rattle.df_format.specs.Grammar.{FirstBad}
-use Rattle.df_format.proofs.Laws.{ends_of, first_bad}
 use Rattle.df_value_text.specs.code.Answer.{Fails}
-use Rattle.df_value_text.specs.Number.{begins_with}
 use Rattle.df_value_text.specs.declared.refused.Fault.{Fault}
-use Rattle.df_value_text.specs.declared.refused.Fault.TheVariants as fault
 use Rattle.df_filter_text.specs.code.Answer.{HasFifth, IsRefused, IsRefusedBy, refusal}
-use Rattle.df_filter_text.specs.Filter.{filter_text}
-use Rattle.df_filter_text.specs.Fits.{IsFilter}
-use Rattle.df_filter_text.specs.ReadFilter.{filter_at}
+use Rattle.df_value_text.specs.declared.refused.Fault.TheVariants as fault
 use Rattle.df_filter_text.specs.declared.refused.FilterTextRefused.TheVariants as refused
 use Rattle.df_filter_text.proofs.FilterLaws.{filter_goes, filter_format, four_end, fewer_go_on, short_clause, short_fits}
 

@@ -1,6 +1,6 @@
 //! Reading clauses.
 ghost use Rattle.std.specs.Prelude.{◌≡◌, ◌≤◌, length, drop};
-ghost use Rattle.df_filter_text.specs.ReadFilter.{clause_at, filter_at, key_at, present_at, test_at, test_of, value_test_at};
+ghost use Rattle.df_filter_text.specs.ReadFilter.{clause_at, filter_at, key_at, test_at, test_of};
 ghost use Rattle.df_value_text.specs.code.Answer.{Gives};
 
 use crate::field_test_reader::field_test_at;
@@ -22,15 +22,6 @@ fn test_of(asked: FieldTest) -> Test
     }
 }
 
-/// `?` at the place, and the place behind it.
-fn present_at(bytes: &[u8], at: usize) -> Result<(Test, usize), Fault>
-    requires { at ≤ length bytes.now }
-    ensures { Gives (λ t. t) bytes.now result (present_at (drop at bytes.now)) }
-{
-    let (_, end) = byte_at(bytes, at, b'?')?;
-    Ok((Test::Present, end))
-}
-
 /// `.` at the place with a field and what is asked of it, and the place behind them.
 fn key_at(alloc: Global, bytes: &[u8], at: usize) -> Result<(Test, usize), Fault>
     requires { at ≤ length bytes.now }
@@ -42,27 +33,20 @@ fn key_at(alloc: Global, bytes: &[u8], at: usize) -> Result<(Test, usize), Fault
     Ok((Test::Key(field, asked), end))
 }
 
-/// What is asked of the value itself at the place, and the place behind it.
-fn value_test_at(alloc: Global, bytes: &[u8], at: usize) -> Result<(Test, usize), Fault>
-    requires { at ≤ length bytes.now }
-    ensures { Gives (λ t. t) bytes.now result (value_test_at (drop at bytes.now)) }
-{
-    let (asked, end) = field_test_at(alloc, bytes, at)?;
-    Ok((test_of(asked), end))
-}
-
 /// The test at the place, and the place behind it.
 fn test_at(alloc: Global, bytes: &[u8], at: usize) -> Result<(Test, usize), Fault>
     requires { at ≤ length bytes.now }
     ensures { Gives (λ t. t) bytes.now result (test_at (drop at bytes.now)) }
 {
     if byte_stands(bytes, at, b'?') {
-        return present_at(bytes, at);
+        let (_, end) = byte_at(bytes, at, b'?')?;
+        return Ok((Test::Present, end));
     }
     if byte_stands(bytes, at, b'.') {
         return key_at(alloc, bytes, at);
     }
-    value_test_at(alloc, bytes, at)
+    let (asked, end) = field_test_at(alloc, bytes, at)?;
+    Ok((test_of(asked), end))
 }
 
 /// The clause at the place, and the place behind it.

@@ -1,29 +1,11 @@
 //! Reading tests of fields.
 ghost use Rattle.std.specs.Prelude.{◌≤◌, length, drop};
-ghost use Rattle.df_filter_text.specs.ReadFieldTest.{above_at, below_at, equal_at, field_test_at, prefix_at, range_at, whole_equal_at, words_equal_at};
+ghost use Rattle.df_filter_text.specs.ReadFieldTest.{above_at, below_at, equal_at, field_test_at, prefix_at, range_at};
 ghost use Rattle.df_value_text.specs.code.Answer.{Gives};
 
 use df_filter::FieldTest;
 use df_value_text::{Fault, byte_at, byte_stands, text_at, whole_at, words_at};
 use std::alloc::Global;
-
-/// The words at the place that a value is to be, and the place behind them.
-fn words_equal_at(alloc: Global, bytes: &[u8], at: usize) -> Result<(FieldTest, usize), Fault>
-    requires { at ≤ length bytes.now }
-    ensures { Gives (λ t. t) bytes.now result (words_equal_at (drop at bytes.now)) }
-{
-    let (words, end) = words_at(alloc, bytes, at)?;
-    Ok((FieldTest::TextEq(words), end))
-}
-
-/// The whole number at the place that a value is to be, and the place behind it.
-fn whole_equal_at(bytes: &[u8], at: usize) -> Result<(FieldTest, usize), Fault>
-    requires { at ≤ length bytes.now }
-    ensures { Gives (λ t. t) bytes.now result (whole_equal_at (drop at bytes.now)) }
-{
-    let (number, end) = whole_at(bytes, at)?;
-    Ok((FieldTest::IntEq(number), end))
-}
 
 /// `=` at the place with words or a whole number, and the place behind them.
 fn equal_at(alloc: Global, bytes: &[u8], at: usize) -> Result<(FieldTest, usize), Fault>
@@ -32,9 +14,11 @@ fn equal_at(alloc: Global, bytes: &[u8], at: usize) -> Result<(FieldTest, usize)
 {
     let (_, start) = byte_at(bytes, at, b'=')?;
     if byte_stands(bytes, start, b'"') {
-        return words_equal_at(alloc, bytes, start);
+        let (words, end) = words_at(alloc, bytes, start)?;
+        return Ok((FieldTest::TextEq(words), end));
     }
-    whole_equal_at(bytes, start)
+    let (number, end) = whole_at(bytes, start)?;
+    Ok((FieldTest::IntEq(number), end))
 }
 
 /// `<` at the place with a whole number, and the place behind it.

@@ -1,6 +1,5 @@
-use Rattle.std.proofs.Common.{length, sym, ap, ◌∙◌, arith, ◌<◌, [], ◌∷◌, ◌++◌, inl, inr}
+use Rattle.df_filter_text.proofs.Names.{length, sym, ap, ◌∙◌, arith, [], ◌∷◌, ◌++◌, inl, inr, length_push}
 use Rattle.std.proofs.lemmas.Result.{err_from_is_err_and}
-use Rattle.std.proofs.lemmas.List.{length_push}
 use Rattle.df_value_text.proofs.Loops.{fails_by}
 use Rattle.df_filter_text.proofs.ClauseSteps.{clauses_begun, clause_read, clause_failed, clauses_done}
 use Rattle.df_filter_text.proofs.clause_reader.clauses_at.Goals.{then-more-test+else-byte_stands, else-more-test}

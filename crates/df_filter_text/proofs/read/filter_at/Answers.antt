@@ -1,6 +1,4 @@
-use Rattle.std.proofs.Common.{◌≡◌, List, drop, Ok, subst}
-use Rattle.df_filter.specs.declared.clause.Clause.{Clause}
-use Rattle.df_filter_text.specs.ReadFilter.{filter_at}
+use Rattle.df_filter_text.proofs.Names.{◌≡◌, List, drop, Ok, subst, Clause, filter_at}
 use Rattle.df_filter_text.proofs.Whole.{made_is, is_made, read_fits}
 use Rattle.df_filter_text.proofs.read.filter_at.Goals as goal
 
