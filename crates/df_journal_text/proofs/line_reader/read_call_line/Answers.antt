@@ -1,6 +1,5 @@
-use Rattle.std.proofs.Common.{◌∙◌, sym, ap}
+use Rattle.df_journal_text.proofs.Names.{◌∙◌, sym, ap, ended}
 use Rattle.std.proofs.lemmas.Result.{err_from_is_err_and}
-use Rattle.df_journal_text.specs.code.Judging.{ended}
 use Rattle.df_journal_text.proofs.Frames.{front_failed, middle_failed, tail_failed, tail_read}
 use Rattle.df_journal_text.proofs.LineTells.{called, called_line, called_parts}
 use Rattle.df_journal_text.proofs.line_reader.read_call_line.Goals as goal

@@ -1,6 +1,4 @@
-use Rattle.std.proofs.Common.{take}
-use Rattle.df_label.specs.Ascending.{IsAscending}
-use Rattle.df_label.specs.Privilege.{privilege_cmp}
+use Rattle.df_journal_text.proofs.Names.{take, IsAscending, privilege_cmp}
 use Rattle.df_journal_text.proofs.word_reader.are_ascending.Given as goal
 
 abbrev pub invariant-loop-i : goal.invariant-loop-i

@@ -1,6 +1,5 @@
-use Rattle.std.proofs.Common.{◌≡◌, ◌-◌, ◌≤◌, [], length, drop}
-use Rattle.df_format.specs.Reading.{with_front}
-use Rattle.df_journal_text.specs.ReadWords.{each_privilege_at}
+use Rattle.df_journal_text.proofs.Names.{◌≡◌, ◌≤◌, [], length, drop, with_front, each_privilege_at}
+use Rattle.std.proofs.Common.{◌-◌}
 use Rattle.df_journal_text.proofs.word_reader.each_privilege_at.Given as goal
 
 -- what is left is read as all was to be

@@ -1,5 +1,4 @@
-use Rattle.std.proofs.Common.{drop, refl, sym, ◌∙◌, arith}
-use Rattle.df_format.specs.Reading.{Bad}
+use Rattle.df_journal_text.proofs.Names.{drop, refl, sym, ◌∙◌, arith, Bad}
 use Rattle.df_value_text.proofs.Loops.{text_on}
 use Rattle.df_journal_text.proofs.Words.{text_off}
 use Rattle.df_journal_text.proofs.word_reader.keyword_at.Goals as goal

@@ -1,5 +1,4 @@
-use Rattle.std.proofs.Common.{drop}
-use Rattle.df_value_text.specs.ReadLabel.{privilege_at}
+use Rattle.df_journal_text.proofs.Names.{drop, privilege_at}
 use Rattle.df_journal_text.proofs.Words.{privilege_onward, word_read}
 use Rattle.df_journal_text.proofs.word_reader.privilege_word.Goals as goal
 

@@ -1,7 +1,4 @@
-use Rattle.std.proofs.Common.{drop, subst, sym, ◌∙◌}
-use Rattle.std.proofs.lemmas.Bool.{true≢false}
-use Rattle.df_label.specs.Ascending.{IsAscending}
-use Rattle.df_label.specs.Privilege.{privilege_cmp}
+use Rattle.df_journal_text.proofs.Names.{drop, subst, sym, ◌∙◌, true≢false, IsAscending, privilege_cmp}
 use Rattle.df_journal_text.proofs.Words.{privileges_low, privileges_made}
 use Rattle.df_journal_text.proofs.word_reader.privileges_at.Goals as goal
 
@@ -11,7 +8,8 @@ returns-then-not-are_ascending
       c.requires,
       privileges_low (drop c.args.at c.args.bytes.now) c.in_ok-privileges.privileges.items (drop c.in_ok-privileges.end c.args.bytes.now)
           c.in_ok-privileges.ensures.1
-          (λ a. true≢false (sym (c.are_ascending.ensures.1 (subst (IsAscending privilege_cmp) (sym c.as_slice.ensures.value) a)) ∙ c.if-not-are_ascending.true)),
+          (λ a. true≢false (sym (c.are_ascending.ensures.1 (subst (IsAscending privilege_cmp) (sym c.as_slice.ensures.value) a))
+          ∙ c.if-not-are_ascending.true)),
     )
 
 pub returns : goal.returns
