@@ -3,6 +3,7 @@
 
 mod alone;
 mod answer;
+mod brief;
 mod child;
 mod clone;
 mod close;
@@ -24,6 +25,7 @@ mod tags;
 mod take;
 
 pub use answer::Answer;
+pub use brief::{Accepted, Brief};
 pub use close::Close;
 pub use fixed::Fixed;
 pub use local::Local;
