@@ -3,6 +3,7 @@ ghost use Rattle.df_unit.specs.declared.call.Call.{Call};
 ghost use Rattle.df_unit.specs.declared.entry.Effect.{Effect};
 ghost use Rattle.df_unit.specs.declared.entry.Entry.TheVariants.{Done};
 ghost use Rattle.df_unit.specs.declared.name.UnitName.{UnitName};
+ghost use Rattle.df_unit.specs.declared.reply.Reply.TheVariants as Reply;
 ghost use Rattle.df_unit.specs.declared.reply.Reply.TheVariants.{Event, Handle};
 ghost use Rattle.df_journal_text.specs.Entry.{edit_text, effect_text, entry_text, note_text, reads_text};
 ghost use Rattle.df_journal_text.specs.Front.{call_front};
@@ -212,4 +213,29 @@ pub fn append_spelled(
     to.extend_from_slice(front)?;
     append_noted(reply, note, to)?;
     append_shown(reply, effect, to)
+}
+
+/// Appends the lines of the entry of a call that is told a handle and has no effect, as
+/// `append_spelled` does. Without memory a part of the lines may have been appended.
+pub fn append_handled(front: &[u8], h: u32, note: &Note, to: &mut Vec<u8>) -> Result<(), NoMemory>
+    ensures { (actor : UnitName) (call : Call) → front.now ≡ call_front actor call →
+        OnOk result (to.new.items ≡ to.old.items
+        ++ entry_text note.now (Done actor call (Handle h) Effect.Nothing)) }
+{
+    to.extend_from_slice(front)?;
+    append_handle(h, to)?;
+    to.extend_from_slice(note.as_bytes())?;
+    Ok(())
+}
+
+/// Appends the lines of the entry of a call that is told `ok` and has no effect, as
+/// `append_spelled` does. Without memory a part of the lines may have been appended.
+pub fn append_done(front: &[u8], note: &Note, to: &mut Vec<u8>) -> Result<(), NoMemory>
+    ensures { (actor : UnitName) (call : Call) → front.now ≡ call_front actor call →
+        OnOk result (to.new.items ≡ to.old.items
+        ++ entry_text note.now (Done actor call Reply.Ok Effect.Nothing)) }
+{
+    to.extend_from_slice(front)?;
+    to.extend_from_slice(note.behind_ok())?;
+    Ok(())
 }
