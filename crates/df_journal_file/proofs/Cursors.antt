@@ -15,8 +15,9 @@ use Rattle.df_script_text.proofs.Files.{roots_text-numbered}
 use Rattle.df_journal_file.specs.Cursor.{CursorState, HasPassed, front_text}
 use Rattle.df_journal_file.specs.Either.{IsJournalOf, journal_by}
 use Rattle.df_journal_file.specs.Journal.{EndsFile}
-use Rattle.df_journal_file.specs.code.Entries.{IsHere, IsWholeBy}
+use Rattle.df_journal_file.specs.code.Entries.{IsWholeBy}
 use Rattle.df_journal_file.specs.code.Files.{IsFirstAt, first_of}
+use Rattle.df_journal_file.specs.code.Places.{IsHere}
 use Rattle.df_journal_file.proofs.Texts.{journal_is, regroup, run_line}
 
 -- the cursor at a place
@@ -31,13 +32,14 @@ all_behind place bytes = take_all (length bytes - place) (drop place bytes) (ome
 abbrev pub StandIf : Bool → List ℕ → CursorState → Type 0
 StandIf stand lines c = IsTrue stand ↔ ((rest : List ℕ) × (drop c.place c.bytes ≡ lines ++ rest))
 
--- the test tells it
-pub lines_stand : (bytes lines : List ℕ) (stand : Bool) → stand ≡ starts_with eqb bytes lines → IsTrue stand ↔ ((rest : List ℕ) × (bytes ≡ lines ++ rest))
-lines_stand bytes lines stand is =
-    let told = starts_is Decides-eqb bytes lines stand is in
-    ((λ t. (drop (length lines) bytes, told.0 t)), λ here. told.1 here.0 here.1)
-
 module _ (has : Bool) (bytes : List ℕ) where
+  -- the test tells it
+  pub lines_stand : (place : ℕ) (lines : List ℕ) {result stand : Bool} → result ≡ stand → result ≡ starts_with eqb (drop place bytes) lines
+      → StandIf stand lines (cursor_at has bytes place)
+  lines_stand place lines {result} {stand} is value =
+      let told = starts_is Decides-eqb (drop place bytes) lines stand (sym is ∙ value) in
+      ((λ t. (drop (length lines) (drop place bytes), told.0 t)), λ here. told.1 here.0 here.1)
+
   -- what stands before the entries was read
   pub begun : (at : ℕ) (roots : List RootStart) (place : ℕ) → IsFirstAt (first_of has) bytes at → AreRootsAt bytes at roots place
       → HasPassed roots [] (cursor_at has bytes place)
@@ -54,16 +56,16 @@ module _ (has : Bool) (bytes : List ℕ) where
 
   -- one more entry was read
   pub passed_on : (roots : List RootStart) (notes : List Noted) (noted : Noted) (place next : ℕ) → HasPassed roots notes (cursor_at has bytes place)
-      → IsHere noted_text (IsWholeBy has) bytes place (noted, next) → HasPassed roots (notes ++ noted ∷ []) (cursor_at has bytes next)
+      → IsHere noted_text (IsWholeBy has) bytes place noted next → HasPassed roots (notes ++ noted ∷ []) (cursor_at has bytes next)
   passed_on roots notes noted place next p h =
       let front = front_text has roots in
       record {
-        inside = h.2;
+        inside = h.inside;
         begun = p.begun;
-        fit = All-push (IsWholeBy has) notes noted p.fit h.0;
+        fit = All-push (IsWholeBy has) notes noted p.fit h.fits;
         text =
             p.text
-            ∙ ap (λ (u : List ℕ). front ++ flat_map noted_text notes ++ u) h.3
+            ∙ ap (λ (u : List ℕ). front ++ flat_map noted_text notes ++ u) h.parts
             ∙ sym (append_assoc (front ++ flat_map noted_text notes) (noted_text noted) (drop next bytes))
             ∙ ap (λ (u : List ℕ). u ++ drop next bytes) (flat_map_more noted_text front notes noted);
       }
@@ -81,9 +83,9 @@ module _ (has : Bool) (bytes : List ℕ) where
       let rest = drop next bytes in
       let lie : drop place bytes ≡ lines ++ rest = stands ∙ ap (λ (u : List ℕ). lines ++ u) (drop-drop (length lines) place bytes) in
       let here : drop place bytes ≡ noted_text noted ++ rest = lie ∙ ap (λ (u : List ℕ). u ++ rest) spelled in
-      passed_on roots notes noted place next p (whole, omega arith, within, here)
+      passed_on roots notes noted place next p (record { fits = whole; onward = omega arith; inside = within; parts = here })
 
 -- where an end stands, what was read is the whole journal
 pub all_read : (has : Bool) (bytes : List ℕ) (roots : List RootStart) (notes : List Noted) (place : ℕ)
     → HasPassed roots notes (cursor_at has bytes place) → EndsFile (drop place bytes) → IsJournalOf (journal_by has roots notes) bytes
-all_read has bytes roots notes place p ends = journal_is has bytes roots notes ((p.begun, p.fit), (drop place bytes, ends, p.text))
+all_read has bytes roots notes place p ends = journal_is bytes roots has notes ((p.begun, p.fit), (drop place bytes, ends, p.text))

@@ -106,21 +106,11 @@ many_begins : {X : Type 0} (text : X → List ℕ) (Fits : X → Type 0) (Rest :
     → Begins (Many text Fits Rest n) []
 many_begins text Fits Rest x f r n = (flat_map text (x ∷ []) ++ [], (x ∷ [], [], All-cons Fits x [] f (All-nil Fits), r n, refl))
 
--- a part
-abbrev a_part : Part
-a_part = part_with no_label (codes "a")
-
--- it fits
-a_part_fits : IsPart a_part
-a_part_fits = part_fits no_label (codes "a") label_fits refl
-
--- a part that is added
-pub adds_some : (has : Bool) (n : ℕ) → Begins (AddsFrom has n) []
-adds_some has = many_begins (part_line (codes "+")) IsPart (BehindSome (EntriesFrom has)) a_part a_part_fits (λ n. (omega arith, none_left has [] (inl refl)))
-
--- a part that is handed over
-pub given_some : (has : Bool) (n : ℕ) → Begins (GivenFrom has n) []
-given_some has = many_begins (part_line (codes ".")) IsPart (BehindSome (EntriesFrom has)) a_part a_part_fits (λ n. (omega arith, none_left has [] (inl refl)))
+-- a part behind a mark
+pub parts_some : (has : Bool) (mark : List ℕ) (n : ℕ) → Begins (Many (part_line mark) IsPart (BehindSome (EntriesFrom has)) n) []
+parts_some has mark =
+    many_begins (part_line mark) IsPart (BehindSome (EntriesFrom has)) (part_with no_label (codes "a")) (part_fits no_label (codes "a") label_fits refl)
+    (λ n. (omega arith, none_left has [] (inl refl)))
 
 -- a part that is deleted
 pub edit_some : (has : Bool) (n : ℕ) → Begins (EditFrom has n) []
@@ -168,7 +158,7 @@ commit_some has mark = then_some (event_line mark) IsEvent (EditFrom has 0) an_e
 
 -- an event that is handed over
 pub handed_some : (has : Bool) → Begins (HandedFrom has) []
-handed_some has = then_some (event_line (codes "<")) IsEvent (GivenFrom has 0) an_event ((lit< tt, tt), lit< tt) (given_some has 0)
+handed_some has = then_some (event_line (codes "<")) IsEvent (GivenFrom has 0) an_event ((lit< tt, tt), lit< tt) (parts_some has (codes ".") 0)
 
 -- a contamination that is noted
 pub note_some : (has : Bool) (bare : Reply) → IsAnswer bare → Begins (Then note_line IsLabel (ShownFrom has bare)) []
@@ -176,5 +166,5 @@ note_some has bare f = then_some note_line IsLabel (ShownFrom has bare) no_label
 
 -- behind the line of a call that was answered `ok`
 pub ok_some : (has : Bool) → Begins (NoteFrom has reply.Ok) []
-ok_some true = let s = note_some true reply.Ok (tt, tt) in (s.0, inr (refl, (λ no. cc), s.1))
+ok_some true = let s = note_some true reply.Ok (tt, tt) in (s.0, inr (λ none. elim none [ inl e ↦ cc | inr e ↦ cc ], s.1))
 ok_some false = let s = shown_some false reply.Ok (tt, tt) in (s.0, inl (inl refl, s.1))

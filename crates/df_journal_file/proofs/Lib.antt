@@ -1,5 +1,4 @@
 pub mod WordLines
-pub mod Apart
 pub mod Places
 pub mod Entries
 pub mod Fronts
@@ -14,6 +13,7 @@ pub mod Steps
 pub mod Roots
 pub mod Refusals
 pub mod Texts
-pub mod Loops
+pub mod Ends
 pub mod Eithers
 pub mod Cursors
+pub mod Versions

@@ -1,17 +1,22 @@
 -- The kinds of lines below that of a call.
-use Rattle.std.proofs.Common.{ℕ, Bool, List, [], codes, refl, sym, subst, inl, inr}
+use Rattle.std.proofs.Common.{◌≡◌, ℕ, Bool, true, false, eqb, List, [], ◌∷◌, ◌++◌, codes, refl, sym, subst, inl, inr}
+use Rattle.std.specs.Char.{is_ascii_digit}
+use Rattle.df_part.specs.declared.part.Part.{Part}
 use Rattle.df_value_text.specs.Fits.{IsLabel}
 use Rattle.df_unit.specs.declared.reply.Reply.TheVariants as reply
 use Rattle.df_journal_text.specs.Entry.{part_line, read_line, spot_line}
 use Rattle.df_journal_text.specs.Fits.{IsEvent, IsPart, IsPartRead, IsSpot}
 use Rattle.df_journal_text.specs.Large.{IsLargePart, IsLargeShown}
+use Rattle.df_journal_text.specs.ReadWords.{begins_pair}
+use Rattle.df_script_text.proofs.Words.{is_word}
 use Rattle.df_journal_file.specs.Below.{event_line, note_line}
-use Rattle.df_journal_file.specs.code.Languages.{AddsFrom, BehindSome, EditFrom, EffectFrom, EntriesFrom, GivenFrom, ReadFrom}
+use Rattle.df_journal_file.specs.TooLarge.{IsPartFront, IsValueFront}
+use Rattle.df_journal_file.specs.code.Languages.{AddsFrom, BehindSome, EditFrom, EffectFrom, EntriesFrom, Many, ReadFrom}
 use Rattle.df_journal_file.specs.code.Marks.{IsCommitMark}
 use Rattle.df_journal_file.proofs.Feeds.{event_feeds, note_feeds, part_feeds, shown_feeds, spot_feeds}
-use Rattle.df_journal_file.proofs.Heads.{adds_begin, adds_some, edit_some, effect_begins, entries_begin, given_some, read_some}
+use Rattle.df_journal_file.proofs.Heads.{adds_begin, edit_some, effect_begins, entries_begin, parts_some, read_some}
 use Rattle.df_journal_file.proofs.Runs.{IsBareKind, IsRun}
-use Rattle.df_journal_file.proofs.Values.{added_small, given_small, marked_large, part_large, shown_large, shown_small}
+use Rattle.df_journal_file.proofs.Values.{added_front, given_front, marked_large, part_large, part_small, shown_large, shown_small}
 
 -- ---- one line
 
@@ -45,29 +50,29 @@ module _ (has : Bool) where
     large = λ n bad none. absurd none;
   }
 
+  -- parts behind a mark, which tells them from other values
+  part_run : (mark : ℕ) → is_word (mark ∷ []) ≡ true → eqb 10 mark ≡ false → is_ascii_digit mark ≡ false
+      → ((part : Part) (u : List ℕ) → begins_pair mark 32 (part_line (mark ∷ []) part ++ u) ≡ true)
+      → ((front more : List ℕ) → IsValueFront front → begins_pair mark 32 (front ++ more) ≡ true → IsPartFront (mark ∷ []) front)
+      → ((front : List ℕ) → IsPartFront (mark ∷ []) front → IsValueFront front)
+      → IsRun (part_line (mark ∷ [])) IsPart mark (IsLargePart (mark ∷ [])) (BehindSome (EntriesFrom has))
+  part_run mark word free digit marks back front = record {
+    feeds = part_feeds (mark ∷ []) word;
+    free = free;
+    marks = marks;
+    ends = λ n u t. entries_begin has u t.1 mark digit;
+    some = parts_some has (mark ∷ []);
+    small = λ n bad behind b l. part_small (Many (part_line (mark ∷ [])) IsPart (BehindSome (EntriesFrom has)) n) bad behind l mark back b;
+    large = part_large (mark ∷ []) front has;
+  }
+
   -- what it adds
   pub adds_run : IsRun (part_line (codes "+")) IsPart 43 (IsLargePart (codes "+")) (BehindSome (EntriesFrom has))
-  adds_run = record {
-    feeds = part_feeds (codes "+") refl;
-    free = refl;
-    marks = λ part u. refl;
-    ends = λ n u t. entries_begin has u t.1 43 refl;
-    some = adds_some has;
-    small = λ n bad behind b l. added_small (AddsFrom has n) bad behind l b;
-    large = part_large (codes "+") (λ front p. inr (inr (inl p))) has;
-  }
+  adds_run = part_run 43 refl refl refl (λ part u. refl) added_front (λ front p. inr (inr (inl p)))
 
   -- the parts of an event that is handed over
   pub given_run : IsRun (part_line (codes ".")) IsPart 46 (IsLargePart (codes ".")) (BehindSome (EntriesFrom has))
-  given_run = record {
-    feeds = part_feeds (codes ".") refl;
-    free = refl;
-    marks = λ part u. refl;
-    ends = λ n u t. entries_begin has u t.1 46 refl;
-    some = given_some has;
-    small = λ n bad behind b l. given_small (GivenFrom has n) bad behind l b;
-    large = part_large (codes ".") (λ front p. inr (inr (inr p))) has;
-  }
+  given_run = part_run 46 refl refl refl (λ part u. refl) given_front (λ front p. inr (inr (inr p)))
 
   -- what a read shows
   pub read_run : IsRun read_line IsPartRead 58 IsLargeShown (BehindSome (EffectFrom has (reply.Parts [])))

@@ -1,5 +1,6 @@
 -- The first bad line behind other lines, and the first bad line where a line is to stand.
-use Rattle.std.proofs.Common.{◌≡◌, ℕ, ◌<◌, ◌≤◌, List, [], ◌∷◌, ◌++◌, length, drop, codes, decimal, refl, sym, ap, subst, ◌∙◌, arith, append_assoc, append-nil, length-append, inl, inr}
+use Rattle.std.proofs.Common.{◌≡◌, ℕ, ◌<◌, ◌≤◌, List, [], ◌∷◌, ◌++◌, length, drop, codes, decimal, refl, sym, ap, subst, ◌∙◌, arith, append_assoc, append-nil, length-append, inl, inr, Result, Ok, Err, IfErr}
+use Rattle.std.specs.Prelude.{IsErrAnd}
 use Rattle.std.specs.List.{All}
 use Rattle.std.proofs.lemmas.List.Elements.{All-append, All-cons, All-nil}
 use Rattle.df_lines.specs.FirstBad.{Begins, IsFirstBad}
@@ -15,6 +16,11 @@ use Rattle.df_journal_file.specs.code.Places.{IsSpelled, StopsLine}
 use Rattle.df_journal_file.specs.code.Stops.{IsStop, Onto, StopsIn}
 use Rattle.df_journal_file.proofs.Feeds.{IsFed}
 use Rattle.df_journal_file.proofs.Fronts.{Alike, SameFirst, alike_line, alike_long, alike_same, first_alike, first_line, lines_join, not_open, same_line}
+
+-- a step that stopped
+pub stopped : {X : Type 0} (P : FileFault → Type 0) {f : FileFault} (r : Result X FileFault) → IsErrAnd r (λ e. e ≡ f) → P f → IfErr r P
+stopped P (Ok x) h p = absurd h
+stopped P (Err e) h p = subst P (sym h) p
 
 -- what stands in front of a value has two bytes
 front_long : (front : List ℕ) → IsValueFront front → 1 < length front
@@ -52,6 +58,11 @@ alike_front here before front rest behind more wanting e =
     let long : 1 < length (lines_text before ++ front) = omega (arith, front_long front wanting, length-append (lines_text before) front) in
     alike_behind here before front more (rest ++ behind) (e ∙ ap (λ (u : List ℕ). lines_text before ++ u) (append_assoc front rest behind))
     (alike_long (lines_text before ++ front) more (rest ++ behind) long)
+
+-- a value that is too large in another text
+large_as : {IsText IsRest : List ℕ → Type 0} {before after : List (List ℕ)} {bad : List ℕ} (l : IsLargeIn IsText before bad)
+    → Begins IsRest (lines_text after ++ l.front) → IsLargeIn IsRest after bad
+large_as l viable = record { front = l.front; rest = l.rest; parts = l.parts; wanting = l.wanting; large = l.large; viable = viable }
 
 -- Behind these lines, which stand from one place to the other, one language goes on as the other.
 module _ (IsText IsRest : List ℕ → Type 0) (bytes : List ℕ) (at place : ℕ) (front : List (List ℕ)) (lines : All IsLine front)
@@ -96,14 +107,7 @@ module _ (IsText IsRest : List ℕ → Type 0) (bytes : List ℕ) (at place : �
   large_behind before bad l =
       let more : List ℕ = l.viable.0 in
       let behind : IsRest (lines_text before ++ (l.front ++ more)) = subst IsRest (append_assoc (lines_text before) l.front more) l.viable.1 in
-      record {
-        front = l.front;
-        rest = l.rest;
-        parts = l.parts;
-        wanting = l.wanting;
-        large = l.large;
-        viable = (more, subst IsText (grouped before l.front more) (to (lines_text before ++ (l.front ++ more)) behind));
-      }
+      large_as l (more, subst IsText (grouped before l.front more) (to (lines_text before ++ (l.front ++ more)) behind))
 
   -- is too large with them
   large_from : (before : List (List ℕ)) (bad behind : List ℕ) → drop place bytes ≡ lines_text before ++ (bad ++ behind)
@@ -114,14 +118,7 @@ module _ (IsText IsRest : List ℕ → Type 0) (bytes : List ℕ) (at place : �
       let like : Alike rest (drop place bytes) = alike_front (drop place bytes) before l.front l.rest behind more l.wanting
       (e ∙ ap (λ (b : List ℕ). lines_text before ++ (b ++ behind)) l.parts) in
       let viable : IsRest rest = from rest like (subst IsText (sym (grouped before l.front more)) l.viable.1) in
-      record {
-        front = l.front;
-        rest = l.rest;
-        parts = l.parts;
-        wanting = l.wanting;
-        large = l.large;
-        viable = (more, subst IsRest (sym (append_assoc (lines_text before) l.front more)) viable);
-      }
+      large_as l (more, subst IsRest (sym (append_assoc (lines_text before) l.front more)) viable)
 
   -- where reading stops behind the lines, it stops as well in front of them
   pub onto : Onto IsText bytes at IsRest place

@@ -1,5 +1,5 @@
 -- What stands at the head of entries, and entries of what stands there.
-use Rattle.std.proofs.Common.{◌≡◌, ℕ, ◌<◌, Bool, true, false, eqb, List, [], ◌∷◌, ◌++◌, length, Option, Some, None, codes, refl, sym, ap, subst, ◌∙◌, arith, append_assoc, ◌⊎◌, inl, inr}
+use Rattle.std.proofs.Common.{◌≡◌, ℕ, ◌+◌, ◌<◌, Bool, true, false, eqb, List, [], ◌∷◌, ◌++◌, length, Option, Some, None, codes, refl, sym, ap, subst, ◌∙◌, arith, append_assoc, ◌⊎◌, inl, inr}
 use Rattle.std.specs.Char.{is_ascii_digit}
 use Rattle.std.specs.List.{All, flat_map}
 use Rattle.std.proofs.lemmas.Bool.{eqb-true}
@@ -25,7 +25,7 @@ use Rattle.df_value_text.specs.Number.{begins_with}
 use Rattle.df_value_text.specs.ReadTag.{begins_digit}
 use Rattle.df_journal_text.specs.Call.{call_words}
 use Rattle.df_journal_text.specs.Entry.{call_line, edit_text, effect_text, entry_text, note_text, noted_text, part_line, reads_text, spot_line}
-use Rattle.df_journal_text.specs.Fits.{IsAnswer, IsCalled, IsCommit, IsEdit, IsEffectOf, IsEntry, IsNoteOf, IsPartRead, IsReply}
+use Rattle.df_journal_text.specs.Fits.{IsAnswer, IsCalled, IsCommit, IsEffectOf, IsEntry, IsNoteOf, IsPartRead, IsReply}
 use Rattle.df_journal_text.specs.Line.{spaced}
 use Rattle.df_journal_text.specs.Name.{unit_text}
 use Rattle.df_journal_text.specs.ReadWords.{begins_pair}
@@ -34,9 +34,9 @@ use Rattle.df_journal_text.proofs.JournalBacks.{more_first, unit_first}
 use Rattle.df_journal_file.specs.Below.{event_line}
 use Rattle.df_journal_file.specs.Journal.{ChangesSome, EditsSome, EndsFile, HasNote, ShowsSome}
 use Rattle.df_journal_file.specs.code.Entries.{IsNoteBy, IsShownBy, IsSomeCommit, IsSomeEffectOf, IsWholeBy, commit_lines}
-use Rattle.df_journal_file.specs.code.Languages.{CommitFrom, DoneFrom, EditFrom, EffectFrom, EntriesFrom, GivenFrom, NoteFrom, ShownFrom, ShowsNone}
+use Rattle.df_journal_file.specs.code.Languages.{AddsFrom, CommitFrom, DoneFrom, EditFrom, EffectFrom, EntriesFrom, GivenFrom, NoteFrom, ShownFrom, ShowsNone}
 use Rattle.df_journal_file.proofs.Feeds.{CallTold, told_line}
-use Rattle.df_journal_file.proofs.Entries.{alone, done_of, done_spelled, done_whole, no_note, some_note}
+use Rattle.df_journal_file.proofs.Entries.{alone, done_of, done_spelled, done_whole, emitted_whole, no_note, some_note}
 
 -- ---- the first bytes
 
@@ -84,28 +84,15 @@ note_by bare r None f n fits = elim f.2 [ inl same ↦ sym same ∙ n | inr s �
 
 -- ---- from entries
 
--- the lines of an edit
-edit_from : (has : Bool) (edit : List Spot × List Part) (tail : List ℕ) → IsEdit edit → EditsSome edit → EntriesFrom has tail
-    → EditFrom has 0 (edit_text edit ++ tail)
-edit_from has edit tail f some t = (
-  edit.0,
-  flat_map (part_line (codes "+")) edit.1 ++ tail,
-  f.0,
-  (edit.1, tail, f.1, (omega (arith, some), t), refl),
-  append_assoc (flat_map spot_line edit.0) (flat_map (part_line (codes "+")) edit.1) tail,
-)
-
--- those of a commit
+-- the lines of a commit
 commit_from : (has : Bool) (mark : List ℕ) (commit : Commit) (tail : List ℕ) → IsCommit commit → EditsSome commit.edit → EntriesFrom has tail
     → CommitFrom has mark (commit_lines mark commit ++ tail)
-commit_from has mark commit tail f some t = (
-  commit.event,
-  edit_text commit.edit ++ tail,
-  f.0,
-  edit_from has commit.edit tail f.1 some t,
-  append_assoc (event_line mark commit.event)
-      (edit_text commit.edit) tail,
-)
+commit_from has mark commit tail f some t =
+    let deleted : List ℕ = flat_map spot_line commit.edit.0 in
+    let added : List ℕ = flat_map (part_line (codes "+")) commit.edit.1 in
+    let adds : AddsFrom has (0 + length commit.edit.0) (added ++ tail) = (commit.edit.1, tail, f.1.1, (omega (arith, some), t), refl) in
+    let edit : EditFrom has 0 ((deleted ++ added) ++ tail) = (commit.edit.0, added ++ tail, f.1.0, adds, append_assoc deleted added tail) in
+    (commit.event, (deleted ++ added) ++ tail, f.0, edit, append_assoc (event_line mark commit.event) (deleted ++ added) tail)
 
 -- those of an effect
 effect_from : (has : Bool) (r : Reply) (e : Effect) (tail : List ℕ) → IsEffectOf e r → ChangesSome e → EntriesFrom has tail
@@ -146,7 +133,7 @@ shown_from has bare r rest answer (f, some, inr (b, (parts, is))) t =
 -- the line of a note
 note_from : (has : Bool) (bare : Reply) (note : Option Label) (rest : List ℕ) → IsNoteBy has bare note → ShownFrom has bare rest
     → NoteFrom has bare (note_text note ++ rest)
-note_from true bare (Some label) rest n t = inr (refl, n.1, (label, rest, n.0, t, refl))
+note_from true bare (Some label) rest n t = inr (λ none. elim none [ inl e ↦ cc | inr is ↦ n.1 is ], (label, rest, n.0, t, refl))
 note_from true bare None rest n t = inl (inr n, t)
 note_from false bare (Some label) rest n t = absurd cc
 note_from false bare None rest n t = inl (inl refl, t)
@@ -244,7 +231,7 @@ shown_to has bare s f (inr (b, m)) = (reply.Parts m.0, m.1, (m.2, omega (arith, 
 -- a note
 note_to : (has : Bool) (bare : Reply) (s : List ℕ) → NoteFrom has bare s → Split note_text (IsNoteBy has bare) (λ _. ShownFrom has bare) s
 note_to has bare s (inl (none, t)) = (None, s, no_note has bare none, t, refl)
-note_to has bare s (inr (h, exists, t)) = (Some t.0, t.1, some_note has bare t.0 h exists t.2, t.3, t.4)
+note_to has bare s (inr (some, t)) = (Some t.0, t.1, some_note has bare t.0 some t.2, t.3, t.4)
 
 -- one more entry
 cons_entry : (has : Bool) (n : Noted) (s tail : List ℕ) → IsWholeBy has n → EntriesFrom has tail → s ≡ noted_text n ++ tail → EntriesFrom has s
@@ -267,12 +254,7 @@ done_to has s d =
     cons_entry has (done_of c m.0 e.0 n.0) s e.1 (done_whole has c m.0 n.0 e.0 d.2 n.2 m.2 e.2) e.3
     (done_spelled c m.0 n.0 e.0 s d.1 n.1 m.1 e.1 d.4 n.4 m.4 e.4 m.2)
 
--- an entry of what the world emitted is whole
-emitted_whole : (has : Bool) (commit : Commit) → IsSomeCommit commit → IsWholeBy has (record { entry = Emitted commit; contamination = None })
-emitted_whole true commit f = ((f.0, tt), f.1, refl)
-emitted_whole false commit f = ((f.0, f.1), refl)
-
--- and is an entry
+-- that of what the world emitted
 pub emitted_to : (has : Bool) (s : List ℕ) → CommitFrom has (codes "emitted") s → EntriesFrom has s
 emitted_to has s t =
     let c = commit_to has (codes "emitted") s t in

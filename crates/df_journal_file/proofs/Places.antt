@@ -1,5 +1,5 @@
--- Lines at a place, and several.
-use Rattle.std.proofs.Common.{◌≡◌, ℕ, List, [], ◌∷◌, ◌++◌, drop, Option, Some, None, Result, Ok, Err, refl, sym, ap, subst, ◌∙◌, append_assoc, append-nil}
+-- What is spelled from one place to another, and lines at a place.
+use Rattle.std.proofs.Common.{◌≡◌, ℕ, ◌≤◌, List, [], ◌∷◌, ◌++◌, length, drop, Option, Some, None, Result, Ok, Err, refl, sym, ap, subst, ◌∙◌, arith, append_assoc, append-nil}
 use Rattle.std.specs.List.{flat_map}
 use Rattle.std.proofs.lemmas.List.Concat.{flat_map-append}
 use Rattle.std.proofs.lemmas.List.Elements.{All-push}
@@ -7,7 +7,47 @@ use Rattle.df_journal_text.specs.code.Judging.{TellsLine, ended}
 use Rattle.df_journal_text.specs.declared.line_fault.LineFault.{LineFault}
 use Rattle.df_journal_text.specs.declared.line_fault.LineFault.TheVariants as fault
 use Rattle.df_script_text.specs.code.Stops.{StopsAt}
-use Rattle.df_journal_file.specs.code.Places.{ArePassed, IsLineHere, IsSpelled, TellsAt, finished}
+use Rattle.df_journal_file.specs.code.Places.{ArePassed, IsHere, IsLineHere, IsSpelled, TellsAt, finished}
+
+-- ---- from one place to another
+
+module _ {X Y : Type 0} {text : X → List ℕ} {Fits : X → Type 0} {spell : Y → List ℕ} {Suits : Y → Type 0} {bytes : List ℕ} {at mid : ℕ} {x : X} {y : Y}
+    (a : IsHere text Fits bytes at x mid) where
+  -- the same as another
+  pub as_here : Suits y → spell y ≡ text x → IsHere spell Suits bytes at y mid
+  as_here fits e = record {
+    fits = fits;
+    onward = a.onward;
+    inside = a.inside;
+    parts = a.parts ∙ ap (λ (u : List ℕ). u ++ drop mid bytes) (sym e);
+  }
+
+  -- with another behind it
+  pub both_here : {Z : Type 0} {write : Z → List ℕ} {Is : Z → Type 0} {z : Z} {end : ℕ} → IsHere spell Suits bytes mid y end → Is z
+      → write z ≡ text x ++ spell y → IsHere write Is bytes at z end
+  both_here {Z} {write} {Is} {z} {end} b fits e = record {
+    fits = fits;
+    onward = omega (arith, a.onward, b.onward);
+    inside = b.inside;
+    parts =
+        a.parts ∙ ap (λ (u : List ℕ). text x ++ u) b.parts ∙ sym (append_assoc (text x) (spell y) (drop end bytes))
+        ∙ ap (λ (u : List ℕ). u ++ drop end bytes) (sym e);
+  }
+
+-- what has no text
+pub none_here : {X : Type 0} {text : X → List ℕ} {Fits : X → Type 0} {bytes : List ℕ} {at : ℕ} {x : X} → at ≤ length bytes → Fits x → text x ≡ []
+    → IsHere text Fits bytes at x at
+none_here {X} {text} {Fits} {bytes} {at} {x} inside fits e =
+    record { fits = fits; onward = omega arith; inside = inside; parts = ap (λ (u : List ℕ). u ++ drop at bytes) (sym e) }
+
+-- one more line is passed
+pub more_passed : {X : Type 0} {text : X → List ℕ} {Fits : X → Type 0} {bytes : List ℕ} {at place next : ℕ} (xs ys : List X) (x : X)
+    → ArePassed text Fits bytes at xs place → IsHere text Fits bytes place x next → ys ≡ xs ++ x ∷ [] → ArePassed text Fits bytes at ys next
+more_passed {X} {text} {Fits} {bytes} {at} {place} {next} xs ys x a h pushed =
+    let same = flat_map-append text xs (x ∷ []) ∙ ap (λ (u : List ℕ). flat_map text xs ++ u) (append-nil (text x)) in
+    subst (λ (zs : List X). ArePassed text Fits bytes at zs next) (sym pushed) (both_here a h (All-push Fits xs x a.fits h.fits) same)
+
+-- ---- lines
 
 module _ {X : Type 0} (text : X → List ℕ) (Fits : X → Type 0) (IsLarge : List ℕ → Type 0)
     (small : (line : List ℕ) (x : X) → Fits x → ended line ≡ text x → ¬ IsLarge line) (bytes : List ℕ) (at : ℕ) where
@@ -25,7 +65,8 @@ module _ {X : Type 0} (text : X → List ℕ) (Fits : X → Type 0) (IsLarge : L
   pub told_at : (line : List ℕ) (next : Option ℕ) → IsLineHere bytes at (line, next) → (r : Result X LineFault) → TellsLine text Fits IsLarge line r
       → TellsAt text Fits IsLarge bytes at (finished at next r)
   told_at line (Some next) here (Ok x) t =
-      (t.0, here.1, here.2, here.3 ∙ sym (append_assoc line (10 ∷ []) (drop next bytes)) ∙ ap (λ (u : List ℕ). u ++ drop next bytes) t.1)
+      let parts = here.3 ∙ sym (append_assoc line (10 ∷ []) (drop next bytes)) ∙ ap (λ (u : List ℕ). u ++ drop next bytes) t.1 in
+      (record { fits = t.0; onward = omega (arith, here.1); inside = here.2; parts = parts }, here.1)
   told_at line None here (Ok x) t = (refl, (line, open_stop line here, small line x t.0 t.1))
   told_at line (Some next) here (Err fault.Syntax) t = (refl, (line, closed_stop line next here t.0, t.1))
   told_at line None here (Err fault.Syntax) t = (refl, (line, open_stop line here, t.1))
@@ -33,18 +74,3 @@ module _ {X : Type 0} (text : X → List ℕ) (Fits : X → Type 0) (IsLarge : L
   told_at line None here (Err fault.TooLarge) t = (refl, (line, open_stop line here, t.1))
   told_at line (Some next) here (Err fault.NoMemory) t = tt
   told_at line None here (Err fault.NoMemory) t = tt
-
--- one more line is passed
-pub more_passed : {X : Type 0} (text : X → List ℕ) (Fits : X → Type 0) (IsLarge : List ℕ
-    → Type 0) (bytes : List ℕ) (at place : ℕ) (xs ys : List X) (x : X) (next : ℕ) → ArePassed text Fits bytes at xs place
-    → TellsAt text Fits IsLarge bytes place (Ok (x, next)) → ys ≡ xs ++ x ∷ []
-    → ArePassed text Fits bytes at ys next
-more_passed {X} text Fits IsLarge bytes at place xs ys x next a t pushed =
-    subst (λ (zs : List X). ArePassed text Fits bytes at zs next) (sym pushed) (record {
-      inside = t.2;
-      fit = All-push Fits xs x a.fit t.0;
-      parts =
-          a.parts ∙ ap (λ (u : List ℕ). flat_map text xs ++ u) t.3 ∙ sym (append_assoc (flat_map text xs) (text x) (drop next bytes))
-          ∙ ap (λ (u : List ℕ). (flat_map text xs ++ u) ++ drop next bytes) (sym (append-nil (text x)))
-          ∙ ap (λ (u : List ℕ). u ++ drop next bytes) (sym (flat_map-append text xs (x ∷ [])));
-    })

@@ -1,21 +1,32 @@
 -- What is told of a file that isn't a journal.
-use Rattle.std.proofs.Common.{◌≡◌, ℕ, ◌+◌, false, List, [], length, eqb, Err, refl, sym, subst, ◌∙◌, append-nil}
+use Rattle.std.proofs.Common.{◌≡◌, ℕ, ◌+◌, false, List, [], length, eqb, Result, Ok, Err, IfErr, IfOk, refl, sym, ◌∙◌, append-nil}
 use Rattle.std.proofs.lemmas.List.Elements.{All-nil}
+use Rattle.std.proofs.lemmas.Result.{IfErr-weaker}
 use Rattle.df_lines.specs.FirstBad.{IsFirstBad}
 use Rattle.df_lines.specs.Lines.{lines_text}
 use Rattle.df_lines.specs.Refused.{IsRefused, NamesBadLine}
-use Rattle.df_lines.specs.code.Faults.{IsBadPlace, IsInside, NamesBadPlace, refusal}
+use Rattle.df_lines.specs.code.Faults.{IsBadPlace, IsInside, NamesBadPlace}
 use Rattle.df_lines.specs.declared.fault.FileFault.{FileFault}
 use Rattle.df_lines.specs.declared.fault.FileFault.TheVariants as stop
 use Rattle.df_lines.specs.declared.refused.FileRefused.{FileRefused}
-use Rattle.df_lines.specs.declared.refused.FileRefused.TheVariants as refused
+use Rattle.df_lines.specs.declared.refused.FileRefused.TheVariants as refusal
 use Rattle.df_lines.proofs.FirstBad.{names_line, refused_syntax, refused_too_large}
 use Rattle.df_script_text.proofs.Files.{front_is}
+use Rattle.df_journal_file.specs.Journal.{IsRead}
 use Rattle.df_journal_file.specs.TooLarge.{IsLargeIn}
+use Rattle.df_journal_file.specs.code.Files.{answered}
 use Rattle.df_journal_file.specs.code.Stops.{IsStop, StopsIn}
 
+-- the first bad line is told, and whether a value is too large there
+pub record TellsFirstBad {J : Type 0} (IsText : List ℕ → Type 0) (bytes : List ℕ) (q : Result J FileRefused) : Type 0 where
+  pub refused : IfErr q (NamesBadLine IsText (IsLargeIn IsText) bytes)
+  pub syntax : (before : List (List ℕ)) (bad : List ℕ) → IsFirstBad IsText bytes before bad → ¬ IsLargeIn IsText before bad
+      → IsRefused (refusal.Syntax (length before + 1)) q
+  pub too_large : (before : List (List ℕ)) (bad : List ℕ) → IsFirstBad IsText bytes before bad → IsLargeIn IsText before bad
+      → IsRefused (refusal.TooLarge (length before + 1)) q
+
 module _ (IsText : List ℕ → Type 0) (bytes : List ℕ) where
-  -- the place where reading stops is inside, and that of the first bad line
+  -- the place where reading stops is that of the first bad line
   bad_place : (place : ℕ) (before : List (List ℕ)) (bad : List ℕ) → IsStop IsText bytes 0 place before bad → IsBadPlace IsText bytes place before bad
   bad_place place before bad s = record {
     first = s.first;
@@ -24,40 +35,45 @@ module _ (IsText : List ℕ → Type 0) (bytes : List ℕ) where
     line = All-nil (λ b. eqb b 10 ≡ false);
   }
 
-  -- a fault has its place inside
-  pub inside : (f : FileFault) → StopsIn IsText bytes 0 f → IsInside bytes f
-  inside stop.NoMemory s = tt
-  inside (stop.Bad place) s = s.2.inside
-  inside (stop.TooLarge place) s = s.2.inside
-
-  -- and names the first bad line
   names : (f : FileFault) → StopsIn IsText bytes 0 f → NamesBadPlace IsText (IsLargeIn IsText) bytes f
   names stop.NoMemory s = tt
   names (stop.Bad place) s = (s.0, s.1, bad_place place s.0 s.1 s.2, s.3)
   names (stop.TooLarge place) s = (s.0, s.1, bad_place place s.0 s.1 s.2, s.3)
 
-  -- what is a journal is refused only for want of memory
-  only_fault : (f : FileFault) → StopsIn IsText bytes 0 f → IsText bytes → refusal bytes f ≡ refused.NoMemory
-  only_fault stop.NoMemory s t = refl
-  only_fault (stop.Bad place) s t = absurd (s.2.first.none t)
-  only_fault (stop.TooLarge place) s t = absurd (s.2.first.none t)
+  named : {J : Type 0} (r : Result J FileFault) → IfErr r (StopsIn IsText bytes 0) → IfErr (answered bytes r) (NamesBadLine IsText (IsLargeIn IsText) bytes)
+  named (Ok j) s = tt
+  named (Err f) s = names_line IsText (IsLargeIn IsText) bytes f (names f s)
 
-  -- what callers are told of a fault
-  module _ (f : FileFault) (s : StopsIn IsText bytes 0 f) (r : FileRefused) (is : r ≡ refusal bytes f) where
-    -- that of a journal is want of memory
-    pub only_memory : IsText bytes → r ≡ refused.NoMemory
-    only_memory t = is ∙ only_fault f s t
+  -- and it is inside
+  within : (f : FileFault) → StopsIn IsText bytes 0 f → IsInside bytes f
+  within stop.NoMemory s = tt
+  within (stop.Bad place) s = s.2.inside
+  within (stop.TooLarge place) s = s.2.inside
 
-    -- any other names the first bad line
-    pub names_bad : NamesBadLine IsText (IsLargeIn IsText) bytes r
-    names_bad = subst (λ (r : FileRefused). NamesBadLine IsText (IsLargeIn IsText) bytes r) (sym is) (names_line IsText (IsLargeIn IsText) bytes f (names f s))
+  pub inside : {J : Type 0} (r : Result J FileFault) → IfErr r (StopsIn IsText bytes 0) → IfErr r (IsInside bytes)
+  inside r s = IfErr-weaker r (StopsIn IsText bytes 0) (IsInside bytes) within s
 
-    -- as one that is spelled otherwise
-    pub bad_syntax : (before : List (List ℕ)) (bad : List ℕ) → IsFirstBad IsText bytes before bad → ¬ IsLargeIn IsText before bad
-        → IsRefused {X = Unit {0}} (refused.Syntax (length before + 1)) (Err r)
-    bad_syntax before bad first small = refused_syntax {X = Unit {0}} IsText (IsLargeIn IsText) bytes (Err r) tt names_bad before bad first small
+  -- what callers are told of what was read
+  module _ {J : Type 0} {Is : J → Type 0} where
+    pub read : (r : Result J FileFault) → IfOk r Is → (Q : J → Type 0) → ((j : J) → Is j → Q j) → IfOk (answered bytes r) Q
+    read (Ok j) is Q to = to j is
+    read (Err f) is Q to = tt
 
-    -- or has a value that is too large
-    pub too_large : (before : List (List ℕ)) (bad : List ℕ) → IsFirstBad IsText bytes before bad → IsLargeIn IsText before bad
-        → IsRefused {X = Unit {0}} (refused.TooLarge (length before + 1)) (Err r)
-    too_large before bad first large = refused_too_large {X = Unit {0}} IsText (IsLargeIn IsText) bytes (Err r) tt names_bad before bad first large
+    -- of a journal nothing else is
+    pub only : (r : Result J FileFault) → IfOk r Is → IfErr r (StopsIn IsText bytes 0) → IsText bytes → (Q : J → Type 0) → ((j : J) → Is j → Q j)
+        → IsRead Q (answered bytes r)
+    only (Ok j) is s t Q to = to j is
+    only (Err stop.NoMemory) is s t Q to = refl
+    only (Err (stop.Bad place)) is s t Q to = absurd (s.2.first.none t)
+    only (Err (stop.TooLarge place)) is s t Q to = absurd (s.2.first.none t)
+
+    -- of anything else its first bad line
+    pub told : (r : Result J FileFault) → IfOk r Is → IfErr r (StopsIn IsText bytes 0) → ((j : J) → Is j → IsText bytes)
+        → TellsFirstBad IsText bytes (answered bytes r)
+    told r is s text =
+        let ok : IfOk (answered bytes r) (λ _. IsText bytes) = read r is (λ _. IsText bytes) text in
+        record {
+          refused = named r s;
+          syntax = refused_syntax IsText (IsLargeIn IsText) bytes (answered bytes r) ok (named r s);
+          too_large = refused_too_large IsText (IsLargeIn IsText) bytes (answered bytes r) ok (named r s);
+        }

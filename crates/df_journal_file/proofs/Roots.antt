@@ -1,5 +1,5 @@
 -- The lines of roots, and the line `run` behind them.
-use Rattle.std.proofs.Common.{◌≡◌, ℕ, ◌+◌, ◌<◌, ◌≤◌, ◌^◌, Bool, List, [], ◌∷◌, ◌++◌, length, drop, map, codes, decimal, refl, sym, ap, subst, ◌∙◌, arith, append_assoc, inl, inr}
+use Rattle.std.proofs.Common.{◌≡◌, ℕ, ◌+◌, ◌<◌, ◌≤◌, ◌^◌, Bool, List, [], ◌∷◌, ◌++◌, length, drop, map, codes, decimal, refl, sym, ap, subst, ◌∙◌, arith, append_assoc, ◌⊎◌, inl, inr}
 use Rattle.std.specs.List.{All, AllByRecursion}
 use Rattle.std.proofs.lemmas.List.{append_cancel_left}
 use Rattle.std.proofs.lemmas.List.Elements.{All-cons, All-head, All-nil, All-tail, recursion_from_All}
@@ -46,24 +46,30 @@ module _ (has : Bool) where
   recount : (n k : ℕ) (u : List ℕ) → n ≡ k → From n u → From k u
   recount n k u is h = subst (λ (k : ℕ). From k u) is h
 
-  -- the line of a root in front of others
-  split : (n : ℕ) (s : RootStart) (ss : List RootStart) (rest : List ℕ)
-      → roots_text n (s ∷ ss) ++ (ended run ++ rest) ≡ ended (root_text n s) ++ (roots_text (n + 1) ss ++ (ended run ++ rest))
-  split n s ss rest = append_assoc (ended (root_text n s)) (roots_text (n + 1) ss) (ended run ++ rest)
+  -- the line `run` and entries, or the line of a root and more
+  split : (n : ℕ) (u : List ℕ) → From n u → ((rest : List ℕ) × EntriesFrom has rest × (u ≡ ended run ++ rest))
+      ⊎ ((r : RootStart) × (rest : List ℕ) × IsRoot r × (n + 1 < 2 ^ 32) × From (n + 1) rest × (u ≡ ended (root_text n r) ++ rest))
+  split n u h = cut h.0 h.1 h.2 h.3 h.4 h.5
+    where
+      cut : (roots : List RootStart) (rest : List ℕ) → n + length roots < 2 ^ 32 → All IsRoot roots → EntriesFrom has rest
+          → u ≡ roots_text n roots ++ (ended run ++ rest) → ((rest : List ℕ) × EntriesFrom has rest × (u ≡ ended run ++ rest))
+          ⊎ ((r : RootStart) × (rest : List ℕ) × IsRoot r × (n + 1 < 2 ^ 32) × From (n + 1) rest × (u ≡ ended (root_text n r) ++ rest))
+      cut [] rest few fits t e = inl (rest, t, e)
+      cut (s ∷ ss) rest few fits t e =
+          let tail : List ℕ = roots_text (n + 1) ss ++ (ended run ++ rest) in
+          let more : From (n + 1) tail = (ss, rest, omega (arith, few), All-tail IsRoot s ss fits, t, refl) in
+          let whole = e ∙ append_assoc (ended (root_text n s)) (roots_text (n + 1) ss) (ended run ++ rest) in
+          inr (s, tail, All-head IsRoot s ss fits, omega (arith, few), more, whole)
 
   -- ---- roots
 
   -- behind one root
   behind_one : (n : ℕ) (r : RootStart) (u : List ℕ) → n < 2 ^ 32 → IsRoot r → From n (ended (root_text n r) ++ u) → From (n + 1) u
-  behind_one n r u small f h = cut h.0 h.1 h.2 h.3 h.4 h.5
-    where
-      cut : (roots : List RootStart) (rest : List ℕ) → n + length roots < 2 ^ 32 → All IsRoot roots → EntriesFrom has rest
-          → ended (root_text n r) ++ u ≡ roots_text n roots ++ (ended run ++ rest) → From (n + 1) u
-      cut [] rest few fits t e = one_result refl (ap (begins_with 117) e)
-      cut (s ∷ ss) rest few fits t e =
-          let tail : List ℕ = roots_text (n + 1) ss ++ (ended run ++ rest) in
-          let same : u ≡ tail = fed_rest u tail (root_feeds n r small f) (root_feeds n s small (All-head IsRoot s ss fits)) (e ∙ split n s ss rest) in
-          (ss, rest, omega (arith, few), All-tail IsRoot s ss fits, t, same)
+  behind_one n r u small f h =
+      elim (split n (ended (root_text n r) ++ u) h) [
+        | inl s ↦ one_result refl (ap (begins_with 117) s.2)
+        | inr s ↦ subst (From (n + 1)) (sym (fed_rest u s.1 (root_feeds n r small f) (root_feeds n s.0 small s.2) s.5)) s.4
+      ]
 
   -- behind several
   behind_all : (n : ℕ) (rs : List RootStart) (u : List ℕ) → AllByRecursion IsRoot rs → n + length rs < 2 ^ 32
@@ -82,7 +88,8 @@ module _ (has : Bool) where
   front_all n (r ∷ rs) u f h =
       let lines : List ℕ = lines_text (numbered root_text (n + 1) rs) in
       let more = front_all (n + 1) rs u f.1 (recount (n + length (r ∷ rs)) (n + 1 + length rs) u (omega arith) h) in
-      let whole = append_assoc (ended (root_text n r)) lines u ∙ ap (λ (v : List ℕ). ended (root_text n r) ++ v) more.5 ∙ sym (split n r more.0 more.1) in
+      let whole = append_assoc (ended (root_text n r)) lines u ∙ ap (λ (v : List ℕ). ended (root_text n r) ++ v) more.5
+      ∙ sym (append_assoc (ended (root_text n r)) (roots_text (n + 1) more.0) (ended run ++ more.1)) in
       (r ∷ more.0, more.1, omega (arith, more.2), All-cons IsRoot r more.0 f.0 more.3, more.4, whole)
 
   -- behind roots more may stand
@@ -96,13 +103,11 @@ module _ (has : Bool) where
   run_onto : (n : ℕ) (bytes : List ℕ) (place end : ℕ) → n < 2 ^ 32 → drop place bytes ≡ ended run ++ drop end bytes
       → Onto (From n) bytes place (EntriesFrom has) end
   run_onto n bytes place end few is =
-      onto_fed run_feeds (From n) (EntriesFrom has) bytes place end is (λ u h. cut u h.0 h.1 h.2 h.4 h.5)
-      (λ u t. ([], u, omega (arith, few), All-nil IsRoot, t, refl))
-    where
-      cut : (u : List ℕ) (roots : List RootStart) (rest : List ℕ) → n + length roots < 2 ^ 32 → EntriesFrom has rest
-          → ended run ++ u ≡ roots_text n roots ++ (ended run ++ rest) → EntriesFrom has u
-      cut u [] rest few t e = subst (EntriesFrom has) (sym (append_cancel_left (ended run) u rest e)) t
-      cut u (s ∷ ss) rest few t e = one_result refl (ap (begins_with 114) e)
+      onto_fed run_feeds (From n) (EntriesFrom has) bytes place end is
+      (λ u h. elim (split n (ended run ++ u) h) [
+        | inl s ↦ subst (EntriesFrom has) (sym (append_cancel_left (ended run) u s.0 s.2)) s.1
+        | inr s ↦ one_result refl (ap (begins_with 114) s.5)
+      ]) (λ u t. ([], u, omega (arith, few), All-nil IsRoot, t, refl))
 
   -- behind both
   pub roots_onto : (bytes : List ℕ) (at : ℕ) (rs : List RootStart) (end : ℕ) → AreRootsAt bytes at rs end → Onto (From 0) bytes at (EntriesFrom has) end
@@ -119,24 +124,26 @@ module _ (has : Bool) where
   -- one begins with a line
   head_goes : (n : ℕ) (u : List ℕ) → From n u → (l : List ℕ) × (rest : List ℕ) × IsLine l × IsHeadLine n l × (u ≡ l ++ 10 ∷ rest)
   unfolding run_feeds root_feeds
-  head_goes n u h = cut h.0 h.1 h.2 h.3 h.5
-    where
-      cut : (roots : List RootStart) (rest : List ℕ) → n + length roots < 2 ^ 32 → All IsRoot roots
-          → u ≡ roots_text n roots ++ (ended run ++ rest) → (l : List ℕ) × (rest : List ℕ) × IsLine l × IsHeadLine n l × (u ≡ l ++ 10 ∷ rest)
-      cut [] rest few fits e = (run, rest, run_feeds.free, inl refl, e)
-      cut (s ∷ ss) rest few fits e =
-          let fit = All-head IsRoot s ss fits in
-          let tail : List ℕ = roots_text (n + 1) ss ++ (ended run ++ rest) in
-          let whole = e ∙ split n s ss rest ∙ append_assoc (root_text n s) (10 ∷ []) tail in
-          (root_text n s, tail, (root_feeds n s (omega (arith, few)) fit).free, inr (omega (arith, few), (s, fit, refl)), whole)
+  head_goes n u h =
+      elim (split n u h) [
+        | inl s ↦ (run, s.0, run_feeds.free, inl refl, s.2)
+        | inr s ↦ (
+          root_text n s.0,
+          s.1,
+          (root_feeds n s.0 (omega (arith, s.3)) s.2).free,
+          inr (s.3, (s.0, s.2, refl)),
+          s.5 ∙ append_assoc (root_text n s.0) (10 ∷ []) s.1,
+        )
+      ]
 
   -- no value stands there
   head_small : (n : ℕ) (bad : List ℕ) → ¬ IsLargeIn (From n) [] bad
-  head_small n bad l = cut l.viable.1.0 l.viable.1.1 l.viable.1.5
-    where
-      cut : (roots : List RootStart) (rest : List ℕ) → l.front ++ l.viable.0 ≡ roots_text n roots ++ (ended run ++ rest) → ⊥
-      cut [] rest e = one_result (ap (begins_with 114) e) (front_begins l.front l.viable.0 l.wanting 114 (refl, refl, refl, refl))
-      cut (s ∷ ss) rest e = one_result (ap (begins_with 117) e) (front_begins l.front l.viable.0 l.wanting 117 (refl, refl, refl, refl))
+  head_small n bad l =
+      let never = front_begins l.front l.viable.0 l.wanting in
+      elim (split n (l.front ++ l.viable.0) l.viable.1) [
+        | inl s ↦ one_result (ap (begins_with 114) s.2) (never 114 (refl, refl, refl, refl))
+        | inr s ↦ one_result (ap (begins_with 117) s.5) (never 117 (refl, refl, refl, refl))
+      ]
 
   -- a line that is none of them is bad
   root_stop : (n : ℕ) → n < 2 ^ 32 → (bytes : List ℕ) (at : ℕ) → at ≤ length bytes → (f : FileFault) → StopsRoot n bytes at f → StopsIn (From n) bytes at f

@@ -11,7 +11,7 @@ use Rattle.df_value_text.specs.Number.{begins_with}
 use Rattle.df_journal_text.specs.ReadWords.{begins_pair}
 use Rattle.df_journal_file.specs.TooLarge.{IsLargeIn}
 use Rattle.df_journal_file.specs.code.Languages.{BehindSome, Many, Then}
-use Rattle.df_journal_file.specs.code.Places.{AreMarked, ArePassed, MarkedStop, StopsLine}
+use Rattle.df_journal_file.specs.code.Places.{AreMarked, ArePassed, IsHere, MarkedStop, StopsLine}
 use Rattle.df_journal_file.specs.code.Stops.{Onto, StopsIn}
 use Rattle.df_journal_file.proofs.Feeds.{IsFed, fed_rest}
 use Rattle.df_journal_file.proofs.Fronts.{first_alike, one_result}
@@ -29,10 +29,10 @@ pub record IsBareKind {X : Type 0} (text : X → List ℕ) (Fits : X → Type 0)
 
 module _ {X : Type 0} {text : X → List ℕ} {Fits : X → Type 0} (kind : IsBareKind text Fits) (Rest : List ℕ → Type 0) where
   -- behind one that was read
-  pub then_onto : (bytes : List ℕ) (at place : ℕ) (x : X) → Fits x → drop at bytes ≡ text x ++ drop place bytes → Onto (Then text Fits Rest) bytes at Rest place
-  then_onto bytes at place x fits is =
-      onto_fed (kind.feeds x fits) (Then text Fits Rest) Rest bytes at place is
-      (λ u t. subst Rest (sym (fed_rest u t.1 (kind.feeds x fits) (kind.feeds t.0 t.2) t.4)) t.3) (λ u r. (x, u, fits, r, refl))
+  pub then_onto : {bytes : List ℕ} {at place : ℕ} {x : X} → IsHere text Fits bytes at x place → Onto (Then text Fits Rest) bytes at Rest place
+  then_onto {bytes} {at} {place} {x} h =
+      onto_fed (kind.feeds x h.fits) (Then text Fits Rest) Rest bytes at place h.parts
+      (λ u t. subst Rest (sym (fed_rest u t.1 (kind.feeds x h.fits) (kind.feeds t.0 t.2) t.4)) t.3) (λ u r. (x, u, h.fits, r, refl))
 
   -- where none is read
   pub then_stop : Begins (Then text Fits Rest) [] → (bytes : List ℕ) (at : ℕ) → at ≤ length bytes → (f : FileFault) → StopsLine text Fits (λ _. ⊥) bytes at f
@@ -71,38 +71,37 @@ module _ {X : Type 0} {text : X → List ℕ} {Fits : X → Type 0} {mark : ℕ}
   recount : (n k : ℕ) (u : List ℕ) → n ≡ k → Rest n u → Rest k u
   recount n k u is r = subst (λ (k : ℕ). Rest k u) is r
 
-  -- one of them stands in front, or none
-  split : (n : ℕ) (u : List ℕ) → From n u → Rest n u ⊎ ((x : X) × Fits x × ((rest : List ℕ) × (u ≡ text x ++ rest)))
+  -- one of them stands in front, and more behind it, or none
+  split : (n : ℕ) (u : List ℕ) → From n u → Rest n u ⊎ ((x : X) × Fits x × ((rest : List ℕ) × From (n + 1) rest × (u ≡ text x ++ rest)))
   split n u m = cut m.0 m.1 m.2 m.3 m.4
     where
       cut : (xs : List X) (rest : List ℕ) → All Fits xs → Rest (n + length xs) rest → u ≡ flat_map text xs ++ rest
-          → Rest n u ⊎ ((x : X) × Fits x × ((rest : List ℕ) × (u ≡ text x ++ rest)))
+          → Rest n u ⊎ ((x : X) × Fits x × ((rest : List ℕ) × From (n + 1) rest × (u ≡ text x ++ rest)))
       cut [] rest f r e = inl (subst (Rest n) (sym e) (recount (n + 0) n rest (omega arith) r))
-      cut (y ∷ ys) rest f r e = inr (y, All-head Fits y ys f, (flat_map text ys ++ rest, e ∙ append_assoc (text y) (flat_map text ys) rest))
+      cut (y ∷ ys) rest f r e =
+          let more : From (n + 1) (flat_map text ys ++ rest) =
+          (ys, rest, All-tail Fits y ys f, recount (n + suc (length ys)) (n + 1 + length ys) rest (omega arith) r, refl) in
+          inr (y, All-head Fits y ys f, (flat_map text ys ++ rest, more, e ∙ append_assoc (text y) (flat_map text ys) rest))
 
   -- none, where the mark doesn't stand there
   pub run_none : (n : ℕ) (u : List ℕ) → begins_pair mark 32 u ≡ false → From n u → Rest n u
   run_none n u unmarked m =
       elim (split n u m) [
         | inl r ↦ r
-        | inr s ↦ one_result (ap (begins_pair mark 32) s.2.1 ∙ run.marks s.0 s.2.0) unmarked
+        | inr s ↦ one_result (ap (begins_pair mark 32) s.2.2 ∙ run.marks s.0 s.2.0) unmarked
       ]
 
   -- one, where it does
   some_here : (n : ℕ) (u : List ℕ) → begins_pair mark 32 u ≡ true → From n u → (x : X) × Fits x × ((rest : List ℕ) × (u ≡ text x ++ rest))
-  some_here n u marked m = elim (split n u m) [ inl r ↦ one_result marked (run.ends n u r) | inr s ↦ s ]
+  some_here n u marked m = elim (split n u m) [ inl r ↦ one_result marked (run.ends n u r) | inr s ↦ (s.0, s.1, (s.2.0, s.2.2)) ]
 
   -- behind one of them
   behind_one : (n : ℕ) (x : X) (u : List ℕ) → Fits x → From n (text x ++ u) → From (n + 1) u
-  behind_one n x u fits m = cut m.0 m.1 m.2 m.3 m.4
-    where
-      cut : (xs : List X) (rest : List ℕ) → All Fits xs → Rest (n + length xs) rest → text x ++ u ≡ flat_map text xs ++ rest → From (n + 1) u
-      cut [] rest f r e = one_result (sym (ap (begins_pair mark 32) e) ∙ run.marks x u) (run.ends (n + 0) rest r)
-      cut (y ∷ ys) rest f r e =
-          let tail : List ℕ = flat_map text ys ++ rest in
-          let same : u ≡ tail = fed_rest u tail (run.feeds x fits) (run.feeds y (All-head Fits y ys f))
-          (e ∙ append_assoc (text y) (flat_map text ys) rest) in
-          (ys, rest, All-tail Fits y ys f, recount (n + suc (length ys)) (n + 1 + length ys) rest (omega arith) r, same)
+  behind_one n x u fits m =
+      elim (split n (text x ++ u) m) [
+        | inl r ↦ one_result (run.marks x u) (run.ends n (text x ++ u) r)
+        | inr s ↦ subst (From (n + 1)) (sym (fed_rest u s.2.0 (run.feeds x fits) (run.feeds s.0 s.1) s.2.2)) s.2.1
+      ]
 
   -- behind some of them
   behind_all : (n : ℕ) (xs : List X) (u : List ℕ) → AllByRecursion Fits xs → From n (flat_map text xs ++ u) → From (n + length xs) u
@@ -123,6 +122,12 @@ module _ {X : Type 0} {text : X → List ℕ} {Fits : X → Type 0} {mark : ℕ}
         ∙ ap (λ (v : List ℕ). v ++ m.1) (sym (flat_map-append text xs m.0)),
   )
 
+  -- one of these stands where the mark does
+  pub some_marked : {bytes : List ℕ} {at place : ℕ} (xs : List X) → AreMarked text Fits mark bytes at xs place
+      → begins_pair mark 32 (drop at bytes) ≡ true → 0 < length xs
+  some_marked [] m marked = one_result marked (ap (begins_pair mark 32) m.0.parts ∙ m.1)
+  some_marked (x ∷ xs) m marked = omega arith
+
   -- the lines of these
   lines_of : (xs : List X) → AllByRecursion Fits xs → (ls : List (List ℕ)) × All IsLine ls × (flat_map text xs ≡ lines_text ls)
   lines_of [] f = ([], All-nil IsLine, refl)
@@ -138,11 +143,11 @@ module _ {X : Type 0} {text : X → List ℕ} {Fits : X → Type 0} {mark : ℕ}
   more_onto : (bytes : List ℕ) (at place : ℕ) (xs : List X) (n : ℕ) → ArePassed text Fits bytes at xs place
       → Onto (From n) bytes at (From (n + length xs)) place
   more_onto bytes at place xs n passed =
-      let fits = recursion_from_All Fits xs passed.fit in
+      let fits = recursion_from_All Fits xs passed.fits in
       let ls = lines_of xs fits in
       let fed : (u : List ℕ) → flat_map text xs ++ u ≡ lines_text ls.0 ++ u = λ u. ap (λ (w : List ℕ). w ++ u) ls.2 in
       onto (From n) (From (n + length xs)) bytes at place ls.0 ls.1 (passed.parts ∙ fed (drop place bytes))
-      (λ u like m. behind_all n xs u fits (subst (From n) (sym (fed u)) m)) (λ u m. subst (From n) (fed u) (front_all n xs u passed.fit m))
+      (λ u like m. behind_all n xs u fits (subst (From n) (sym (fed u)) m)) (λ u m. subst (From n) (fed u) (front_all n xs u passed.fits m))
 
   -- no further line with the mark stands behind these
   pub run_onto : (bytes : List ℕ) (at place : ℕ) (xs : List X) (n : ℕ) → AreMarked text Fits mark bytes at xs place
@@ -170,18 +175,16 @@ module _ {X : Type 0} {text : X → List ℕ} {Fits : X → Type 0} {mark : ℕ}
 -- ---- where one line at least is to stand
 
 module _ {X : Type 0} {text : X → List ℕ} {Fits : X → Type 0} {mark : ℕ} {IsLarge : List ℕ → Type 0} (Behind : List ℕ → Type 0)
-    (run : IsRun text Fits mark IsLarge (BehindSome Behind)) (bytes : List ℕ) (at place : ℕ) (xs : List X)
-    (m : AreMarked text Fits mark bytes at xs place) where
+    (run : IsRun text Fits mark IsLarge (BehindSome Behind)) (bytes : List ℕ) (at : ℕ) where
   -- some do
-  pub filled_onto : (n : ℕ) → 0 < n + length xs → Onto (Many text Fits (BehindSome Behind) n) bytes at Behind place
-  filled_onto n some = λ f s.
+  pub filled_onto : (place : ℕ) (xs : List X) → AreMarked text Fits mark bytes at xs place → (n : ℕ) → 0 < n + length xs
+      → Onto (Many text Fits (BehindSome Behind) n) bytes at Behind place
+  filled_onto place xs m n some = λ f s.
       run_onto run bytes at place xs n m f
       (onto_here (BehindSome Behind (n + length xs)) Behind bytes place (λ u like t. t.1) (λ u t. (some, t)) f s)
 
   -- none does
-  pub empty_stop : at ≤ length bytes → xs ≡ [] → StopsIn (Many text Fits (BehindSome Behind) 0) bytes at (stop.Bad at)
-  empty_stop inside none =
-      let here : drop at bytes ≡ drop place bytes = m.0.parts ∙ ap (λ (ys : List X). flat_map text ys ++ drop place bytes) none in
-      let unmarked : begins_pair mark 32 (drop at bytes) ≡ false = ap (begins_pair mark 32) here ∙ m.1 in
+  pub empty_stop : at ≤ length bytes → begins_pair mark 32 (drop at bytes) ≡ false → StopsIn (Many text Fits (BehindSome Behind) 0) bytes at (stop.Bad at)
+  empty_stop inside unmarked =
       never_stop (Many text Fits (BehindSome Behind) 0) bytes at inside (run.some 0)
       (λ u like t. let some = run_none run 0 u ((like mark).1 run.free ∙ unmarked) t in omega (arith, some.0))

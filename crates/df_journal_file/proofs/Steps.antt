@@ -27,13 +27,13 @@ use Rattle.df_journal_file.specs.Below.{note_line}
 use Rattle.df_journal_file.specs.Journal.{EditsSome, EndsFile}
 use Rattle.df_journal_file.specs.code.Languages.{CommitFrom, EditFrom, EffectFrom, EntriesFrom, HandedFrom, IsHanding, NoteFrom, NotesNone, ReadFrom, ShownFrom, ShowsNone, Then}
 use Rattle.df_journal_file.specs.code.Marks.{IsUnitHere}
-use Rattle.df_journal_file.specs.code.Places.{AreMarked, StopsLine, TellsAt}
+use Rattle.df_journal_file.specs.code.Places.{AreMarked, IsHere, StopsLine}
 use Rattle.df_journal_file.specs.code.Stops.{Onto, StopsIn}
 use Rattle.df_journal_file.proofs.Feeds.{CallTold, call_feeds, fed_rest, fed_same, told_line}
 use Rattle.df_journal_file.proofs.Fronts.{SameFirst, first_alike, one_result}
 use Rattle.df_journal_file.proofs.Heads.{edit_some, entries_begin, entries_some}
 use Rattle.df_journal_file.proofs.LineKinds.{adds_run, spots_run}
-use Rattle.df_journal_file.proofs.Loops.{same_end}
+use Rattle.df_journal_file.proofs.Ends.{same_end}
 use Rattle.df_journal_file.proofs.Ontos.{line_stop, never_stop, onto_fed, onto_here}
 use Rattle.df_journal_file.proofs.Opens.{AtHead, called_begins, digit_begins, done_to, effect_parts, emitted_to, opened}
 use Rattle.df_journal_file.proofs.Runs.{run_none}
@@ -113,19 +113,13 @@ module _ (has : Bool) (bytes : List ℕ) (at : ℕ) where
 
   -- the reply `parts` shows some
   pub bare_onto : (bare : Reply) → bare ≡ reply.Parts [] → Onto (ShownFrom has bare) bytes at (ReadFrom has 0) at
-  bare_onto bare is = onto_here (ShownFrom has bare) (ReadFrom has 0) bytes at (λ u like t. cut u t) (λ u t. inr (is, t))
-    where
-      cut : (u : List ℕ) → ShownFrom has bare u → ReadFrom has 0 u
-      cut u (inl t) = absurd (t.0 [] is)
-      cut u (inr t) = t.1
+  bare_onto bare is =
+      onto_here (ShownFrom has bare) (ReadFrom has 0) bytes at (λ u like t. elim t [ inl s ↦ absurd (s.0 [] is) | inr s ↦ s.1 ]) (λ u t. inr (is, t))
 
   -- each other reply stands alone
   pub alone_onto : (bare : Reply) → ShowsNone bare → Onto (ShownFrom has bare) bytes at (EffectFrom has bare) at
-  alone_onto bare none = onto_here (ShownFrom has bare) (EffectFrom has bare) bytes at (λ u like t. cut u t) (λ u t. inl (none, t))
-    where
-      cut : (u : List ℕ) → ShownFrom has bare u → EffectFrom has bare u
-      cut u (inl t) = t.1
-      cut u (inr t) = absurd (none [] t.0)
+  alone_onto bare none =
+      onto_here (ShownFrom has bare) (EffectFrom has bare) bytes at (λ u like t. elim t [ inl s ↦ s.1 | inr s ↦ absurd (none [] s.0) ]) (λ u t. inl (none, t))
 
   -- which parts are shown makes no effect another
   pub parts_onto : (parts : List PartRead) → Onto (EffectFrom has (reply.Parts [])) bytes at (EffectFrom has (reply.Parts parts)) at
@@ -137,40 +131,31 @@ module _ (has : Bool) (bytes : List ℕ) (at : ℕ) where
 
   -- nothing
   pub unnoted_onto : (bare : Reply) → NotesNone has bare → Onto (NoteFrom has bare) bytes at (ShownFrom has bare) at
-  unnoted_onto bare none = onto_here (NoteFrom has bare) (ShownFrom has bare) bytes at (λ u like t. cut none u t) (λ u t. inl (none, t))
-    where
-      cut : NotesNone has bare → (u : List ℕ) → NoteFrom has bare u → ShownFrom has bare u
-      cut n u (inl t) = t.1
-      cut (inl h) u (inr t) = one_result t.0 h
-      cut (inr h) u (inr t) = absurd (t.1 h)
+  unnoted_onto bare none =
+      onto_here (NoteFrom has bare) (ShownFrom has bare) bytes at (λ u like t. elim t [ inl s ↦ s.1 | inr s ↦ absurd (s.0 none) ]) (λ u t. inl (none, t))
 
   -- a contamination
-  pub noted_onto : (bare : Reply) → has ≡ true → bare ≢ reply.NoSuchUnit → Onto (NoteFrom has bare) bytes at (Then note_line IsLabel (ShownFrom has bare)) at
-  noted_onto bare h exists =
-      onto_here (NoteFrom has bare) (Then note_line IsLabel (ShownFrom has bare)) bytes at (λ u like t. cut u t) (λ u t. inr (h, exists, t))
-    where
-      cut : (u : List ℕ) → NoteFrom has bare u → Then note_line IsLabel (ShownFrom has bare) u
-      cut u (inl (inl none, t)) = one_result h none
-      cut u (inl (inr none, t)) = absurd (exists none)
-      cut u (inr t) = t.2
+  pub noted_onto : (bare : Reply) → ¬ NotesNone has bare → Onto (NoteFrom has bare) bytes at (Then note_line IsLabel (ShownFrom has bare)) at
+  noted_onto bare some =
+      onto_here (NoteFrom has bare) (Then note_line IsLabel (ShownFrom has bare)) bytes at
+      (λ u like t. elim t [ inl s ↦ absurd (some s.0) | inr s ↦ s.1 ]) (λ u t. inr (some, t))
 
   -- ---- calls
 
   -- behind the line of a call
-  pub called_onto : (next : ℕ) (c : CallTold) → TellsAt told_line IsCalled IsLargeCalled bytes at (Ok (c, next))
-      → Onto (EntriesFrom has) bytes at (NoteFrom has c.2) next
-  called_onto next c t =
-      onto_fed (call_feeds c t.0) (EntriesFrom has) (NoteFrom has c.2) bytes at next t.3 (λ u m. cut u (opened has (told_line c ++ u) m))
-      (λ u n. done_to has (told_line c ++ u) (c, u, t.0, n, refl))
+  pub called_onto : {c : CallTold} {next : ℕ} → IsHere told_line IsCalled bytes at c next → Onto (EntriesFrom has) bytes at (NoteFrom has c.2) next
+  called_onto {c} {next} h =
+      onto_fed (call_feeds c h.fits) (EntriesFrom has) (NoteFrom has c.2) bytes at next h.parts (λ u m. cut u (opened has (told_line c ++ u) m))
+      (λ u n. done_to has (told_line c ++ u) (c, u, h.fits, n, refl))
     where
       cut : (u : List ℕ) → EndsFile (told_line c ++ u) ⊎ AtHead has (told_line c ++ u) → NoteFrom has c.2 u
-      cut u (inl (inl e)) = one_result (called_begins c u t.0) (ap begins_digit e)
-      cut u (inl (inr e)) = one_result (called_begins c u t.0) (ap begins_digit e.1)
+      cut u (inl (inl e)) = one_result (called_begins c u h.fits) (ap begins_digit e)
+      cut u (inl (inr e)) = one_result (called_begins c u h.fits) (ap begins_digit e.1)
       cut u (inr (inl d)) =
-          let rest : u ≡ d.1 = fed_rest u d.1 (call_feeds c t.0) (call_feeds d.0 d.2) d.4 in
-          let same : c.2 ≡ d.0.2 = same_reply c d.0 t.0 d.2 (fed_same u d.1 (call_feeds c t.0) (call_feeds d.0 d.2) d.4) in
+          let rest : u ≡ d.1 = fed_rest u d.1 (call_feeds c h.fits) (call_feeds d.0 d.2) d.4 in
+          let same : c.2 ≡ d.0.2 = same_reply c d.0 h.fits d.2 (fed_same u d.1 (call_feeds c h.fits) (call_feeds d.0 d.2) d.4) in
           subst (NoteFrom has c.2) (sym rest) (subst (λ (r : Reply). NoteFrom has r d.1) (sym same) d.3)
-      cut u (inr (inr m)) = one_result (called_begins c u t.0) (ap begins_digit m.4)
+      cut u (inr (inr m)) = one_result (called_begins c u h.fits) (ap begins_digit m.4)
 
   -- a line that is none is bad
   pub called_stop : at ≤ length bytes → IsUnitHere (drop at bytes) → (f : FileFault) → StopsLine told_line IsCalled IsLargeCalled bytes at f

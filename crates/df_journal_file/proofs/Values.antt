@@ -62,14 +62,14 @@ shown_front front more (inr (inr (inl p))) b = no_mark 58 front _ more p.2 refl 
 shown_front front more (inr (inr (inr p))) b = no_mark 58 front _ more p.2 refl b
 
 -- with that of an addition, a part that is added
-added_front : (front more : List ℕ) → IsValueFront front → begins_pair 43 32 (front ++ more) ≡ true → IsPartFront (codes "+") front
+pub added_front : (front more : List ℕ) → IsValueFront front → begins_pair 43 32 (front ++ more) ≡ true → IsPartFront (codes "+") front
 added_front front more (inl c) b = no_call 43 front more c refl b
 added_front front more (inr (inl s)) b = no_mark 43 front _ more s.2 refl b
 added_front front more (inr (inr (inl p))) b = p
 added_front front more (inr (inr (inr p))) b = no_mark 43 front _ more p.2 refl b
 
 -- with that of what was given, a part that was
-given_front : (front more : List ℕ) → IsValueFront front → begins_pair 46 32 (front ++ more) ≡ true → IsPartFront (codes ".") front
+pub given_front : (front more : List ℕ) → IsValueFront front → begins_pair 46 32 (front ++ more) ≡ true → IsPartFront (codes ".") front
 given_front front more (inl c) b = no_call 46 front more c refl b
 given_front front more (inr (inl s)) b = no_mark 46 front _ more s.2 refl b
 given_front front more (inr (inr (inl p))) b = no_mark 46 front _ more p.2 refl b
@@ -113,16 +113,11 @@ module _ (IsText : List ℕ → Type 0) (bad behind : List ℕ) (l : IsLargeIn I
       let s = shown_front l.front (l.rest ++ behind) l.wanting (ap (begins_pair 58 32) (sym fronted) ∙ b) in
       (s.0, l.rest, s.1, l.parts ∙ ap (λ (f : List ℕ). f ++ l.rest) s.2, l.large)
 
-  -- as that of a part that is added
-  pub added_small : begins_pair 43 32 (bad ++ behind) ≡ true → IsLargePart (codes "+") bad
-  added_small b =
-      let p = added_front l.front (l.rest ++ behind) l.wanting (ap (begins_pair 43 32) (sym fronted) ∙ b) in
-      (p.0, l.rest, p.1, l.parts ∙ ap (λ (f : List ℕ). f ++ l.rest) p.2, l.large)
-
-  -- as that of a part that was given
-  pub given_small : begins_pair 46 32 (bad ++ behind) ≡ true → IsLargePart (codes ".") bad
-  given_small b =
-      let p = given_front l.front (l.rest ++ behind) l.wanting (ap (begins_pair 46 32) (sym fronted) ∙ b) in
+  -- as that of a part behind this mark
+  pub part_small : (m : ℕ) → ((front more : List ℕ) → IsValueFront front → begins_pair m 32 (front ++ more) ≡ true → IsPartFront (m ∷ []) front)
+      → begins_pair m 32 (bad ++ behind) ≡ true → IsLargePart (m ∷ []) bad
+  part_small m back b =
+      let p = back l.front (l.rest ++ behind) l.wanting (ap (begins_pair m 32) (sym fronted) ∙ b) in
       (p.0, l.rest, p.1, l.parts ∙ ap (λ (f : List ℕ). f ++ l.rest) p.2, l.large)
 
 -- the words of a call that adds a part, up to its value

@@ -3,13 +3,13 @@ ghost use Rattle.std.specs.Prelude.{◌≤◌, ◌<◌, ◌↔◌, Bool, IfErr, 
 ghost use Rattle.df_journal_text.specs.Entry.{edit_text, effect_text, given_text, note_text, noted_text, reads_text};
 ghost use Rattle.df_journal_text.specs.Fits.{IsAnswer};
 ghost use Rattle.df_journal_file.specs.Journal.{EditsSome, EndsFile};
-ghost use Rattle.df_journal_file.specs.code.Entries.{IsGivenFor, IsHere, IsNoteBy, IsShownBy, IsSomeCommit, IsSomeEdit, IsSomeEffectOf, IsWholeBy, commit_lines};
-ghost use Rattle.df_journal_file.specs.code.Languages.{CommitFrom, EditFrom, EffectFrom, EntriesFrom, HandedFrom, NoteFrom, ShownFrom};
+ghost use Rattle.df_journal_file.specs.code.Entries.{IsGivenFor, IsNoteBy, IsShownBy, IsSomeCommit, IsSomeEdit, IsSomeEffectOf, IsWholeBy, commit_lines};
+ghost use Rattle.df_journal_file.specs.code.Languages.{CommitFrom, EditFrom, EffectFrom, EntriesFrom, HandedFrom, NoteFrom, NotesNone, ShownFrom};
 ghost use Rattle.df_journal_file.specs.code.Marks.{IsCommitMark, IsHandedAt, IsUnitHere};
+ghost use Rattle.df_journal_file.specs.code.Places.{IsHere};
 ghost use Rattle.df_journal_file.specs.code.Stops.{Onto, StopsIn};
 
-use crate::marked::{part_lines, shown_lines, spot_lines};
-use crate::place::{called_at, event_at, mark_stands, note_at};
+use crate::place::{lines_at, mark_stands, told_at};
 use df_label::Label;
 use df_lines::FileFault;
 use df_part::{Edit, Parts};
@@ -27,13 +27,13 @@ fn edits_some(edit: &Edit) -> bool
 /// What a commit deletes and adds from the place on, and the place behind it.
 fn edit_at(alloc: Global, bytes: &[u8], at: usize) -> Result<(Edit, usize), FileFault>
     requires { at ≤ length bytes.now }
-    ensures read { IfOk result (λ r. IsHere edit_text IsSomeEdit bytes.now at (r.0, r.1)) }
+    ensures read { IfOk result (λ r. IsHere edit_text IsSomeEdit bytes.now at r.0 r.1) }
     ensures onto { (has : Bool) → IfOk result (λ r.
         Onto (EditFrom has 0) bytes.now at (EntriesFrom has) r.1) }
     ensures stops { (has : Bool) → IfErr result (StopsIn (EditFrom has 0) bytes.now at) }
 {
-    let (deleted, behind) = spot_lines(alloc, bytes, at)?;
-    let (added, end) = part_lines(alloc, bytes, behind, b'+')?;
+    let (deleted, behind) = lines_at(alloc, bytes, at, b'-')?;
+    let (added, end) = lines_at(alloc, bytes, behind, b'+')?;
     let edit = Edit::new(deleted, added);
     if !edits_some(&edit) {
         return Err(FileFault::Bad(at));
@@ -50,14 +50,14 @@ fn commit_at(
 ) -> Result<(Commit, usize), FileFault>
     requires { at ≤ length bytes.now }
     ensures read { IfOk result (λ r.
-        IsHere (commit_lines mark.now) IsSomeCommit bytes.now at (r.0, r.1)) }
+        IsHere (commit_lines mark.now) IsSomeCommit bytes.now at r.0 r.1) }
     ensures onward { IfOk result (λ r. at < r.1) }
     ensures onto { (has : Bool) → IsCommitMark mark.now → IfOk result (λ r.
         Onto (CommitFrom has mark.now) bytes.now at (EntriesFrom has) r.1) }
     ensures stops { (has : Bool) → IsCommitMark mark.now
         → IfErr result (StopsIn (CommitFrom has mark.now) bytes.now at) }
 {
-    let (event, behind) = event_at(alloc, bytes, at, mark)?;
+    let (event, behind) = told_at(alloc, bytes, at, mark)?;
     let (edit, end) = edit_at(alloc, bytes, behind)?;
     Ok((Commit { event, edit }, end))
 }
@@ -65,16 +65,16 @@ fn commit_at(
 /// The event at the place that is handed over for the subscription.
 fn given_at(alloc: Global, bytes: &[u8], at: usize, sub: u32) -> Result<(Given, usize), FileFault>
     requires { at ≤ length bytes.now }
-    ensures read { IfOk result (λ r. IsHere given_text (IsGivenFor sub) bytes.now at (r.0, r.1)) }
+    ensures read { IfOk result (λ r. IsHere given_text (IsGivenFor sub) bytes.now at r.0 r.1) }
     ensures onto { (has : Bool) → IfOk result (λ r.
         Onto (HandedFrom has) bytes.now at (EntriesFrom has) r.1) }
     ensures stops { (has : Bool) → IfErr result (StopsIn (HandedFrom has) bytes.now at) }
 {
-    let (event, behind) = event_at(alloc, bytes, at, b"<")?;
-    let (parts, end) = part_lines(alloc, bytes, behind, b'.')?;
-    if parts.is_empty() {
+    let (event, behind) = told_at(alloc, bytes, at, b"<")?;
+    if !mark_stands(bytes, behind, b'.') {
         return Err(FileFault::Bad(behind));
     }
+    let (parts, end) = lines_at(alloc, bytes, behind, b'.')?;
     let parts = Parts::new(parts);
     Ok((Given { event, sub, parts }, end))
 }
@@ -105,7 +105,7 @@ fn effect_at(
 ) -> Result<(Effect, usize), FileFault>
     requires { at ≤ length bytes.now }
     ensures read { IfOk result (λ r.
-        IsHere effect_text (IsSomeEffectOf reply.now) bytes.now at (r.0, r.1)) }
+        IsHere effect_text (IsSomeEffectOf reply.now) bytes.now at r.0 r.1) }
     ensures onto { (has : Bool) → IfOk result (λ r.
         Onto (EffectFrom has reply.now) bytes.now at (EntriesFrom has) r.1) }
     ensures stops { (has : Bool) → IfErr result (StopsIn (EffectFrom has reply.now) bytes.now at) }
@@ -121,6 +121,13 @@ fn effect_at(
     Ok((Effect::Given(given), end))
 }
 
+/// Whether nothing is noted of a call with this reply.
+fn notes_none(has_notes: bool, reply: &Reply) -> bool
+    ensures { IsTrue result ↔ NotesNone has_notes reply.now }
+{
+    !has_notes || matches!(reply, Reply::NoSuchUnit)
+}
+
 /// The contamination that is noted at the place, where notes stand and the unit exists.
 fn contamination_at(
     alloc: Global,
@@ -131,16 +138,16 @@ fn contamination_at(
 ) -> Result<(Option<Label>, usize), FileFault>
     requires { at ≤ length bytes.now }
     ensures read { IfOk result (λ r.
-        IsHere note_text (IsNoteBy has_notes reply.now) bytes.now at (r.0, r.1)) }
+        IsHere note_text (IsNoteBy has_notes reply.now) bytes.now at r.0 r.1) }
     ensures onto { IfOk result (λ r. Onto (NoteFrom has_notes reply.now) bytes.now at
         (ShownFrom has_notes reply.now) r.1) }
     ensures stops { IsAnswer reply.now
         → IfErr result (StopsIn (NoteFrom has_notes reply.now) bytes.now at) }
 {
-    if !has_notes || matches!(reply, Reply::NoSuchUnit) {
+    if notes_none(has_notes, reply) {
         return Ok((None, at));
     }
-    let (label, end) = note_at(alloc, bytes, at)?;
+    let (label, end) = told_at(alloc, bytes, at, b"@")?;
     Ok((Some(label), end))
 }
 
@@ -153,17 +160,17 @@ fn reply_at(
 ) -> Result<(Reply, usize), FileFault>
     requires inside { at ≤ length bytes.now }
     requires bare { IsAnswer reply }
-    ensures read { IfOk result (λ r. IsHere reads_text (IsShownBy reply) bytes.now at (r.0, r.1)) }
+    ensures read { IfOk result (λ r. IsHere reads_text (IsShownBy reply) bytes.now at r.0 r.1) }
     ensures onto { (has : Bool) → IfOk result (λ r.
         Onto (ShownFrom has reply) bytes.now at (EffectFrom has r.0) r.1) }
     ensures stops { (has : Bool) → IfErr result (StopsIn (ShownFrom has reply) bytes.now at) }
 {
     match reply {
         Reply::Parts(_) => {
-            let (parts, end) = shown_lines(alloc, bytes, at)?;
-            if parts.is_empty() {
+            if !mark_stands(bytes, at, b':') {
                 return Err(FileFault::Bad(at));
             }
+            let (parts, end) = lines_at(alloc, bytes, at, b':')?;
             Ok((Reply::Parts(PartsRead::new(parts)), end))
         }
         reply => Ok((reply, at)),
@@ -179,14 +186,14 @@ fn done_at(
 ) -> Result<(Noted, usize), FileFault>
     requires { at ≤ length bytes.now }
     ensures read { IfOk result (λ r.
-        IsHere noted_text (IsWholeBy has_notes) bytes.now at (r.0, r.1)) }
+        IsHere noted_text (IsWholeBy has_notes) bytes.now at r.0 r.1) }
     ensures onward { IfOk result (λ r. at < r.1) }
     ensures onto { IfOk result (λ r.
         Onto (EntriesFrom has_notes) bytes.now at (EntriesFrom has_notes) r.1) }
     ensures stops { IsUnitHere (drop at bytes.now)
         → IfErr result (StopsIn (EntriesFrom has_notes) bytes.now at) }
 {
-    let ((actor, call, reply), note) = called_at(alloc, bytes, at)?;
+    let ((actor, call, reply), note) = told_at(alloc, bytes, at, b"")?;
     let (contamination, shown) = contamination_at(alloc, bytes, note, has_notes, &reply)?;
     let (reply, change) = reply_at(alloc, bytes, shown, reply)?;
     let (effect, end) = effect_at(alloc, bytes, change, &reply)?;
@@ -214,7 +221,7 @@ pub fn entry_at(
 ) -> Result<(Noted, usize), FileFault>
     requires { at ≤ length bytes.now }
     ensures read { IfOk result (λ r.
-        IsHere noted_text (IsWholeBy has_notes) bytes.now at (r.0, r.1)) }
+        IsHere noted_text (IsWholeBy has_notes) bytes.now at r.0 r.1) }
     ensures onward { IfOk result (λ r. at < r.1) }
     ensures onto { IfOk result (λ r.
         Onto (EntriesFrom has_notes) bytes.now at (EntriesFrom has_notes) r.1) }

@@ -1,18 +1,18 @@
 //! Whole journals.
-ghost use Rattle.std.specs.Prelude.{◌≡◌, ◌≤◌, ◌+◌, ◌++◌, ◌↔◌, List, ℕ, true, false, IfErr, IfOk, IsTrue, drop, length};
+ghost use Rattle.std.specs.Prelude.{◌≡◌, ◌≤◌, ◌+◌, ◌++◌, ◌↔◌, List, ℕ, Bool, Option, Some, IfErr, IfOk, IsTrue, drop, length};
 ghost use Rattle.df_lines.specs.FirstBad.{IsFirstBad};
 ghost use Rattle.df_lines.specs.Refused.{IsRefused, NamesBadLine};
+ghost use Rattle.df_lines.specs.code.Faults.{IsInside};
 ghost use Rattle.df_lines.specs.declared.refused.FileRefused.TheVariants as refused;
 ghost use Rattle.df_start.specs.declared.start.RootStart.{RootStart};
 ghost use Rattle.df_unit.specs.declared.entry.Entry.{Entry};
 ghost use Rattle.df_unit.specs.declared.entry.Noted.{Noted};
-ghost use Rattle.df_journal_text.specs.Entry.{noted_text};
 ghost use Rattle.df_journal_text.specs.Start.{journal_text};
 ghost use Rattle.df_journal_file.specs.Either.{IsEitherText, IsFirstOf, IsJournalOf, IsSecondOf, journal_in};
-ghost use Rattle.df_journal_file.specs.Journal.{EndsFile, IsNotedJournal, IsNotedText, IsPlainJournal, IsPlainText, IsRead, IsWholeEntry, IsWholeNoted, plain_text};
+ghost use Rattle.df_journal_file.specs.Journal.{EndsFile, IsNotedJournal, IsNotedText, IsPlainJournal, IsPlainText, IsRead, plain_text};
 ghost use Rattle.df_journal_file.specs.TooLarge.{IsLargeIn};
-ghost use Rattle.df_journal_file.specs.code.Files.{AreBehindRoots, AreUpToEnd, IsEitherFirst, IsFirstAt, StopsFirst, first_of, plain_entry};
-ghost use Rattle.df_journal_file.specs.code.Languages.{EntriesFrom, HeadFrom};
+ghost use Rattle.df_journal_file.specs.code.Files.{AreKept, IsEitherFirst, IsFirstAt, IsKeptOf, IsText, IsWanted, StopsFirst, answered, first_of};
+ghost use Rattle.df_journal_file.specs.code.Languages.{EntriesFrom};
 ghost use Rattle.df_journal_file.specs.code.Stops.{StopsIn};
 
 use crate::entry::entry_at;
@@ -29,25 +29,35 @@ pub enum Journal {
     Second { start: Start, noted: Vec<Noted> },
 }
 
+/// What a version keeps of an entry that was read.
+trait Kept: Drop {
+    ghost kept: { Noted → Self };
+
+    fn of(noted: Noted) -> Self
+        ensures { result ≡ kept noted };
+}
+
+impl Kept for Entry {
+    ghost kept = { λ n. n.entry };
+
+    fn of(noted: Noted) -> Entry {
+        noted.entry
+    }
+}
+
+impl Kept for Noted {
+    ghost kept = { λ n. n };
+
+    fn of(noted: Noted) -> Noted {
+        noted
+    }
+}
+
 /// Whether the line is this one.
 fn is_line(line: &[u8], wanted: &[u8]) -> bool
     ensures { IsTrue result ↔ line.now ≡ wanted.now }
 {
     line == wanted
-}
-
-/// The place behind the first line, which is to be this.
-fn first_at(bytes: &[u8], first: &[u8]) -> Result<usize, FileFault>
-    ensures read { IfOk result (IsFirstAt first.now bytes.now) }
-    ensures stops { IfErr result (StopsFirst (λ line. line ≡ first.now) bytes.now) }
-{
-    let Some((line, next)) = line_at(bytes, 0) else {
-        return Err(FileFault::Bad(0));
-    };
-    if !is_line(line, first) {
-        return Err(FileFault::Bad(0));
-    }
-    Ok(next)
 }
 
 /// Whether the first line is that of the second version, and the place behind it.
@@ -79,83 +89,57 @@ pub fn is_end(bytes: &[u8], place: usize) -> bool
 }
 
 /// The entries from the place on.
-fn entries_at(alloc: Global, bytes: &[u8], at: usize) -> Result<Vec<Entry>, FileFault>
+fn entries_at<X: Kept>(
+    alloc: Global,
+    bytes: &[u8],
+    at: usize,
+    has_notes: bool,
+) -> Result<Vec<X>, FileFault>
     requires { at ≤ length bytes.now }
-    ensures read { IfOk result (λ v.
-        AreUpToEnd plain_entry IsWholeEntry (drop at bytes.now) v.items) }
-    ensures stops { IfErr result (StopsIn (EntriesFrom false) bytes.now at) }
+    ensures read { IfOk result (λ v. AreKept X.kept has_notes bytes.now at v.items) }
+    ensures stops { IfErr result (StopsIn (EntriesFrom has_notes) bytes.now at) }
 {
     let mut entries = Vec::new(alloc);
     let mut place = at;
     'entries: while !is_end(bytes, place) {
-        let (noted, next) = entry_at(alloc, bytes, place, false)?;
-        entries.push(noted.entry)?;
+        let (noted, next) = entry_at(alloc, bytes, place, has_notes)?;
+        entries.push(X::of(noted))?;
         place = next;
     }
     Ok(entries)
 }
 
-/// The noted entries from the place on.
-fn noted_at(alloc: Global, bytes: &[u8], at: usize) -> Result<Vec<Noted>, FileFault>
-    requires { at ≤ length bytes.now }
-    ensures read { IfOk result (λ v.
-        AreUpToEnd noted_text IsWholeNoted (drop at bytes.now) v.items) }
-    ensures stops { IfErr result (StopsIn (EntriesFrom true) bytes.now at) }
-{
-    let mut noted = Vec::new(alloc);
-    let mut place = at;
-    'entries: while !is_end(bytes, place) {
-        let (entry, next) = entry_at(alloc, bytes, place, true)?;
-        noted.push(entry)?;
-        place = next;
-    }
-    Ok(noted)
-}
-
 /// The roots and the entries behind the first line.
-fn plain_at(alloc: Global, bytes: &[u8], at: usize) -> Result<(Start, Vec<Entry>), FileFault>
-    requires { at ≤ length bytes.now }
-    ensures read { IfOk result (λ s.
-        AreBehindRoots plain_entry IsWholeEntry (drop at bytes.now) s.0 s.1.items) }
-    ensures stops { IfErr result (StopsIn (HeadFrom false 0) bytes.now at) }
+fn journal_at<X: Kept>(
+    alloc: Global,
+    bytes: &[u8],
+    at: usize,
+    has_notes: bool,
+) -> Result<(Start, Vec<X>), FileFault>
+    requires { IsFirstAt (first_of has_notes) bytes.now at }
+    ensures read { IfOk result (λ s. IsKeptOf X.kept has_notes bytes.now s.0 s.1.items) }
+    ensures stops { (wanted : Option Bool) → IsWanted wanted has_notes
+        → IfErr result (StopsIn (IsText wanted) bytes.now 0) }
 {
     let (start, place) = roots_at(alloc, bytes, at)?;
-    let entries = entries_at(alloc, bytes, place)?;
+    let entries = entries_at(alloc, bytes, place, has_notes)?;
     Ok((start, entries))
 }
 
-/// The roots and the noted entries behind the first line.
-fn second_at(alloc: Global, bytes: &[u8], at: usize) -> Result<(Start, Vec<Noted>), FileFault>
-    requires { at ≤ length bytes.now }
-    ensures read { IfOk result (λ s.
-        AreBehindRoots noted_text IsWholeNoted (drop at bytes.now) s.0 s.1.items) }
-    ensures stops { IfErr result (StopsIn (HeadFrom true 0) bytes.now at) }
+/// The journal in this version that these bytes are.
+fn version_whole<X: Kept>(
+    alloc: Global,
+    bytes: &[u8],
+    has_notes: bool,
+) -> Result<(Start, Vec<X>), FileFault>
+    ensures read { IfOk result (λ s. IsKeptOf X.kept has_notes bytes.now s.0 s.1.items) }
+    ensures stops { IfErr result (StopsIn (IsText (Some has_notes)) bytes.now 0) }
 {
-    let (start, place) = roots_at(alloc, bytes, at)?;
-    let noted = noted_at(alloc, bytes, place)?;
-    Ok((start, noted))
-}
-
-/// The journal in its first version that these bytes are.
-fn plain_whole(alloc: Global, bytes: &[u8]) -> Result<(Start, Vec<Entry>), FileFault>
-    ensures read { IfOk result (λ s. IsPlainJournal s.0 s.1.items
-        × ((end : List ℕ) × EndsFile end × (bytes.now ≡ plain_text s.0 s.1.items ++ end))) }
-    ensures stops { IfErr result (StopsIn IsPlainText bytes.now 0) }
-{
-    let at = first_at(bytes, b"defcon-journal 1")?;
-    let (start, entries) = plain_at(alloc, bytes, at)?;
-    Ok((start, entries))
-}
-
-/// The journal in its second version that these bytes are.
-fn second_whole(alloc: Global, bytes: &[u8]) -> Result<(Start, Vec<Noted>), FileFault>
-    ensures read { IfOk result (λ s. IsNotedJournal s.0 s.1.items
-        × ((end : List ℕ) × EndsFile end × (bytes.now ≡ journal_text s.0 s.1.items ++ end))) }
-    ensures stops { IfErr result (StopsIn IsNotedText bytes.now 0) }
-{
-    let at = first_at(bytes, b"defcon-journal 2")?;
-    let (start, noted) = second_at(alloc, bytes, at)?;
-    Ok((start, noted))
+    let (version, at) = version_at(bytes)?;
+    if version != has_notes {
+        return Err(FileFault::Bad(0));
+    }
+    journal_at(alloc, bytes, at, has_notes)
 }
 
 /// The journal in one of its versions that these bytes are.
@@ -165,11 +149,22 @@ fn either_whole(alloc: Global, bytes: &[u8]) -> Result<Journal, FileFault>
 {
     let (has_notes, at) = version_at(bytes)?;
     if has_notes {
-        let (start, noted) = second_at(alloc, bytes, at)?;
+        let (start, noted) = journal_at(alloc, bytes, at, true)?;
         return Ok(Journal::Second { start, noted });
     }
-    let (start, entries) = plain_at(alloc, bytes, at)?;
+    let (start, entries) = journal_at(alloc, bytes, at, false)?;
     Ok(Journal::First { start, entries })
+}
+
+/// What was read, or the refusal of its fault.
+fn answered<J: Drop>(bytes: &[u8], read: Result<J, FileFault>) -> Result<J, FileRefused>
+    requires { IfErr read (IsInside bytes.now) }
+    ensures { result ≡ answered bytes.now read }
+{
+    match read {
+        Ok(journal) => Ok(journal),
+        Err(fault) => Err(file_refused(bytes, fault)),
+    }
 }
 
 /// Reads a journal in its first version.
@@ -188,10 +183,7 @@ pub fn read_journal(alloc: Global, bytes: &[u8]) -> Result<(Start, Vec<Entry>), 
         → IsFirstBad IsPlainText bytes.now before bad → IsLargeIn IsPlainText before bad
         → IsRefused (refused.TooLarge (length before + 1)) result }
 {
-    match plain_whole(alloc, bytes) {
-        Ok(journal) => Ok(journal),
-        Err(fault) => Err(file_refused(bytes, fault)),
-    }
+    answered(bytes, version_whole(alloc, bytes, false))
 }
 
 /// Reads a journal in its second version, with what is noted of each entry.
@@ -210,10 +202,7 @@ pub fn read_noted(alloc: Global, bytes: &[u8]) -> Result<(Start, Vec<Noted>), Fi
         → IsFirstBad IsNotedText bytes.now before bad → IsLargeIn IsNotedText before bad
         → IsRefused (refused.TooLarge (length before + 1)) result }
 {
-    match second_whole(alloc, bytes) {
-        Ok(journal) => Ok(journal),
-        Err(fault) => Err(file_refused(bytes, fault)),
-    }
+    answered(bytes, version_whole(alloc, bytes, true))
 }
 
 /// Reads a journal in the version that its first line names.
@@ -235,8 +224,5 @@ pub fn read_either(alloc: Global, bytes: &[u8]) -> Result<Journal, FileRefused>
         → IsFirstBad IsEitherText bytes.now before bad → IsLargeIn IsEitherText before bad
         → IsRefused (refused.TooLarge (length before + 1)) result }
 {
-    match either_whole(alloc, bytes) {
-        Ok(journal) => Ok(journal),
-        Err(fault) => Err(file_refused(bytes, fault)),
-    }
+    answered(bytes, either_whole(alloc, bytes))
 }

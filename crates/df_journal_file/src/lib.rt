@@ -5,9 +5,8 @@
 mod cursor;
 mod entry;
 mod file;
-mod marked;
 mod place;
-mod word_line;
+mod told;
 
 pub use cursor::JournalCursor;
 pub use file::{Journal, read_either, read_journal, read_noted};

@@ -1,19 +1,11 @@
 //! Lines at a place, each with its line feed.
-ghost use Rattle.std.specs.Prelude.{◌≡◌, ◌≤◌, drop, length};
-ghost use Rattle.df_value_text.specs.Fits.{IsLabel};
-ghost use Rattle.df_journal_text.specs.Entry.{call_line, part_line, read_line, spot_line};
-ghost use Rattle.df_journal_text.specs.Fits.{IsCalled, IsEvent, IsPart, IsPartRead, IsSpot};
-ghost use Rattle.df_journal_text.specs.Large.{IsLargeCalled, IsLargePart, IsLargeShown};
+ghost use Rattle.std.specs.Prelude.{◌≡◌, ◌≤◌, ◌∷◌, [], IfErr, IfOk, drop, length};
 ghost use Rattle.df_journal_text.specs.ReadWords.{begins_pair};
-ghost use Rattle.df_journal_file.specs.Below.{event_line, note_line};
-ghost use Rattle.df_journal_file.specs.code.Places.{IsLineHere, TellsAt, finished};
+ghost use Rattle.df_journal_file.specs.code.Places.{AreMarked, IsLineHere, MarkedStop, TellsAt, finished};
 
-use crate::word_line::{read_event_line, read_note_line, read_spot_line};
-use df_journal_text::{LineFault, read_call_line, read_part_line, read_shown_line};
-use df_label::Label;
+use crate::told::Told;
+use df_journal_text::LineFault;
 use df_lines::{FileFault, line_at};
-use df_part::{Part, Spot};
-use df_unit::{Call, EventName, PartRead, Reply, UnitName};
 use std::alloc::Global;
 
 /// The bytes up to the next line feed and the place behind it, or all bytes that are left.
@@ -47,6 +39,20 @@ fn finished<X: Drop>(
     }
 }
 
+/// What the line at the place tells, behind the mark where it may have several.
+pub fn told_at<L: Told>(
+    alloc: Global,
+    bytes: &[u8],
+    at: usize,
+    mark: &[u8],
+) -> Result<(L, usize), FileFault>
+    requires { at ≤ length bytes.now }
+    ensures { TellsAt (L.text mark.now) L.Fits (L.IsLarge mark.now) bytes.now at result }
+{
+    let (line, next) = line_here(bytes, at);
+    finished(at, next, L::read(alloc, line, mark))
+}
+
 /// Whether this mark and a space stand at the place.
 pub fn mark_stands(bytes: &[u8], place: usize, mark: u8) -> bool
     requires { place ≤ length bytes.now }
@@ -58,70 +64,25 @@ pub fn mark_stands(bytes: &[u8], place: usize, mark: u8) -> bool
     }
 }
 
-/// The call and the reply in the line at the place.
-pub fn called_at(
+/// The lines with the mark from the place on, as many as there are, and the place behind them.
+pub fn lines_at<L: Told>(
     alloc: Global,
     bytes: &[u8],
     at: usize,
-) -> Result<((UnitName, Call, Reply), usize), FileFault>
+    mark: u8,
+) -> Result<(Vec<L>, usize), FileFault>
     requires { at ≤ length bytes.now }
-    ensures { TellsAt (λ c. call_line c.0 c.1 c.2) IsCalled IsLargeCalled bytes.now at result }
+    ensures read { IfOk result (λ r.
+        AreMarked (L.text (mark ∷ [])) L.Fits mark bytes.now at r.0.items r.1) }
+    ensures stops { IfErr result (MarkedStop (L.text (mark ∷ [])) L.Fits (L.IsLarge (mark ∷ []))
+        mark bytes.now at) }
 {
-    let (line, next) = line_here(bytes, at);
-    finished(at, next, read_call_line(alloc, line))
-}
-
-/// The contamination that the line at the place notes.
-pub fn note_at(alloc: Global, bytes: &[u8], at: usize) -> Result<(Label, usize), FileFault>
-    requires { at ≤ length bytes.now }
-    ensures { TellsAt note_line IsLabel (λ _. ⊥) bytes.now at result }
-{
-    let (line, next) = line_here(bytes, at);
-    finished(at, next, read_note_line(alloc, line))
-}
-
-/// What a read shows by the line at the place.
-pub fn shown_at(alloc: Global, bytes: &[u8], at: usize) -> Result<(PartRead, usize), FileFault>
-    requires { at ≤ length bytes.now }
-    ensures { TellsAt read_line IsPartRead IsLargeShown bytes.now at result }
-{
-    let (line, next) = line_here(bytes, at);
-    finished(at, next, read_shown_line(alloc, line))
-}
-
-/// The event behind the mark in the line at the place.
-pub fn event_at(
-    alloc: Global,
-    bytes: &[u8],
-    at: usize,
-    mark: &[u8],
-) -> Result<(EventName, usize), FileFault>
-    requires { at ≤ length bytes.now }
-    ensures { TellsAt (event_line mark.now) IsEvent (λ _. ⊥) bytes.now at result }
-{
-    let (line, next) = line_here(bytes, at);
-    finished(at, next, read_event_line(alloc, line, mark))
-}
-
-/// The deletion in the line at the place.
-pub fn spot_at(alloc: Global, bytes: &[u8], at: usize) -> Result<(Spot, usize), FileFault>
-    requires { at ≤ length bytes.now }
-    ensures { TellsAt spot_line IsSpot (λ _. ⊥) bytes.now at result }
-{
-    let (line, next) = line_here(bytes, at);
-    finished(at, next, read_spot_line(alloc, line))
-}
-
-/// The part behind the mark in the line at the place.
-pub fn part_at(
-    alloc: Global,
-    bytes: &[u8],
-    at: usize,
-    mark: &[u8],
-) -> Result<(Part, usize), FileFault>
-    requires { at ≤ length bytes.now }
-    ensures { TellsAt (part_line mark.now) IsPart (IsLargePart mark.now) bytes.now at result }
-{
-    let (line, next) = line_here(bytes, at);
-    finished(at, next, read_part_line(alloc, line, mark))
+    let mut lines = Vec::new(alloc);
+    let mut place = at;
+    'lines: while mark_stands(bytes, place, mark) {
+        let (line, next) = told_at(alloc, bytes, place, &[mark])?;
+        lines.push(line)?;
+        place = next;
+    }
+    Ok((lines, place))
 }

@@ -17,11 +17,6 @@ use Rattle.df_journal_text.specs.Fits.{IsCommit, IsEdit, IsEffectOf, IsEvent, Is
 use Rattle.df_journal_file.specs.Below.{event_line}
 use Rattle.df_journal_file.specs.Journal.{ChangesSome, EditsSome, IsWholeEntry, IsWholeNoted, ShowsSome}
 
--- from one place to the other this is spelled, and it fits
-abbrev pub IsHere : {X : Type 0} → (X → List ℕ) → (X → Type 0) → List ℕ → ℕ → X × ℕ → Type 0
-IsHere text Fits bytes at x = Fits x.0 × (at ≤ x.1) × (x.1 ≤ length bytes)
-    × (drop at bytes ≡ text x.0 ++ drop x.1 bytes)
-
 -- an edit that does something
 abbrev pub IsSomeEdit : List Spot × List Part → Type 0
 IsSomeEdit edit = IsEdit edit × EditsSome edit

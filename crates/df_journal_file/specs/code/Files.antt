@@ -1,20 +1,16 @@
 -- What is read of a whole journal: its first line, its roots and its entries.
-use Rattle.std.specs.Prelude.{◌≡◌, ℕ, ◌≤◌, Bool, true, false, List, ◌++◌, length, drop, codes, [], None, ⊤, ◌⊎◌}
-use Rattle.std.specs.List.{All, flat_map}
+use Rattle.std.specs.Prelude.{◌≡◌, ℕ, ◌≤◌, Bool, true, false, List, ◌++◌, length, drop, map, codes, Option, Some, None, Result, Ok, Err, ⊤, ◌⊎◌}
 use Rattle.df_lines.specs.Lines.{ended}
+use Rattle.df_lines.specs.code.Faults.{refusal}
 use Rattle.df_lines.specs.declared.fault.FileFault.{FileFault}
 use Rattle.df_lines.specs.declared.fault.FileFault.TheVariants as stop
+use Rattle.df_lines.specs.declared.refused.FileRefused.{FileRefused}
 use Rattle.df_start.specs.declared.start.RootStart.{RootStart}
-use Rattle.df_unit.specs.declared.entry.Entry.{Entry}
-use Rattle.df_journal_text.specs.Entry.{entry_text}
-use Rattle.df_journal_text.specs.Fits.{AreRoots}
-use Rattle.df_journal_text.specs.Line.{line}
-use Rattle.df_journal_text.specs.Start.{start_text}
+use Rattle.df_unit.specs.declared.entry.Noted.{Noted}
 use Rattle.df_script_text.specs.code.Stops.{StopsAt}
-use Rattle.df_journal_file.specs.Journal.{EndsFile}
+use Rattle.df_journal_file.specs.Either.{IsEitherText, IsJournalOf, journal_by}
+use Rattle.df_journal_file.specs.Journal.{IsNotedText, IsPlainText}
 use Rattle.df_journal_file.specs.code.Languages.{EntriesFrom}
-use Rattle.df_journal_file.specs.code.Places.{ArePassed}
-use Rattle.df_journal_file.specs.code.Stops.{Onto}
 
 -- the first line, in the second version or the first
 abbrev pub first_of : Bool → List ℕ
@@ -35,23 +31,27 @@ StopsFirst Is bytes (stop.TooLarge place) = ⊥
 abbrev pub IsEitherFirst : List ℕ → Type 0
 IsEitherFirst line = (line ≡ first_of false) ⊎ (line ≡ first_of true)
 
--- these, and an end
-abbrev pub AreUpToEnd : {X : Type 0} → (X → List ℕ) → (X → Type 0) → List ℕ → List X → Type 0
-AreUpToEnd text Fits s xs = All Fits xs
-    × ((end : List ℕ) × EndsFile end × (s ≡ flat_map text xs ++ end))
+-- this version is wanted, or either
+abbrev pub IsWanted : Option Bool → Bool → Type 0
+IsWanted (Some wanted) has = wanted ≡ has
+IsWanted None has = ⊤
 
--- roots, the line `run`, and these up to an end
-abbrev pub AreBehindRoots : {X : Type 0} → (X → List ℕ) → (X → Type 0) → List ℕ →
-    List RootStart → List X → Type 0
-AreBehindRoots text Fits s roots xs = AreRoots roots × ((rest : List ℕ)
-    × (s ≡ start_text roots ++ (line (codes "run") [] ++ rest)) × AreUpToEnd text Fits rest xs)
+-- the bytes are a journal in a version that is wanted
+abbrev pub IsText : Option Bool → List ℕ → Type 0
+IsText (Some true) bytes = IsNotedText bytes
+IsText (Some false) bytes = IsPlainText bytes
+IsText None bytes = IsEitherText bytes
 
--- an entry's text in the first version
-abbrev pub plain_entry : Entry → List ℕ
-plain_entry e = entry_text None e
+-- from the place on stand entries and an end, and this is kept of them
+abbrev pub AreKept : {X : Type 0} → (Noted → X) → Bool → List ℕ → ℕ → List X → Type 0
+AreKept kept has bytes at xs = (entries : EntriesFrom has (drop at bytes)) × (xs ≡ map kept entries.0)
 
--- these stand from one place to the other, and entries and an end may stand behind them
-pub record AreReadTo {X : Type 0} (has : Bool) (text : X → List ℕ) (Fits : X → Type 0)
-    (bytes : List ℕ) (at : ℕ) (xs : List X) (place : ℕ) : Type 0 where
-  pub passed : ArePassed text Fits bytes at xs place
-  pub onto : Onto (EntriesFrom has) bytes at (EntriesFrom has) place
+-- the bytes are a journal in this version, of whose entries this is kept
+abbrev pub IsKeptOf : {X : Type 0} → (Noted → X) → Bool → List ℕ → List RootStart → List X → Type 0
+IsKeptOf kept has bytes roots xs = (notes : List Noted) × (xs ≡ map kept notes)
+    × IsJournalOf (journal_by has roots notes) bytes
+
+-- what was read, or the refusal of its fault
+abbrev pub answered : {X : Type 0} → List ℕ → Result X FileFault → Result X FileRefused
+answered bytes (Ok x) = Ok x
+answered bytes (Err f) = Err (refusal bytes f)

@@ -87,7 +87,7 @@ NotesNone has bare = (has ≡ false) ⊎ (bare ≡ reply.NoSuchUnit)
 -- the contamination that is noted of a call with this reply
 abbrev pub NoteFrom : Bool → Reply → List ℕ → Type 0
 NoteFrom has bare s = (NotesNone has bare × ShownFrom has bare s)
-    ⊎ ((has ≡ true) × (bare ≢ reply.NoSuchUnit) × Then note_line IsLabel (ShownFrom has bare) s)
+    ⊎ ((¬ NotesNone has bare) × Then note_line IsLabel (ShownFrom has bare) s)
 
 -- an entry of a unit
 abbrev pub DoneFrom : Bool → List ℕ → Type 0

@@ -36,19 +36,24 @@ StopsLine text Fits IsLarge bytes at (stop.Bad place) = (place ≡ at)
 StopsLine text Fits IsLarge bytes at (stop.TooLarge place) = (place ≡ at)
     × ((bad : List ℕ) × StopsAt (IsSpelled text Fits) (drop at bytes) bad × IsLarge bad)
 
+-- from one place to the other this is spelled, and it fits
+pub record IsHere {X : Type 0} (text : X → List ℕ) (Fits : X → Type 0) (bytes : List ℕ) (at : ℕ)
+    (x : X) (end : ℕ) : Type 0 where
+  pub fits : Fits x
+  pub onward : at ≤ end
+  pub inside : end ≤ length bytes
+  pub parts : drop at bytes ≡ text x ++ drop end bytes
+
 -- the line at the place is read, or it is told why not
 abbrev pub TellsAt : {X : Type 0} → (X → List ℕ) → (X → Type 0) → (List ℕ → Type 0) → List ℕ → ℕ →
     Result (X × ℕ) FileFault → Type 0
-TellsAt text Fits IsLarge bytes at (Ok x) = Fits x.0 × (at < x.1) × (x.1 ≤ length bytes)
-    × (drop at bytes ≡ text x.0 ++ drop x.1 bytes)
+TellsAt text Fits IsLarge bytes at (Ok x) = IsHere text Fits bytes at x.0 x.1 × (at < x.1)
 TellsAt text Fits IsLarge bytes at (Err f) = StopsLine text Fits IsLarge bytes at f
 
 -- from one place to the other stand the lines of these
-pub record ArePassed {X : Type 0} (text : X → List ℕ) (Fits : X → Type 0) (bytes : List ℕ) (at : ℕ)
-    (xs : List X) (place : ℕ) : Type 0 where
-  pub inside : place ≤ length bytes
-  pub fit : All Fits xs
-  pub parts : drop at bytes ≡ flat_map text xs ++ drop place bytes
+abbrev pub ArePassed : {X : Type 0} → (X → List ℕ) → (X → Type 0) → List ℕ → ℕ → List X → ℕ →
+    Type 0
+ArePassed text Fits bytes at xs place = IsHere (flat_map text) (All Fits) bytes at xs place
 
 -- all lines with this mark from the one place to the other
 abbrev pub AreMarked : {X : Type 0} → (X → List ℕ) → (X → Type 0) → ℕ → List ℕ → ℕ → List X → ℕ →

@@ -1,36 +1,32 @@
-use Rattle.std.proofs.Common.{arith}
-use Rattle.std.proofs.lemmas.Result.{err_from_is_err_and}
+use Rattle.std.proofs.Common.{arith, refl}
 use Rattle.df_journal_file.specs.code.Languages.{EditFrom}
-use Rattle.df_journal_file.proofs.Entries.{commit_read}
 use Rattle.df_journal_file.proofs.Heads.{commit_some}
 use Rattle.df_journal_file.proofs.LineKinds.{commit_kind}
+use Rattle.df_journal_file.proofs.Ontos.{stopped}
+use Rattle.df_journal_file.proofs.Places.{both_here}
 use Rattle.df_journal_file.proofs.Runs.{then_onto, then_stop}
 use Rattle.df_journal_file.proofs.entry.commit_at.Goals as goal
 
 pub returns-clause-read : goal.returns-clause-read
 returns-clause-read c =
-    commit_read c.args.mark.now c.args.bytes.now c.args.at c.in_ok-event.behind c.in_ok-edit.end c.in_ok-event.event c.in_ok-edit.edit
-    c.in_ok-event.ensures c.in_ok-edit.ensures.read
+    let event = c.in_ok-event.ensures.0 in
+    let edit = c.in_ok-edit.ensures.read in
+    both_here event edit ((event.fits, edit.fits.0), edit.fits.1) refl
 
 pub returns-clause-onward : goal.returns-clause-onward
-returns-clause-onward c = omega (arith, c.in_ok-event.ensures.1, c.in_ok-edit.ensures.read.1)
+returns-clause-onward c = omega (arith, c.in_ok-event.ensures.1, c.in_ok-edit.ensures.read.onward)
 
 pub returns-in_err-event-clause-stops : goal.returns-in_err-event-clause-stops
 returns-in_err-event-clause-stops c = λ has is.
-    let p = err_from_is_err_and c.from_residual.result c.from_residual.ensures.1 in
     let mark = c.args.mark.now in
-    rw (p.1, p.2) (then_stop (commit_kind mark is) (EditFrom has 0) (commit_some has mark) c.args.bytes.now c.args.at c.requires
+    stopped _ c.from_residual.result c.from_residual.ensures.1 (then_stop (commit_kind mark is) (EditFrom has 0) (commit_some has mark) c.args.bytes.now c.args.at c.requires
     c.in_err-event.field-0.0 c.in_err-event.ensures)
 
 pub returns-in_err-edit-clause-stops : goal.returns-in_err-edit-clause-stops
 returns-in_err-edit-clause-stops c = λ has is.
-    let p = err_from_is_err_and c.from_residual-in_err-edit.result c.from_residual-in_err-edit.ensures.1 in
-    let event = c.in_ok-event.ensures in
-    rw (p.1, p.2) (then_onto (commit_kind c.args.mark.now is) (EditFrom has 0) c.args.bytes.now c.args.at c.in_ok-event.behind c.in_ok-event.event
-    event.0 event.3 c.in_err-edit.field-0.0 (c.in_err-edit.ensures.stops has))
+    stopped _ c.from_residual-in_err-edit.result c.from_residual-in_err-edit.ensures.1 (then_onto (commit_kind c.args.mark.now is) (EditFrom has 0) c.in_ok-event.ensures.0
+    c.in_err-edit.field-0.0 (c.in_err-edit.ensures.stops has))
 
 pub returns-clause-onto : goal.returns-clause-onto
 returns-clause-onto c = λ has is f s.
-    let event = c.in_ok-event.ensures in
-    then_onto (commit_kind c.args.mark.now is) (EditFrom has 0) c.args.bytes.now c.args.at c.in_ok-event.behind c.in_ok-event.event
-    event.0 event.3 f (c.in_ok-edit.ensures.onto has f s)
+    then_onto (commit_kind c.args.mark.now is) (EditFrom has 0) c.in_ok-event.ensures.0 f (c.in_ok-edit.ensures.onto has f s)

@@ -1,50 +1,47 @@
-use Rattle.std.proofs.Common.{List, sym, subst, ◌≡◌, ◌∙◌, ◌+◌, arith, false, true, length}
-use Rattle.std.proofs.lemmas.Result.{err_from_is_err_and}
+use Rattle.std.proofs.Common.{List, sym, subst, ◌+◌, arith, length, refl}
 use Rattle.df_part.specs.declared.edit.Spot.{Spot}
 use Rattle.df_part.specs.declared.part.Part.{Part}
 use Rattle.df_journal_text.specs.Entry.{edit_text}
 use Rattle.df_journal_file.specs.Journal.{EditsSome}
-use Rattle.df_journal_file.specs.code.Entries.{IsHere, IsSomeEdit}
+use Rattle.df_journal_file.specs.code.Entries.{IsSomeEdit}
 use Rattle.df_journal_file.specs.code.Languages.{EntriesFrom}
-use Rattle.df_journal_file.proofs.Entries.{edit_read}
+use Rattle.df_journal_file.specs.code.Places.{IsHere}
+use Rattle.df_journal_file.proofs.Fronts.{one_result}
 use Rattle.df_journal_file.proofs.LineKinds.{adds_run, spots_run}
+use Rattle.df_journal_file.proofs.Ontos.{stopped}
+use Rattle.df_journal_file.proofs.Places.{both_here}
 use Rattle.df_journal_file.proofs.Runs.{filled_onto, run_onto, run_stop}
 use Rattle.df_journal_file.proofs.Steps.{no_edit_stop}
 use Rattle.df_journal_file.proofs.entry.edit_at.Goals as goal
 
 pub returns-clause-read : goal.returns-clause-read
 returns-clause-read c =
-    let deleted = c.in_ok-deleted.deleted.items in
-    let added = c.in_ok-added.added.items in
-    let some : EditsSome (deleted, added) = subst EditsSome c.new-edit.ensures (c.edits_some.ensures.0 c.if-not-edits_some.false) in
-    subst (λ (e : List Spot × List Part). IsHere edit_text IsSomeEdit c.args.bytes.now c.args.at (e, c.in_ok-added.end)) (sym c.new-edit.ensures)
-    (edit_read c.args.bytes.now c.args.at c.in_ok-deleted.behind c.in_ok-added.end deleted added c.requires c.in_ok-deleted.ensures.read.0
-    c.in_ok-added.ensures.read.0 some)
+    let deleted = c.in_ok-deleted.ensures.read.0 in
+    let added = c.in_ok-added.ensures.read.0 in
+    let some : EditsSome (c.in_ok-deleted.deleted.items, c.in_ok-added.added.items) =
+    subst EditsSome c.new-edit.ensures (c.edits_some.ensures.0 c.if-not-edits_some.false) in
+    subst (λ (e : List Spot × List Part). IsHere edit_text IsSomeEdit c.args.bytes.now c.args.at e c.in_ok-added.end) (sym c.new-edit.ensures)
+    (both_here deleted added ((deleted.fits, added.fits), some) refl)
 
 pub returns-in_err-deleted-clause-stops : goal.returns-in_err-deleted-clause-stops
 returns-in_err-deleted-clause-stops c = λ has.
-    let p = err_from_is_err_and c.from_residual.result c.from_residual.ensures.1 in
-    rw (p.1, p.2) (run_stop (spots_run has) c.args.bytes.now c.args.at 0 c.in_err-deleted.field-0.0 c.in_err-deleted.ensures.stops)
+    stopped _ c.from_residual.result c.from_residual.ensures.1 (run_stop (spots_run has) c.args.bytes.now c.args.at 0 c.in_err-deleted.field-0.0 c.in_err-deleted.ensures.stops)
 
 pub returns-in_err-added-clause-stops : goal.returns-in_err-added-clause-stops
 returns-in_err-added-clause-stops c = λ has.
-    let p = err_from_is_err_and c.from_residual-in_err-added.result c.from_residual-in_err-added.ensures.1 in
     let bytes = c.args.bytes.now in
     let behind = c.in_ok-deleted.behind in
     let deleted = c.in_ok-deleted.deleted.items in
-    let fault = c.in_err-added.field-0.0 in
-    rw (p.1, p.2) (run_onto (spots_run has) bytes c.args.at behind deleted 0 c.in_ok-deleted.ensures.read fault
-    (run_stop (adds_run has) bytes behind (0 + length deleted) fault c.in_err-added.ensures.stops))
+    let f = c.in_err-added.field-0.0 in
+    stopped _ c.from_residual-in_err-added.result c.from_residual-in_err-added.ensures.1 (run_onto (spots_run has) bytes c.args.at behind deleted 0 c.in_ok-deleted.ensures.read f
+    (run_stop (adds_run has) bytes behind (0 + length deleted) f c.in_err-added.ensures.stops))
 
 pub returns-then-not-edits_some-clause-stops : goal.returns-then-not-edits_some-clause-stops
 returns-then-not-edits_some-clause-stops c = λ has.
     let deleted = c.in_ok-deleted.deleted.items in
     let added = c.in_ok-added.added.items in
-    let none : EditsSome (deleted, added) → ⊥ = λ some.
-    let no : false ≡ true = sym c.if-not-edits_some.true ∙ c.edits_some.ensures.1 (subst EditsSome (sym c.new-edit.ensures) some) in
-    cc in
     no_edit_stop has c.args.bytes.now c.args.at c.in_ok-deleted.behind c.in_ok-added.end deleted added c.requires c.in_ok-deleted.ensures.read
-    c.in_ok-added.ensures.read none
+    c.in_ok-added.ensures.read (λ some. one_result (c.edits_some.ensures.1 (subst EditsSome (sym c.new-edit.ensures) some)) c.if-not-edits_some.true)
 
 pub returns-clause-onto : goal.returns-clause-onto
 returns-clause-onto c = λ has f s.

@@ -1,13 +1,28 @@
-use Rattle.std.proofs.Common.{sym, ◌∙◌, inl, refl}
-use Rattle.std.proofs.lemmas.Result.{err_from_is_err_and}
+use Rattle.std.proofs.Common.{sym, ◌∙◌, inl, refl, subst}
+use Rattle.df_unit.specs.declared.entry.Effect.TheVariants as effect
+use Rattle.df_unit.specs.declared.reply.Reply.{Reply}
+use Rattle.df_journal_file.specs.code.Entries.{IsSomeEffectOf}
+use Rattle.df_journal_file.proofs.Places.{as_here, none_here}
 use Rattle.df_journal_file.proofs.Steps.{commit_onto, handed_onto, nothing_onto}
+use Rattle.df_journal_file.proofs.Ontos.{stopped}
 use Rattle.df_journal_file.proofs.entry.effect_at.Goals as goal
+
+pub returns-then-mark_stands-clause-read : goal.returns-then-mark_stands-clause-read
+returns-then-mark_stands-clause-read c = as_here c.in_ok-commit.ensures.read c.in_ok-commit.ensures.read.fits refl
+
+pub returns-in_default-clause-read : goal.returns-in_default-clause-read
+returns-in_default-clause-read c = none_here c.requires (tt, tt) refl
+
+pub returns-clause-read : goal.returns-clause-read
+returns-clause-read c =
+    let given = c.in_ok-given.ensures.read in
+    as_here given (subst (λ (r : Reply). IsSomeEffectOf r (effect.Given c.in_ok-given.given)) (sym c.in-Some.ensures.0.1)
+    ((given.fits.0, given.fits.1, given.fits.2), given.fits.3)) refl
 
 pub returns-in_err-commit-clause-stops : goal.returns-in_err-commit-clause-stops
 returns-in_err-commit-clause-stops c = λ has.
-    let p = err_from_is_err_and c.from_residual.result c.from_residual.ensures.1 in
     let marked = sym c.mark_stands.ensures ∙ c.if-mark_stands.true in
-    rw (p.1, p.2) (commit_onto has c.args.bytes.now c.args.at c.args.reply.now marked c.in_err-commit.field-0.0
+    stopped _ c.from_residual.result c.from_residual.ensures.1 (commit_onto has c.args.bytes.now c.args.at c.args.reply.now marked c.in_err-commit.field-0.0
     (c.in_err-commit.ensures.stops has (inl refl)))
 
 pub returns-then-mark_stands-clause-onto : goal.returns-then-mark_stands-clause-onto
@@ -21,9 +36,8 @@ returns-in_default-clause-onto c = λ has.
 
 pub returns-in_err-given-clause-stops : goal.returns-in_err-given-clause-stops
 returns-in_err-given-clause-stops c = λ has.
-    let p = err_from_is_err_and c.from_residual-in_err-given.result c.from_residual-in_err-given.ensures.1 in
     let some = c.in-Some.ensures in
-    rw (p.1, p.2) (handed_onto has c.args.bytes.now c.args.at c.args.reply.now (some.0.0, c.in-Some.sub, some.0.1) some.1
+    stopped _ c.from_residual-in_err-given.result c.from_residual-in_err-given.ensures.1 (handed_onto has c.args.bytes.now c.args.at c.args.reply.now (some.0.0, c.in-Some.sub, some.0.1) some.1
     c.in_err-given.field-0.0 (c.in_err-given.ensures.stops has))
 
 pub returns-clause-onto : goal.returns-clause-onto

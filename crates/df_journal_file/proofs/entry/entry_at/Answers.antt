@@ -1,11 +1,14 @@
 use Rattle.std.proofs.Common.{inr, refl, sym, ◌∙◌}
-use Rattle.std.proofs.lemmas.Result.{err_from_is_err_and}
-use Rattle.df_journal_file.proofs.Entries.{emitted_read}
+use Rattle.df_journal_file.proofs.Entries.{emitted_whole}
+use Rattle.df_journal_file.proofs.Places.{as_here}
 use Rattle.df_journal_file.proofs.Steps.{emitted_onto}
+use Rattle.df_journal_file.proofs.Ontos.{stopped}
 use Rattle.df_journal_file.proofs.entry.entry_at.Goals as goal
 
 pub returns-clause-read : goal.returns-clause-read
-returns-clause-read c = emitted_read c.args.bytes.now c.args.at c.in_ok-commit.end c.in_ok-commit.commit c.args.has_notes c.in_ok-commit.ensures.read
+returns-clause-read c =
+    let read = c.in_ok-commit.ensures.read in
+    as_here read (emitted_whole c.args.has_notes c.in_ok-commit.commit read.fits) refl
 
 pub returns-clause-onward : goal.returns-clause-onward
 returns-clause-onward c = c.in_ok-commit.ensures.onward
@@ -24,9 +27,8 @@ returns-then-not-byte_stands-clause-stops c = λ none. c.done_at.ensures.stops (
 
 pub returns-in_err-commit-clause-stops : goal.returns-in_err-commit-clause-stops
 returns-in_err-commit-clause-stops c = λ none.
-    let p = err_from_is_err_and c.from_residual.result c.from_residual.ensures.1 in
     let marked = sym c.byte_stands.ensures ∙ c.if-not-byte_stands.false in
-    rw (p.1, p.2) (emitted_onto c.args.has_notes c.args.bytes.now c.args.at marked c.in_err-commit.field-0.0
+    stopped _ c.from_residual.result c.from_residual.ensures.1 (emitted_onto c.args.has_notes c.args.bytes.now c.args.at marked c.in_err-commit.field-0.0
     (c.in_err-commit.ensures.stops c.args.has_notes (inr refl)))
 
 pub returns-clause-onto : goal.returns-clause-onto

@@ -1,13 +1,20 @@
-use Rattle.std.proofs.Common.{false}
-use Rattle.df_journal_file.specs.Journal.{IsWholeEntry}
-use Rattle.df_journal_file.specs.code.Files.{plain_entry}
-use Rattle.df_journal_file.proofs.Loops.{more_read, plain_here}
+use Rattle.std.proofs.Common.{[], ◌∷◌, ◌++◌, ap, ◌∙◌, drop, rules}
+use Rattle.df_journal_file.specs.Journal.{EndsFile}
+use Rattle.df_journal_file.proofs.Versions.{all_kept, more_read, none_read}
 use Rattle.df_journal_file.proofs.file.entries_at.Goals as goal
 
+pub entries-init : goal.entries-init
+entries-init g c =
+    none_read g.X.Kept.kept c.args.has_notes c.args.bytes.now c.args.at c.new-entries.result.items c.new-entries.ensures.items c.requires
+
 pub entries-preserved : goal.entries-preserved
-entries-preserved c =
-    let noted = c.in_ok-noted.noted in
-    let next = c.in_ok-noted.next in
-    more_read false plain_entry IsWholeEntry c.args.bytes.now c.args.at c.entries.place c.entries.entries.items c.push.new.self.items noted.entry next
-    c.entries.invariant (plain_here c.args.bytes.now c.entries.place noted next c.in_ok-noted.ensures.read) c.in_ok-noted.ensures.onward
-    c.in_ok-noted.ensures.onto c.in_ok-push.ensures.items
+entries-preserved g c =
+    let read = c.in_ok-noted.ensures in
+    let pushed = c.in_ok-push.ensures.items ∙ ap (λ x. c.entries.entries.items ++ x ∷ []) c.of.ensures in
+    more_read g.X.Kept.kept c.args.has_notes c.args.bytes.now c.args.at c.entries.entries.items c.push.new.self.items c.entries.place
+    c.in_ok-noted.next c.in_ok-noted.noted c.entries.invariant read.read read.onto pushed
+
+pub returns-clause-read : goal.returns-clause-read
+returns-clause-read g c =
+    let ends : EndsFile (drop c.entries.place c.args.bytes.now) = search rules in
+    all_kept g.X.Kept.kept c.args.has_notes c.args.bytes.now c.args.at c.entries.entries.items c.entries.place c.entries.invariant ends

@@ -1,34 +1,25 @@
+use Rattle.df_journal_file.specs.Either.{First}
 use Rattle.df_journal_file.specs.Journal.{IsPlainText}
-use Rattle.df_journal_file.proofs.Refusals.{bad_syntax, inside, names_bad, only_memory, too_large}
-use Rattle.df_journal_file.proofs.Texts.{one_plain, plain_text_of}
+use Rattle.df_journal_file.proofs.Versions.{plain_kept}
+use Rattle.df_journal_file.proofs.Refusals as refusals
+use Rattle.df_journal_file.proofs.Texts.{one_plain, text_of}
 use Rattle.df_journal_file.proofs.file.read_journal.Goals as goal
 
-pub returns-in-Ok-clause-only : goal.returns-in-Ok-clause-only
-returns-in-Ok-clause-only c = λ roots entries end f ends e.
-    let journal = c.in-Ok.journal in
-    one_plain c.args.bytes.now journal.0 roots journal.1.items entries c.in-Ok.ensures.read (f, (end, ends, e))
+pub answered-requires : goal.answered-requires
+answered-requires c = refusals.inside IsPlainText c.args.bytes.now c.version_whole.result c.version_whole.ensures.stops
 
-pub returns-in-Ok-clause-syntax : goal.returns-in-Ok-clause-syntax
-returns-in-Ok-clause-syntax c = λ before bad f small.
-    f.none (plain_text_of c.args.bytes.now c.in-Ok.journal.0 c.in-Ok.journal.1.items c.in-Ok.ensures.read)
-
-pub returns-in-Ok-clause-too_large : goal.returns-in-Ok-clause-too_large
-returns-in-Ok-clause-too_large c = λ before bad f large.
-    f.none (plain_text_of c.args.bytes.now c.in-Ok.journal.0 c.in-Ok.journal.1.items c.in-Ok.ensures.read)
-
-pub file_refused-requires : goal.file_refused-requires
-file_refused-requires c = inside IsPlainText c.args.bytes.now c.in-Err.fault c.in-Err.ensures.stops
-
-pub returns-in-Err-clause-only : goal.returns-in-Err-clause-only
-returns-in-Err-clause-only c = λ roots entries end f ends e.
-    only_memory IsPlainText c.args.bytes.now c.in-Err.fault c.in-Err.ensures.stops c.file_refused.result c.file_refused.ensures
-    (roots, entries, end, f, ends, e)
-
-pub returns-in-Err-clause-refused : goal.returns-in-Err-clause-refused
-returns-in-Err-clause-refused c = names_bad IsPlainText c.args.bytes.now c.in-Err.fault c.in-Err.ensures.stops c.file_refused.result c.file_refused.ensures
-
-pub returns-in-Err-clause-syntax : goal.returns-in-Err-clause-syntax
-returns-in-Err-clause-syntax c = bad_syntax IsPlainText c.args.bytes.now c.in-Err.fault c.in-Err.ensures.stops c.file_refused.result c.file_refused.ensures
-
-pub returns-in-Err-clause-too_large : goal.returns-in-Err-clause-too_large
-returns-in-Err-clause-too_large c = too_large IsPlainText c.args.bytes.now c.in-Err.fault c.in-Err.ensures.stops c.file_refused.result c.file_refused.ensures
+pub returns : goal.returns
+returns c =
+    let bytes = c.args.bytes.now in
+    let r = c.version_whole.result in
+    let e = c.version_whole.ensures in
+    let t = refusals.told IsPlainText bytes r e.read e.stops (λ s k. text_of bytes (First s.0 s.1.items) (plain_kept bytes s.0 s.1.items k)) in
+    rw c.answered.ensures (record {
+      read = refusals.read IsPlainText bytes r e.read _ (λ s k. plain_kept bytes s.0 s.1.items k);
+      only = λ roots es end f ends is.
+          refusals.only IsPlainText bytes r e.read e.stops (roots, es, end, f, ends, is) _
+          (λ s k. one_plain bytes s.0 roots s.1.items es (plain_kept bytes s.0 s.1.items k) (f, (end, ends, is)));
+      refused = t.refused;
+      syntax = t.syntax;
+      too_large = t.too_large;
+    })

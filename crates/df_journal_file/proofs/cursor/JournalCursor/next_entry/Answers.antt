@@ -1,10 +1,10 @@
 use Rattle.std.proofs.Common.{◌≡◌, IfErr, false, subst, sym, true, ◌∙◌}
-use Rattle.std.proofs.lemmas.Result.{err_from_is_err_and}
 use Rattle.df_journal_file.specs.Cursor.{CursorState, HasPassed}
 use Rattle.df_journal_file.specs.Either.{IsJournalOf, journal_by}
 use Rattle.df_journal_file.specs.code.Languages.{EntriesFrom}
 use Rattle.df_journal_file.specs.code.Stops.{StopsIn}
 use Rattle.df_journal_file.proofs.Cursors.{all_read, passed_on}
+use Rattle.df_journal_file.proofs.Ontos.{stopped}
 use Rattle.df_journal_file.proofs.cursor.JournalCursor.next_entry.Goals as goal
 
 pub returns-then-is_end-clause-next : goal.returns-then-is_end-clause-next
@@ -16,10 +16,9 @@ returns-then-is_end-clause-next c = λ roots notes h.
 
 pub returns-in_err-noted-clause-stops : goal.returns-in_err-noted-clause-stops
 returns-in_err-noted-clause-stops c =
-    let p = err_from_is_err_and c.from_residual.result c.from_residual.ensures.1 in
     let stops = c.in_err-noted.ensures.stops (λ ends. let no : true ≡ false = sym (c.is_end.ensures.1 ends) ∙ c.if-is_end.false in cc) in
     subst (λ (v : CursorState). IfErr c.from_residual.result (StopsIn (EntriesFrom v.has_notes) v.bytes v.place)) c.self.view_is
-    (rw (p.1, p.2) stops)
+    (stopped _ c.from_residual.result c.from_residual.ensures.1 stops)
 
 pub returns-clause-next : goal.returns-clause-next
 returns-clause-next c = λ roots notes h.

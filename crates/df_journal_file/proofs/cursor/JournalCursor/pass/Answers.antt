@@ -1,26 +1,22 @@
-use Rattle.std.proofs.Common.{Bool, drop, subst, sym, ◌∙◌}
+use Rattle.std.proofs.Common.{subst, sym, ◌∙◌}
 use Rattle.df_journal_file.specs.Cursor.{CursorState, HasPassed}
 use Rattle.df_journal_file.specs.code.Entries.{IsWholeBy}
-use Rattle.df_journal_file.proofs.Cursors.{StandIf, all_behind, cursor_at, lines_stand, passed_lines}
+use Rattle.df_journal_file.proofs.Cursors.{StandIf, all_behind, lines_stand, passed_lines}
 use Rattle.df_journal_file.proofs.cursor.JournalCursor.pass.Goals as goal
 
 pub returns-then-not-starts_with-clause-stands : goal.returns-then-not-starts_with-clause-stands
 returns-then-not-starts_with-clause-stands c =
     let at = c.self.inside in
-    let lines = c.args.lines.now in
     let value = rw (all_behind at.place at.bytes.now) at c.starts_with.ensures.value in
-    let told = lines_stand (drop at.place at.bytes.now) lines c.starts_with.result value in
-    let here = subst (λ (b : Bool). StandIf b lines (cursor_at at.has_notes at.bytes.now at.place)) c.if-not-starts_with.true told in
-    subst (StandIf _ lines) c.self.view_is here
+    subst (StandIf _ c.args.lines.now) c.self.view_is
+    (lines_stand at.has_notes at.bytes.now at.place c.args.lines.now c.if-not-starts_with.true value)
 
 pub returns-clause-stands : goal.returns-clause-stands
 returns-clause-stands c =
     let at = c.self.inside in
-    let lines = c.args.lines.now in
     let value = rw (all_behind at.place at.bytes.now) at c.starts_with.ensures.value in
-    let told = lines_stand (drop at.place at.bytes.now) lines c.starts_with.result value in
-    let here = subst (λ (b : Bool). StandIf b lines (cursor_at at.has_notes at.bytes.now at.place)) c.if-not-starts_with.false told in
-    subst (StandIf _ lines) c.self.view_is here
+    subst (StandIf _ c.args.lines.now) c.self.view_is
+    (lines_stand at.has_notes at.bytes.now at.place c.args.lines.now c.if-not-starts_with.false value)
 
 pub returns-clause-passed : goal.returns-clause-passed
 returns-clause-passed c = λ _ roots notes noted h whole spelled.

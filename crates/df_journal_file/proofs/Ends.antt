@@ -1,0 +1,29 @@
+-- Where the entries of a journal end.
+use Rattle.std.proofs.Common.{◌≡◌, ℕ, ◌≤◌, List, ◌∷◌, ◌++◌, length, length-append, length-drop, drop, codes, refl, sym, ap, subst, ◌∙◌, arith, append-nil, inl, inr}
+use Rattle.std.proofs.lemmas.List.{drop_all}
+use Rattle.df_lines.specs.Lines.{IsLine}
+use Rattle.df_journal_file.specs.Journal.{EndsFile}
+use Rattle.df_journal_file.proofs.Feeds.{spoken}
+use Rattle.df_journal_file.proofs.Fronts.{SameFirst, not_open, same_line}
+
+-- the line that stands there tells whether it is one
+pub line_ends : (t line rest : List ℕ) → IsLine line → t ≡ line ++ 10 ∷ rest → (line ≡ codes "---" → EndsFile t) × (EndsFile t → line ≡ codes "---")
+line_ends t line rest is e = (λ same. inr (rest, e ∙ ap (λ (l : List ℕ). l ++ 10 ∷ rest) same), λ ends. cut ends)
+  where
+    cut : EndsFile t → line ≡ codes "---"
+    cut (inl none) = absurd (let n = length-append line (10 ∷ rest) in omega (arith, n, ap length (sym e ∙ none)))
+    cut (inr more) = same_line line (codes "---") rest more.0 is (spoken (codes "---") refl) (sym e ∙ more.1)
+
+-- where there is no line feed, it is one where no byte is left
+pub open_ends : (bytes : List ℕ) (place : ℕ) → place ≤ length bytes → IsLine (drop place bytes)
+    → (place ≡ length bytes → EndsFile (drop place bytes)) × (EndsFile (drop place bytes) → place ≡ length bytes)
+open_ends bytes place inside line = (λ all. inl (drop_all place bytes (omega (arith, all))), λ ends. cut ends)
+  where
+    cut : EndsFile (drop place bytes) → place ≡ length bytes
+    cut (inl none) = omega (arith, inside, ap length none, length-drop place bytes)
+    cut (inr more) = absurd (not_open (drop place bytes) (codes "---") more.0 line (spoken (codes "---") refl) (append-nil (drop place bytes) ∙ more.1))
+
+-- what has the first line of an end is one
+pub same_end : (u t : List ℕ) → SameFirst u t → EndsFile u → EndsFile t
+same_end u t (inl e) ends = subst EndsFile e ends
+same_end u t (inr f) ends = (line_ends t f.0 f.2 f.3 f.5).0 ((line_ends u f.0 f.1 f.3 f.4).1 ends)
