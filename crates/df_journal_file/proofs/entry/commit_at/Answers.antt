@@ -19,12 +19,14 @@ returns-clause-onward c = omega (arith, c.in_ok-event.ensures.1, c.in_ok-edit.en
 pub returns-in_err-event-clause-stops : goal.returns-in_err-event-clause-stops
 returns-in_err-event-clause-stops c = λ has is.
     let mark = c.args.mark.now in
-    stopped _ c.from_residual.result c.from_residual.ensures.1 (then_stop (commit_kind mark is) (EditFrom has 0) (commit_some has mark) c.args.bytes.now c.args.at c.requires
+    stopped _ c.from_residual.result c.from_residual.ensures.1
+    (then_stop (commit_kind mark is) (EditFrom has 0) (commit_some has mark) c.args.bytes.now c.args.at c.requires
     c.in_err-event.field-0.0 c.in_err-event.ensures)
 
 pub returns-in_err-edit-clause-stops : goal.returns-in_err-edit-clause-stops
 returns-in_err-edit-clause-stops c = λ has is.
-    stopped _ c.from_residual-in_err-edit.result c.from_residual-in_err-edit.ensures.1 (then_onto (commit_kind c.args.mark.now is) (EditFrom has 0) c.in_ok-event.ensures.0
+    stopped _ c.from_residual-in_err-edit.result c.from_residual-in_err-edit.ensures.1
+    (then_onto (commit_kind c.args.mark.now is) (EditFrom has 0) c.in_ok-event.ensures.0
     c.in_err-edit.field-0.0 (c.in_err-edit.ensures.stops has))
 
 pub returns-clause-onto : goal.returns-clause-onto

@@ -20,13 +20,15 @@ returns-in_err-actor-clause-stops c = λ here.
 pub returns-in_err-contamination-clause-stops : goal.returns-in_err-contamination-clause-stops
 returns-in_err-contamination-clause-stops c = λ here.
     let answer = c.in_ok-actor.ensures.0 in
-    stopped _ c.from_residual-in_err-contamination.result c.from_residual-in_err-contamination.ensures.1 (called_onto c.args.has_notes c.args.bytes.now c.args.at answer
+    stopped _ c.from_residual-in_err-contamination.result c.from_residual-in_err-contamination.ensures.1
+    (called_onto c.args.has_notes c.args.bytes.now c.args.at answer
     c.in_err-contamination.field-0.0 (c.in_err-contamination.ensures.stops answer.fits.2))
 
 pub returns-in_err-reply-clause-stops : goal.returns-in_err-reply-clause-stops
 returns-in_err-reply-clause-stops c = λ here.
     let f = c.in_err-reply.field-0.0 in
-    stopped _ c.from_residual-in_err-reply.result c.from_residual-in_err-reply.ensures.1 (called_onto c.args.has_notes c.args.bytes.now c.args.at c.in_ok-actor.ensures.0 f
+    stopped _ c.from_residual-in_err-reply.result c.from_residual-in_err-reply.ensures.1
+    (called_onto c.args.has_notes c.args.bytes.now c.args.at c.in_ok-actor.ensures.0 f
     (c.in_ok-contamination.ensures.onto f (c.in_err-reply.ensures.stops c.args.has_notes)))
 
 pub returns-in_err-effect-clause-stops : goal.returns-in_err-effect-clause-stops

@@ -25,7 +25,8 @@ returns-clause-read c =
 
 pub returns-in_err-deleted-clause-stops : goal.returns-in_err-deleted-clause-stops
 returns-in_err-deleted-clause-stops c = λ has.
-    stopped _ c.from_residual.result c.from_residual.ensures.1 (run_stop (spots_run has) c.args.bytes.now c.args.at 0 c.in_err-deleted.field-0.0 c.in_err-deleted.ensures.stops)
+    stopped _ c.from_residual.result c.from_residual.ensures.1
+    (run_stop (spots_run has) c.args.bytes.now c.args.at 0 c.in_err-deleted.field-0.0 c.in_err-deleted.ensures.stops)
 
 pub returns-in_err-added-clause-stops : goal.returns-in_err-added-clause-stops
 returns-in_err-added-clause-stops c = λ has.
@@ -33,7 +34,8 @@ returns-in_err-added-clause-stops c = λ has.
     let behind = c.in_ok-deleted.behind in
     let deleted = c.in_ok-deleted.deleted.items in
     let f = c.in_err-added.field-0.0 in
-    stopped _ c.from_residual-in_err-added.result c.from_residual-in_err-added.ensures.1 (run_onto (spots_run has) bytes c.args.at behind deleted 0 c.in_ok-deleted.ensures.read f
+    stopped _ c.from_residual-in_err-added.result c.from_residual-in_err-added.ensures.1
+    (run_onto (spots_run has) bytes c.args.at behind deleted 0 c.in_ok-deleted.ensures.read f
     (run_stop (adds_run has) bytes behind (0 + length deleted) f c.in_err-added.ensures.stops))
 
 pub returns-then-not-edits_some-clause-stops : goal.returns-then-not-edits_some-clause-stops

@@ -37,7 +37,8 @@ returns-in_default-clause-onto c = λ has.
 pub returns-in_err-given-clause-stops : goal.returns-in_err-given-clause-stops
 returns-in_err-given-clause-stops c = λ has.
     let some = c.in-Some.ensures in
-    stopped _ c.from_residual-in_err-given.result c.from_residual-in_err-given.ensures.1 (handed_onto has c.args.bytes.now c.args.at c.args.reply.now (some.0.0, c.in-Some.sub, some.0.1) some.1
+    stopped _ c.from_residual-in_err-given.result c.from_residual-in_err-given.ensures.1
+    (handed_onto has c.args.bytes.now c.args.at c.args.reply.now (some.0.0, c.in-Some.sub, some.0.1) some.1
     c.in_err-given.field-0.0 (c.in_err-given.ensures.stops has))
 
 pub returns-clause-onto : goal.returns-clause-onto

@@ -18,10 +18,12 @@ journal_at-requires-2 c =
     subst (λ (has : Bool). IsFirstAt (first_of has) c.args.bytes.now c.in_ok-has_notes.at) c.if-has_notes.false c.in_ok-has_notes.ensures.read
 
 pub returns-in_err-start-clause-stops : goal.returns-in_err-start-clause-stops
-returns-in_err-start-clause-stops c = stopped _ c.from_residual-in_err-start.result c.from_residual-in_err-start.ensures.1 (c.in_err-start.ensures.stops None tt)
+returns-in_err-start-clause-stops c =
+    stopped _ c.from_residual-in_err-start.result c.from_residual-in_err-start.ensures.1 (c.in_err-start.ensures.stops None tt)
 
 pub returns-in_err-start-2-clause-stops : goal.returns-in_err-start-2-clause-stops
-returns-in_err-start-2-clause-stops c = stopped _ c.from_residual-in_err-start-2.result c.from_residual-in_err-start-2.ensures.1 (c.in_err-start-2.ensures.stops None tt)
+returns-in_err-start-2-clause-stops c =
+    stopped _ c.from_residual-in_err-start-2.result c.from_residual-in_err-start-2.ensures.1 (c.in_err-start-2.ensures.stops None tt)
 
 pub returns-then-has_notes-clause-read : goal.returns-then-has_notes-clause-read
 returns-then-has_notes-clause-read c = noted_kept c.args.bytes.now c.in_ok-start.start c.in_ok-start.noted.items c.in_ok-start.ensures.read
