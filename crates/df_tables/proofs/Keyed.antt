@@ -16,6 +16,7 @@ use Rattle.df_unit.specs.declared.name.UnitName.{UnitName}
 use Rattle.df_unit.specs.declared.name.UnitName.TheVariants.{Root, Managed}
 use Rattle.df_unit.proofs.SameFacts.{same_name-exact}
 use Rattle.df_tables.specs.EventPlaces.{Others, Near, Strays, key_by, key_of, numbers_cmp, place_by, root_number, same_key, slot, slot_in}
+use Rattle.df_tables.specs.Events.{root_event}
 use Rattle.df_tables.proofs.Slots.{slot_set}
 use Rattle.df_tables.specs.declared.event_places.Key.{Key}
 use Rattle.df_tables.specs.declared.event_places.Key.TheVariants.{Numbered, Named}
@@ -26,6 +27,14 @@ root_is (Root []) r h = absurd (cc)
 root_is (Root (s ∷ [])) r h = ap (λ (i : ℕ). Root (i ∷ [])) (same_Some s r h)
 root_is (Root (s ∷ n ∷ p)) r h = absurd (cc)
 root_is (Managed o n t) r h = absurd (cc)
+
+-- a root's event has the root's number and its own for a key
+pub numbered_key : (e : EventName) (r : ℕ) → root_number e.unit ≡ Some r → key_of e ≡ Numbered r e.number
+numbered_key e r is = ap (λ (o : Option ℕ). key_by o e.number e.unit) is
+
+-- and is named by both
+pub named_by_root : (e : EventName) (r : ℕ) → root_number e.unit ≡ Some r → root_event r e.number ≡ e
+named_by_root e r is = ap (λ (u : UnitName). record { unit = u; number = e.number }) (sym (root_is e.unit r is))
 
 -- names have one key exactly where they are one
 tie : (n m : ℕ) (u v : UnitName) → ((n == m) && same u v) ≡ same_key (key_by (root_number u) n u) (key_by (root_number v) m v)

@@ -3,6 +3,7 @@ use Rattle.std.specs.Prelude.{◌≡◌, ◌⊎◌, ℕ, Bool, suc, if◌then◌
 use Rattle.std.specs.Option.{option_map}
 use Rattle.df_unit.specs.Name.{same_event}
 use Rattle.df_unit.specs.declared.name.EventName.{EventName}
+use Rattle.df_unit.specs.declared.name.UnitName.TheVariants.{Root}
 use Rattle.df_tables.specs.EventPlaces.{key_of, place_at}
 use Rattle.df_tables.specs.declared.event_places.EventPlaces.{EventPlaces}
 use Rattle.df_tables.specs.declared.events.EventRow.{EventRow}
@@ -19,6 +20,10 @@ event_place event rows = place_by (λ r. same_event r.event event) rows
 -- a row without parts
 abbrev pub blank : EventName → EventRow
 blank event = record { event = event; contents = [] }
+
+-- the event of this number of a root
+abbrev pub root_event : ℕ → ℕ → EventName
+root_event root number = record { unit = Root (root ∷ []); number = number }
 
 -- at most a row without parts is new, for an event that had none
 abbrev pub IsOpened : EventName → List EventRow → List EventRow → Type 0

@@ -38,7 +38,7 @@ pub struct EventPlaces {
 }
 
 /// The root's number, where the unit is a root.
-fn root_number(unit: &UnitName) -> Option<u32>
+pub(crate) fn root_number(unit: &UnitName) -> Option<u32>
     ensures { result ≡ root_number unit.now }
 {
     match unit {
@@ -139,7 +139,7 @@ impl EventPlaces {
     }
 
     /// The place of a root's event.
-    fn find_numbered(&self, root: u32, number: u32) -> Option<usize>
+    pub(crate) fn find_numbered(&self, root: u32, number: u32) -> Option<usize>
         ensures { result ≡ place_at self.now (Key.Numbered root number) }
     {
         let near = near_place(self.near.as_slice(), root, number);
@@ -160,7 +160,12 @@ impl EventPlaces {
     }
 
     /// Gives a root's event this place, which is the number of events that have a row.
-    fn put_numbered(&mut self, root: u32, number: u32, place: usize) -> Result<(), NoMemory>
+    pub(crate) fn put_numbered(
+        &mut self,
+        root: u32,
+        number: u32,
+        place: usize,
+    ) -> Result<(), NoMemory>
         ensures put { OnOk result ((q : Key) → place_at self.new q
             ≡ (if same_key (Key.Numbered root number) q then Some place else place_at self.old q)) }
         ensures unchanged { OnErr result ((q : Key) → place_at self.new q ≡ place_at self.old q) }

@@ -4,7 +4,7 @@ use Rattle.df_tables.specs.Events.{IsPlaced, event_place}
 use Rattle.df_tables.specs.declared.event_places.Key.{Key}
 use Rattle.df_tables.specs.declared.events.EventRow.{EventRow}
 use Rattle.df_tables.proofs.Opened.{opened_place, placed_more}
-use Rattle.df_tables.proofs.events.Events.open.Goals as goal
+use Rattle.df_tables.proofs.events.Events.open_keyed.Goals as goal
 
 pub invariant_of-self-2 : goal.invariant_of-self-2
 invariant_of-self-2 c =
