@@ -6,7 +6,7 @@ ghost use Rattle.df_unit.specs.declared.name.UnitName.TheVariants.{Root};
 ghost use Rattle.df_journal_text.specs.Ask.{asked};
 ghost use Rattle.df_journal_text.specs.Entry.{noted_text};
 ghost use Rattle.df_journal_text.specs.Front.{call_front};
-ghost use Rattle.df_script_text.specs.Common.{common_line};
+ghost use Rattle.df_script_text.specs.Common.{common_line, root_call};
 ghost use Rattle.df_script_text.specs.Script.{IsScriptLine};
 ghost use Rattle.df_journal_file.specs.Cursor.{GoesOn, HasPassed};
 ghost use Rattle.df_journal_file.specs.Either.{IsEitherText};
@@ -18,7 +18,9 @@ use crate::entry::entry_at;
 use crate::file::{is_end, version_at};
 use df_journal_text::KnownLabel;
 use df_lines::FileFault;
-use df_script_text::{CommonLine, ReadLine, call_at, common_call_at, roots_at};
+use df_script_text::{
+    CommonLine, ReadLine, RootLine, call_at, common_call_at, root_call_at, roots_at,
+};
 use df_start::Start;
 use df_unit::Noted;
 use std::alloc::Global;
@@ -83,6 +85,17 @@ impl<'a> JournalCursor<'a> {
         ensures fits { IfSome result (λ c. IsScriptLine (common_line c.root c.ask)) }
     {
         let (line, _) = common_call_at(self.bytes, self.place)?;
+        Some(line)
+    }
+
+    /// The call with which the next entry begins, where a root makes it and it can be read.
+    pub fn root_call(&mut self) -> Option<RootLine<'a>>
+        ensures words { IfSome result (λ r.
+            r.words.now ≡ call_front (Root (r.root ∷ [])) r.call) }
+        ensures fits { IfSome result (λ r. IsScriptLine (root_call r.root r.call)) }
+        ensures same { self.new ≡ self.old }
+    {
+        let (line, _) = root_call_at(self.alloc, &mut self.known, self.bytes, self.place)?;
         Some(line)
     }
 

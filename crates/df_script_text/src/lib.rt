@@ -9,7 +9,7 @@ mod line;
 mod reader;
 mod root;
 
-pub use call::{call_at, common_call_at};
+pub use call::{call_at, common_call_at, root_call_at};
 pub use common::{CommonLine, RootLine};
 pub use file::read_script;
 pub use laws::{a_script_is_read_back, a_text_is_one_script};

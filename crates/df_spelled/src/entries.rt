@@ -87,7 +87,7 @@ impl Spelled for PartRead {
 }
 
 /// A reply has a spelling.
-fn reply_is_spelled(reply: &Reply)
+pub fn reply_is_spelled(reply: &Reply)
     ensures { IsReply reply.now }
 {
     match reply {
