@@ -1,6 +1,8 @@
 //! The tables of a machine, which keep no journal.
 
 ghost use Rattle.std.specs.Prelude.{◌≡◌, ◌^◌, ◌<◌, ◌∷◌, [], length, IfOk, OnErr, OnOk, map, option_copied};
+ghost use Rattle.std.specs.Option.{option_map};
+ghost use Rattle.df_local.specs.Brief.{accepted_reply, brief_call};
 ghost use Rattle.df_start.specs.Begun.{begun};
 ghost use Rattle.df_tables.specs.Table.{rows_from};
 ghost use Rattle.df_unit.specs.declared.entry.Entry.TheVariants.{Emitted};
@@ -10,7 +12,7 @@ ghost use Rattle.df_machine.specs.Journal.{State, answer_in, appended, contamina
 ghost use Rattle.df_machine.specs.Tables.{AgreesWith, IsStep, StepsAlone, place_in};
 
 use df_label::{Label, NoMemory};
-use df_local::Answer;
+use df_local::{Accepted, Answer, Brief};
 use df_start::{RootStart, Start};
 use df_tables::{Board, Unit, first_unit};
 use df_unit::{Call, Commit, Path, Reply, UnitName};
@@ -111,6 +113,24 @@ impl Tables {
             AgreesWith core self.new) }
     {
         self.board.make_alone(place, call)
+    }
+
+    /// Makes a call that creates an event or drops one, where the unit at a place accepts it; none,
+    /// and nothing is made, where it doesn't or there is no such row. Without memory the tables
+    /// agree with what they agreed with.
+    pub fn step_brief(
+        &mut self,
+        place: Option<usize>,
+        brief: Brief,
+    ) -> Result<Option<Accepted>, NoMemory>
+        requires agrees { (core : State) × AgreesWith core self.old }
+        requires seated { (actor : UnitName) × (place ≡ place_in self.old actor) }
+        ensures made { IfOk result (λ made. StepsAlone place (brief_call brief)
+            (option_map accepted_reply made) self.old self.new) }
+        ensures kept { OnErr result ((core : State) → AgreesWith core self.old →
+            AgreesWith core self.new) }
+    {
+        self.board.make_brief(place, brief)
     }
 
     /// Makes any call, as `step` does, but doesn't ask first whether it is one of the unit's own

@@ -2,7 +2,11 @@
 use Rattle.std.proofs.Common.{◌≡◌, ℕ, ◌<◌, true, false, List, get_or, length, set, slice_get, Option, None, Some, Result, Ok, Err, IfOk, OnErr, refl, ap, sym, subst, ◌∙◌}
 use Rattle.std.proofs.lemmas.List.{append-nil, get_or_default, set-get_or}
 use Rattle.df_filter.specs.declared.clause.Clause.{Clause}
-use Rattle.df_local.specs.Locally.{is_alone, MakesAlone as MakesAloneOf, row_answer}
+use Rattle.std.specs.Option.{option_map}
+use Rattle.df_local.specs.Brief.{MakesBriefly, accepted_reply, brief_call}
+use Rattle.df_local.specs.Locally.{IsMadeAlone, is_alone, MakesAlone as MakesAloneOf, row_answer}
+use Rattle.df_local.specs.declared.brief.Accepted.{Accepted}
+use Rattle.df_local.specs.declared.brief.Brief.{Brief}
 use Rattle.df_local.specs.code.LocalState.{LocalState}
 use Rattle.df_rules.specs.Start.{rows}
 use Rattle.df_unit.specs.declared.call.Call.{Call}
@@ -48,15 +52,28 @@ alone_quiet _ h = refl
 abbrev with_local : Unit → LocalState → Unit
 with_local u l = record { local = l; line = u.line }
 
+-- where nothing is done of the unit at a place, the table is as before
+pub left_at : (k : ℕ) (d : Unit) (us : List Unit) (new : LocalState) → new ≡ (get_or us k d).local → set us k (with_local (get_or us k d) new) ≡ us
+left_at k d us new same = ap (λ (l : LocalState). set us k (with_local (get_or us k d) l)) same ∙ set-get_or us k d
+
 -- what the unit at a place makes of its own state alone is made in the table
-pub made_at : (k : ℕ) (c : Call) (made : Option Reply) (d : Unit) (us : List Unit) (new : LocalState) → k < length us
-    → MakesAloneOf c made (get_or us k d).local new → IsMadeAt k c made us (set us k (with_local (get_or us k d) new))
-made_at k c None d us new within h = ap (λ (l : LocalState). set us k (with_local (get_or us k d) l)) h.1 ∙ set-get_or us k d
-made_at k c (Some r) d us new within h =
+pub made_alone_at : (k : ℕ) (c : Call) (r : Reply) (d : Unit) (us : List Unit) (new : LocalState) → k < length us
+    → IsMadeAlone c r (get_or us k d).local new → IsMadeAt k c (Some r) us (set us k (with_local (get_or us k d) new))
+made_alone_at k c r d us new within h =
     let u = get_or us k d in
     let answered : IsAnsweredAt k c r Effect.Nothing us
     = λ e i. subst (λ (v : Unit). row_answer v.local v.line.left c ≡ (r, Effect.Nothing)) (get_or_default us k d e within) (h.answered u.line.left) in
     (h.alone, answered, ap (λ (l : LocalState). set us k (with_local u l)) h.moved ∙ set_modify k (moved_row rows c r Effect.Nothing) d us)
+
+pub made_at : (k : ℕ) (c : Call) (made : Option Reply) (d : Unit) (us : List Unit) (new : LocalState) → k < length us
+    → MakesAloneOf c made (get_or us k d).local new → IsMadeAt k c made us (set us k (with_local (get_or us k d) new))
+made_at k c None d us new within h = left_at k d us new h.1
+made_at k c (Some r) d us new within h = made_alone_at k c r d us new within h
+
+pub made_briefly_at : (k : ℕ) (b : Brief) (made : Option Accepted) (d : Unit) (us : List Unit) (new : LocalState) → k < length us
+    → MakesBriefly b made (get_or us k d).local new → IsMadeAt k (brief_call b) (option_map accepted_reply made) us (set us k (with_local (get_or us k d) new))
+made_briefly_at k b None d us new within h = left_at k d us new h
+made_briefly_at k b (Some a) d us new within h = made_alone_at k (brief_call b) (accepted_reply a) d us new within h
 
 -- all but the rows is as before
 pub record IsBesideRows (old new : Board) : Type 0 where
@@ -117,9 +134,10 @@ module _ (a : UnitName) (k : ℕ) (c : Call) (old new : Board) (here : place_on 
       }
 
 -- whether memory was wanting or not, something was made, or nothing
-pub made_or_not : (k : ℕ) (c : Call) (us vs : List Unit) (r : Result (Option Reply) NoMemory) → IfOk r (λ made. IsMadeAt k c made us vs) → OnErr r (vs ≡ us) → (made : Option Reply) × IsMadeAt k c made us vs
-made_or_not k c us vs (Ok made) is same = (made, is)
-made_or_not k c us vs (Err refused) is same = (None, same)
+pub made_or_not : {X : Type 0} (reply_of : X → Option Reply) (k : ℕ) (c : Call) (us vs : List Unit) (r : Result X NoMemory)
+    → IfOk r (λ x. IsMadeAt k c (reply_of x) us vs) → OnErr r (vs ≡ us) → (made : Option Reply) × IsMadeAt k c made us vs
+made_or_not reply_of k c us vs (Ok x) is same = (reply_of x, is)
+made_or_not reply_of k c us vs (Err refused) is same = (None, same)
 
 -- a row stands where it stood, where at most the labels are others
 row_renewed : (place : Option ℕ) (old new : Board) → IsRenewed old new → row_by new place ≡ row_by old place

@@ -14,6 +14,7 @@ ghost use Rattle.df_unit.specs.declared.reply.Reply.{Reply};
 ghost use Rattle.df_unit.specs.declared.reply.Reply.TheVariants.{Sub};
 ghost use Rattle.df_unit.specs.UnitOrder.{unit_cmp};
 ghost use Rattle.df_label.specs.Ascending.{IsAscending};
+ghost use Rattle.df_local.specs.Brief.{accepted_reply, brief_call};
 ghost use Rattle.df_tables.specs.Births.{IsEnrolled, IsNewborn, beside_of, rows_in};
 ghost use Rattle.df_tables.specs.Board.{AreBorn, HasRoom, IsBoard, IsBooked, IsBornBoard, IsChildBoard, IsKept, IsMade, IsMovedBoard, IsRenewed, MakesAlone, TellsOf, answer_from, place_on, row_by, row_on, units_in};
 ghost use Rattle.df_tables.specs.Hand.{IsAnsweredAt, IsCalm};
@@ -24,13 +25,13 @@ ghost use Rattle.df_tables.specs.Table.{IsInOrder, rows_from};
 use crate::births::{Beside, Newborn, beside_of, child_of, count_child, make_room};
 use crate::events::Events;
 use crate::managing::subscribe_managed;
-use crate::moves::{give_at, make_at, move_at, subscribe};
+use crate::moves::{give_at, make_at, make_brief_at, move_at, subscribe};
 use crate::units::{Unit, first_roll, labels_of, refresh};
 use df_filter::Filter;
 use df_index::Index;
 use df_instances::{Managed, Marks};
 use df_label::{Label, NoMemory, Privileges, TagSet};
-use df_local::Answer;
+use df_local::{Accepted, Answer, Brief};
 use df_roll::Roll;
 use df_unit::{Call, Effect, Reply, UnitName};
 use std::alloc::Global;
@@ -465,6 +466,27 @@ impl Board {
     {
         match place {
             Some(place) => make_at(self.rows.as_mut_slice(), place, call),
+            None => Ok(None),
+        }
+    }
+
+    /// Makes a call that creates an event or drops one, where the unit at a place accepts it; None
+    /// where it doesn't, or there is no such row. Where memory is wanting, at most the labels are
+    /// others.
+    pub fn make_brief(
+        &mut self,
+        place: Option<usize>,
+        brief: Brief,
+    ) -> Result<Option<Accepted>, NoMemory>
+        requires board { IsBoard self.old }
+        requires seated { (actor : UnitName) × (place_on self.old actor ≡ place) }
+        ensures board { IsBoard self.new }
+        ensures made { IfOk result (λ made. MakesAlone place (brief_call brief)
+            (option_map accepted_reply made) self.old self.new) }
+        ensures same { OnErr result (IsRenewed self.old self.new) }
+    {
+        match place {
+            Some(place) => make_brief_at(self.rows.as_mut_slice(), place, brief),
             None => Ok(None),
         }
     }

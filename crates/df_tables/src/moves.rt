@@ -1,10 +1,12 @@
 //! What an entry without a commit makes of the row of its actor.
 
 ghost use Rattle.std.specs.Prelude.{◌≡◌, ◌<◌, ◌∷◌, [], ◌++◌, length, IfOk, OnErr, OnOk};
+ghost use Rattle.std.specs.Option.{option_map};
 ghost use Rattle.df_rules.specs.Start.{rows};
 ghost use Rattle.df_unit.specs.declared.call.Call.TheVariants.{Subscribe};
 ghost use Rattle.df_unit.specs.declared.entry.Effect.{Effect};
 ghost use Rattle.df_unit.specs.declared.reply.Reply.TheVariants.{Sub};
+ghost use Rattle.df_local.specs.Brief.{accepted_reply, brief_call};
 ghost use Rattle.df_tables.specs.Hand.{IsAnsweredAt, IsGiven, IsGivenAt, IsMadeAt, modify};
 ghost use Rattle.df_tables.specs.Moves.{IsAnswered, is_event};
 ghost use Rattle.df_tables.specs.Table.{moved_row, taken};
@@ -14,7 +16,7 @@ use crate::units::Unit;
 use df_filter::Filter;
 use df_index::Index;
 use df_label::NoMemory;
-use df_local::Answer;
+use df_local::{Accepted, Answer, Brief};
 use df_unit::{Call, Effect, Reply};
 
 /// The line without the delivery that is handed over.
@@ -70,6 +72,25 @@ pub fn make_at(units: &mut [Unit], place: usize, call: &Call) -> Result<Option<R
 {
     let unit = &mut units[place];
     match unit.local.make_alone(call) {
+        Ok(made) => Ok(made),
+        Err(refused) => Err(refused),
+    }
+}
+
+/// Makes a call that creates an event or drops one, where the unit at a place accepts it; None, and
+/// nothing is done, where it doesn't. Where memory is wanting, the table is as before.
+pub fn make_brief_at(
+    units: &mut [Unit],
+    place: usize,
+    brief: Brief,
+) -> Result<Option<Accepted>, NoMemory>
+    requires within { place < length units.old }
+    ensures made { IfOk result (λ made. IsMadeAt place (brief_call brief)
+        (option_map accepted_reply made) units.old units.new) }
+    ensures unchanged { OnErr result (units.new ≡ units.old) }
+{
+    let unit = &mut units[place];
+    match unit.local.make_brief(brief) {
         Ok(made) => Ok(made),
         Err(refused) => Err(refused),
     }

@@ -1,0 +1,38 @@
+use Rattle.std.proofs.Common.{List, Option, refl, sym, subst, ◌∙◌}
+use Rattle.std.specs.Vec.{with_items}
+use Rattle.std.proofs.lemmas.List.{with_items_is}
+use Rattle.std.proofs.lemmas.Result.{IfOk-weaker}
+use Rattle.std.specs.Option.{option_map}
+use Rattle.df_local.specs.Brief.{accepted_reply, brief_call}
+use Rattle.df_unit.specs.declared.reply.Reply.{Reply}
+use Rattle.df_tables.specs.Hand.{IsMadeAt}
+use Rattle.df_tables.specs.declared.units.Unit.{Unit}
+use Rattle.df_tables.proofs.Alone.{board_alone, made_or_not, makes_alone}
+use Rattle.df_tables.proofs.Booked.{place_in}
+use Rattle.df_tables.proofs.board.Board.make_brief.Goals as goal
+
+pub make_brief_at-requires : goal.make_brief_at-requires
+make_brief_at-requires c =
+    rw c.as_mut_slice.ensures.value (record { within = place_in c.requires.seated.0 c.args.self.now.rows.items c.in-Some.place (c.requires.seated.1 ∙ c.in-Some.is) })
+
+-- what is made in the rows, as they stand in the board
+in_rows : (c : goal.After-self-1) (made : Option Reply) → IsMadeAt c.in-Some.place (brief_call c.args.brief) made c.as_mut_slice.result.now c.make_brief_at.new.units
+    → IsMadeAt c.in-Some.place (brief_call c.args.brief) made c.args.self.now.rows.items (with_items c.args.self.now.rows c.make_brief_at.new.units).items
+in_rows c made is =
+    subst (λ (vs : List Unit). IsMadeAt c.in-Some.place (brief_call c.args.brief) made c.args.self.now.rows.items vs)
+    (sym (with_items_is c.args.self.now.rows c.make_brief_at.new.units (c.make_brief_at.auto.units ∙ c.as_mut_slice.ensures.len)))
+    (subst (λ (us : List Unit). IsMadeAt c.in-Some.place (brief_call c.args.brief) made us c.make_brief_at.new.units) c.as_mut_slice.ensures.value is)
+
+pub returns-in-Some-clause-board : goal.returns-in-Some-clause-board
+returns-in-Some-clause-board c =
+    let or = made_or_not (option_map accepted_reply) c.in-Some.place (brief_call c.args.brief) c.as_mut_slice.result.now c.make_brief_at.new.units c.make_brief_at.result c.make_brief_at.ensures.made c.make_brief_at.ensures.unchanged in
+    board_alone c.requires.seated.0 c.in-Some.place (brief_call c.args.brief) c.args.self.now _ (c.requires.seated.1 ∙ c.in-Some.is) c.requires.board
+    (record { seats = refl; labels = refl; stale = refl; events = refl; index = refl; managed = refl; told = refl }) or.0 (in_rows c or.0 or.1)
+
+pub returns-in-Some-clause-made : goal.returns-in-Some-clause-made
+returns-in-Some-clause-made c =
+    rw c.in-Some.is
+    (IfOk-weaker c.make_brief_at.result _ _
+    (λ told is. makes_alone c.requires.seated.0 c.in-Some.place (brief_call c.args.brief) c.args.self.now _ (c.requires.seated.1 ∙ c.in-Some.is) c.requires.board
+    (record { seats = refl; labels = refl; stale = refl; events = refl; index = refl; managed = refl; told = refl }) (option_map accepted_reply told) (in_rows c (option_map accepted_reply told) is))
+    c.make_brief_at.ensures.made)
