@@ -22,3 +22,4 @@ pub mod ReplyFounds
 pub mod StartBacks
 pub mod EntryBacks
 pub mod JournalBacks
+mod Quiet

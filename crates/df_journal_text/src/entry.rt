@@ -69,6 +69,16 @@ fn append_answer(reply: &Reply, to: &mut Vec<u8>) -> Result<(), NoMemory>
     }
 }
 
+/// Appends a handle behind the words of its call, and the line of a note.
+fn append_noted_handle(h: u32, note: &Note, to: &mut Vec<u8>) -> Result<(), NoMemory>
+    ensures { OnOk result (to.new.items ≡ to.old.items
+        ++ (answer_text (Handle h) ++ note_text note.now)) }
+{
+    append_handle(h, to)?;
+    to.extend_from_slice(note.as_bytes())?;
+    Ok(())
+}
+
 /// Appends the reply of a call behind its words, and the line of a note. The commonest are written
 /// at once.
 fn append_noted(reply: &Reply, note: &Note, to: &mut Vec<u8>) -> Result<(), NoMemory>
@@ -80,6 +90,7 @@ fn append_noted(reply: &Reply, note: &Note, to: &mut Vec<u8>) -> Result<(), NoMe
             to.extend_from_slice(note.behind_ok())?;
             Ok(())
         }
+        Reply::Handle(h) => append_noted_handle(*h, note, to),
         _ => {
             append_answer(reply, to)?;
             to.extend_from_slice(note.as_bytes())?;
@@ -223,8 +234,7 @@ pub fn append_handled(front: &[u8], h: u32, note: &Note, to: &mut Vec<u8>) -> Re
         ++ entry_text note.now (Done actor call (Handle h) Effect.Nothing)) }
 {
     to.extend_from_slice(front)?;
-    append_handle(h, to)?;
-    to.extend_from_slice(note.as_bytes())?;
+    append_noted_handle(h, note, to)?;
     Ok(())
 }
 

@@ -1,0 +1,12 @@
+use Rattle.std.proofs.Common.{List, ℕ, ◌++◌, ap, ◌∙◌}
+use Rattle.df_unit.specs.declared.reply.Reply.TheVariants.{Handle}
+use Rattle.df_journal_text.specs.Entry.{note_text}
+use Rattle.df_journal_text.specs.code.Outcome.{answer_text}
+use Rattle.df_journal_text.proofs.Quiet.{handled}
+use Rattle.df_journal_text.proofs.entry.append_handled.Goals as goal
+
+pub returns : goal.returns
+returns c = λ actor call is.
+    c.in_ok-append_noted_handle.ensures
+    ∙ ap (λ (u : List ℕ). u ++ (answer_text (Handle c.args.h) ++ note_text c.args.note.now)) c.in_ok-extend_from_slice.ensures.items
+    ∙ handled actor call c.args.h c.args.note.now c.args.to.now.items c.args.front.now is
