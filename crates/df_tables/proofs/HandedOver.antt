@@ -29,7 +29,7 @@ use Rattle.df_unit.specs.declared.name.UnitName.{UnitName}
 use Rattle.df_unit.specs.declared.reply.Reply.{Reply}
 use Rattle.df_tables.specs.Agree.{Agrees, IsWhole, MakesNoManaged, MakesNoUnit}
 use Rattle.df_tables.specs.Births.{all_new, rows_in}
-use Rattle.df_tables.specs.Board.{IsBooked, IsEmitted, IsHandedBoard, IsReady, TellsOf, managed_by, managed_of}
+use Rattle.df_tables.specs.Board.{IsBooked, IsEmitted, IsHandedBoard, IsReady, TellsOf, managed_by, managed_of, receivers_of}
 use Rattle.df_tables.specs.Calls.{births_by, pairs_by, places_by}
 use Rattle.df_tables.specs.Hand.{IsAnsweredAt, IsNews, modify, with_news, with_state}
 use Rattle.df_tables.specs.Labels.{inputs}
@@ -49,7 +49,7 @@ use Rattle.df_tables.proofs.Seats.{place_of-names}
 use Rattle.df_tables.proofs.Steps.{news_of}
 
 -- each to whom a commit is to be handed is one of the rows
-pub ready_within : (k : Commit) (b : Board) (ready : Ready) → IsWhole b.rows.items b.events b.index → IsReady k b ready → All (IsIn b.rows.items) ready.receivers.items
+pub ready_within : (k : Commit) (b : Board) (ready : Ready) → IsWhole b.rows.items b.events b.index → IsReady k b ready → All (IsIn b.rows.items) (receivers_of ready)
 ready_within k b ready whole is =
     subst (All (IsIn b.rows.items)) (sym is.receivers)
     (All-append (IsIn b.rows.items) ready.to ready.called.pairs.items (receivers_within k b ready whole is)
@@ -97,7 +97,7 @@ module _ (g : List Unit → List Unit) (named : (us : List Unit) → names_of (g
       ∙ ap (λ (ps : List Pair). b || ((e == done.ready.place) && has_place (places_by (length us) ps (rows_in done.ready.called.born.items)) q)) done.made.called.pairs
       ∙ ap (λ (l : List Unit). b || ((e == done.ready.place) && has_place (places_by (length us) qs l) q)) done.made.called.born
 
-  news : IsNews brings k.event after done.ready.receivers.items us
+  news : IsNews brings k.event after (receivers_of done.ready) us
   news =
       subst (λ (ps : List Pair). IsNews brings k.event after ps us) (sym (done.made.receivers ∙ ap (λ (ps : List Pair). done.ready.to ++ ps) done.made.called.pairs))
       (news_called starts past us done.opened.events done.opened.index done.opened.managed done.opened.marks.handed before.agrees before.numbered there.apart k done.ready.place after done.made.place done.made.after

@@ -1,7 +1,7 @@
 -- The units to which a commit is handed are those of its receivers' rows and those that come by it.
-use Rattle.std.proofs.Common.{◌≡◌, ◌↔◌, ℕ, ◌+◌, ◌<◌, ◌==◌, ◌||◌, Bool, true, false, not, if◌then◌else◌, List, [], ◌∷◌, ◌++◌, get_or, length, map, option_map, slice_get, Option, Some, None, refl, ap, sym, subst, ◌∙◌, arith, eq-eqb, ◌&&◌}
+use Rattle.std.proofs.Common.{◌≡◌, ◌↔◌, ℕ, ◌==◌, ◌||◌, Bool, true, false, not, if◌then◌else◌, List, [], ◌∷◌, ◌++◌, get_or, length, map, slice_get, Option, Some, None, refl, ap, sym, subst, ◌∙◌, arith, eq-eqb, ◌&&◌}
 use Rattle.std.specs.Prelude.{is_some, nat_lt, option_to_list}
-use Rattle.std.specs.List.{Contains, filter, list_any}
+use Rattle.std.specs.List.{Contains, list_any}
 use Rattle.std.specs.List.Sorted.{IsStrictlySortedBy}
 use Rattle.std.proofs.lemmas.Bool.{eqb-true, le-ltb, lt-ltb, ne_eqb}
 use Rattle.std.proofs.lemmas.List.{append-nil, length-append}
@@ -31,13 +31,13 @@ use Rattle.df_unit.specs.declared.entry.Entry.{Entry}
 use Rattle.df_unit.specs.declared.entry.Entry.TheVariants.{Emitted}
 use Rattle.df_unit.specs.declared.name.UnitName.{UnitName}
 use Rattle.df_unit.specs.declared.name.UnitName.TheVariants.{Managed, Root}
-use Rattle.df_unit.proofs.SameFacts.{same_name-exact, same_name_decides}
-use Rattle.df_tables.specs.Agree.{Agrees, AreApart, FilterIndex, IsSeat}
+use Rattle.df_unit.proofs.SameFacts.{same_name-exact}
+use Rattle.df_tables.specs.Agree.{Agrees, AreApart, FilterIndex}
 use Rattle.df_tables.specs.Births.{rows_in}
-use Rattle.df_tables.specs.Board.{AreReceivers, IsBoard, IsOpenedBoard, IsReady, TellsOf, is_brought, managed_by}
+use Rattle.df_tables.specs.Board.{AreReceivers, IsBoard, IsOpenedBoard, IsReady, is_brought, managed_by, receivers_of}
 use Rattle.df_tables.specs.Calls.{births_by, name_at, names_at, pairs_by}
 use Rattle.df_tables.specs.Events.{event_place}
-use Rattle.df_tables.specs.Hand.{given_to, news_at, pairs_of}
+use Rattle.df_tables.specs.Hand.{given_to, pairs_of}
 use Rattle.df_tables.specs.Labels.{inputs}
 use Rattle.df_tables.specs.Table.{find, names_of, parts_of, place_of}
 use Rattle.df_tables.specs.declared.board.Board.{Board}
@@ -230,7 +230,7 @@ module _ (starts : List (Label × List Privilege)) (past : List Entry) (us : Lis
 
 -- what is made ready tells the receivers
 pub ready_receivers : (k : Commit) (old opened : Board) (ready : Ready) (names : List UnitName) → IsBoard old → IsOpenedBoard k.event old opened → IsReady k opened ready
-    → names ≡ names_at opened.rows.items ready.receivers.items ++ names_of (rows_in ready.called.born.items) → AreReceivers k names old
+    → names ≡ names_at opened.rows.items (receivers_of ready) ++ names_of (rows_in ready.called.born.items) → AreReceivers k names old
 ready_receivers k old opened ready names board opening made names_are starts past tells n =
     let us = opened.rows.items in
     let before = kept_opened k.event old opened board.whole opening starts past tells in

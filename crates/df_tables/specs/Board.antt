@@ -1,5 +1,6 @@
 -- When a board agrees with a journal.
 use Rattle.std.specs.Prelude.{◌≡◌, ◌↔◌, ℕ, ◌+◌, ◌≤◌, ◌==◌, ◌&&◌, ◌||◌, if◌then◌else◌, Bool, List, ◌∷◌, ◌++◌, Option, Some, None, length, map, nat_lt, slice_get, slice_index_or, vec_capacity, vec_len}
+use Rattle.std.specs.Global.{Vec}
 use Rattle.std.specs.List.{Contains, list_any}
 use Rattle.std.specs.List.Sorted.{IsStrictlySortedBy}
 use Rattle.df_filter.specs.declared.clause.Clause.{Clause}
@@ -137,6 +138,15 @@ pub record IsOpenedBoard (event : EventName) (old new : Board) : Type 0 where
   pub told : new.marks.handed ≡ old.marks.handed
   pub opened : IsOpened event old.events new.events
 
+-- all receivers that have a row: those of both kinds, or the plain ones where all are plain
+abbrev pub receivers_by : Option (Vec Pair) → List Pair → List Pair
+receivers_by None to = to
+receivers_by (Some both) to = both.items
+
+-- all receivers of a commit that have a row
+abbrev pub receivers_of : Ready → List Pair
+receivers_of ready = receivers_by ready.both ready.to
+
 -- the event has this place, its parts after the commit are these, it waits to be handed to just
 -- those to whom it is to be handed, and there is room for those who come to exist by it
 pub record IsReady (c : Commit) (b : Board) (ready : Ready) : Type 0 where
@@ -148,7 +158,7 @@ pub record IsReady (c : Commit) (b : Board) (ready : Ready) : Type 0 where
   pub waits : b.index.ready ≡ Some (ready.place, ready.to)
   pub called : AreCalled b.rows.items b.managed b.marks.handed c ready.place ready.after
       ready.called
-  pub receivers : ready.receivers.items ≡ ready.to ++ ready.called.pairs.items
+  pub receivers : receivers_of ready ≡ ready.to ++ ready.called.pairs.items
   pub marked : b.marks.ready ≡ Some (
     ready.place,
     places_by (length b.rows.items) ready.called.pairs.items (rows_in ready.called.born.items),
@@ -240,7 +250,7 @@ pub record IsHandedBoard (g : List Unit → List Unit) (commit : Commit) (old ne
   pub opening : IsOpenedBoard commit.event old opened
   pub made : IsReady commit opened ready
   pub rows : (given : Unit → List Given) →
-      IsNews given commit.event ready.after ready.receivers.items opened.rows.items →
+      IsNews given commit.event ready.after (receivers_of ready) opened.rows.items →
       new.rows.items ≡ all_new (rows_in ready.called.born.items)
       (g (map (with_news given) opened.rows.items))
   pub managed : new.managed ≡ opened.managed

@@ -9,7 +9,6 @@ use Rattle.df_part.specs.Part.{cut}
 use Rattle.df_part.specs.declared.part.Part.{Part}
 use Rattle.df_unit.specs.Rows.{after}
 use Rattle.df_unit.specs.declared.call.Call.{Call}
-use Rattle.df_unit.specs.declared.call.Call.TheVariants as Call
 use Rattle.df_unit.specs.declared.commit.Given.{Given}
 use Rattle.df_unit.specs.declared.entry.Effect.{Effect}
 use Rattle.df_unit.specs.declared.name.EventName.{EventName}

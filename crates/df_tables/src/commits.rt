@@ -9,7 +9,7 @@ ghost use Rattle.df_index.specs.IndexState.{IsReceiver};
 ghost use Rattle.df_part.specs.Contents.{apply};
 ghost use Rattle.df_unit.specs.declared.entry.Effect.{Effect};
 ghost use Rattle.df_tables.specs.Births.{IsNewborn, rows_in};
-ghost use Rattle.df_tables.specs.Board.{HasRoom, IsBoard, IsClosed, IsEmitted, IsHandedBoard, IsKept, IsOpenedBoard, IsReady, IsRenewed};
+ghost use Rattle.df_tables.specs.Board.{HasRoom, IsBoard, IsClosed, IsEmitted, IsHandedBoard, IsKept, IsOpenedBoard, IsReady, IsRenewed, receivers_by};
 ghost use Rattle.df_tables.specs.Calls.{AreCalled, places_by, places_from};
 ghost use Rattle.df_tables.specs.Events.{event_place};
 ghost use Rattle.df_tables.specs.Hand.{IsAnsweredAt, modify, with_state};
@@ -40,8 +40,22 @@ pub(crate) struct Ready {
     pub to: Receivers,
     /// The instances to which it is to be handed.
     pub called: Called,
-    /// All of them that have a row.
-    pub receivers: Vec<(usize, u32)>,
+    /// All of them that have a row, where instances are among them.
+    pub both: Option<Vec<(usize, u32)>>,
+}
+
+impl Ready {
+    ghost use Rattle.df_tables.specs.Board.{receivers_of};
+
+    /// All receivers that have a row.
+    pub(crate) fn receivers(&self) -> &[(usize, u32)]
+        ensures { result.now ≡ receivers_of self.now }
+    {
+        match &self.both {
+            Some(both) => both.as_slice(),
+            None => self.to.as_slice(),
+        }
+    }
 }
 
 /// The plain units to whom a commit is to be handed.
@@ -68,8 +82,23 @@ fn receivers<L: Ledger>(
     index.receivers(labels, event, after, edit, &mut steps)
 }
 
-/// Receivers of both kinds, one after another.
+/// Receivers of both kinds, one after another; None where all are plain.
 fn both(
+    alloc: Global,
+    plain: &[(usize, u32)],
+    called: &[(usize, u32)],
+) -> Result<Option<Vec<(usize, u32)>>, NoMemory>
+    ensures { IfOk result (λ both. receivers_by both plain.now ≡ plain.now ++ called.now) }
+{
+    if called.is_empty() {
+        return Ok(None);
+    }
+    Ok(Some(joined(alloc, plain, called)?))
+}
+
+/// Pairs of both lists, one after another.
+#[inline(never)]
+fn joined(
     alloc: Global,
     plain: &[(usize, u32)],
     called: &[(usize, u32)],
@@ -176,13 +205,13 @@ impl Board {
         let edit = &commit.edit;
         let index = &mut self.index;
         let to = receivers::<Brand>(index, labels, place, &after, edit, Blank::new(1))?;
-        let receivers = both(self.alloc, to.as_slice(), called.pairs.as_slice())?;
+        let both = both(self.alloc, to.as_slice(), called.pairs.as_slice())?;
         Ok(Ready {
             place,
             after,
             to,
             called,
-            receivers,
+            both,
         })
     }
 
@@ -216,7 +245,7 @@ impl Board {
             after,
             to,
             called,
-            receivers: _,
+            both: _,
         } = ready;
         let Called { pairs: _, born } = called;
         self.index.book(place, &to);
@@ -248,7 +277,7 @@ impl Board {
         let news = News {
             event: &commit.event,
             after: &ready.after,
-            receivers: ready.receivers.as_slice(),
+            receivers: ready.receivers(),
         };
         let rows = self.rows.as_mut_slice();
         hand_over(rows, place, call, reply, effect, &news)?;
@@ -267,7 +296,7 @@ impl Board {
         let news = News {
             event: &commit.event,
             after: &emitted.after,
-            receivers: emitted.receivers.as_slice(),
+            receivers: emitted.receivers(),
         };
         let rows = self.rows.as_mut_slice();
         hand_out(rows, &news)?;

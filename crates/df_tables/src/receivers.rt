@@ -2,7 +2,7 @@
 
 ghost use Rattle.std.specs.Prelude.{◌≡◌, ◌++◌, IfOk, OnOk};
 ghost use Rattle.df_tables.specs.Births.{rows_in};
-ghost use Rattle.df_tables.specs.Board.{AreReceivers, IsBoard, IsKept};
+ghost use Rattle.df_tables.specs.Board.{AreReceivers, IsBoard, IsKept, receivers_of};
 ghost use Rattle.df_tables.specs.Calls.{name_at, names_at};
 ghost use Rattle.df_tables.specs.Table.{names_of};
 
@@ -38,11 +38,11 @@ fn put_names(born: &[Newborn], to: &mut Vec<UnitName>) -> Result<(), NoMemory>
 /// The units to whom a commit is to be handed that was made ready.
 fn names_in(alloc: Global, rows: &[Unit], ready: &Ready) -> Result<Vec<UnitName>, NoMemory>
     ensures { IfOk result (λ names. names.items
-        ≡ names_at rows.now ready.now.receivers.items
+        ≡ names_at rows.now (receivers_of ready.now)
         ++ names_of (rows_in ready.now.called.born.items)) }
 {
     let mut names = Vec::new(alloc);
-    for receiver in ready.receivers.as_slice() {
+    for receiver in ready.receivers() {
         put_name(rows, receiver.0, &mut names)?;
     }
     put_names(ready.called.born.as_slice(), &mut names)?;

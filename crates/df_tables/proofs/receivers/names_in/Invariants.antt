@@ -1,6 +1,7 @@
 use Rattle.std.proofs.Common.{◌≡◌, take}
+use Rattle.df_tables.specs.Board.{receivers_of}
 use Rattle.df_tables.specs.Calls.{names_at}
 use Rattle.df_tables.proofs.receivers.names_in.Given as goal
 
 abbrev pub invariant-loop-receiver : goal.invariant-loop-receiver
-invariant-loop-receiver l = l.names.items ≡ names_at l.rows (take l.receiver-index l.ready.receivers.items)
+invariant-loop-receiver l = l.names.items ≡ names_at l.rows (take l.receiver-index (receivers_of l.ready))

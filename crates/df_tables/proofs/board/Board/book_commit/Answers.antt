@@ -2,6 +2,7 @@ use Rattle.std.proofs.Common.{List, All, length, map, refl, ap, sym, subst, ◌�
 use Rattle.std.proofs.lemmas.List.{with_items_is}
 use Rattle.df_index.specs.Due.{Pair}
 use Rattle.df_tables.specs.Births.{all_new, rows_in}
+use Rattle.df_tables.specs.Board.{receivers_of}
 use Rattle.df_tables.specs.Hand.{IsAnsweredAt, IsNews, modify, with_news, with_state}
 use Rattle.df_tables.specs.declared.units.Unit.{Unit}
 use Rattle.df_tables.proofs.Boards.{board_handed, receivers_within, steady_state}
@@ -13,8 +14,8 @@ use Rattle.df_tables.proofs.board.Board.book_commit.Goals as goal
 
 pub hand_over-requires-clause-receivers : goal.hand_over-requires-clause-receivers
 hand_over-requires-clause-receivers c =
-    subst (λ (us : List Unit). All (IsIn us) c.as_slice.result.now) (sym c.as_mut_slice-rows.ensures.value)
-    (subst (All (IsIn c.open.new.self.rows.items)) (sym c.as_slice.ensures.value)
+    subst (λ (us : List Unit). All (IsIn us) c.receivers.result.now) (sym c.as_mut_slice-rows.ensures.value)
+    (subst (All (IsIn c.open.new.self.rows.items)) (sym c.receivers.ensures)
     (ready_within c.args.commit.now c.open.new.self c.in_ok-ready.ready c.open.ensures.board.whole c.in_ok-ready.ensures.ready))
 
 pub hand_over-requires-clause-right : goal.hand_over-requires-clause-right
@@ -26,15 +27,15 @@ close-requires-clause-board c =
     let event = c.args.commit.now.event in
     let after = c.in_ok-ready.ready.after in
     let g : List Unit → List Unit = modify c.args.place (with_state c.args.call.now c.args.reply.now c.args.effect.now) in
-    board_handed g event after c.in_ok-ready.ready.receivers.items c.open.new.self _
+    board_handed g event after (receivers_of c.in_ok-ready.ready) c.open.new.self _
     (steady_state c.args.place c.args.call.now c.args.reply.now c.args.effect.now
     (commit_quiet c.args.self.now.rows.items c.args.place c.args.call.now c.args.reply.now c.args.effect.now c.args.commit.now c.requires.within c.requires.commit c.requires.right))
     c.open.ensures.board
     (λ given news.
     with_items_is c.open.new.self.rows c.hand_over.new.units (c.hand_over.auto.units ∙ c.as_mut_slice-rows.ensures.len)
     ∙ c.in_ok-hand_over.ensures.ok given
-    (subst (λ (us : List Unit). IsNews given event after c.as_slice.result.now us) (sym c.as_mut_slice-rows.ensures.value)
-    (subst (λ (ps : List Pair). IsNews given event after ps c.open.new.self.rows.items) (sym c.as_slice.ensures.value) news))
+    (subst (λ (us : List Unit). IsNews given event after c.receivers.result.now us) (sym c.as_mut_slice-rows.ensures.value)
+    (subst (λ (ps : List Pair). IsNews given event after ps c.open.new.self.rows.items) (sym c.receivers.ensures) news))
     ∙ ap (λ (us : List Unit). g (map (with_news given) us)) c.as_mut_slice-rows.ensures.value)
     refl refl refl refl refl
 
@@ -71,8 +72,8 @@ returns-clause-ok c =
           ∙ ap (all_new (rows_in c.in_ok-ready.ready.called.born.items))
           (with_items_is c.open.new.self.rows c.hand_over.new.units (c.hand_over.auto.units ∙ c.as_mut_slice-rows.ensures.len)
           ∙ c.in_ok-hand_over.ensures.ok given
-          (subst (λ (us : List Unit). IsNews given event after c.as_slice.result.now us) (sym c.as_mut_slice-rows.ensures.value)
-          (subst (λ (ps : List Pair). IsNews given event after ps c.open.new.self.rows.items) (sym c.as_slice.ensures.value) news))
+          (subst (λ (us : List Unit). IsNews given event after c.receivers.result.now us) (sym c.as_mut_slice-rows.ensures.value)
+          (subst (λ (ps : List Pair). IsNews given event after ps c.open.new.self.rows.items) (sym c.receivers.ensures) news))
           ∙ ap (λ (us : List Unit). g (map (with_news given) us)) c.as_mut_slice-rows.ensures.value);
       managed = closed.managed;
       told = closed.told;

@@ -2,6 +2,7 @@ use Rattle.std.proofs.Common.{List, All, length, map, refl, ap, sym, subst, ◌�
 use Rattle.std.proofs.lemmas.List.{with_items_is}
 use Rattle.df_index.specs.Due.{Pair}
 use Rattle.df_tables.specs.Births.{all_new, rows_in}
+use Rattle.df_tables.specs.Board.{receivers_of}
 use Rattle.df_tables.specs.Hand.{IsNews, with_news}
 use Rattle.df_tables.specs.declared.units.Unit.{Unit}
 use Rattle.df_tables.proofs.Boards.{board_handed, receivers_within, steady_same}
@@ -12,20 +13,20 @@ use Rattle.df_tables.proofs.board.Board.hand_emitted.Goals as goal
 
 pub hand_out-requires-clause-receivers : goal.hand_out-requires-clause-receivers
 hand_out-requires-clause-receivers c =
-    subst (λ (us : List Unit). All (IsIn us) c.as_slice.result.now) (sym c.as_mut_slice-rows.ensures.value)
-    (subst (All (IsIn c.open.new.self.rows.items)) (sym c.as_slice.ensures.value)
+    subst (λ (us : List Unit). All (IsIn us) c.receivers.result.now) (sym c.as_mut_slice-rows.ensures.value)
+    (subst (All (IsIn c.open.new.self.rows.items)) (sym c.receivers.ensures)
     (ready_within c.args.commit.now c.open.new.self c.in_ok-emitted.emitted c.open.ensures.board.whole c.in_ok-emitted.ensures.ready))
 
 pub close-requires-clause-board : goal.close-requires-clause-board
 close-requires-clause-board c =
     let event = c.args.commit.now.event in
     let after = c.in_ok-emitted.emitted.after in
-    board_handed (λ us. us) event after c.in_ok-emitted.emitted.receivers.items c.open.new.self _ steady_same c.open.ensures.board
+    board_handed (λ us. us) event after (receivers_of c.in_ok-emitted.emitted) c.open.new.self _ steady_same c.open.ensures.board
     (λ given news.
     with_items_is c.open.new.self.rows c.hand_out.new.units (c.hand_out.auto.units ∙ c.as_mut_slice-rows.ensures.len)
     ∙ c.in_ok-hand_out.ensures.ok given
-    (subst (λ (us : List Unit). IsNews given event after c.as_slice.result.now us) (sym c.as_mut_slice-rows.ensures.value)
-    (subst (λ (ps : List Pair). IsNews given event after ps c.open.new.self.rows.items) (sym c.as_slice.ensures.value) news))
+    (subst (λ (us : List Unit). IsNews given event after c.receivers.result.now us) (sym c.as_mut_slice-rows.ensures.value)
+    (subst (λ (ps : List Pair). IsNews given event after ps c.open.new.self.rows.items) (sym c.receivers.ensures) news))
     ∙ ap (map (with_news given)) c.as_mut_slice-rows.ensures.value)
     refl refl refl refl refl
 
@@ -61,8 +62,8 @@ returns-clause-ok c =
           ∙ ap (all_new (rows_in c.in_ok-emitted.emitted.called.born.items))
           (with_items_is c.open.new.self.rows c.hand_out.new.units (c.hand_out.auto.units ∙ c.as_mut_slice-rows.ensures.len)
           ∙ c.in_ok-hand_out.ensures.ok given
-          (subst (λ (us : List Unit). IsNews given event after c.as_slice.result.now us) (sym c.as_mut_slice-rows.ensures.value)
-          (subst (λ (ps : List Pair). IsNews given event after ps c.open.new.self.rows.items) (sym c.as_slice.ensures.value) news))
+          (subst (λ (us : List Unit). IsNews given event after c.receivers.result.now us) (sym c.as_mut_slice-rows.ensures.value)
+          (subst (λ (ps : List Pair). IsNews given event after ps c.open.new.self.rows.items) (sym c.receivers.ensures) news))
           ∙ ap (map (with_news given)) c.as_mut_slice-rows.ensures.value);
       managed = closed.managed;
       told = closed.told;

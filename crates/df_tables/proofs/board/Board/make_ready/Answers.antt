@@ -9,6 +9,7 @@ use Rattle.df_label.specs.declared.label.Label.{Label}
 use Rattle.df_part.specs.Contents.{apply}
 use Rattle.df_tables.specs.Agree.{FilterIndex}
 use Rattle.df_tables.specs.Births.{rows_in}
+use Rattle.df_tables.specs.Board.{receivers_by}
 use Rattle.df_tables.specs.Calls.{AreCalled, places_by}
 use Rattle.df_tables.specs.Events.{event_place}
 use Rattle.df_tables.specs.Labels.{inputs}
@@ -37,7 +38,7 @@ returns-clause-ready c =
       called = subst (λ (us : List Unit). AreCalled us mid.managed mid.marks.handed commit place after called) (sym same.rows)
           (subst (λ (m : List ManagedSubscription). AreCalled c.args.self.now.rows.items m mid.marks.handed commit place after called) (sym same.managed)
           (subst (λ (h : List (List ℕ)). AreCalled c.args.self.now.rows.items c.args.self.now.managed h commit place after called) (sym same.told) c.requires.called));
-      receivers = c.in_ok-receivers.ensures ∙ ap (λ (ps : List Pair). ps ++ c.as_slice-2.result.now) c.as_slice.ensures ∙ ap (λ (ps : List Pair). to ++ ps) c.as_slice-2.ensures.value;
+      receivers = ap (receivers_by c.in_ok-both.both) (sym c.as_slice.ensures) ∙ c.in_ok-both.ensures ∙ ap (λ (ps : List Pair). ps ++ c.as_slice-2.result.now) c.as_slice.ensures ∙ ap (λ (ps : List Pair). to ++ ps) c.as_slice-2.ensures.value;
       marked = made.marked ∙ ap (λ (us : List Unit). Some (place, places_by (length us) called.pairs.items (rows_in called.born.items))) (sym same.rows);
       room = record { rows = made.room.rows; labels = made.room.labels; seats = made.room.seats };
     }

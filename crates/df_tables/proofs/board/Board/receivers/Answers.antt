@@ -1,6 +1,7 @@
 use Rattle.std.proofs.Common.{◌++◌, List, ap, ◌∙◌}
 use Rattle.std.proofs.lemmas.Result.{IfOk-weaker}
 use Rattle.df_tables.specs.Births.{rows_in}
+use Rattle.df_tables.specs.Board.{receivers_of}
 use Rattle.df_tables.specs.Calls.{names_at}
 use Rattle.df_tables.specs.Table.{names_of}
 use Rattle.df_tables.specs.declared.units.Unit.{Unit}
@@ -18,4 +19,4 @@ pub returns-clause-exact : goal.returns-clause-exact
 returns-clause-exact c = IfOk-weaker c.names_in.result
     _ _ (λ names names_are. ready_receivers c.args.commit.now c.args.self.now c.open.new.self c.in_ok-ready.ready names.items c.requires c.in_ok-ready.ensures.opened
     c.in_ok-ready.ensures.ready (names_are
-    ∙ ap (λ (us : List Unit). names_at us c.in_ok-ready.ready.receivers.items ++ names_of (rows_in c.in_ok-ready.ready.called.born.items)) c.as_slice.ensures.value)) c.names_in.ensures
+    ∙ ap (λ (us : List Unit). names_at us (receivers_of c.in_ok-ready.ready) ++ names_of (rows_in c.in_ok-ready.ready.called.born.items)) c.as_slice.ensures.value)) c.names_in.ensures
