@@ -60,7 +60,7 @@ pub spot_send : IsSend Spot.the_row
 spot_send = search (spot_field_send, sendable) depth 40
 
 pub edit_send : IsSend Edit.the_row
-edit_send = search (spot_send, part_ref_send, sendable, crosses) depth 40 fits 20000
+edit_send = search (spot_send, parts_send, sendable, crosses) depth 40 fits 20000
 
 pub ruleset contents = (
   field_test_field_send,
