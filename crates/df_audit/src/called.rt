@@ -1,7 +1,8 @@
 //! Entries of calls, in a journal with notes. Only the unit and the call are read. The call is
 //! made, and its entry's lines are spelled. Where these are the next lines, the entry is right.
-ghost use Rattle.std.specs.Prelude.{◌≡◌, ◌≤◌, ◌++◌, ℕ, true, false, List, IfOk, None, OnOk, Some, drop, length, option_copied, take};
+ghost use Rattle.std.specs.Prelude.{◌≡◌, ◌≤◌, ◌++◌, ℕ, true, false, List, IfOk, IfSome, None, OnOk, Some, drop, length, option_copied, take};
 ghost use Rattle.std.specs.List.{flat_map};
+ghost use Rattle.df_local.specs.Brief.{brief_call};
 ghost use Rattle.df_machine.specs.Journal.{State};
 ghost use Rattle.df_machine.specs.Tables.{AgreesWith, place_in};
 ghost use Rattle.df_purge.specs.code.Left.{emitted_noted};
@@ -14,14 +15,15 @@ ghost use Rattle.df_journal_text.specs.Entry.{noted_text};
 ghost use Rattle.df_audit.specs.code.Calling.{AppendsCall, IsNoteIn, IsReadCall, effect_in, left_in, stays_in};
 ghost use Rattle.df_audit.specs.code.Passing.{IsSoFar, TakesOne};
 
+use crate::brief::{accepted_is_spelled, append_accepted};
 use crate::pass::{Made, Wanted};
 use df_journal_file::JournalCursor;
 use df_journal_text::{Note, Notes, append_quiet, append_spelled, write_entry};
 use df_label::{Label, NoMemory};
-use df_local::Answer;
+use df_local::{Answer, Brief};
 use df_machine::Tables;
 use df_purge::shown_of;
-use df_spelled::{answer_is_spelled, contamination_is_spelled};
+use df_spelled::{answer_is_spelled, contamination_is_spelled, reply_is_spelled};
 use df_unit::{Call, Commit, Effect, Entry};
 
 /// Tables, and what is noted of their rows.
@@ -57,17 +59,53 @@ fn append_other(
     Ok(())
 }
 
+/// Makes a call that creates an event or drops one, and appends the lines of its entry with this
+/// note. It tells the answer only where that isn't accepted.
+fn append_brief(
+    tables: &mut Tables,
+    place: Option<usize>,
+    note: &Note,
+    words: &[u8],
+    brief: Brief,
+    call: &Call,
+    text: &mut Vec<u8>,
+    told: &mut Option<Answer>,
+) -> Result<(), NoMemory>
+    requires none { told.old ≡ None }
+    requires brief { brief_call brief ≡ call.now }
+    requires state { (core : State) × AgreesWith core tables.old }
+    requires seated { (actor : UnitName) × (place ≡ place_in tables.old actor) }
+    ensures { OnOk result ((core : State) (actor : UnitName) →
+        AgreesWith core tables.old → IsReadCall tables.old place actor call.now words.now →
+        IsNoteIn core actor note.now → AppendsCall core actor call.now (effect_in told.new)
+        tables.new text.old.items text.new.items) }
+{
+    match tables.step_brief(place, brief)? {
+        Some(accepted) => {
+            accepted_is_spelled(accepted);
+            append_accepted(words, accepted, note, text)?;
+            Ok(())
+        }
+        None => {
+            append_other(tables, place, note, words, call, text, told)?;
+            Ok(())
+        }
+    }
+}
+
 /// Makes the call of the unit at a place, and appends the lines of its entry. It tells the answer,
 /// unless that has no effect: the common calls hand none on.
 fn append_call(
     behind: &mut NotedTables,
     place: Option<usize>,
     words: &[u8],
+    brief: Option<Brief>,
     call: &Call,
     text: &mut Vec<u8>,
     told: &mut Option<Answer>,
 ) -> Result<(), NoMemory>
     requires none { told.old ≡ None }
+    requires brief { IfSome brief (λ brief. brief_call brief ≡ call.now) }
     requires state { (core : State) × AgreesWith core behind.old.tables }
     requires seated { (actor : UnitName) × (place ≡ place_in behind.old.tables actor) }
     ensures { OnOk result ((core : State) (actor : UnitName) →
@@ -79,9 +117,21 @@ fn append_call(
     let contamination = behind.tables.contamination(place);
     contamination_is_spelled(contamination);
     let note = behind.notes.of(place, contamination)?;
+    if let Some(brief) = brief {
+        return append_brief(
+            &mut behind.tables,
+            place,
+            note,
+            words,
+            brief,
+            call,
+            text,
+            told,
+        );
+    }
     match behind.tables.step_alone(place, call)? {
         Some(reply) => {
-            answer_is_spelled(&reply, &Effect::Nothing);
+            reply_is_spelled(&reply);
             append_quiet(words, &reply, note, text)?;
             Ok(())
         }
@@ -115,6 +165,7 @@ fn append_shown(label: &Label, commit: &Commit, to: &mut Vec<u8>) -> Result<(), 
 }
 
 /// Appends what is wanted of a call's entry that isn't wanted whole.
+#[inline(never)]
 fn append_left(
     wanted: &Wanted<'_>,
     answer: &Option<Answer>,
@@ -167,10 +218,12 @@ pub fn take_call(
     wanted: &Wanted<'_>,
     place: Option<usize>,
     words: &[u8],
+    brief: Option<Brief>,
     call: &Call,
     made: &mut Made,
 ) -> Result<Option<bool>, NoMemory>
-    requires { (roots : List RootStart) × (bytes : List ℕ) × (read : List Noted)
+    requires brief { IfSome brief (λ brief. brief_call brief ≡ call.now) }
+    requires heard { (roots : List RootStart) × (bytes : List ℕ) × (read : List Noted)
         × (actor : UnitName) × IsSoFar wanted.now roots bytes read cursor.old behind.old.tables
         made.old.count made.old.text.items
         × IsReadCall behind.old.tables place actor call.now words.now
@@ -185,7 +238,7 @@ pub fn take_call(
     let before = made.text.len();
     let stays = stays(wanted, behind.tables.contamination(place));
     let mut told = None;
-    append_call(behind, place, words, call, &mut made.text, &mut told)?;
+    append_call(behind, place, words, brief, call, &mut made.text, &mut told)?;
     if !cursor.pass(lines_from(made.text.as_slice(), before)) {
         return Ok(Some(false));
     }

@@ -3,6 +3,7 @@
 #![tactic(auto)]
 
 mod audit;
+mod brief;
 mod called;
 mod check;
 mod laws;
@@ -12,6 +13,7 @@ mod text;
 mod why;
 
 pub use audit::{Audit, Finding};
+pub use brief::{append_accepted, brief_of};
 pub use check::check_text;
 pub use laws::{a_journal_is_right_or_wrong, a_wrong_journal_has_one_place};
 pub use right::{purge_text, upgrade_text};

@@ -12,6 +12,7 @@ ghost use Rattle.df_journal_file.specs.Cursor.{HasPassed};
 ghost use Rattle.df_audit.specs.Audit.{OfJournal};
 ghost use Rattle.df_audit.specs.code.Passing.{ComesTo, HasComeTo, IsJudged, IsMade, IsSoFar, TakesKept, TakesNote, TakesOne, front_of, wanted_of};
 
+use crate::brief::brief_of;
 use crate::called::{NotedTables, take_call};
 use crate::text::write_notes;
 use df_journal_file::JournalCursor;
@@ -117,28 +118,82 @@ fn take_next(
     }
     if let Some(line) = cursor.common() {
         let place = behind.tables.root(line.root);
-        let call = line.ask.call();
-        return take_call(cursor, behind, wanted, place, line.words, &call, made);
+        let (brief, call) = (brief_of(line.ask), line.ask.call());
+        return take_call(
+            cursor, behind, wanted, place, line.words, brief, &call, made,
+        );
     }
-    match cursor.call() {
-        Some(read) => {
-            let place = behind.tables.place(&read.line.actor);
-            take_call(
-                cursor,
-                behind,
-                wanted,
-                place,
-                read.words,
-                &read.line.call,
-                made,
-            )
-        }
-        None => take_entry(cursor, &mut behind.tables, wanted, made),
-    }
+    take_line(cursor, behind, wanted, made)
+}
+
+/// Takes the next entry in, in a journal with notes, of whichever call it is, and appends what is
+/// wanted of it. Where there is none that is right: whether this is the end.
+#[inline(never)]
+fn take_line(
+    cursor: &mut JournalCursor<'_>,
+    behind: &mut NotedTables,
+    wanted: &Wanted<'_>,
+    made: &mut Made,
+) -> Result<Option<bool>, NoMemory>
+    requires so_far { (roots : List RootStart) × (bytes : List ℕ) × (read : List Noted)
+        × IsSoFar wanted.now roots bytes read cursor.old behind.old.tables made.old.count
+        made.old.text.items }
+    requires notes { cursor.old.has_notes ≡ true }
+    ensures { IfOk result (λ ended. (roots : List RootStart) (bytes : List ℕ) (read : List Noted)
+        → IsSoFar wanted.now roots bytes read cursor.old behind.old.tables made.old.count
+        made.old.text.items → TakesOne wanted.now roots bytes read cursor.old ended cursor.new
+        behind.new.tables made.new.count made.new.text.items) }
+{
+    let Some(line) = cursor.root_call() else {
+        return take_unit_line(cursor, behind, wanted, made);
+    };
+    let place = behind.tables.root(line.root);
+    let ended = take_call(
+        cursor, behind, wanted, place, line.words, None, &line.call, made,
+    );
+    drop(line);
+    ended
+}
+
+/// Takes the next entry in, in a journal with notes, of a call of whichever unit, and appends what
+/// is wanted of it. Where there is none that is right: whether this is the end.
+#[inline(never)]
+fn take_unit_line(
+    cursor: &mut JournalCursor<'_>,
+    behind: &mut NotedTables,
+    wanted: &Wanted<'_>,
+    made: &mut Made,
+) -> Result<Option<bool>, NoMemory>
+    requires so_far { (roots : List RootStart) × (bytes : List ℕ) × (read : List Noted)
+        × IsSoFar wanted.now roots bytes read cursor.old behind.old.tables made.old.count
+        made.old.text.items }
+    requires notes { cursor.old.has_notes ≡ true }
+    ensures { IfOk result (λ ended. (roots : List RootStart) (bytes : List ℕ) (read : List Noted)
+        → IsSoFar wanted.now roots bytes read cursor.old behind.old.tables made.old.count
+        made.old.text.items → TakesOne wanted.now roots bytes read cursor.old ended cursor.new
+        behind.new.tables made.new.count made.new.text.items) }
+{
+    let Some(read) = cursor.call() else {
+        return take_entry(cursor, &mut behind.tables, wanted, made);
+    };
+    let place = behind.tables.place(&read.line.actor);
+    let ended = take_call(
+        cursor,
+        behind,
+        wanted,
+        place,
+        read.words,
+        None,
+        &read.line.call,
+        made,
+    );
+    drop(read);
+    ended
 }
 
 /// Takes the next entry in, which is read whole, and appends what is wanted of it. Where there is
 /// none that is right: whether this is the end.
+#[inline(never)]
 fn take_entry(
     cursor: &mut JournalCursor<'_>,
     tables: &mut Tables,

@@ -14,11 +14,5 @@ returns-in-Some c =
     c.in-Some.ensures.fits c.in-Some.ensures.words c.call-call.ensures) (sym c.if-not-has_notes.ensures))
     c.take_call.ensures
 
-pub returns-in-Some-call : goal.returns-in-Some-call
-returns-in-Some-call c =
-    IfOk-weaker c.take_call-in-Some-call.result _ _
-    (λ ended takes roots bytes read so.
-    takes roots bytes read c.in-Some-call.read.line.actor so
-    (record { seated = c.place-place.ensures; fits = c.in-Some-call.ensures.fits; spelled = c.in-Some-call.ensures.words })
-    (sym c.if-not-has_notes.ensures))
-    c.take_call-in-Some-call.ensures
+pub returns : goal.returns
+returns c = c.take_line.ensures
