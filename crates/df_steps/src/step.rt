@@ -1,6 +1,7 @@
 ghost use Rattle.std.specs.Prelude.{◌≡◌, ◌∷◌, [], OnOk};
 ghost use Rattle.df_journal_text.specs.Ask.{asked};
 ghost use Rattle.df_journal_text.specs.Front.{call_front};
+ghost use Rattle.df_local.specs.Brief.{brief_call};
 ghost use Rattle.df_machine.specs.Journal.{State};
 ghost use Rattle.df_machine.specs.Tables.{AgreesWith, place_in};
 ghost use Rattle.df_script_text.specs.Common.{common_line, root_call};
@@ -9,8 +10,10 @@ ghost use Rattle.df_unit.specs.declared.name.UnitName.TheVariants.{Root};
 ghost use Rattle.df_steps.specs.Steps.{AppendsStep};
 ghost use Rattle.df_steps.specs.code.Noting.{AppendsEntry};
 
+use df_audit::{append_accepted, brief_of};
 use df_journal_text::{Note, Notes, append_quiet, append_spelled};
 use df_label::NoMemory;
+use df_local::Brief;
 use df_machine::Tables;
 use df_script_text::{CommonLine, ReadLine, RootLine};
 use df_unit::Call;
@@ -100,6 +103,31 @@ fn append_of_root(
     append_at(tables, notes, place, words, call, text)
 }
 
+/// Makes a call of the unit at a place that creates an event or drops one, and appends its entry
+/// with the unit's contamination before it.
+fn append_brief(
+    tables: &mut Tables,
+    notes: &mut Notes,
+    place: Option<usize>,
+    words: &[u8],
+    brief: Brief,
+    text: &mut Vec<u8>,
+) -> Result<(), NoMemory>
+    requires state { (core : State) × AgreesWith core tables.old }
+    requires seated { (actor : UnitName) × (place ≡ place_in tables.old actor) }
+    ensures { (core : State) (actor : UnitName) → AgreesWith core tables.old →
+        place ≡ place_in tables.old actor → words.now ≡ call_front actor (brief_call brief) →
+        OnOk result (AppendsStep (record { actor = actor; call = brief_call brief }) core
+        tables.new text.old.items text.new.items) }
+{
+    let contamination = tables.contamination(place);
+    let note = notes.of(place, contamination)?;
+    match tables.step_brief(place, brief)? {
+        Some(accepted) => append_accepted(words, accepted, note, text),
+        None => append_other(tables, place, note, words, &brief.call(), text),
+    }
+}
+
 /// Makes the call of a common line, and appends its entry with the root's contamination before it.
 pub fn append_common(
     tables: &mut Tables,
@@ -113,7 +141,11 @@ pub fn append_common(
         AppendsStep (common_line line.entry.root line.entry.ask) core tables.new text.old.items
         text.new.items) }
 {
-    append_of_root(tables, notes, line.root, line.words, &line.ask.call(), text)
+    let place = tables.root(line.root);
+    match brief_of(line.ask) {
+        Some(brief) => append_brief(tables, notes, place, line.words, brief, text),
+        None => append_at(tables, notes, place, line.words, &line.ask.call(), text),
+    }
 }
 
 /// Makes a root's call, and appends its entry with the root's contamination before it.
