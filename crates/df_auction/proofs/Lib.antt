@@ -6,7 +6,5 @@ pub mod Finishing
 pub mod Resting
 pub mod Theorem
 pub mod Fields
-pub mod Reading
 pub mod Symbols
 pub mod Ranges
-pub mod OneReading

@@ -1,65 +1,19 @@
--- The orders of a file are in range, and no more than its bytes.
-use Rattle.std.proofs.Common.{◌≡◌, ℕ, suc, ◌+◌, ◌-◌, ◌*◌, ◌≤◌, ◌<◌, Bool, true, false, cond, ◌&&◌, ◌==◌, List, [], ◌∷◌, ◌++◌, length, map, refl, sym, ap, subst, ◌∙◌, arith, Option, Some, None, nat_le}
+-- The orders of a file are in range.
+use Rattle.std.proofs.Common.{◌≡◌, ℕ, ◌≤◌, Bool, true, false, cond, ◌==◌, List, [], ◌∷◌, map, refl, subst, arith, Option, Some, None}
 use Rattle.std.specs.Prelude.{All, pos}
 use Rattle.std.proofs.lemmas.Int.{ints}
-use Rattle.std.proofs.lemmas.Bool.Decides.{nat_tests}
-use Rattle.csv.specs.Machine.{Read, next_record, step, is_end, ends_at_end, ends_with, after_end, fields_after, field_after, in_field, start_field, start_record}
-use Rattle.csv.specs.Reading.{default_config, strip_bom, is_bom, Reached}
-use Rattle.csv.specs.declared.parser.State.{State}
-use Rattle.csv.specs.declared.parser.State.TheVariants as st
-use Rattle.csv.specs.declared.parser.Action.{Action}
-use Rattle.csv.specs.declared.parser.Action.TheVariants as act
-use Rattle.csv.specs.declared.parser.Terminator.TheVariants as term
 use Rattle.df_book.specs.declared.order.Order.{Order}
+use Rattle.df_records.specs.Fields.{is_symbol, number}
+use Rattle.df_records.specs.RecordFile.{Fields}
+use Rattle.df_records.proofs.Fields.{number_in, some_is}
 use Rattle.df_auction.specs.Stairs.{IsInRange}
-use Rattle.df_auction.specs.OrderFile.{Fields, number, number_from, from_least, is_digit, is_symbol, order_with, order_of_six, order_of, IsOrderFile}
+use Rattle.df_auction.specs.OrderFile.{order_with, order_of_six, order_of, IsOrderFile}
 use Rattle.df_auction.proofs.Sweeping.{Each, all_of_each}
-
-some_is : {X : Type 0} (a b : X) → Some a ≡ Some b → a ≡ b
-some_is a b h = cc
-
-both_le : (a b : Bool) → a && b ≡ true → b ≡ true
-both_le true b h = h
-both_le false b h = let e : false ≡ true = h in absurd cc
-
-le_of : (a b : ℕ) → nat_le a b ≡ true → a ≤ b
-le_of a b h = grind (arith, nat_tests)
-
-number_from_most : (most n m : ℕ) (bs : List ℕ) → n ≤ most → number_from most n bs ≡ Some m → m ≤ most
-number_from_most most n m [] le h = let e = some_is n m h in omega arith
-number_from_most most n m (b ∷ bs) le h =
-    go (is_digit b && nat_le (10 * n + (b - 48)) most) (λ t. le_of (10 * n + (b - 48)) most (both_le (is_digit b) (nat_le (10 * n + (b - 48)) most) t))
-    (number_from_most most (10 * n + (b - 48)) m bs) h
-  where
-    go : (t : Bool) → (t ≡ true → 10 * n + (b - 48) ≤ most) → (10 * n + (b - 48) ≤ most → number_from most (10 * n + (b - 48)) bs ≡ Some m → m ≤ most)
-        → cond t (number_from most (10 * n + (b - 48)) bs) None ≡ Some m → m ≤ most
-    go true f more h = more (f refl) h
-    go false f more h = absurd cc
-
-from_least_in : (least n : ℕ) (o : Option ℕ) → from_least least o ≡ Some n → (least ≤ n) × (o ≡ Some n)
-from_least_in least n None h = absurd cc
-from_least_in least n (Some m) h = go (nat_le least m) (le_of least m) h
-  where
-    go : (t : Bool) → (t ≡ true → least ≤ m) → cond t (Some m) None ≡ Some n → (least ≤ n) × (Some m ≡ Some n)
-    go true f h = let e = some_is m n h in let le = f refl in (omega arith, h)
-    go false f h = absurd cc
-
-number_in : (least most n : ℕ) (bytes : List ℕ) → number least most bytes ≡ Some n → (least ≤ n) × (n ≤ most)
-number_in least most n [] h = absurd cc
-number_in least most n (b ∷ []) h =
-    let f = from_least_in least n (number_from most 0 (b ∷ [])) h in
-    (f.0, number_from_most most 0 n (b ∷ []) (omega arith) f.1)
-number_in least most n (b ∷ c ∷ bs) h = go (b == 48) h
-  where
-    go : (t : Bool) → cond t None (from_least least (number_from most 0 (b ∷ c ∷ bs))) ≡ Some n → (least ≤ n) × (n ≤ most)
-    go true h = absurd cc
-    go false h =
-        let f = from_least_in least n (number_from most 0 (b ∷ c ∷ bs)) h in
-        (f.0, number_from_most most 0 n (b ∷ c ∷ bs) (omega arith) f.1)
 
 in_range : (id limit qty : ℕ) (symbol : List ℕ) (trader : ℕ) (sell : Bool) → (1 ≤ limit) × (limit ≤ 1_000_000_000) → (1 ≤ qty) × (qty ≤ 1_000_000)
     → IsInRange record { id = pos id; limit = pos limit; qty = pos qty; symbol = symbol; trader = trader; sell = sell }
-in_range id limit qty symbol trader sell l q = record { limit_from = omega (arith, ints, l.0); limit_to = omega (arith, ints, l.1); qty_from = omega (arith, ints, q.0); qty_to = omega (arith, ints, q.1) }
+in_range id limit qty symbol trader sell l q = record
+    { limit_from = omega (arith, ints, l.0); limit_to = omega (arith, ints, l.1); qty_from = omega (arith, ints, q.0); qty_to = omega (arith, ints, q.1) }
 
 order_with_in : (symbol : List ℕ) (id trader sell limit qty : Option ℕ) (o : Order)
     → ((n : ℕ) → limit ≡ Some n → (1 ≤ n) × (n ≤ 1_000_000_000)) → ((n : ℕ) → qty ≡ Some n → (1 ≤ n) × (n ≤ 1_000_000))
@@ -76,7 +30,8 @@ six_in : (id trader symbol sell limit qty : List ℕ) (o : Order) → order_of_s
 six_in id trader symbol sell limit qty o h = go (is_symbol symbol) h
   where
     go : (t : Bool) → cond t (order_with symbol (number 0 4_294_967_295 id) (number 0 4_294_967_295 trader) (number 0 1 sell) (number 1 1_000_000_000 limit) (number 1 1_000_000 qty)) None ≡ Some o → IsInRange o
-    go true h = order_with_in symbol (number 0 4_294_967_295 id) (number 0 4_294_967_295 trader) (number 0 1 sell) (number 1 1_000_000_000 limit) (number 1 1_000_000 qty) o
+    go true h = order_with_in symbol (number 0 4_294_967_295 id) (number 0 4_294_967_295 trader) (number 0 1 sell) (number 1 1_000_000_000 limit)
+        (number 1 1_000_000 qty) o
         (λ n e. number_in 1 1_000_000_000 n limit e) (λ n e. number_in 1 1_000_000 n qty e) h
     go false h = absurd cc
 
@@ -96,102 +51,9 @@ first_of a b xs ys h = (cc, cc)
 rows_in : (rows : List Fields) (orders : List Order) → map order_of rows ≡ map Some orders → Each IsInRange orders
 rows_in rows [] h = tt
 rows_in [] (o ∷ orders) h = absurd cc
-rows_in (r ∷ rows) (o ∷ orders) h = let e = first_of (order_of r) (Some o) (map order_of rows) (map Some orders) h in (order_in r o e.0, rows_in rows orders e.1)
+rows_in (r ∷ rows) (o ∷ orders) h = let e = first_of (order_of r) (Some o) (map order_of rows) (map Some orders)
+    h in (order_in r o e.0, rows_in rows orders e.1)
 
 -- the orders of a file are in range
 pub file_in_range : (bytes : List ℕ) (orders : List Order) → IsOrderFile bytes orders → All IsInRange orders
 file_in_range bytes orders f = all_of_each IsInRange orders (rows_in f.2.0 orders f.2.2)
-
-rows_long : (rows : List Fields) (orders : List Order) → map order_of rows ≡ map Some orders → length orders ≤ length rows
-rows_long rows [] h = omega arith
-rows_long [] (o ∷ orders) h = absurd cc
-rows_long (r ∷ rows) (o ∷ orders) h = let e = first_of (order_of r) (Some o) (map order_of rows) (map Some orders) h in omega (arith, rows_long rows orders e.1)
-
--- a step of the reader's machine that ends a record leaves it between records
-abbrev Between : State × Action → Type 0
-Between p = is_end p.1 ≡ true → ends_at_end p.0 ≡ false
-
-chosen : (t : Bool) (a b : State × Action) → Between a → Between b → Between (cond t a b)
-chosen true a b f g = f
-chosen false a b f g = g
-
-no_end : (s : State) (a : Action) → is_end a ≡ false → Between (s, a)
-no_end s a e h = let f : false ≡ true = sym e ∙ h in absurd cc
-
-ended : (c : ℕ) → Between (after_end term.CRLF c, act.EndRecord)
-ended c h = go (c == 13)
-  where
-    go : (t : Bool) → ends_at_end (cond t st.AfterCr st.StartRecord) ≡ false
-    go true = refl
-    go false = refl
-
-in_field_between : (c : ℕ) → Between (in_field default_config c)
-in_field_between c = chosen (c == 44) (st.StartField, act.EndField) (cond (ends_with term.CRLF c) (after_end term.CRLF c, act.EndRecord) (st.InField, act.Copy)) (no_end st.StartField act.EndField refl)
-    (chosen (ends_with term.CRLF c) (after_end term.CRLF c, act.EndRecord) (st.InField, act.Copy) (ended c) (no_end st.InField act.Copy refl))
-
-start_field_between : (c : ℕ) → Between (start_field default_config c)
-start_field_between c = chosen (true && (c == 34)) (st.InQuoted, act.Skip) (in_field default_config c) (no_end st.InQuoted act.Skip refl) (in_field_between c)
-
-start_record_between : (c : ℕ) → Between (start_record default_config c)
-start_record_between c = chosen (ends_with term.CRLF c) (st.StartRecord, act.Skip) (start_field default_config c) (no_end st.StartRecord act.Skip refl) (start_field_between c)
-
-step_between : (s : State) (c : ℕ) → Between (step default_config s c)
-step_between st.StartRecord c = start_record_between c
-step_between st.StartField c = start_field_between c
-step_between st.InField c = in_field_between c
-step_between st.InQuoted c = chosen (true && (c == 34)) (st.AfterQuote, act.Skip) (st.InQuoted, act.Copy) (no_end st.AfterQuote act.Skip refl) (no_end st.InQuoted act.Copy refl)
-step_between st.InEscape c = no_end st.InQuoted act.Copy refl
-step_between st.AfterQuote c = chosen (true && (true && (c == 34))) (st.InQuoted, act.Copy) (in_field default_config c) (no_end st.InQuoted act.Copy refl) (in_field_between c)
-step_between st.InComment c = chosen (c == 10) (st.StartRecord, act.Skip) (st.InComment, act.Skip) (no_end st.StartRecord act.Skip refl) (no_end st.InComment act.Skip refl)
-step_between st.AfterCr c = chosen (c == 10) (st.StartRecord, act.Skip) (start_record default_config c) (no_end st.StartRecord act.Skip refl) (start_record_between c)
-
--- a record takes a byte at least where the machine stands between records, and leaves it there
-abbrev Takes : State → List ℕ → Read → Type 0
-Takes s xs p = (ends_at_end p.1 ≡ false) × (length p.2 ≤ length xs) × (ends_at_end s ≡ false → suc (length p.2) ≤ length xs)
-
-taken : (s : State) (fields : List (List ℕ)) (field xs : List ℕ) (p : Read) → next_record default_config s fields field xs ≡ Some p → Takes s xs p
-unfolding next_record
-taken s fields field [] p h = go (ends_at_end s) h
-  where
-    go : (t : Bool) → cond t (Some (fields ++ (field ∷ []), st.StartRecord, [])) None ≡ Some p → (ends_at_end p.1 ≡ false) × (length p.2 ≤ 0) × (t ≡ false → suc (length p.2) ≤ 0)
-    go true h =
-        let e : (fields ++ (field ∷ []), st.StartRecord, []) ≡ p = some_is _ p h in
-        subst (λ (q : Read). (ends_at_end q.1 ≡ false) × (length q.2 ≤ 0) × (true ≡ false → suc (length q.2) ≤ 0)) e (refl, omega arith, λ no. absurd cc)
-    go false h = absurd cc
-taken s fields field (c ∷ rest) p h =
-    go (is_end (step default_config s c).1) (step_between s c)
-    (taken (step default_config s c).0 (fields_after (step default_config s c).1 fields field) (field_after (step default_config s c).1 c field) rest p) h
-  where
-    go : (t : Bool) → (t ≡ true → ends_at_end (step default_config s c).0 ≡ false)
-        → (next_record default_config (step default_config s c).0 (fields_after (step default_config s c).1 fields field) (field_after (step default_config s c).1 c field) rest ≡ Some p → Takes (step default_config s c).0 rest p)
-        → cond t (Some (fields_after (step default_config s c).1 fields field, (step default_config s c).0, rest))
-        (next_record default_config (step default_config s c).0 (fields_after (step default_config s c).1 fields field) (field_after (step default_config s c).1 c field) rest) ≡ Some p
-        → Takes s (c ∷ rest) p
-    go true f more h =
-        let e : (fields_after (step default_config s c).1 fields field, (step default_config s c).0, rest) ≡ p = some_is _ p h in
-        subst (λ (q : Read). Takes s (c ∷ rest) q) e (f refl, omega arith, λ no. omega arith)
-    go false f more h = let m = more h in (m.0, omega (arith, m.1), λ no. omega (arith, m.1))
-
-records_short : (records : List Fields) (s s2 : State) (xs ys : List ℕ) → ends_at_end s ≡ false → Reached default_config s xs records s2 ys → length records ≤ length xs
-unfolding Reached
-records_short [] s s2 xs ys e r = omega arith
-records_short (f ∷ records) s s2 xs ys e r =
-    let t = taken s [] [] xs r.0 r.1 in
-    omega (arith, t.2 e, records_short records r.0.1 s2 r.0.2 ys t.0 r.3)
-
-strip_short : (xs : List ℕ) → length (strip_bom xs) ≤ length xs
-unfolding strip_bom
-strip_short [] = omega arith
-strip_short (a ∷ []) = omega arith
-strip_short (a ∷ b ∷ []) = omega arith
-strip_short (a ∷ b ∷ c ∷ rest) = go (is_bom a b c)
-  where
-    go : (t : Bool) → length (cond t rest (a ∷ b ∷ c ∷ rest)) ≤ length (a ∷ b ∷ c ∷ rest)
-    go true = omega arith
-    go false = omega arith
-
--- a file has fewer orders than bytes
-pub file_is_longer : (bytes : List ℕ) (orders : List Order) → IsOrderFile bytes orders → length orders < length bytes
-file_is_longer bytes orders f =
-    let all = records_short f.0 st.StartRecord f.1.0 (strip_bom bytes) f.1.1 refl f.1.2 in
-    omega (arith, all, ap length f.2.1, rows_long f.2.0 orders f.2.2, strip_short bytes)

@@ -1,17 +1,15 @@
 //! Reading an order file.
 
-ghost use Rattle.std.specs.Prelude.{◌≡◌, ◌<◌, Some, None, IfOk, IfErr, IsTrue, ◌↔◌};
-ghost use Rattle.csv.specs.Records.{fields_of};
+ghost use Rattle.std.specs.Prelude.{◌<◌, All, IfErr, IfOk, length};
 ghost use Rattle.df_auction.specs.OrderFile.{IsOrderFile};
-ghost use Rattle.std.specs.Prelude.{All, length};
+ghost use Rattle.df_auction.specs.Refusing.{IsRightRefusal};
 ghost use Rattle.df_auction.specs.Stairs.{IsInRange};
-ghost use Rattle.df_auction.specs.Refusing.{IsRightRefusal, TakesRecord};
 
-use crate::record::{Six, read_order, six_fields};
-use csv::{ByteRecord, ReaderBuilder};
+use crate::record::OrderForm;
 use df_book::Order;
 use df_frozen::NoMemory;
-use std::alloc::{AllocError, AllocFailed, Global};
+use df_records::{RecordsRefused, read_records};
+use std::alloc::Global;
 use std::error::Error;
 use std::fmt;
 
@@ -52,65 +50,9 @@ pub fn read_orders(alloc: Global, bytes: &[u8]) -> Result<Vec<Order>, OrdersRefu
     ensures few { IfOk result (λ v. length v.items < length bytes.now) }
     ensures refused { IfErr result (IsRightRefusal bytes.now) }
 {
-    let mut reader = ReaderBuilder::new()
-        .has_headers(false)
-        .flexible(true)
-        .from_reader(alloc, bytes);
-    let mut row = ByteRecord::new(alloc);
-    let mut orders = Vec::new(alloc);
-    for line in 1..u64::MAX {
-        let Ok(found) = reader.read_byte_record(&mut row) else {
-            return Err(OrdersRefused::NoMemory);
-        };
-        if !found {
-            if line > 1 {
-                return Ok(orders);
-            }
-            return Err(OrdersRefused::BadOrder { line });
-        }
-        let good = take_row(&mut orders, &row, line == 1)?;
-        if !good {
-            return Err(OrdersRefused::BadOrder { line });
-        }
+    match read_records::<Order, OrderForm>(alloc, bytes) {
+        Ok(orders) => Ok(orders),
+        Err(RecordsRefused::BadRecord { line }) => Err(OrdersRefused::BadOrder { line }),
+        Err(RecordsRefused::NoMemory) => Err(OrdersRefused::NoMemory),
     }
-    Err(OrdersRefused::NoMemory)
-}
-
-/// Whether a record is in form: the header where it is the first, or an order, which is appended.
-fn take_row(orders: &mut Vec<Order>, row: &ByteRecord, first: bool) -> Result<bool, NoMemory>
-    ensures { IfOk result
-        (TakesRecord first (fields_of row.now) orders.old.items orders.new.items) }
-{
-    if first {
-        return Ok(is_header(row));
-    }
-    let Some(order) = read_order(*orders.allocator(), row)? else {
-        return Ok(false);
-    };
-    orders.push(order)?;
-    Ok(true)
-}
-
-ghost use Rattle.df_auction.specs.OrderFile.{header};
-
-fn is_header(row: &ByteRecord) -> bool
-    ensures { IsTrue result ↔ (fields_of row.now ≡ header) }
-{
-    match six_fields(row) {
-        Some(six) => names_columns(&six),
-        None => false,
-    }
-}
-
-ghost use Rattle.df_auction.specs.Refusing.{fields_of_six};
-
-fn names_columns(six: &Six<'_>) -> bool
-    ensures { IsTrue result ↔ (fields_of_six six.now ≡ header) }
-{
-    six.id == b"id".as_slice()
-        && six.trader == b"trader".as_slice()
-        && six.symbol == b"symbol".as_slice()
-        && six.sell == b"sell".as_slice()
-        && six.limit == b"limit".as_slice()
-        && six.qty == b"qty".as_slice()
 }

@@ -1,17 +1,19 @@
 //! An order of the fields of a record.
 
-ghost use Rattle.std.specs.Prelude.{◌≡◌, ◌<◌, IfOk, Some, None};
+ghost use Rattle.std.specs.Prelude.{◌≡◌, ◌↔◌, IfOk, IsTrue};
 ghost use Rattle.csv.specs.Records.{fields_of};
-ghost use Rattle.df_auction.specs.OrderFile.{order_of, order_of_six, number, is_symbol};
+ghost use Rattle.df_auction.specs.OrderFile.{header, order_of, order_of_six};
+ghost use Rattle.df_auction.specs.Refusing.{HasSix, fields_of_six};
 
 use csv::ByteRecord;
 use df_book::Order;
-use df_frozen::{NoMemory, Words};
+use df_frozen::NoMemory;
+use df_records::{Form, field, is_symbol, number, symbol};
 use std::alloc::Global;
 
 /// The fields of a record with six.
 #[derive(Clone, Copy)]
-pub(crate) struct Six<'a> {
+struct Six<'a> {
     pub id: &'a [u8],
     pub trader: &'a [u8],
     pub symbol: &'a [u8],
@@ -20,10 +22,8 @@ pub(crate) struct Six<'a> {
     pub qty: &'a [u8],
 }
 
-ghost use Rattle.df_auction.specs.Refusing.{HasSix};
-
 /// The fields of a record, if it has six.
-pub(crate) fn six_fields(row: &ByteRecord) -> Option<Six<'_>>
+fn six_fields(row: &ByteRecord) -> Option<Six<'_>>
     ensures { HasSix (fields_of row.now) result }
 {
     if row.len() != 6 {
@@ -39,21 +39,8 @@ pub(crate) fn six_fields(row: &ByteRecord) -> Option<Six<'_>>
     })
 }
 
-ghost use Rattle.std.specs.Prelude.{length};
-ghost use Rattle.csv.specs.Records.{field_at};
-
-fn field(row: &ByteRecord, i: usize) -> &[u8]
-    requires { i < length (fields_of row.now) }
-    ensures { Some result.now ≡ field_at (fields_of row.now) i }
-{
-    match row.get(i) {
-        Some(bytes) => bytes,
-        None => unreachable!(),
-    }
-}
-
 /// The order of a record, if it is in form.
-pub(crate) fn read_order(alloc: Global, row: &ByteRecord) -> Result<Option<Order>, NoMemory>
+fn read_order(alloc: Global, row: &ByteRecord) -> Result<Option<Order>, NoMemory>
     ensures { IfOk result (λ o. o ≡ order_of (fields_of row.now)) }
 {
     match six_fields(row) {
@@ -68,15 +55,15 @@ fn order_of_six(
     alloc: Global,
     id: &[u8],
     trader: &[u8],
-    symbol: &[u8],
+    name: &[u8],
     sell: &[u8],
     limit: &[u8],
     qty: &[u8],
 ) -> Result<Option<Order>, NoMemory>
     ensures { IfOk result
-        (λ o. o ≡ order_of_six id.now trader.now symbol.now sell.now limit.now qty.now) }
+        (λ o. o ≡ order_of_six id.now trader.now name.now sell.now limit.now qty.now) }
 {
-    if !is_symbol(symbol) {
+    if !is_symbol(name) {
         return Ok(None);
     }
     let Some(id) = number(id, 0, 4_294_967_295) else {
@@ -98,66 +85,42 @@ fn order_of_six(
         id: i64::from(id),
         limit: i64::from(limit),
         qty: i64::from(qty),
-        symbol: words(alloc, symbol)?,
+        symbol: symbol(alloc, name)?,
         trader,
         sell: sell == 1,
     }))
 }
 
-fn words(alloc: Global, symbol: &[u8]) -> Result<Words, NoMemory>
-    requires { is_symbol symbol.now ≡ true }
-    ensures { IfOk result (λ words. words ≡ symbol.now) }
+/// Whether the fields are the names of the columns.
+fn names_columns(six: &Six<'_>) -> bool
+    ensures { IsTrue result ↔ (fields_of_six six.now ≡ header) }
 {
-    match str::from_utf8(symbol) {
-        Ok(text) => Words::new(alloc, text),
-        Err(_) => unreachable!(),
-    }
+    six.id == b"id".as_slice()
+        && six.trader == b"trader".as_slice()
+        && six.symbol == b"symbol".as_slice()
+        && six.sell == b"sell".as_slice()
+        && six.limit == b"limit".as_slice()
+        && six.qty == b"qty".as_slice()
 }
 
-ghost use Rattle.std.specs.Prelude.{true};
-ghost use Rattle.df_auction.specs.OrderFile.{are_letters};
+/// Files of orders.
+pub(crate) struct OrderForm;
 
-fn is_symbol(bytes: &[u8]) -> bool
-    ensures { result ≡ is_symbol bytes.now }
-{
-    !bytes.is_empty() && bytes.len() <= 8 && are_letters(bytes)
-}
+impl Form<Order> for OrderForm {
+    ghost use Rattle.df_auction.specs.OrderFile.{header, order_of};
 
-fn are_letters(bytes: &[u8]) -> bool
-    ensures { result ≡ are_letters bytes.now }
-{
-    for b in bytes {
-        if *b < b'A' || *b > b'Z' {
-            return false;
+    ghost header = { header };
+
+    ghost told_of = { order_of };
+
+    fn is_header(row: &ByteRecord) -> bool {
+        match six_fields(row) {
+            Some(six) => names_columns(&six),
+            None => false,
         }
     }
-    true
-}
 
-fn number(field: &[u8], least: u32, most: u32) -> Option<u32>
-    ensures { result ≡ number least most field.now }
-{
-    if field.is_empty() || (field.len() > 1 && field[0] == b'0') {
-        return None;
+    fn read(alloc: Global, row: &ByteRecord) -> Result<Option<Order>, NoMemory> {
+        read_order(alloc, row)
     }
-    let value = number_of(field, most)?;
-    if value < least { None } else { Some(value) }
-}
-
-ghost use Rattle.df_auction.specs.OrderFile.{number_from};
-
-fn number_of(field: &[u8], most: u32) -> Option<u32>
-    ensures { result ≡ number_from most 0 field.now }
-{
-    let mut value = 0u64;
-    for b in field {
-        if *b < b'0' || *b > b'9' {
-            return None;
-        }
-        value = value * 10 + (*b - b'0') as u64;
-        if value > most as u64 {
-            return None;
-        }
-    }
-    Some(value as u32)
 }

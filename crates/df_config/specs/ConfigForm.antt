@@ -1,7 +1,7 @@
 -- When a configuration is in form.
 use Rattle.std.specs.Prelude.{◌≡◌, ◌≢◌, ◌≤◌, ◌<◌, ◌≤ℤ◌, ℕ, Bool, true, not, ◌&&◌, ◌==◌, List, [], ◌∷◌, length, pos, All}
 use Rattle.std.specs.List.{list_any}
-use Rattle.df_ticks.specs.TickFile.{is_symbol}
+use Rattle.df_records.specs.Fields.{is_symbol}
 use Rattle.df_config.specs.declared.config.Config.{Config}
 use Rattle.df_config.specs.declared.pair.PairRow.{PairRow}
 use Rattle.df_config.specs.declared.trader.TraderRow.{TraderRow}

@@ -6,7 +6,7 @@ ghost use Rattle.df_config.specs.ConfigForm.{AreNumbers, ArePairs, AreTraders, I
 use crate::config::Config;
 use crate::pair::PairRow;
 use crate::trader::TraderRow;
-use df_ticks::is_symbol;
+use df_records::is_symbol;
 
 pub(crate) fn is_config(config: &Config) -> bool
     ensures { IsTrue result ↔ IsConfig config.now }

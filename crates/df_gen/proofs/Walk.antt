@@ -6,7 +6,8 @@ use Rattle.std.proofs.lemmas.List.{append-nil}
 use Rattle.rand_core.specs.Steps.{first_words}
 use Rattle.rand_pcg.specs.Lcg.{Lcg}
 use Rattle.rand_pcg.specs.Pcg.{pcg32}
-use Rattle.df_ticks.specs.TickFile.{IsTick, is_symbol}
+use Rattle.df_records.specs.Fields.{is_symbol}
+use Rattle.df_ticks.specs.TickFile.{IsTick}
 use Rattle.df_ticks.specs.declared.tick.Tick.{Tick}
 use Rattle.df_gen.specs.Generated.{symbol_at, tick_at, prices_after, ticks_of}
 

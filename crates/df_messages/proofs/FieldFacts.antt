@@ -17,7 +17,7 @@ use Rattle.df_messages.specs.Fields.{entry_count, field_count}
 use Rattle.df_messages.specs.code.Putting.{built, content_of, is_good, put_all, put_field}
 use Rattle.df_messages.specs.declared.value.Field.{Field}
 use Rattle.df_messages.specs.declared.value.Field.TheVariants.{Int, Flag, Symbol}
-use Rattle.df_ticks.specs.TickFile.{are_letters, is_symbol}
+use Rattle.df_records.specs.Fields.{are_letters, is_symbol}
 
 entry_count_is : (es : List (List ℕ × Plain)) → entry_count (from_pairs es) ≡ length es
 entry_count_is [] = refl

@@ -4,7 +4,7 @@ use Rattle.std.specs.Ordering.{int_eq}
 use Rattle.df_frozen.specs.Place.{node_at}
 use Rattle.df_frozen.specs.Plain.{Plain, Pairs, int, words, bytes, items, entries, no_entries, entry}
 use Rattle.df_frozen.specs.declared.step.Step.TheVariants.{Key}
-use Rattle.df_ticks.specs.TickFile.{is_symbol}
+use Rattle.df_records.specs.Fields.{is_symbol}
 
 -- how many entries there are
 abbrev pub entry_count : Pairs → ℕ

@@ -4,7 +4,7 @@ ghost use Rattle.std.specs.Prelude.{◌≡◌, true, option_map, IfSome};
 ghost use Rattle.df_frozen.specs.Name.{is_name};
 ghost use Rattle.df_frozen.specs.Value.{plain};
 ghost use Rattle.df_messages.specs.Fields.{field, field_count, flag_of, int_field, symbol_field};
-ghost use Rattle.df_ticks.specs.TickFile.{is_symbol};
+ghost use Rattle.df_records.specs.Fields.{is_symbol};
 
 use crate::symbol::is_symbol;
 use df_frozen::{Frozen, Name, Step, Value, Words};

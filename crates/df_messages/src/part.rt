@@ -2,7 +2,7 @@
 
 ghost use Rattle.std.specs.Prelude.{◌≡◌, ◌<◌, ◌^◌, ◌-◌, ◌∷◌, [], true, IfOk};
 ghost use Rattle.df_messages.specs.Drafts.{endorsed, fill_draft, floor_tag, match_draft, offer_draft, public, secret, tick_draft, trade_draft, warning_draft, who_draft};
-ghost use Rattle.df_ticks.specs.TickFile.{is_symbol};
+ghost use Rattle.df_records.specs.Fields.{is_symbol};
 
 use crate::draft::Draft;
 use crate::field::name;

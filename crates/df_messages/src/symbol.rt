@@ -1,5 +1,5 @@
 ghost use Rattle.std.specs.Prelude.{◌≡◌, ◌↔◌, true, IsTrue, IfOk};
-ghost use Rattle.df_ticks.specs.TickFile.{are_letters, is_symbol};
+ghost use Rattle.df_records.specs.Fields.{is_symbol};
 
 use df_frozen::Words;
 use df_label::NoMemory;
@@ -13,7 +13,7 @@ pub struct Symbol {
 
 impl Model for Symbol {
     ghost use Rattle.std.specs.Prelude.{◌≡◌, true, ℕ, List};
-    ghost use Rattle.df_ticks.specs.TickFile.{is_symbol};
+    ghost use Rattle.df_records.specs.Fields.{is_symbol};
 
     ghost Value = { List ℕ };
 
@@ -59,17 +59,5 @@ impl Symbol {
 pub(crate) fn is_symbol(text: &str) -> bool
     ensures { result ≡ is_symbol text.now }
 {
-    let bytes = text.as_bytes();
-    !bytes.is_empty() && bytes.len() <= 8 && are_letters(bytes)
-}
-
-fn are_letters(bytes: &[u8]) -> bool
-    ensures { result ≡ are_letters bytes.now }
-{
-    for b in bytes {
-        if *b < b'A' || *b > b'Z' {
-            return false;
-        }
-    }
-    true
+    df_records::is_symbol(text.as_bytes())
 }

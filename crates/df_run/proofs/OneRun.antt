@@ -12,7 +12,8 @@ use Rattle.df_label.proofs.SetFacts.{same_elements}
 use Rattle.df_plain_floor.specs.PlainRun.{IsPass, IsPlainRun, IsTurn, Opened, Repeated, RunsOut, root_name, take_turns}
 use Rattle.df_rules.specs.Follows.{Brain}
 use Rattle.df_settling.specs.Settling.{floor_brain}
-use Rattle.df_ticks.proofs.OneReading.{ticks_are_one}
+use Rattle.df_records.proofs.OneReading.{told_is_one}
+use Rattle.df_ticks.specs.TickFile.{header, tick_of}
 use Rattle.df_ticks.specs.declared.tick.Tick.{Tick}
 use Rattle.df_unit.proofs.OrderFacts.{unit_cmp_exact}
 use Rattle.df_unit.specs.UnitOrder.{unit_cmp}
@@ -93,7 +94,7 @@ pub one_floor : {R : Type 0} (one other : List ℕ) (P Q : Config → List Tick 
     → OfFloor one other P → OfFloor one other Q → R
 one_floor one other P Q f p q =
     let config : q.0 ≡ p.0 = one_config one q.0 p.0 q.2 p.2 in
-    let ticks : q.1 ≡ p.1 = ticks_are_one other q.1 p.1 q.3 p.3 in
+    let ticks : q.1 ≡ p.1 = told_is_one header tick_of other q.1 p.1 q.3 p.3 in
     f p.0 p.1 p.4 (subst (λ (t : List Tick). Q p.0 t) ticks (subst (λ (c : Config). Q c q.1) config q.4))
 
 no_end : (steps : ℕ) → floor.Quiet ≡ floor.Unsettled steps → ⊥

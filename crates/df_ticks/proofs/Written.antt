@@ -15,10 +15,11 @@ use Rattle.csv.specs.Writing.{default_writer, needs_byte, row_text, fields_text,
 use Rattle.csv.specs.declared.parser.State.TheVariants as st
 use Rattle.csv.proofs.RoundTrip.{read-write-many}
 use Rattle.df_ticks.specs.declared.tick.Tick.{Tick}
-use Rattle.df_ticks.specs.TickFile.{Fields, header, is_digit, number_from, from_least, number, are_letters, is_symbol, tick_with, tick_of, IsTick, IsTickFile}
+use Rattle.df_records.specs.Fields.{is_digit, number_from, from_least, number, are_letters, is_symbol}
+use Rattle.df_records.specs.RecordFile.{Fields}
+use Rattle.df_records.proofs.Fields.{both_true, some_is}
+use Rattle.df_ticks.specs.TickFile.{header, tick_with, tick_of, IsTick, IsTickFile}
 use Rattle.df_ticks.specs.TickText.{tick_line, ticks_text}
-use Rattle.df_ticks.proofs.Fields.{both_true}
-use Rattle.df_ticks.proofs.Ranges.{some_is}
 
 -- digits that follow others
 from-append : (most k m : ℕ) (ds more : List ℕ) → number_from most k ds ≡ Some m → number_from most k (ds ++ more) ≡ number_from most m more

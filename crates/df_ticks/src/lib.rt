@@ -7,7 +7,6 @@ mod text;
 mod tick;
 mod ticks;
 
-pub use record::is_symbol;
 pub use text::write_ticks;
 pub use tick::Tick;
 pub use ticks::{TicksRefused, read_ticks};

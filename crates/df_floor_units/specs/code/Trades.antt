@@ -2,7 +2,7 @@
 use Rattle.std.specs.Prelude.{◌≡◌, ◌<◌, true}
 use Rattle.df_book.specs.declared.order.Order.{Order}
 use Rattle.df_book.specs.declared.trade.Trade.{Trade}
-use Rattle.df_ticks.specs.TickFile.{is_symbol}
+use Rattle.df_records.specs.Fields.{is_symbol}
 
 -- a trader's number and a symbol, as the floor can tell them
 pub record IsFloorOrder (o : Order) : Type 0 where

@@ -6,7 +6,7 @@ use Rattle.df_frozen.specs.Plain.{Plain, int, words, bytes, items, entries, no_e
 use Rattle.df_messages.specs.Drafts.{flag_int}
 use Rattle.df_messages.specs.declared.value.Field.{Field}
 use Rattle.df_messages.specs.declared.value.Field.TheVariants.{Int, Flag, Symbol}
-use Rattle.df_ticks.specs.TickFile.{is_symbol}
+use Rattle.df_records.specs.Fields.{is_symbol}
 
 -- a field's name, and what it has
 abbrev pub content_of : Field → List ℕ × Plain

@@ -1,5 +1,6 @@
 use Rattle.std.proofs.Common.{List, ℕ, refl, subst}
-use Rattle.df_ticks.proofs.OneReading.{a_tick_file_is_good}
+use Rattle.df_records.proofs.OneReading.{a_file_is_good}
+use Rattle.df_ticks.specs.TickFile.{header, tick_of}
 use Rattle.df_ticks.specs.Refusing.{IsRightRefusal}
 use Rattle.df_ticks.specs.declared.ticks.TicksRefused.TheVariants.{BadTick}
 use Rattle.df_run.proofs.Floors.{of_each}
@@ -22,7 +23,7 @@ returns-in-Err-BadTick-clause-stops g c =
         c.in-Ok.bytes.items,
         c.in-Ok.ensures.read,
         of_each (λ (k : Command). BlamesBytes k 2 c.in-Ok.bytes.items line kind.BadTick)
-            (λ a b. record { bad = λ read. a_tick_file_is_good c.in-Ok.bytes.items read.0 line read.1 bad; place = (refl, bad) })
-            (λ a b w. record { bad = λ read. a_tick_file_is_good c.in-Ok.bytes.items read.0 line read.1 bad; place = (refl, bad) }) command of_floor,
+            (λ a b. record { bad = λ read. a_file_is_good header tick_of c.in-Ok.bytes.items read.0 line read.1 bad; place = (refl, bad) })
+            (λ a b w. record { bad = λ read. a_file_is_good header tick_of c.in-Ok.bytes.items read.0 line read.1 bad; place = (refl, bad) }) command of_floor,
       ),
     )

@@ -1,6 +1,6 @@
 use Rattle.std.proofs.Common.{refl, subst}
-use Rattle.df_auction.proofs.OneReading.{an_order_file_is_good}
-use Rattle.df_auction.specs.OrderFile.{IsBadAt}
+use Rattle.df_records.proofs.OneReading.{a_file_is_good}
+use Rattle.df_auction.specs.OrderFile.{IsBadAt, header, order_of}
 use Rattle.df_auction.specs.Refusing.{IsRightRefusal}
 use Rattle.df_auction.specs.declared.orders.OrdersRefused.{OrdersRefused}
 use Rattle.df_run.proofs.tasks.blamed.Goals as goal
@@ -9,6 +9,6 @@ pub returns-in-BadOrder : goal.returns-in-BadOrder
 returns-in-BadOrder c = λ bytes orders bad.
     let placed : IsBadAt bytes c.in-BadOrder.line = subst (λ (r : OrdersRefused). IsRightRefusal bytes r) c.in-BadOrder.is bad in
     record {
-      bad = λ read. an_order_file_is_good bytes read.0 c.in-BadOrder.line read.1 placed;
+      bad = λ read. a_file_is_good header order_of bytes read.0 c.in-BadOrder.line read.1 placed;
       place = (refl, placed);
     }

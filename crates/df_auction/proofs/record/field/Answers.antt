@@ -1,6 +1,0 @@
-use Rattle.df_auction.proofs.Fields.{field_is_there}
-use Rattle.csv.specs.Records.{fields_of}
-use Rattle.df_auction.proofs.record.field.Goals as goal
-
-pub unreachable-requires : goal.unreachable-requires
-unreachable-requires c = field_is_there (fields_of c.args.row.now) c.args.i c.requires c.in-None.ensures.value

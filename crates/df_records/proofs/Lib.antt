@@ -1,0 +1,4 @@
+pub mod Fields
+pub mod Lengths
+pub mod OneReading
+pub mod Reading

@@ -1,0 +1,4 @@
+pub mod Fields
+pub mod RecordFile
+pub mod Refusing
+pub mod code
