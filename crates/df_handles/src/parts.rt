@@ -12,6 +12,9 @@ use std::alloc::Global;
 pub fn raised(output: &Label, label: &Label) -> Result<Label, NoMemory>
     ensures { IfOk result (λ l. l ≡ raised output.now label.now) }
 {
+    if output.s.is_empty() && label.i.is_empty() {
+        return label.copy();
+    }
     label.join(output)
 }
 

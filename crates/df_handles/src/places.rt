@@ -1,6 +1,6 @@
 //! The places of handles: each open or free.
 
-ghost use Rattle.std.specs.Prelude.{◌≡◌, ◌≤◌, ◌∷◌, [], ◌++◌, length, option_copied, OnOk, OnErr};
+ghost use Rattle.std.specs.Prelude.{◌≡◌, ◌≤◌, ◌∷◌, [], ◌++◌, Some, length, option_copied, OnOk, OnErr};
 ghost use Rattle.df_unit.specs.Drafts.{attached_in, deleted_in, spot};
 ghost use Rattle.df_unit.specs.Handles.{changed_at, closed, handle_at, least_free, open_count, opened};
 ghost use Rattle.df_handles.specs.code.Slot.{all_shown, begun};
@@ -82,6 +82,22 @@ pub fn begin(
         slots[h].begin(alloc, is_view, event, seen);
         return Ok(());
     }
+    push_begun(slots, is_view, event, seen)
+}
+
+/// Opens a handle with nothing named and nothing drafted at a new place.
+#[inline(never)]
+fn push_begun(
+    slots: &mut Vec<Slot>,
+    is_view: bool,
+    event: EventName,
+    seen: Parts,
+) -> Result<(), NoMemory>
+    ensures ok { OnOk result (all_shown slots.new.items
+        ≡ all_shown slots.old.items ++ Some (begun is_view event seen) ∷ []) }
+    ensures unchanged { OnErr result (all_shown slots.new.items ≡ all_shown slots.old.items) }
+{
+    let alloc = *slots.allocator();
     slots.push(Slot::of(begun(alloc, is_view, event, seen)))?;
     Ok(())
 }

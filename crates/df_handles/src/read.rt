@@ -51,10 +51,12 @@ fn shown_in(
 fn show(part: &Part) -> Result<PartRead, NoMemory>
     ensures { IfOk result (λ p. p ≡ show part.now) }
 {
-    let copy = part.copy()?;
+    let Ok(value) = part.value.share() else {
+        return Err(NoMemory);
+    };
     Ok(PartRead {
-        label: copy.label,
-        value: copy.value,
-        privileges: copy.privileges,
+        label: part.label.copy()?,
+        value,
+        privileges: part.privileges.copy()?,
     })
 }

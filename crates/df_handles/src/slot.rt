@@ -61,8 +61,17 @@ impl Slot {
                 handle.named.clear();
                 handle.drafted.clear();
             }
-            None => self.kept = Some(begun(alloc, is_view, event, seen)),
+            None => self.keep(alloc, is_view, event, seen),
         }
+    }
+
+    /// Makes the room of a place and a handle in it.
+    #[inline(never)]
+    fn keep(&mut self, alloc: Global, is_view: bool, event: EventName, seen: Parts)
+        ensures kept { self.new.kept ≡ Some (begun is_view event seen) }
+        ensures open { self.new.is_open ≡ self.old.is_open }
+    {
+        self.kept = Some(begun(alloc, is_view, event, seen));
     }
 
     /// Drafts a part at the open handle.
