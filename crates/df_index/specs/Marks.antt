@@ -25,11 +25,12 @@ abbrev pub ready_of : Option ℕ → List Pair → Option (ℕ × List Pair)
 ready_of None pairs = None
 ready_of (Some event) pairs = Some (event, pairs)
 
--- there is room for a row of the event, and behind the receivers for the pairs of the event
+-- where there are receivers, there is room for a row of the event, and behind the receivers for the
+-- pairs of the event
 abbrev pub HasRoom : List (List Pair) → ℕ → Option ℕ → ℕ → ℕ → Type 0
 HasRoom handed rows None len room = ⊤
 HasRoom handed rows (Some event) len room =
-    (event < rows) × (len + length (handed_at handed event) ≤ room)
+    0 < len → (event < rows) × (len + length (handed_at handed event) ≤ room)
 
 -- the pairs of each event ascend, and what is ready has its room
 pub record IsMarks (handed : List (List Pair)) (rows : ℕ) (event : Option ℕ) (len room : ℕ)

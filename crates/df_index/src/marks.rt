@@ -12,7 +12,7 @@ use std::marker::Model;
 use std::mem;
 
 /// For each event, by its place, the pairs to which it was handed, ascending; and the receivers
-/// that wait to be booked, with room for the pairs of their event.
+/// that wait to be booked, with room for the pairs of their event, if there are any.
 #[derive(Drop)]
 pub(crate) struct Marks {
     handed: Vec<Receivers>,
@@ -146,6 +146,11 @@ impl Marks {
             ≡ record self.old { ready = Some (event, receivers.now) }) }
         ensures unchanged { OnErr result (self.new ≡ self.old) }
     {
+        if receivers.is_empty() {
+            self.next.clear();
+            self.event = Some(event);
+            return Ok(());
+        }
         let alloc = *self.next.allocator();
         let mut next = Vec::from_slice(alloc, receivers)?;
         next.reserve(of_event(self.handed.as_slice(), event).len())?;
