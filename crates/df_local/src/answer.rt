@@ -78,6 +78,7 @@ impl Local {
         })
     }
 
+    #[inline(always)]
     fn closing_answer(&self, h: u32, how: Close) -> Result<Answer, NoMemory>
         ensures reply { IfOk result (λ a. a.reply ≡ reply self.now.unit self.now.own []
             (closing how h)) }

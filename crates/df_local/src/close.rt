@@ -34,6 +34,7 @@ impl Local {
 }
 
 /// What a publish of an open handle is answered.
+#[inline(always)]
 pub(crate) fn publish_answer(
     alloc: Global,
     output: &Label,
@@ -52,6 +53,7 @@ pub(crate) fn publish_answer(
 }
 
 /// What a release of an open handle is answered.
+#[inline(never)]
 pub(crate) fn release_answer(
     alloc: Global,
     output: &Label,
@@ -75,6 +77,7 @@ pub(crate) fn release_answer(
 }
 
 /// The answer of a handle that commits what is drafted, with these deletions.
+#[inline(always)]
 fn committed(
     alloc: Global,
     output: &Label,
