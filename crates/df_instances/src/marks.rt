@@ -16,7 +16,7 @@ use std::mem;
 pub struct Marks {
     /// For each event, by its place, the instances, ascending.
     handed: Vec<Places>,
-    /// The instances that wait to be booked, with room for those of their event.
+    /// The instances that wait to be booked, if any with room for those of their event.
     next: Vec<usize>,
     event: Option<usize>,
 }
@@ -119,6 +119,11 @@ impl Marks {
             ≡ record self.old { ready = Some (event, instances.now) }) }
         ensures unchanged { OnErr result (self.new ≡ self.old) }
     {
+        if instances.is_empty() {
+            self.next.clear();
+            self.event = Some(event);
+            return Ok(());
+        }
         let alloc = *self.next.allocator();
         let mut next = Vec::from_slice(alloc, instances)?;
         next.reserve(of_event(self.handed.as_slice(), event).len())?;

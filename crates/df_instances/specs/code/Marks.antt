@@ -9,11 +9,12 @@ abbrev pub ready_of : Option ℕ → List ℕ → Option (ℕ × List ℕ)
 ready_of None places = None
 ready_of (Some event) places = Some (event, places)
 
--- there is room for a row of the event, and behind what waits for the instances of the event
+-- where instances wait, there is room for a row of the event, and behind what waits for the
+-- instances of the event
 abbrev pub HasRoom : List (List ℕ) → ℕ → Option ℕ → ℕ → ℕ → Type 0
 HasRoom handed rows None len room = ⊤
 HasRoom handed rows (Some event) len room =
-    (event < rows) × (len + length (handed_at handed event) ≤ room)
+    0 < len → (event < rows) × (len + length (handed_at handed event) ≤ room)
 
 -- the instances of each event ascend, and what is ready has its room
 pub record IsMarks (handed : List (List ℕ)) (rows : ℕ) (event : Option ℕ) (len room : ℕ)
