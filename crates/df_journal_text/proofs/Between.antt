@@ -1,6 +1,9 @@
 -- What stands from a place up to another.
-use Rattle.std.proofs.Common.{◌≡◌, ℕ, ◌+◌, ◌-◌, ◌≤◌, List, ◌++◌, length, take, drop, sym, ap, ◌∙◌, arith, length-append}
-use Rattle.std.proofs.lemmas.List.{length-drop, take-append-le, take_all}
+use Rattle.std.specs.List.{starts_with}
+use Rattle.std.proofs.Common.{◌≡◌, ℕ, ◌+◌, ◌-◌, ◌≤◌, true, eqb, List, ◌++◌, length, take, drop, refl, sym, ap, ◌∙◌, arith, length-append}
+use Rattle.std.proofs.lemmas.Bool.Decides.{Decides-eqb}
+use Rattle.std.proofs.lemmas.List.{drop-drop, length-drop, take-append-le, take_all}
+use Rattle.std.proofs.lemmas.Slice.Eq.{starts_is}
 
 -- what stands in front, as long as it is
 front_of : (xs ys : List ℕ) → take (length xs) (xs ++ ys) ≡ xs
@@ -25,3 +28,11 @@ module _ (bytes : List ℕ) (at end : ℕ) (inside : at ≤ length bytes) (withi
 -- all that stands behind a place
 pub all_behind : (place : ℕ) (bytes : List ℕ) → take (length bytes - place) (drop place bytes) ≡ drop place bytes
 all_behind place bytes = take_all (length bytes - place) (drop place bytes) (omega (arith, length-drop place bytes))
+
+-- what begins there ends at the place behind it
+pub begins_at : (text bytes : List ℕ) (at : ℕ) → at ≤ length bytes → length text ≤ length (drop at bytes) → true ≡ starts_with eqb (drop at bytes) text
+    → (at + length text ≤ length bytes) × (drop at bytes ≡ text ++ drop (at + length text) bytes)
+begins_at text bytes at inside short is = (
+  omega (arith, inside, short, length-drop at bytes),
+  (starts_is Decides-eqb (drop at bytes) text true is).0 refl ∙ ap (λ (u : List ℕ). text ++ u) (drop-drop (length text) at bytes),
+)

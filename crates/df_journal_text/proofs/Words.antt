@@ -1,7 +1,11 @@
 -- Keywords, instances and privileges, as the code reads them.
-use Rattle.df_journal_text.proofs.Names.{◌≡◌, ℕ, ◌+◌, ◌<◌, ◌≤◌, true, false, eqb, List, [], ◌∷◌, length, get_or, take, drop, length-drop, Some, None, Ok, Err}
-use Rattle.df_journal_text.proofs.Names.{refl, sym, ap, ◌∙◌, arith, inl, inr, is_lt, Less, and_parts, drop_more, Bad, Low, Read, ◌>>=◌, maybe_at, text_at}
-use Rattle.df_journal_text.proofs.Names.{with_front, format_shrinks, bind_ok, told, text_found, IsAscending, privilege_cmp, Privilege, privilege_cmp_exact}
+use Rattle.df_journal_text.proofs.Names.{◌≡◌, ℕ, ◌<◌, ◌≤◌, true, false, eqb, List, [], ◌∷◌, length, drop, length-drop, Some, None, Ok, Err}
+use Rattle.std.proofs.lemmas.Bool.{false≢true}
+use Rattle.std.proofs.lemmas.Bool.Decides.{Decides-eqb}
+use Rattle.std.proofs.lemmas.Slice.Eq.{starts_is}
+use Rattle.std.specs.List.{starts_with}
+use Rattle.df_journal_text.proofs.Names.{◌++◌, text_again, IsStopped, refl, sym, ap, ◌∙◌, arith, inl, inr, is_lt, Less, and_parts, Low, Read, ◌>>=◌, maybe_at, text_at}
+use Rattle.df_journal_text.proofs.Names.{format_shrinks, bind_ok, told, text_found, IsAscending, privilege_cmp, Privilege, privilege_cmp_exact}
 use Rattle.df_journal_text.proofs.Names.{below_trans, privilege_text, IsPrivilege, begins_with, privilege_at, privilege_format, privilege_goes, nowhere, ascend}
 use Rattle.df_journal_text.proofs.Names.{ascending, begins_pair, each_privilege_at, privileges_at, word_at}
 use Rattle.df_journal_text.proofs.Loops.{Several}
@@ -9,17 +13,18 @@ use Rattle.df_journal_text.proofs.Orders.{is_less}
 
 -- ---- keywords
 
-no_byte : (b : ℕ) (ws tokens : List ℕ) → begins_with b tokens ≡ false → text_at (b ∷ ws) tokens ≡ Err (Bad tokens)
-no_byte b ws [] h = refl
-no_byte b ws (c ∷ cs) h = rw h refl
+-- a keyword that stands is read, with what is left behind it
+pub keyword_stands : (keyword bytes rest : List ℕ) → bytes ≡ keyword ++ rest → text_at keyword bytes ≡ Ok (keyword, rest)
+keyword_stands keyword bytes rest stands = ap (text_at keyword) stands ∙ text_again keyword rest
 
-pub text_off : (bytes text : List ℕ) (i place b d : ℕ) (total : Read ℕ (List ℕ)) → i < length text → b ≡ get_or text i d
-    → begins_with b (drop place bytes) ≡ false → with_front (take i text) (text_at (drop i text) (drop place bytes)) ≡ total
-    → total ≡ Err (Bad (drop place bytes))
-text_off bytes text i place b d total lt is h so_far =
-    let ws : drop i text ≡ b ∷ drop (i + 1) text = drop_more text i d lt ∙ ap (λ (v : ℕ). v ∷ drop (i + 1) text) (sym is) in
-    sym so_far ∙ ap (λ (u : List ℕ). with_front (take i text) (text_at u (drop place bytes))) ws
-    ∙ ap (with_front (take i text)) (no_byte b (drop (i + 1) text) (drop place bytes) h)
+-- where one doesn't stand, reading it stops
+pub keyword_off : (keyword bytes : List ℕ) → false ≡ starts_with eqb bytes keyword → IsStopped (text_at keyword bytes)
+keyword_off keyword bytes absent =
+    by (text_at keyword bytes) refl
+  where
+    by : (r : Read ℕ (List ℕ)) → text_at keyword bytes ≡ r → IsStopped (text_at keyword bytes)
+    by (Err stop) e = (stop, e)
+    by (Ok x) e = absurd (false≢true ((starts_is Decides-eqb bytes keyword false absent).1 x.1 (text_found keyword bytes x.0 x.1 e).1))
 
 -- ---- what may stand, by its first byte
 

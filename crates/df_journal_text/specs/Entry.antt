@@ -7,7 +7,6 @@ use Rattle.df_value_text.specs.Value.{value_text}
 use Rattle.df_part.specs.declared.part.Part.{Part}
 use Rattle.df_part.specs.declared.edit.Spot.{Spot}
 use Rattle.df_unit.specs.declared.name.UnitName.{UnitName}
-use Rattle.df_unit.specs.declared.commit.Commit.{Commit}
 use Rattle.df_unit.specs.declared.commit.Given.{Given}
 use Rattle.df_unit.specs.declared.parts.PartRead.{PartRead}
 use Rattle.df_unit.specs.declared.call.Call.{Call}

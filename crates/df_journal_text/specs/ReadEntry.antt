@@ -10,7 +10,6 @@ use Rattle.df_start.specs.declared.start.RootStart.{RootStart}
 use Rattle.df_unit.specs.declared.name.UnitName.{UnitName}
 use Rattle.df_unit.specs.declared.name.EventName.{EventName}
 use Rattle.df_unit.specs.declared.commit.Commit.{Commit}
-use Rattle.df_unit.specs.declared.commit.Given.{Given}
 use Rattle.df_unit.specs.declared.parts.PartRead.{PartRead}
 use Rattle.df_unit.specs.declared.call.Call.{Call}
 use Rattle.df_unit.specs.declared.reply.Reply.{Reply}

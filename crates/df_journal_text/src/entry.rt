@@ -13,20 +13,19 @@ ghost use Rattle.df_journal_text.specs.code.Outcome.{answer_text, outcome_text};
 
 use crate::call::append_call;
 use crate::effect::{append_edit, append_effect, append_event_line, append_reads};
-use crate::line::{append_label_word, append_word};
+use crate::line::{append_label_word, append_short, append_word};
 use crate::name::append_unit;
 use crate::note::Note;
 use crate::reply::append_reply;
 use df_label::{Label, NoMemory};
 use df_unit::{Commit, Effect, Entry, Reply};
-use df_value_text::append_number;
 
 /// Appends a handle behind the words of its call, and ends the line.
 fn append_handle(h: u32, to: &mut Vec<u8>) -> Result<(), NoMemory>
     ensures { OnOk result (to.new.items ≡ to.old.items ++ answer_text (Handle h)) }
 {
     to.extend_from_slice(b" -> handle ")?;
-    append_number(u64::from(h), to)?;
+    append_short(h, to)?;
     to.push(b'\n')?;
     Ok(())
 }
@@ -36,9 +35,9 @@ fn append_event(h: u32, sub: u32, to: &mut Vec<u8>) -> Result<(), NoMemory>
     ensures { OnOk result (to.new.items ≡ to.old.items ++ answer_text (Event h sub)) }
 {
     to.extend_from_slice(b" -> event ")?;
-    append_number(u64::from(h), to)?;
+    append_short(h, to)?;
     to.push(b' ')?;
-    append_number(u64::from(sub), to)?;
+    append_short(sub, to)?;
     to.push(b'\n')?;
     Ok(())
 }

@@ -19,6 +19,18 @@ pub fn append_word(text: &[u8], to: &mut Vec<u8>) -> Result<(), NoMemory>
     Ok(())
 }
 
+/// Appends a number in decimal digits. The commonest have one.
+#[tactic(auto, using(std::proofs::lemmas::Fmt::decimal_digit))]
+pub fn append_short(number: u32, to: &mut Vec<u8>) -> Result<(), NoMemory>
+    ensures { OnOk result (to.new.items ≡ to.old.items ++ decimal number) }
+{
+    if number >= 10 {
+        return append_number(u64::from(number), to);
+    }
+    to.push(b'0' + number as u8)?;
+    Ok(())
+}
+
 /// Appends a number as a word.
 pub fn append_number_word(number: u64, to: &mut Vec<u8>) -> Result<(), NoMemory>
     ensures { OnOk result (to.new.items ≡ to.old.items ++ word (decimal number)) }

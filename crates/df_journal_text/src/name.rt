@@ -1,19 +1,31 @@
 ghost use Rattle.std.specs.Prelude.{◌≡◌, ◌++◌, OnOk};
 ghost use Rattle.df_journal_text.specs.Name.{event_text, unit_text};
+ghost use Rattle.df_value_text.specs.Label.{path_text};
 ghost use Rattle.df_journal_text.specs.Line.{word};
 
+use crate::line::append_short;
 use df_label::{NoMemory, TagSet};
-use df_unit::{EventName, UnitName};
-use df_value_text::{append_number, append_path, append_tags};
+use df_unit::{EventName, Path, UnitName};
+use df_value_text::{append_path, append_tags};
+
+/// Appends a path. Most have one number.
+fn append_owner(path: &Path, to: &mut Vec<u8>) -> Result<(), NoMemory>
+    ensures { OnOk result (to.new.items ≡ to.old.items ++ path_text path.now) }
+{
+    match path.as_slice() {
+        [root] => append_short(*root, to),
+        numbers => append_path(numbers, to),
+    }
+}
 
 /// Appends a unit's name.
 pub fn append_unit(unit: &UnitName, to: &mut Vec<u8>) -> Result<(), NoMemory>
     ensures { OnOk result (to.new.items ≡ to.old.items ++ unit_text unit.now) }
 {
     match unit {
-        UnitName::Root(path) => append_path(path.as_slice(), to),
+        UnitName::Root(path) => append_owner(path, to),
         UnitName::Managed { owner, sub, s } => {
-            append_path(owner.as_slice(), to)?;
+            append_owner(owner, to)?;
             append_instance(*sub, s, to)?;
             Ok(())
         }
@@ -29,7 +41,7 @@ fn append_instance(sub: u32, s: &TagSet, to: &mut Vec<u8>) -> Result<(), NoMemor
         ++ (codes "/" ++ decimal sub ++ codes "{" ++ tags_text s.now ++ codes "}")) }
 {
     to.push(b'/')?;
-    append_number(u64::from(sub), to)?;
+    append_short(sub, to)?;
     to.push(b'{')?;
     append_tags(s, to)?;
     to.push(b'}')?;
@@ -42,7 +54,7 @@ pub fn append_event(event: &EventName, to: &mut Vec<u8>) -> Result<(), NoMemory>
 {
     append_unit(&event.unit, to)?;
     to.push(b'!')?;
-    append_number(u64::from(event.number), to)?;
+    append_short(event.number, to)?;
     Ok(())
 }
 

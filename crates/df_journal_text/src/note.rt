@@ -65,7 +65,6 @@ fn is_noted(noted: &Option<Label>, contamination: Option<&Label>) -> bool
 }
 
 /// A contamination, with its line.
-#[inline(never)]
 fn spelled(alloc: Global, contamination: Option<&Label>) -> Result<Note, NoMemory>
     ensures { IfOk result (λ note. note ≡ option_copied contamination.entry) }
 {
@@ -121,6 +120,15 @@ impl Note {
         if is_noted(&self.contamination, contamination) {
             return Ok(());
         }
+        self.renew(contamination)
+    }
+
+    /// Spells the line of this contamination, or of none, in place of what was noted.
+    #[inline(never)]
+    fn renew(&mut self, contamination: Option<&Label>) -> Result<(), NoMemory>
+        ensures ok { OnOk result (self.new ≡ option_copied contamination.entry) }
+        ensures err { OnErr result (self.new ≡ self.old) }
+    {
         *self = spelled(*self.outcome.allocator(), contamination)?;
         Ok(())
     }

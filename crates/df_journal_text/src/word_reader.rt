@@ -15,9 +15,7 @@ use df_filter::Filter;
 use df_filter_text::filter_at;
 use df_frozen::Name;
 use df_label::{Label, Privilege, Privileges, Tag};
-use df_value_text::{
-    Fault, byte_at, byte_stands, label_at, name_at, privilege_at, short_at, tag_at,
-};
+use df_value_text::{Fault, byte_at, label_at, name_at, privilege_at, short_at, tag_at};
 use std::alloc::Global;
 
 /// The place behind these bytes, if they stand at the place.
@@ -27,14 +25,10 @@ pub fn keyword_at(bytes: &[u8], at: usize, keyword: &[u8]) -> Option<usize>
         (λ end. (end ≤ length bytes.now)
         × (text_at keyword.now (drop at bytes.now) ≡ Ok (keyword.now, drop end bytes.now))) }
 {
-    let mut place = at;
-    for byte in keyword {
-        if !byte_stands(bytes, place, *byte) {
-            return None;
-        }
-        place += 1;
+    if !bytes[at..].starts_with(keyword) {
+        return None;
     }
-    Some(place)
+    Some(at + keyword.len())
 }
 
 /// The number of 32 bits that is the next word, and the place behind it.

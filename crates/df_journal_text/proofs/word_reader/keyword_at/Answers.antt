@@ -1,18 +1,20 @@
-use Rattle.df_journal_text.proofs.Names.{drop, refl, sym, ◌∙◌, arith, Bad}
-use Rattle.df_value_text.proofs.Loops.{text_on}
-use Rattle.df_journal_text.proofs.Words.{text_off}
+use Rattle.std.proofs.Common.{◌+◌, length, drop, sym, ◌∙◌}
+use Rattle.df_journal_text.proofs.Between.{all_behind, begins_at}
+use Rattle.df_journal_text.proofs.Words.{keyword_off, keyword_stands}
 use Rattle.df_journal_text.proofs.word_reader.keyword_at.Goals as goal
 
-pub returns-then-not-byte_stands : goal.returns-then-not-byte_stands
-returns-then-not-byte_stands
-    c = (
-      Bad (drop c.loop-byte.place c.args.bytes.now),
-      text_off c.args.bytes.now c.args.keyword.now c.loop-byte.byte-index c.loop-byte.place _ 0 _
-          c.loop-byte-test.true refl (sym c.byte_stands.ensures ∙ c.if-not-byte_stands.true) c.loop-byte.invariant.1,
-    )
+pub returns-then-not-starts_with : goal.returns-then-not-starts_with
+returns-then-not-starts_with c =
+    let value = rw (all_behind c.args.at c.args.bytes.now) at c.starts_with.ensures.value in
+    keyword_off c.args.keyword.now (drop c.args.at c.args.bytes.now) (sym c.if-not-starts_with.true ∙ value)
 
-pub loop-byte-preserved : goal.loop-byte-preserved
-loop-byte-preserved c =
-    let t = text_on c.args.bytes.now c.args.keyword.now c.loop-byte.byte-index c.loop-byte.place _ 0 _ c.loop-byte-test.true refl
-    (sym c.byte_stands.ensures ∙ c.if-not-byte_stands.false) c.loop-byte.invariant.1 in
-    (omega (arith, t.0), t.1)
+pub returns : goal.returns
+returns c =
+    let at = c.args.at in
+    let bytes = c.args.bytes.now in
+    let keyword = c.args.keyword.now in
+    let all = all_behind at bytes in
+    let value = rw all at c.starts_with.ensures.value in
+    let short = rw all at (c.starts_with.ensures.bound c.if-not-starts_with.false) in
+    let stands = begins_at keyword bytes at c.requires short (sym c.if-not-starts_with.false ∙ value) in
+    (stands.0, keyword_stands keyword (drop at bytes) (drop (at + length keyword) bytes) stands.1)

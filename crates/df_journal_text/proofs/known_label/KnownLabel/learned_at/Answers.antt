@@ -1,5 +1,3 @@
-use Rattle.std.proofs.Common.{◌≡◌, List, ℕ, subst, sym}
-use Rattle.df_journal_text.specs.code.KnownLabel.{IsKnown}
 use Rattle.df_journal_text.proofs.KnownLabels.{label_known, label_onward}
 use Rattle.df_journal_text.proofs.known_label.KnownLabel.learned_at.Goals as goal
 

@@ -1,7 +1,0 @@
-use Rattle.df_journal_text.proofs.Names.{◌≡◌, ◌≤◌, length, take, drop, text_at, with_front}
-use Rattle.df_journal_text.proofs.word_reader.keyword_at.Given as goal
-
--- what is left is read as all was to be
-abbrev pub invariant-loop-byte : goal.invariant-loop-byte
-invariant-loop-byte l = (l.place ≤ length l.bytes) × (with_front (take l.byte-index l.keyword)
-    (text_at (drop l.byte-index l.keyword) (drop l.place l.bytes)) ≡ text_at l.keyword (drop l.at l.bytes))
