@@ -1,9 +1,11 @@
 -- What stands from a place up to another.
 use Rattle.std.specs.List.{starts_with}
-use Rattle.std.proofs.Common.{◌≡◌, ℕ, ◌+◌, ◌-◌, ◌≤◌, true, eqb, List, ◌++◌, length, take, drop, refl, sym, ap, ◌∙◌, arith, length-append}
+use Rattle.std.proofs.Common.{◌≡◌, ℕ, ◌+◌, ◌-◌, ◌≤◌, true, false, eqb, List, ◌++◌, length, take, drop, refl, sym, ap, ◌∙◌, arith, length-append}
+use Rattle.std.proofs.lemmas.Bool.{false≢true}
 use Rattle.std.proofs.lemmas.Bool.Decides.{Decides-eqb}
 use Rattle.std.proofs.lemmas.List.{drop-drop, length-drop, take-append-le, take_all}
 use Rattle.std.proofs.lemmas.Slice.Eq.{starts_is}
+use Rattle.df_journal_text.specs.code.Judging.{BeginsWith}
 
 -- what stands in front, as long as it is
 front_of : (xs ys : List ℕ) → take (length xs) (xs ++ ys) ≡ xs
@@ -36,3 +38,7 @@ begins_at text bytes at inside short is = (
   omega (arith, inside, short, length-drop at bytes),
   (starts_is Decides-eqb (drop at bytes) text true is).0 refl ∙ ap (λ (u : List ℕ). text ++ u) (drop-drop (length text) at bytes),
 )
+
+-- what doesn't is no beginning
+pub begins_not : (text bytes : List ℕ) → false ≡ starts_with eqb bytes text → ¬ BeginsWith bytes text
+begins_not text bytes absent = λ begun. false≢true ((starts_is Decides-eqb bytes text false absent).1 begun.0 begun.1)

@@ -74,7 +74,7 @@ pub use Rattle.std.proofs.Common.{Bool, Err, List, None, Ok, Option, Result, Som
 pub use Rattle.std.proofs.Common.{eqb, false, get_or, inl, inr, length, length-append, length-drop, map, refl, subst, suc, sym, take, true, zero, ℕ, ◌++◌, ◌+◌}
 pub use Rattle.std.proofs.Common.{◌<◌, ◌^◌, ◌||◌, ◌∙◌, ◌∷◌, ◌≡◌, ◌≢◌, ◌≤◌}
 pub use Rattle.std.proofs.lemmas.Bool.{and_parts, eqb-true, true≢false}
-pub use Rattle.std.proofs.lemmas.List.{append_cancel_right, drop_all, drop_more, take_more}
+pub use Rattle.std.proofs.lemmas.List.{append_cancel_right, drop_all, take_more}
 pub use Rattle.std.proofs.lemmas.List.Concat.{flat_map-append}
 pub use Rattle.std.proofs.lemmas.List.Elements.{All-from_recursion, recursion_from_All}
 pub use Rattle.std.specs.Char.{is_ascii_digit}

@@ -1,9 +1,8 @@
 -- Keywords, instances and privileges, as the code reads them.
 use Rattle.df_journal_text.proofs.Names.{◌≡◌, ℕ, ◌<◌, ◌≤◌, true, false, eqb, List, [], ◌∷◌, length, drop, length-drop, Some, None, Ok, Err}
-use Rattle.std.proofs.lemmas.Bool.{false≢true}
-use Rattle.std.proofs.lemmas.Bool.Decides.{Decides-eqb}
-use Rattle.std.proofs.lemmas.Slice.Eq.{starts_is}
-use Rattle.std.specs.List.{starts_with}
+use Rattle.std.specs.Prelude.{MatchOption}
+use Rattle.std.proofs.Common.{Option}
+use Rattle.df_journal_text.specs.code.Judging.{BeginsWith}
 use Rattle.df_journal_text.proofs.Names.{◌++◌, text_again, IsStopped, refl, sym, ap, ◌∙◌, arith, inl, inr, is_lt, Less, and_parts, Low, Read, ◌>>=◌, maybe_at, text_at}
 use Rattle.df_journal_text.proofs.Names.{format_shrinks, bind_ok, told, text_found, IsAscending, privilege_cmp, Privilege, privilege_cmp_exact}
 use Rattle.df_journal_text.proofs.Names.{below_trans, privilege_text, IsPrivilege, begins_with, privilege_at, privilege_format, privilege_goes, nowhere, ascend}
@@ -13,18 +12,20 @@ use Rattle.df_journal_text.proofs.Orders.{is_less}
 
 -- ---- keywords
 
--- a keyword that stands is read, with what is left behind it
-pub keyword_stands : (keyword bytes rest : List ℕ) → bytes ≡ keyword ++ rest → text_at keyword bytes ≡ Ok (keyword, rest)
-keyword_stands keyword bytes rest stands = ap (text_at keyword) stands ∙ text_again keyword rest
-
--- where one doesn't stand, reading it stops
-pub keyword_off : (keyword bytes : List ℕ) → false ≡ starts_with eqb bytes keyword → IsStopped (text_at keyword bytes)
-keyword_off keyword bytes absent =
+keyword_off : (keyword bytes : List ℕ) → ¬ BeginsWith bytes keyword → IsStopped (text_at keyword bytes)
+keyword_off keyword bytes never =
     by (text_at keyword bytes) refl
   where
     by : (r : Read ℕ (List ℕ)) → text_at keyword bytes ≡ r → IsStopped (text_at keyword bytes)
     by (Err stop) e = (stop, e)
-    by (Ok x) e = absurd (false≢true ((starts_is Decides-eqb bytes keyword false absent).1 x.1 (text_found keyword bytes x.0 x.1 e).1))
+    by (Ok x) e = absurd (never (x.1, (text_found keyword bytes x.0 x.1 e).1))
+
+-- a keyword that stands is read, with what is left behind it; where it doesn't stand, reading it stops
+pub keyword_told : (keyword bytes : List ℕ) (at : ℕ) (end : Option ℕ)
+    → MatchOption end (¬ BeginsWith (drop at bytes) keyword) (λ e. (e ≤ length bytes) × (drop at bytes ≡ keyword ++ drop e bytes))
+    → MatchOption end (IsStopped (text_at keyword (drop at bytes))) (λ e. (e ≤ length bytes) × (text_at keyword (drop at bytes) ≡ Ok (keyword, drop e bytes)))
+keyword_told keyword bytes at None never = keyword_off keyword (drop at bytes) never
+keyword_told keyword bytes at (Some end) h = (h.0, ap (text_at keyword) h.1 ∙ text_again keyword (drop end bytes))
 
 -- ---- what may stand, by its first byte
 

@@ -2,13 +2,13 @@
 ghost use Rattle.std.specs.Prelude.{◌≡◌, ◌≤◌, IfOk, IfSome, None, Some, Ok, length, drop};
 ghost use Rattle.df_value_text.specs.code.Answer.{Gives};
 ghost use Rattle.df_value_text.specs.ReadLabel.{label_at};
-ghost use Rattle.df_journal_text.specs.code.KnownLabel.{IsKnown};
+ghost use Rattle.df_journal_text.specs.code.KnownLabel.{IsKnown, bare_label};
 ghost use Rattle.df_journal_text.specs.ReadWords.{named_at, word_at};
 
 use crate::note::is_empty;
-use crate::word_reader::name_word;
+use crate::word_reader::{behind, name_word};
 use df_frozen::Name;
-use df_label::{Label, NoMemory};
+use df_label::{Label, NoMemory, TagSet};
 use df_value_text::{Fault, between, byte_at, label_at};
 use std::alloc::Global;
 use std::marker::Model;
@@ -35,6 +35,16 @@ impl Model for KnownLabel {
     ghost view = { λ k. k.label };
 
     ghost invariant = { λ k. IsKnown k.label k.word.items };
+}
+
+/// The label without tags.
+fn bare_label(alloc: Global) -> Label
+    ensures { result ≡ bare_label }
+{
+    Label {
+        s: TagSet::new(alloc),
+        i: TagSet::new(alloc),
+    }
 }
 
 /// A label that is known, whose word these bytes are.
@@ -69,11 +79,8 @@ impl KnownLabel {
         let Some(label) = &self.label else {
             return None;
         };
-        let word = self.word.as_slice();
-        if !bytes[at..].starts_with(word) {
-            return None;
-        }
-        Some((label, at + word.len()))
+        let end = behind(bytes, at, self.word.as_slice())?;
+        Some((label, end))
     }
 
     /// The label at the place, which isn't known, and the place behind it. It is known then.
@@ -104,6 +111,9 @@ impl KnownLabel {
         requires { at ≤ length bytes.now }
         ensures { Gives (λ l. l) bytes.now result (label_at (drop at bytes.now)) }
     {
+        if let Some(end) = behind(bytes, at, b"{|}") {
+            return Ok((bare_label(alloc), end));
+        }
         match self.standing(bytes, at) {
             Some((label, end)) => Ok((label.copy()?, end)),
             None => self.learned_at(alloc, bytes, at),

@@ -50,7 +50,15 @@ pub(crate) fn is_empty(label: &Label) -> bool
 fn same(label: &Label, other: &Label) -> bool
     ensures { IsTrue result ↔ label.now ≡ other.now }
 {
-    is_empty(label) && is_empty(other) || label.same(other)
+    is_empty(label) && is_empty(other) || have_same_tags(label, other)
+}
+
+/// Whether the two labels have the same tags.
+#[inline(never)]
+fn have_same_tags(label: &Label, other: &Label) -> bool
+    ensures { IsTrue result ↔ label.now ≡ other.now }
+{
+    label.same(other)
 }
 
 /// Whether this contamination is noted, or none where there is none.

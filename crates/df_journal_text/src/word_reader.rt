@@ -1,5 +1,5 @@
 //! Reading words: each stands behind a space.
-ghost use Rattle.std.specs.Prelude.{◌≡◌, ◌≤◌, ◌<◌, ◌↔◌, IfOk, IsTrue, MatchOption, length, drop, true};
+ghost use Rattle.std.specs.Prelude.{◌≡◌, ◌≤◌, ◌<◌, ◌↔◌, ◌++◌, IfOk, IsTrue, MatchOption, length, drop, true};
 ghost use Rattle.df_format.specs.Reading.{text_at};
 ghost use Rattle.df_label.specs.Ascending.{IsAscending};
 ghost use Rattle.df_label.specs.Privilege.{privilege_cmp};
@@ -9,7 +9,7 @@ ghost use Rattle.df_value_text.specs.ReadName.{name_at};
 ghost use Rattle.df_value_text.specs.ReadTag.{short_at, tag_at};
 ghost use Rattle.df_filter_text.specs.ReadFilter.{filter_at};
 ghost use Rattle.df_journal_text.specs.ReadWords.{begins_pair, each_privilege_at, named_at, privileges_at, word_at};
-ghost use Rattle.df_journal_text.specs.code.Judging.{IsStopped};
+ghost use Rattle.df_journal_text.specs.code.Judging.{BeginsWith, IsStopped};
 
 use df_filter::Filter;
 use df_filter_text::filter_at;
@@ -18,6 +18,19 @@ use df_label::{Label, Privilege, Privileges, Tag};
 use df_value_text::{Fault, byte_at, label_at, name_at, privilege_at, short_at, tag_at};
 use std::alloc::Global;
 
+/// The place behind this text, where it stands at the place.
+pub fn behind(bytes: &[u8], at: usize, text: &[u8]) -> Option<usize>
+    requires { at ≤ length bytes.now }
+    ensures { MatchOption result (¬ BeginsWith (drop at bytes.now) text.now)
+        (λ end. (end ≤ length bytes.now)
+        × (drop at bytes.now ≡ text.now ++ drop end bytes.now)) }
+{
+    if !bytes[at..].starts_with(text) {
+        return None;
+    }
+    Some(at + text.len())
+}
+
 /// The place behind these bytes, if they stand at the place.
 pub fn keyword_at(bytes: &[u8], at: usize, keyword: &[u8]) -> Option<usize>
     requires { at ≤ length bytes.now }
@@ -25,10 +38,7 @@ pub fn keyword_at(bytes: &[u8], at: usize, keyword: &[u8]) -> Option<usize>
         (λ end. (end ≤ length bytes.now)
         × (text_at keyword.now (drop at bytes.now) ≡ Ok (keyword.now, drop end bytes.now))) }
 {
-    if !bytes[at..].starts_with(keyword) {
-        return None;
-    }
-    Some(at + keyword.len())
+    behind(bytes, at, keyword)
 }
 
 /// The number of 32 bits that is the next word, and the place behind it.

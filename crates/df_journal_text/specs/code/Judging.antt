@@ -20,6 +20,10 @@ use Rattle.df_journal_text.specs.declared.line_fault.LineFault.TheVariants as fa
 abbrev pub IsStopped : {T X : Type 0} → Read T X → Type 0
 IsStopped {T} read = (stop : Stop T) × (read ≡ Err stop)
 
+-- the text stands in front
+abbrev pub BeginsWith : List ℕ → List ℕ → Type 0
+BeginsWith bytes text = (rest : List ℕ) × (bytes ≡ text ++ rest)
+
 -- the fault of a literal, as one of its line
 abbrev pub line_fault : Fault → LineFault
 line_fault literal.NoMemory = fault.NoMemory
