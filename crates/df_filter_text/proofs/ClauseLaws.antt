@@ -1,8 +1,5 @@
 -- Tests and clauses are read as they are spelled.
-use Rattle.df_filter_text.proofs.Names.{◌≡◌, ℕ, Bool, false, [], ◌∷◌, Option, Some, None, refl, sym, ap, subst, ◌⊎◌, inl, inr, ℤ, pos, is_ascii_digit, Format}
-use Rattle.df_filter_text.proofs.Names.{IsText, text_format, nowhere, Of, made, viewed, Clause, FieldTest, ThenFits, IsName, field_test_text, test_text}
-use Rattle.df_filter_text.proofs.Names.{clause_text, IsFieldTest, IsTest, IsClause, test_of, present_at, key_of, key_at, value_test_at, test_at, clause_of}
-use Rattle.df_filter_text.proofs.Names.{clause_at}
+use Rattle.df_filter_text.proofs.Names.{◌≡◌, ℕ, Bool, false, [], ◌∷◌, Option, Some, None, refl, sym, ap, subst, ◌⊎◌, inl, inr, ℤ, pos, is_ascii_digit, Format, IsText, text_format, nowhere, Of, made, viewed, Clause, FieldTest, ThenFits, IsName, field_test_text, test_text, clause_text, IsFieldTest, IsTest, IsClause, test_of, present_at, key_of, key_at, value_test_at, test_at, clause_of, clause_at}
 use Rattle.df_filter.specs.declared.clause.Test.{Test}
 use Rattle.df_filter.specs.declared.clause.Test.TheVariants as test
 use Rattle.df_filter.specs.declared.field_test.FieldTest.TheVariants as field

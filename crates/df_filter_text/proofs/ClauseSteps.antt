@@ -1,7 +1,5 @@
 -- The loop that reads clauses, step by step.
-use Rattle.df_filter_text.proofs.Names.{◌≡◌, ℕ, zero, suc, ◌+◌, ◌-◌, ◌<◌, ◌≤◌, true, false, eqb, List, [], ◌∷◌, ◌++◌, length, drop, Option, Some, Ok, Err, refl}
-use Rattle.df_filter_text.proofs.Names.{sym, ap, ◌∙◌, ◌⊎◌, inl, inr, arith, append-nil, Read, ◌>>=◌, listed, optional, length_push, Clause, Stop, with_front}
-use Rattle.df_filter_text.proofs.Names.{begins_with, clause_at, more_clauses_at, filter_at}
+use Rattle.df_filter_text.proofs.Names.{◌≡◌, ℕ, zero, suc, ◌+◌, ◌-◌, ◌<◌, ◌≤◌, true, false, eqb, List, [], ◌∷◌, ◌++◌, length, drop, Option, Some, Ok, Err, refl, sym, ap, ◌∙◌, ◌⊎◌, inl, inr, arith, append-nil, Read, ◌>>=◌, listed, optional, length_push, Clause, Stop, with_front, begins_with, clause_at, more_clauses_at, filter_at}
 use Rattle.df_format.proofs.ItemSteps.{onto, regroup}
 use Rattle.df_value_text.proofs.TagSteps.{behind_it}
 

@@ -1,8 +1,5 @@
 -- Tests of fields are read as they are spelled.
-use Rattle.df_filter_text.proofs.Names.{◌≡◌, ℕ, Bool, false, eqb, List, [], ◌∷◌, ◌++◌, Option, Some, None, drop, refl, sym, ap, subst, ◌∙◌, arith, ◌⊎◌, inl}
-use Rattle.df_filter_text.proofs.Names.{inr, ℤ, pos, negsuc, is_ascii_digit, nat_tests, Begins, either_at, then_at, closed_at, Format, never, ends_never}
-use Rattle.df_filter_text.proofs.Names.{then_second_format, then_goes, behind_format, closed_format, nowhere, nowhere_is_local, Of, made, told_as, either_of}
-use Rattle.df_filter_text.proofs.Names.{FieldTest, then_spell, ThenFits, field_test_text, IsFieldTest}
+use Rattle.df_filter_text.proofs.Names.{◌≡◌, ℕ, Bool, false, eqb, List, [], ◌∷◌, ◌++◌, Option, Some, None, drop, refl, sym, ap, subst, ◌∙◌, arith, ◌⊎◌, inl, inr, ℤ, pos, negsuc, is_ascii_digit, nat_tests, Begins, either_at, then_at, closed_at, Format, never, ends_never, then_second_format, then_goes, behind_format, closed_format, nowhere, nowhere_is_local, Of, made, told_as, either_of, FieldTest, then_spell, ThenFits, field_test_text, IsFieldTest}
 use Rattle.std.specs.Prelude.{IsUtf8}
 use Rattle.std.specs.Fmt.{signed_decimal}
 use Rattle.std.proofs.lemmas.Str.{IsUtf8-nil}
@@ -77,7 +74,8 @@ equal_signed t (inr m) = subst (λ (u : FieldTest). field_test_text u ≡ 61 ∷
 equal_kind : Kind field_test_text field_test_goes (61 ∷ []) IsEqual equal_at
 equal_kind = record {
   law = told_as equal_signed (λ t c h. refl)
-      (behind_format nowhere nowhere_is_local (61 ∷ []) behind_sign IsEqual field_test_goes _ (IntEq (pos 0)) (inr (pos 0, zero_fits, refl)) equal_law);
+      (behind_format nowhere nowhere (61 ∷ []) (nowhere_is_local (61 ∷ [])) behind_sign IsEqual field_test_goes _ (IntEq (pos 0))
+      (inr (pos 0, zero_fits, refl)) equal_law);
   first = λ t h. (61, behind_sign t, inl refl, equal_signed t h);
 }
 
@@ -94,7 +92,7 @@ ends_law : Format nowhere (then_spell low_text signed_decimal) (ThenFits IsWhole
     (then_at (closed_at (46 ∷ 46 ∷ []) whole_at) whole_at)
 ends_law =
     then_second_format nowhere nowhere_is_local low_text IsWhole never (closed_at (46 ∷ 46 ∷ []) whole_at) signed_decimal IsWhole whole_goes whole_at
-    (closed_format nowhere nowhere_is_local 46 (46 ∷ []) signed_decimal IsWhole whole_goes whole_at (λ z fits. ends_last (Some z) 46 refl) whole_law) whole_law
+    (closed_format nowhere 46 (46 ∷ []) signed_decimal IsWhole whole_goes whole_at (λ z fits. ends_last (Some z) 46 refl) whole_law) whole_law
     (pos 0) zero_fits (λ x y rest fx fy ends. ends_never x (signed_decimal y ++ rest))
 
 range_kind : Kind field_test_text field_test_goes (58 ∷ []) (Of range_of (ThenFits IsWhole IsWhole)) range_at

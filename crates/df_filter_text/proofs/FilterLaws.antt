@@ -1,10 +1,5 @@
 -- Filters are read as they are spelled.
-use Rattle.df_filter_text.proofs.Names.{◌≡◌, ℕ, zero, suc, ◌≤◌, Bool, true, false, cond, eqb, List, [], ◌∷◌, ◌++◌, length, Option, Some, None, Ok, refl, sym}
-use Rattle.df_filter_text.proofs.Names.{ap, subst, ◌∙◌, append_assoc, arith, inl, inr, nat_lt, nat_tests, eqb-true, append-nil, then_at, behind_at, maybe_spell}
-use Rattle.df_filter_text.proofs.Names.{more_spell, CanGoOn, Ends, Found, Format, ok_is, not_both, told, ends_never, nowhere, nowhere_is_local, viewed}
-use Rattle.df_filter_text.proofs.Names.{behind_format, MaybeFits, maybe_goes, maybe_format, listed, optional, Clause, then_spell, ThenFits, then_extend}
-use Rattle.df_filter_text.proofs.Names.{then_behind, then_format, clause_text, filter_text, IsClause, AreClauses, IsFilter, clause_at, more_clauses_at}
-use Rattle.df_filter_text.proofs.Names.{filter_at}
+use Rattle.df_filter_text.proofs.Names.{◌≡◌, ℕ, zero, suc, ◌≤◌, Bool, true, false, cond, eqb, List, [], ◌∷◌, ◌++◌, length, Option, Some, None, Ok, refl, sym, ap, subst, ◌∙◌, append_assoc, arith, inl, inr, nat_lt, nat_tests, eqb-true, append-nil, then_at, behind_at, maybe_spell, more_spell, CanGoOn, Ends, Found, Format, ok_is, not_both, told, ends_never, nowhere, nowhere_is_local, viewed, behind_format, MaybeFits, maybe_goes, maybe_format, listed, optional, Clause, then_spell, ThenFits, then_extend, then_behind, then_format, clause_text, filter_text, IsClause, AreClauses, IsFilter, clause_at, more_clauses_at, filter_at}
 use Rattle.df_value_text.proofs.TagLaws.{joined_items}
 use Rattle.df_filter.specs.declared.clause.Test.TheVariants as test
 use Rattle.df_filter_text.proofs.ClauseLaws.{clause_goes, clause_ends, clause_format}
@@ -153,7 +148,8 @@ more_format (suc most) =
     (maybe_format nowhere (λ c. eqb c 38) (λ p. (38 ∷ []) ++ pair_text p) (PairFits most) (pair_goes most)
     (behind_at (38 ∷ []) (then_at clause_at (more_clauses_at most)))
     (λ p fits. record { first = 38; others = pair_text p; is = refl; test = refl }) (some_can most)
-    (behind_format nowhere nowhere_is_local (38 ∷ []) pair_text (PairFits most) (pair_goes most) (then_at clause_at (more_clauses_at most)) (short_clause, [])
+    (behind_format nowhere nowhere (38 ∷ []) (nowhere_is_local (38 ∷ [])) pair_text (PairFits most) (pair_goes most)
+    (then_at clause_at (more_clauses_at most)) (short_clause, [])
     (short_fits, (tt, omega arith)) (pair_format most (more_format most))))
     (record { to = some_to most; from = some_from most; spelled = λ x fits. some_spelled x; alike = λ x c fits. some_alike most x c })
 

@@ -18,9 +18,7 @@ pub use Rattle.df_format.specs.Spelling.{maybe_spell, more_spell, then_spell}
 pub use Rattle.df_value_text.proofs.NameLaws.{IsName, name_format, name_goes}
 pub use Rattle.df_value_text.specs.Number.{begins_with}
 pub use Rattle.df_value_text.specs.ReadTag.{listed, optional}
-pub use Rattle.std.proofs.Common.{Bool, Err, List, None, Ok, Option, Result, Some, [], ap, append_assoc, arith, cond, drop, eq-eqb, eqb, false, inl, inr}
-pub use Rattle.std.proofs.Common.{length, length-drop, nat_lt, negsuc, pos, refl, subst, suc, sym, true, zero, ℕ, ℤ, ◌++◌, ◌+◌, ◌-◌, ◌<◌, ◌∙◌, ◌∷◌, ◌≡◌, ◌≤◌}
-pub use Rattle.std.proofs.Common.{◌⊎◌}
+pub use Rattle.std.proofs.Common.{Bool, Err, List, None, Ok, Option, Result, Some, [], ap, append_assoc, arith, cond, drop, eq-eqb, eqb, false, inl, inr, length, length-drop, nat_lt, negsuc, pos, refl, subst, suc, sym, true, zero, ℕ, ℤ, ◌++◌, ◌+◌, ◌-◌, ◌<◌, ◌∙◌, ◌∷◌, ◌≡◌, ◌≤◌, ◌⊎◌}
 pub use Rattle.std.proofs.lemmas.Bool.{eqb-true}
 pub use Rattle.std.proofs.lemmas.Bool.Decides.{nat_tests}
 pub use Rattle.std.proofs.lemmas.List.{append-nil, length_push}

@@ -1,7 +1,5 @@
 -- Kinds of things that the first byte of their spelling tells apart.
-use Rattle.df_filter_text.proofs.Names.{◌≡◌, ℕ, Bool, false, eqb, eq-eqb, List, [], ◌∷◌, ◌++◌, refl, sym, ap, subst, ◌∙◌, ◌⊎◌, inl, inr, nat_tests, arith, Read}
-use Rattle.df_filter_text.proofs.Names.{as_at, then_at, behind_at, either_at, Ends, Format, own, then_second_format, then_goes, behind_format, nowhere}
-use Rattle.df_filter_text.proofs.Names.{nowhere_is_local, Of, made, fitting, either_of, then_spell, ThenFits, IsName, name_goes, name_format}
+use Rattle.df_filter_text.proofs.Names.{◌≡◌, ℕ, Bool, false, eqb, eq-eqb, List, [], ◌∷◌, ◌++◌, refl, sym, ap, subst, ◌∙◌, ◌⊎◌, inl, inr, nat_tests, arith, Read, as_at, then_at, behind_at, either_at, Ends, Format, own, then_second_format, then_goes, behind_format, nowhere, nowhere_is_local, Of, made, fitting, either_of, then_spell, ThenFits, IsName, name_goes, name_format}
 use Rattle.std.specs.List.{AllByRecursion}
 use Rattle.df_frozen.specs.Name.{is_name_byte}
 use Rattle.df_value_text.specs.ReadName.{name_at}
@@ -34,7 +32,7 @@ module _ {X Y : Type 0} {sx : X → List ℕ} {FX : X → Type 0} {gx : X → �
   pub signed : (w : ℕ) (make : X → Y) (x : X) → FX x → Format nowhere sx FX gx rx → ((x : X) → FX x → text (make x) ≡ w ∷ sx x)
       → ((x : X) (c : ℕ) → FX x → goes (make x) c ≡ gx x c) → Kind text goes (w ∷ []) (Of make FX) (as_at make (behind_at (w ∷ []) rx))
   signed w make x fits f spelled alike = record {
-    law = made make (behind_format nowhere nowhere_is_local (w ∷ []) sx FX gx rx x fits f) spelled alike;
+    law = made make (behind_format nowhere nowhere (w ∷ []) (nowhere_is_local (w ∷ [])) sx FX gx rx x fits f) spelled alike;
     first = λ y h. (w, sx h.0, inl refl, ap text (sym h.2) ∙ spelled h.0 h.1);
   }
 

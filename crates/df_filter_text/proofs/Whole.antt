@@ -1,7 +1,5 @@
 -- What the laws of filters say of the reader of whole texts.
-use Rattle.df_filter_text.proofs.Names.{◌≡◌, ℕ, ◌-◌, ◌≤◌, true, false, eqb, List, [], ◌∷◌, ◌++◌, length, drop, Ok, Err, refl, sym, ap, subst, ◌∙◌, arith}
-use Rattle.df_filter_text.proofs.Names.{nat_lt, eqb-true, nat_tests, append-nil, ok_is, not_both, Read, nowhere, Result, length-drop, Clause, Bad, Low}
-use Rattle.df_filter_text.proofs.Names.{FirstBad, ends_of, first_bad, begins_with, filter_text, IsFilter, filter_at}
+use Rattle.df_filter_text.proofs.Names.{◌≡◌, ℕ, ◌-◌, ◌≤◌, true, false, eqb, List, [], ◌∷◌, ◌++◌, length, drop, Ok, Err, refl, sym, ap, subst, ◌∙◌, arith, nat_lt, eqb-true, nat_tests, append-nil, ok_is, not_both, Read, nowhere, Result, length-drop, Clause, Bad, Low, FirstBad, ends_of, first_bad, begins_with, filter_text, IsFilter, filter_at}
 use Rattle.df_filter.specs.Filter.{filter_of}
 use Rattle.df_filter.specs.declared.filter.FilterRefused.{FilterRefused}
 use Rattle.df_value_text.specs.code.Answer.{Fails}

@@ -3,71 +3,83 @@ use Rattle.std.proofs.Common.{◌≡◌, ℕ, Bool, false, List, [], ◌∷◌, 
 use Rattle.df_format.specs.Reading.{Read, ◌>>=◌, then_at, as_at, text_at, behind_at, closed_at}
 use Rattle.df_format.specs.Spelling.{then_spell}
 use Rattle.df_format.specs.Grammar.{CanGoOn}
-use Rattle.df_format.specs.Format.{Ends, Found, IsLocal, Format}
+use Rattle.df_format.specs.Format.{Ends, Found, Format}
 use Rattle.df_format.proofs.Laws.{ok_is, not_both, bind_ok, bind_err, never, ends_never, viable_map, cause_of}
-use Rattle.df_format.proofs.Thens.{then_second_format, ThenFits, then_goes}
+use Rattle.df_format.proofs.Thens.{then_format, ends_of_second, ThenFits, then_goes}
 use Rattle.df_format.proofs.Texts.{text_format, own, IsText}
 
 -- ---- another view
 
 -- what make makes of the things that fit are just those that fit the other view, spelled alike
-pub record Views {T X Y : Type 0} (make : X → Y) (sx : X → List T) (FX : X → Type 0) (gx : X → T → Bool) (sy : Y → List T) (FY : Y → Type 0) (gy : Y → T → Bool) : Type 0 where
+pub record Views {T X Y : Type 0} (make : X → Y) (sx : X → List T) (FX : X → Type 0) (gx : X → T → Bool) (sy : Y → List T) (FY : Y → Type 0)
+    (gy : Y → T → Bool) : Type 0 where
   pub to : (x : X) → FX x → FY (make x)
   pub from : (y : Y) → FY y → (x : X) × FX x × (make x ≡ y)
   pub spelled : (x : X) → FX x → sy (make x) ≡ sx x
   pub alike : (x : X) (t : T) → FX x → gy (make x) t ≡ gx x t
 
-ends_to : {T X Y : Type 0} (make : X → Y) (sx : X → List T) (FX : X → Type 0) (gx : X → T → Bool) (sy : Y → List T) (FY : Y → Type 0) (gy : Y → T → Bool) → Views make sx FX gx sy FY gy → (x : X) (rest : List T) → FX x → Ends gx x rest → Ends gy (make x) rest
-ends_to make sx FX gx sy FY gy v x [] fits h = tt
-ends_to make sx FX gx sy FY gy v x (t ∷ rest) fits h = v.alike x t fits ∙ h
+module _ {T X Y : Type 0} (IsLow : List T → List T → Type 0) (make : X → Y) (sx : X → List T) (FX : X → Type 0) (gx : X → T → Bool) (rx : List T → Read T X)
+    (sy : Y → List T) (FY : Y → Type 0) (gy : Y → T → Bool) (v : Views make sx FX gx sy FY gy) where
+  ends_to : (x : X) (rest : List T) → FX x → Ends gx x rest → Ends gy (make x) rest
+  ends_to x [] fits h = tt
+  ends_to x (t ∷ rest) fits h = v.alike x t fits ∙ h
 
-ends_from : {T X Y : Type 0} (make : X → Y) (sx : X → List T) (FX : X → Type 0) (gx : X → T → Bool) (sy : Y → List T) (FY : Y → Type 0) (gy : Y → T → Bool) → Views make sx FX gx sy FY gy → (x : X) (rest : List T) → FX x → Ends gy (make x) rest → Ends gx x rest
-ends_from make sx FX gx sy FY gy v x [] fits h = tt
-ends_from make sx FX gx sy FY gy v x (t ∷ rest) fits h = sym (v.alike x t fits) ∙ h
+  ends_from : (x : X) (rest : List T) → FX x → Ends gy (make x) rest → Ends gx x rest
+  ends_from x [] fits h = tt
+  ends_from x (t ∷ rest) fits h = sym (v.alike x t fits) ∙ h
 
-as_can : {T X Y : Type 0} (make : X → Y) (sx : X → List T) (FX : X → Type 0) (gx : X → T → Bool) (sy : Y → List T) (FY : Y → Type 0) (gy : Y → T → Bool) → Views make sx FX gx sy FY gy → (front : List T) → CanGoOn sx FX front → CanGoOn sy FY front
-as_can make sx FX gx sy FY gy v front c = record { some = make c.some; fits = v.to c.some c.fits; more = c.more; is = v.spelled c.some c.fits ∙ c.is }
+  as_can : (front : List T) → CanGoOn sx FX front → CanGoOn sy FY front
+  as_can front c = record { some = make c.some; fits = v.to c.some c.fits; more = c.more; is = v.spelled c.some c.fits ∙ c.is }
 
-pub as_format : {T X Y : Type 0} (IsLow : List T → List T → Type 0) (make : X → Y) (sx : X → List T) (FX : X → Type 0) (gx : X → T → Bool) (rx : List T → Read T X) (sy : Y → List T) (FY : Y → Type 0) (gy : Y → T → Bool)
-    → Views make sx FX gx sy FY gy → Format IsLow sx FX gx rx → Format IsLow sy FY gy (as_at make rx)
-as_format {T} {X} {Y} IsLow make sx FX gx rx sy FY gy v fx = record {
-  found = λ tokens y rest e.
-      let a = bind_ok (rx tokens) (λ x. Ok (make x.0, x.1)) (y, rest) e in
-      let f = fx.found tokens a.0.0 a.0.1 a.1 in
-      let made : Y × List T = (make a.0.0, a.0.1) in
-      subst (λ (q : Y × List T). Found sy FY gy tokens q.0 q.1) (ok_is made (y, rest) a.2)
-      (record { parts = f.parts ∙ ap (λ (u : List T). u ++ a.0.1) (sym (v.spelled a.0.0 f.fits)); fits = v.to a.0.0 f.fits; ends = ends_to make sx FX gx sy FY gy v a.0.0 a.0.1 f.fits f.ends });
-  again = λ y rest fits ends.
-      let b = v.from y fits in
-      let here : as_at make rx (sx b.0 ++ rest) ≡ Ok (make b.0, rest) = rw (fx.again b.0 rest b.1 (ends_from make sx FX gx sy FY gy v b.0 rest b.1 (subst (λ (z : Y). Ends gy z rest) (sym b.2) ends))) refl in
-      ap (λ (u : List T). as_at make rx (u ++ rest)) (ap sy (sym b.2) ∙ v.spelled b.0 b.1) ∙ here ∙ ap (λ (z : Y). Ok (z, rest)) b.2;
-  stuck = λ tokens stop e.
-      elim (bind_err (rx tokens) (λ x. Ok (make x.0, x.1)) stop e) [
-        | inl h ↦
-            let s = fx.stuck tokens stop h in
-            record {
-              front = s.front;
-              parts = s.parts;
-              viable = viable_map sx FX sy FY s.front (as_can make sx FX gx sy FY gy v s.front) s.viable;
-              cause = cause_of IsLow rx (as_at make rx) s.front stop (λ t tail other is e. rw e refl) s.cause;
-            }
-        | inr h ↦ not_both (make h.0.0, h.0.1) stop h.2
-      ];
-  on = λ y t fits g.
-      let b = v.from y fits in
-      let c = fx.on b.0 t b.1 (sym (v.alike b.0 t b.1) ∙ ap (λ (z : Y). gy z t) b.2 ∙ g) in
-      subst (λ (u : List T). CanGoOn sy FY (u ++ t ∷ [])) (sym (v.spelled b.0 b.1) ∙ ap sy b.2) (as_can make sx FX gx sy FY gy v (sx b.0 ++ t ∷ []) c);
-}
+  pub as_format : Format IsLow sx FX gx rx → Format IsLow sy FY gy (as_at make rx)
+  as_format fx = record {
+    found = λ tokens y rest e.
+        let a = bind_ok (rx tokens) (λ x. Ok (make x.0, x.1)) (y, rest) e in
+        let f = fx.found tokens a.0.0 a.0.1 a.1 in
+        let made : Y × List T = (make a.0.0, a.0.1) in
+        subst (λ (q : Y × List T). Found sy FY gy tokens q.0 q.1) (ok_is made (y, rest) a.2) (record {
+          parts = f.parts ∙ ap (λ (u : List T). u ++ a.0.1) (sym (v.spelled a.0.0 f.fits));
+          fits = v.to a.0.0 f.fits;
+          ends = ends_to a.0.0 a.0.1 f.fits f.ends;
+        });
+    again = λ y rest fits ends.
+        let b = v.from y fits in
+        let end = ends_from b.0 rest b.1 (subst (λ (z : Y). Ends gy z rest) (sym b.2) ends) in
+        let here : as_at make rx (sx b.0 ++ rest) ≡ Ok (make b.0, rest) = rw (fx.again b.0 rest b.1 end) refl in
+        ap (λ (u : List T). as_at make rx (u ++ rest)) (ap sy (sym b.2) ∙ v.spelled b.0 b.1) ∙ here ∙ ap (λ (z : Y). Ok (z, rest)) b.2;
+    stuck = λ tokens stop e.
+        elim (bind_err (rx tokens) (λ x. Ok (make x.0, x.1)) stop e) [
+          | inr h ↦ not_both (make h.0.0, h.0.1) stop h.2
+          | inl h ↦
+              let s = fx.stuck tokens stop h in
+              record {
+                front = s.front;
+                parts = s.parts;
+                viable = viable_map sx FX sy FY s.front (as_can s.front) s.viable;
+                cause = cause_of IsLow rx (as_at make rx) s.front stop (λ t tail other is e. rw e refl) s.cause;
+              }
+        ];
+    on = λ y t fits g.
+        let b = v.from y fits in
+        let c = fx.on b.0 t b.1 (sym (v.alike b.0 t b.1) ∙ ap (λ (z : Y). gy z t) b.2 ∙ g) in
+        subst (λ (u : List T). CanGoOn sy FY (u ++ t ∷ [])) (sym (v.spelled b.0 b.1) ∙ ap sy b.2) (as_can (sx b.0 ++ t ∷ []) c);
+  }
 
 -- ---- the same reader in another form
 
-pub same_read : {T X : Type 0} (IsLow : List T → List T → Type 0) (spell : X → List T) (Fits : X → Type 0) (goes : X → T → Bool) (r s : List T → Read T X) → ((tokens : List T) → r tokens ≡ s tokens) → Format IsLow spell Fits goes r → Format IsLow spell Fits goes s
+pub same_read : {T X : Type 0} (IsLow : List T → List T → Type 0) (spell : X → List T) (Fits : X → Type 0) (goes : X → T → Bool) (r s : List T → Read T X)
+    → ((tokens : List T) → r tokens ≡ s tokens) → Format IsLow spell Fits goes r → Format IsLow spell Fits goes s
 same_read IsLow spell Fits goes r s same f = record {
   found = λ tokens x rest e. f.found tokens x rest (same tokens ∙ e);
   again = λ x rest fits ends. sym (same (spell x ++ rest)) ∙ f.again x rest fits ends;
   stuck = λ tokens stop e.
       let k = f.stuck tokens stop (same tokens ∙ e) in
-      record { front = k.front; parts = k.parts; viable = k.viable; cause = cause_of IsLow r s k.front stop (λ t tail other is e. sym (same (k.front ++ t ∷ other)) ∙ e) k.cause };
+      record {
+        front = k.front;
+        parts = k.parts;
+        viable = k.viable;
+        cause = cause_of IsLow r s k.front stop (λ t tail other is e. sym (same (k.front ++ t ∷ other)) ∙ e) k.cause;
+      };
   on = f.on;
 }
 
@@ -76,13 +88,12 @@ same_as (Ok x) = refl
 same_as (Err s) = refl
 
 -- the same things, spelled, fitting and going on alike
-pub alike_format : {T X : Type 0} (IsLow : List T → List T → Type 0) (s1 : X → List T) (F1 : X → Type 0) (g1 : X → T → Bool) (s2 : X → List T) (F2 : X → Type 0) (g2 : X → T → Bool) (read : List T → Read T X)
-    → Views (λ (x : X). x) s1 F1 g1 s2 F2 g2 → Format IsLow s1 F1 g1 read → Format IsLow s2 F2 g2 read
-alike_format {T} {X} IsLow s1 F1 g1 s2 F2 g2 read v f = same_read IsLow s2 F2 g2 (as_at (λ (x : X). x) read) read (λ tokens. same_as (read tokens)) (as_format IsLow (λ (x : X). x) s1 F1 g1 read s2 F2 g2 v f)
-
--- the same condition, said otherwise
-pub fits_as : {T X : Type 0} (IsLow : List T → List T → Type 0) (spell : X → List T) (F G : X → Type 0) (goes : X → T → Bool) (read : List T → Read T X) → ((x : X) → F x → G x) → ((x : X) → G x → F x) → Format IsLow spell F goes read → Format IsLow spell G goes read
-fits_as IsLow spell F G goes read to from f = alike_format IsLow spell F goes spell G goes read (record { to = to; from = λ y g. (y, from y g, refl); spelled = λ x h. refl; alike = λ x t h. refl }) f
+pub alike_format : {T X : Type 0} (IsLow : List T → List T → Type 0) (s1 : X → List T) (F1 : X → Type 0) (g1 : X → T → Bool) (s2 : X → List T)
+    (F2 : X → Type 0) (g2 : X → T → Bool) (read : List T → Read T X) → Views (λ (x : X). x) s1 F1 g1 s2 F2 g2 → Format IsLow s1 F1 g1 read
+    → Format IsLow s2 F2 g2 read
+alike_format {T} {X} IsLow s1 F1 g1 s2 F2 g2 read v f =
+    same_read IsLow s2 F2 g2 (as_at (λ (x : X). x) read) read (λ tokens. same_as (read tokens))
+    (as_format IsLow (λ (x : X). x) s1 F1 g1 read s2 F2 g2 v f)
 
 -- ---- fixed bytes before and behind
 
@@ -90,17 +101,28 @@ only_second : {X : Type 0} (w : List ℕ) (r : Read ℕ X) → ((r >>= λ y. Ok 
 only_second w (Ok y) = refl
 only_second w (Err s) = refl
 
-second_of : {X : Type 0} (r : Read ℕ (List ℕ)) (read : List ℕ → Read ℕ X) → ((r >>= λ h. read h.1 >>= λ y. Ok ((h.0, y.0), y.1)) >>= λ (p : (List ℕ × X) × List ℕ). Ok (p.0.1, p.1)) ≡ (r >>= λ h. read h.1)
+second_of : {X : Type 0} (r : Read ℕ (List ℕ)) (read : List ℕ → Read ℕ X)
+    → ((r >>= λ h. read h.1 >>= λ y. Ok ((h.0, y.0), y.1)) >>= λ (p : (List ℕ × X) × List ℕ). Ok (p.0.1, p.1)) ≡ (r >>= λ h. read h.1)
 second_of (Err s) read = refl
 second_of {X} (Ok h) read = only_second h.0 (read h.1)
 
-pub behind_format : {X : Type 0} (IsLow : List ℕ → List ℕ → Type 0) (moved : IsLocal IsLow) (ws : List ℕ) (spell : X → List ℕ) (Fits : X → Type 0) (goes : X → ℕ → Bool) (read : List ℕ → Read ℕ X) → (x0 : X) → Fits x0 → Format IsLow spell Fits goes read
-    → Format IsLow (λ x. ws ++ spell x) Fits goes (behind_at ws read)
-behind_format {X} IsLow moved ws spell Fits goes read x0 fits0 f =
-    same_read IsLow (λ x. ws ++ spell x) Fits goes (as_at (λ (p : List ℕ × X). p.1) (then_at (text_at ws) read)) (behind_at ws read) (λ bytes. second_of (text_at ws bytes) read)
-    (as_format IsLow (λ (p : List ℕ × X). p.1) (then_spell own spell) (ThenFits (IsText ws) Fits) (then_goes goes) (then_at (text_at ws) read) (λ x. ws ++ spell x) Fits goes
-    (record { to = λ p fits. fits.1; from = λ x fits. ((ws, x), (refl, fits), refl); spelled = λ p fits. ap (λ (w : List ℕ). w ++ spell p.1) (sym fits.0); alike = λ p t fits. refl })
-    (then_second_format IsLow moved own (IsText ws) never (text_at ws) spell Fits goes read (text_format IsLow ws) f x0 fits0 (λ x y rest fx fy ends. ends_never x (spell y ++ rest))))
+-- what is low behind these bytes is another thing
+pub behind_format : {X : Type 0} (IsLow Out : List ℕ → List ℕ → Type 0) (ws : List ℕ) → ((front rest : List ℕ) → IsLow front rest → Out (ws ++ front) rest)
+    → (spell : X → List ℕ) (Fits : X → Type 0) (goes : X → ℕ → Bool) (read : List ℕ → Read ℕ X) → (x0 : X) → Fits x0 → Format IsLow spell Fits goes read
+    → Format Out (λ x. ws ++ spell x) Fits goes (behind_at ws read)
+behind_format {X} IsLow Out ws low spell Fits goes read x0 fits0 f =
+    same_read Out (λ x. ws ++ spell x) Fits goes (as_at (λ (p : List ℕ × X). p.1) (then_at (text_at ws) read)) (behind_at ws read)
+    (λ bytes. second_of (text_at ws bytes) read)
+    (as_format Out (λ (p : List ℕ × X). p.1) (then_spell own spell) (ThenFits (IsText ws) Fits) (then_goes goes) (then_at (text_at ws) read)
+    (λ x. ws ++ spell x) Fits goes (record {
+      to = λ p fits. fits.1;
+      from = λ x fits. ((ws, x), (refl, fits), refl);
+      spelled = λ p fits. ap (λ (w : List ℕ). w ++ spell p.1) (sym fits.0);
+      alike = λ p t fits. refl;
+    })
+    (then_format Out IsLow Out own (IsText ws) never (text_at ws) spell Fits goes read (then_goes goes) (λ front rest here. here)
+    (λ w front rest is here. subst (λ (u : List ℕ). Out (u ++ front) rest) (sym is) (low front rest here)) (text_format Out ws) f x0 fits0
+    (ends_of_second IsLow own (IsText ws) never spell Fits goes read f (λ x y rest fx fy ends. ends_never x (spell y ++ rest)))))
 
 abbrev paired : {X Y : Type 0} → X → Y × List ℕ → Read ℕ (X × Y)
 paired x y = Ok ((x, y.0), y.1)
@@ -112,15 +134,25 @@ only_first : {X : Type 0} (x : X) (r : Read ℕ (List ℕ)) → ((r >>= paired x
 only_first x (Ok y) = refl
 only_first x (Err s) = refl
 
-first_of : {X : Type 0} (r : Read ℕ X) (ws : List ℕ) → ((r >>= λ x. text_at ws x.1 >>= paired x.0) >>= λ (p : (X × List ℕ) × List ℕ). Ok (p.0.0, p.1)) ≡ (r >>= λ x. text_at ws x.1 >>= kept x.0)
+first_of : {X : Type 0} (r : Read ℕ X) (ws : List ℕ)
+    → ((r >>= λ x. text_at ws x.1 >>= paired x.0) >>= λ (p : (X × List ℕ) × List ℕ). Ok (p.0.0, p.1)) ≡ (r >>= λ x. text_at ws x.1 >>= kept x.0)
 first_of (Err s) ws = refl
 first_of (Ok x) ws = only_first x.0 (text_at ws x.1)
 
-pub closed_format : {X : Type 0} (IsLow : List ℕ → List ℕ → Type 0) (moved : IsLocal IsLow) (w : ℕ) (ws : List ℕ) (spell : X → List ℕ) (Fits : X → Type 0) (goes : X → ℕ → Bool) (read : List ℕ → Read ℕ X) → ((x : X) → Fits x → goes x w ≡ false) → Format IsLow spell Fits goes read
+pub closed_format : {X : Type 0} (IsLow : List ℕ → List ℕ → Type 0) (w : ℕ) (ws : List ℕ) (spell : X → List ℕ) (Fits : X → Type 0) (goes : X → ℕ → Bool)
+    (read : List ℕ → Read ℕ X) → ((x : X) → Fits x → goes x w ≡ false) → Format IsLow spell Fits goes read
     → Format IsLow (λ x. spell x ++ w ∷ ws) Fits never (closed_at (w ∷ ws) read)
-closed_format {X} IsLow moved w ws spell Fits goes read ends_at f =
-    same_read IsLow (λ x. spell x ++ w ∷ ws) Fits never (as_at (λ (p : X × List ℕ). p.0) (then_at read (text_at (w ∷ ws)))) (closed_at (w ∷ ws) read) (λ bytes. first_of (read bytes) (w ∷ ws))
-    (as_format IsLow (λ (p : X × List ℕ). p.0) (then_spell spell own) (ThenFits Fits (IsText (w ∷ ws))) (then_goes never) (then_at read (text_at (w ∷ ws))) (λ x. spell x ++ w ∷ ws) Fits never
-    (record { to = λ p fits. fits.0; from = λ x fits. ((x, w ∷ ws), (fits, refl), refl); spelled = λ p fits. ap (λ (u : List ℕ). spell p.0 ++ u) (sym fits.1); alike = λ p t fits. refl })
-    (then_second_format IsLow moved spell Fits goes read own (IsText (w ∷ ws)) never (text_at (w ∷ ws)) f (text_format IsLow (w ∷ ws)) (w ∷ ws) refl
-    (λ x y rest fx fy ends. subst (λ (t : List ℕ). Ends goes x (t ++ rest)) (sym fy) (ends_at x fx))))
+closed_format {X} IsLow w ws spell Fits goes read ends_at f =
+    same_read IsLow (λ x. spell x ++ w ∷ ws) Fits never (as_at (λ (p : X × List ℕ). p.0) (then_at read (text_at (w ∷ ws)))) (closed_at (w ∷ ws) read)
+    (λ bytes. first_of (read bytes) (w ∷ ws))
+    (as_format IsLow (λ (p : X × List ℕ). p.0) (then_spell spell own) (ThenFits Fits (IsText (w ∷ ws))) (then_goes never) (then_at read (text_at (w ∷ ws)))
+    (λ x. spell x ++ w ∷ ws) Fits never (record {
+      to = λ p fits. fits.0;
+      from = λ x fits. ((x, w ∷ ws), (fits, refl), refl);
+      spelled = λ p fits. ap (λ (u : List ℕ). spell p.0 ++ u) (sym fits.1);
+      alike = λ p t fits. refl;
+    })
+    (then_format IsLow (λ front rest. ⊥) IsLow spell Fits goes read own (IsText (w ∷ ws)) never (text_at (w ∷ ws)) (then_goes never) (λ front rest low. low)
+    (λ x front rest fits low. absurd low) f (text_format (λ front rest. ⊥) (w ∷ ws)) (w ∷ ws) refl
+    (ends_of_second (λ front rest. ⊥) spell Fits goes own (IsText (w ∷ ws)) never (text_at (w ∷ ws)) (text_format (λ front rest. ⊥) (w ∷ ws))
+    (λ x y rest fx fy ends. subst (λ (t : List ℕ). Ends goes x (t ++ rest)) (sym fy) (ends_at x fx)))))

@@ -1,8 +1,8 @@
 -- Steps of readers, and one thing behind another.
-use Rattle.std.proofs.Common.{◌≡◌, Bool, true, false, cond, List, [], ◌∷◌, ◌++◌, Result, Ok, Err, refl, sym, ap, ◌∙◌, append_assoc, ◌⊎◌, inl, inr}
+use Rattle.std.proofs.Common.{◌≡◌, Bool, true, false, cond, List, [], ◌∷◌, ◌++◌, Result, Ok, Err, refl, sym, ap, subst, ◌∙◌, append_assoc, ◌⊎◌, inl, inr}
 use Rattle.df_format.specs.Reading.{Stop, Bad, Low, Read, ◌>>=◌}
 use Rattle.df_format.specs.Grammar.{CanGoOn, Stands, FirstBad}
-use Rattle.df_format.specs.Format.{Ends, IsViable, place, Cause, IsLocal, Format}
+use Rattle.df_format.specs.Format.{Ends, IsViable, place, Cause, Format}
 
 -- ---- steps
 
@@ -27,7 +27,8 @@ bind_ok (Ok x) f y e = (x, refl, e)
 bind_ok (Err s) f y e = absurd cc
 
 -- a step that stopped, or the one after it
-pub bind_err : {T A B : Type 0} (r : Result A (Stop T)) (f : A → Result B (Stop T)) (s : Stop T) → (r >>= f) ≡ Err s → (r ≡ Err s) ⊎ ((x : A) × (r ≡ Ok x) × (f x ≡ Err s))
+pub bind_err : {T A B : Type 0} (r : Result A (Stop T)) (f : A → Result B (Stop T)) (s : Stop T) → (r >>= f) ≡ Err s
+    → (r ≡ Err s) ⊎ ((x : A) × (r ≡ Ok x) × (f x ≡ Err s))
 bind_err (Ok x) f s e = inr (x, refl, e)
 bind_err (Err t) f s e = inl cc
 
@@ -48,9 +49,16 @@ told false = inr refl
 -- ---- ends and fronts
 
 -- an end is seen from one token
-pub ends_first : {T X : Type 0} (goes : X → T → Bool) (x : X) (front : List T) (t : T) (tail other : List T) → Ends goes x (front ++ t ∷ tail) → Ends goes x (front ++ t ∷ other)
+ends_first : {T X : Type 0} (goes : X → T → Bool) (x : X) (front : List T) (t : T) (tail other : List T) → Ends goes x (front ++ t ∷ tail)
+    → Ends goes x (front ++ t ∷ other)
 ends_first goes x [] t tail other h = h
 ends_first goes x (u ∷ front) t tail other h = h
+
+-- something ends in front of the first token from which on reading stops, whatever stands behind that
+pub stop_ends : {T X : Type 0} (goes : X → T → Bool) (x : X) (left front rest : List T) (t : T) (tail other : List T) → left ≡ front ++ rest
+    → rest ≡ t ∷ tail → Ends goes x left → Ends goes x (front ++ t ∷ other)
+stop_ends {T} goes x left front rest t tail other parts is ends =
+    ends_first goes x front t tail other (subst (λ (v : List T). Ends goes x v) (parts ∙ ap (λ (v : List T). front ++ v) is) ends)
 
 -- what never goes on ends everywhere
 abbrev pub never : {T X : Type 0} → X → T → Bool
@@ -65,12 +73,14 @@ viable_of spell Fits [] v = tt
 viable_of spell Fits (t ∷ ts) v = v
 
 -- where something fits, no tokens can go on too
-pub can_go_on : {T X : Type 0} (spell : X → List T) (Fits : X → Type 0) (x : X) → Fits x → (front : List T) → IsViable spell Fits front → CanGoOn spell Fits front
+pub can_go_on : {T X : Type 0} (spell : X → List T) (Fits : X → Type 0) (x : X) → Fits x → (front : List T) → IsViable spell Fits front
+    → CanGoOn spell Fits front
 can_go_on spell Fits x fits [] v = record { some = x; fits = fits; more = spell x; is = refl }
 can_go_on spell Fits x fits (t ∷ ts) v = v
 
 -- other things that begin alike
-pub viable_map : {T X Y : Type 0} (sx : X → List T) (FX : X → Type 0) (sy : Y → List T) (FY : Y → Type 0) (front : List T) → (CanGoOn sx FX front → CanGoOn sy FY front) → IsViable sx FX front → IsViable sy FY front
+pub viable_map : {T X Y : Type 0} (sx : X → List T) (FX : X → Type 0) (sy : Y → List T) (FY : Y → Type 0) (front : List T)
+    → (CanGoOn sx FX front → CanGoOn sy FY front) → IsViable sx FX front → IsViable sy FY front
 viable_map sx FX sy FY [] f v = tt
 viable_map sx FX sy FY (t ∷ ts) f v = f v
 
@@ -81,73 +91,67 @@ first_same (f ∷ front) t u ts tail other e = let same : t ≡ f = cc in (front
 
 -- ---- a cause stays the cause
 
+-- of another reader that stops there too, behind other tokens, where a low place is one for it
+pub cause_on : {T X Y : Type 0} (IsLow Out : List T → List T → Type 0) (rx : List T → Read T X) (ry : List T → Read T Y) (front behind : List T) (stop : Stop T)
+    → ((t : T) (tail other : List T) → place stop ≡ t ∷ tail → rx (front ++ t ∷ other) ≡ Err (Bad (t ∷ other))
+    → ry (behind ++ t ∷ other) ≡ Err (Bad (t ∷ other))) → ((rest : List T) → IsLow front rest → Out behind rest)
+    → Cause IsLow rx front stop → Cause Out ry behind stop
+cause_on IsLow Out rx ry front behind (Bad rest) f low c = λ t tail is other. f t tail other is (c t tail is other)
+cause_on IsLow Out rx ry front behind (Low rest) f low c = low rest c
+
 -- of another reader that stops there too
 pub cause_of : {T X Y : Type 0} (IsLow : List T → List T → Type 0) (rx : List T → Read T X) (ry : List T → Read T Y) (front : List T) (stop : Stop T)
-    → ((t : T) (tail other : List T) → place stop ≡ t ∷ tail → rx (front ++ t ∷ other) ≡ Err (Bad (t ∷ other)) → ry (front ++ t ∷ other) ≡ Err (Bad (t ∷ other)))
+    → ((t : T) (tail other : List T) → place stop ≡ t ∷ tail → rx (front ++ t ∷ other) ≡ Err (Bad (t ∷ other))
+    → ry (front ++ t ∷ other) ≡ Err (Bad (t ∷ other)))
     → Cause IsLow rx front stop → Cause IsLow ry front stop
-cause_of IsLow rx ry front (Bad rest) f c = λ t tail is other. f t tail other is (c t tail is other)
-cause_of IsLow rx ry front (Low rest) f c = c
-
--- behind other tokens
-pub cause_behind : {T X Y : Type 0} (IsLow : List T → List T → Type 0) (moved : IsLocal IsLow) (rx : List T → Read T X) (ry : List T → Read T Y) (before front : List T) (stop : Stop T)
-    → ((t : T) (tail other : List T) → place stop ≡ t ∷ tail → rx (front ++ t ∷ other) ≡ Err (Bad (t ∷ other)) → ry ((before ++ front) ++ t ∷ other) ≡ Err (Bad (t ∷ other)))
-    → Cause IsLow rx front stop → Cause IsLow ry (before ++ front) stop
-cause_behind IsLow moved rx ry before front (Bad rest) f c = λ t tail is other. f t tail other is (c t tail is other)
-cause_behind IsLow moved rx ry before front (Low rest) f c = moved before front rest c
+cause_of IsLow rx ry front stop f = cause_on IsLow IsLow rx ry front front stop f (λ rest low. low)
 
 -- ---- what the laws say of a reader
 
--- with a token with which x doesn't go on, no text begins
-pub no_longer : {T X : Type 0} (IsLow : List T → List T → Type 0) (spell : X → List T) (Fits : X → Type 0) (goes : X → T → Bool) (read : List T → Read T X) → Format IsLow spell Fits goes read
-    → (x : X) (t : T) → Fits x → goes x t ≡ false → CanGoOn spell Fits (spell x ++ t ∷ []) → ⊥
-no_longer {T} {X} IsLow spell Fits goes read f x t fits ends on =
-    let whole : spell on.some ++ [] ≡ spell x ++ t ∷ (on.more ++ []) = ap (λ (u : List T). u ++ []) on.is ∙ append_assoc (spell x ++ t ∷ []) on.more [] ∙ append_assoc (spell x) (t ∷ []) (on.more ++ []) in
-    let good : read (spell on.some ++ []) ≡ Ok (on.some, []) = f.again on.some [] on.fits tt in
-    let here : read (spell x ++ t ∷ (on.more ++ [])) ≡ Ok (x, t ∷ (on.more ++ [])) = f.again x (t ∷ (on.more ++ [])) fits ends in
-    let other : X × List T = (x, t ∷ (on.more ++ [])) in
-    let both : (on.some, []) ≡ other = ok_is (on.some, []) other (sym good ∙ ap read whole ∙ here) in
-    let none : [] ≡ t ∷ (on.more ++ []) = ap (λ (q : X × List T). q.1) both in
-    absurd cc
-
-pub ends_of : {T X : Type 0} (IsLow : List T → List T → Type 0) (spell : X → List T) (Fits : X → Type 0) (goes : X → T → Bool) (read : List T → Read T X) → Format IsLow spell Fits goes read
-    → (x : X) (rest : List T) → Fits x → Ends goes x rest → (t : T) (tail : List T) → rest ≡ t ∷ tail → CanGoOn spell Fits (spell x ++ t ∷ []) → ⊥
-ends_of {T} {X} IsLow spell Fits goes read f x [] fits ends t tail is on = let none : [] ≡ t ∷ tail = is in absurd cc
-ends_of {T} {X} IsLow spell Fits goes read f x (u ∷ rest) fits ends t tail is on =
-    let same : u ≡ t = cc in
-    no_longer IsLow spell Fits goes read f x t fits (ap (goes x) (sym same) ∙ ends) on
-
--- what is read stands in front
-pub stands : {T X : Type 0} (IsLow : List T → List T → Type 0) (spell : X → List T) (Fits : X → Type 0) (goes : X → T → Bool) (read : List T → Read T X) → Format IsLow spell Fits goes read
-    → (tokens : List T) (x : X) (rest : List T) → read tokens ≡ Ok (x, rest) → Stands spell Fits tokens x rest
-stands IsLow spell Fits goes read f tokens x rest e =
-    let k = f.found tokens x rest e in
-    record { parts = k.parts; fits = k.fits; ends = ends_of IsLow spell Fits goes read f x rest k.fits k.ends }
-
-ends_by : {T X : Type 0} (goes : X → T → Bool) (x : X) (rest : List T) → ((t : T) (tail : List T) → rest ≡ t ∷ tail → goes x t ≡ true → ⊥) → Ends goes x rest
+ends_by : {T X : Type 0} (goes : X → T → Bool) (x : X) (rest : List T) → ((t : T) (tail : List T) → rest ≡ t ∷ tail → goes x t ≡ true → ⊥)
+    → Ends goes x rest
 ends_by goes x [] h = tt
-ends_by goes x (t ∷ rest) h = told (goes x t) (h t rest refl)
-  where
-    told : (b : Bool) → (b ≡ true → ⊥) → b ≡ false
-    told true h = absurd (h refl)
-    told false h = refl
+ends_by goes x (t ∷ rest) h = elim (told (goes x t)) [ inl k ↦ absurd (h t rest refl k) | inr k ↦ k ]
 
--- what stands in front is read
-pub is_read : {T X : Type 0} (IsLow : List T → List T → Type 0) (spell : X → List T) (Fits : X → Type 0) (goes : X → T → Bool) (read : List T → Read T X) → Format IsLow spell Fits goes read
-    → (tokens : List T) (x : X) (rest : List T) → Stands spell Fits tokens x rest → read tokens ≡ Ok (x, rest)
-is_read IsLow spell Fits goes read f tokens x rest s =
-    ap read s.parts ∙ f.again x rest s.fits (ends_by goes x rest (λ t tail is g. s.ends t tail is (f.on x t s.fits g)))
+module _ {T X : Type 0} (IsLow : List T → List T → Type 0) (spell : X → List T) (Fits : X → Type 0) (goes : X → T → Bool) (read : List T → Read T X)
+    (f : Format IsLow spell Fits goes read) where
+  -- what can go on behind this front and token is read with nothing behind it
+  read_on : (front : List T) (t : T) (on : CanGoOn spell Fits (front ++ t ∷ [])) → read (front ++ t ∷ (on.more ++ [])) ≡ Ok (on.some, [])
+  read_on front t on =
+      ap read (sym (append_assoc front (t ∷ []) (on.more ++ [])) ∙ sym (append_assoc (front ++ t ∷ []) on.more []) ∙ ap (λ (u : List T). u ++ []) (sym on.is))
+      ∙ f.again on.some [] on.fits tt
 
--- a bad place is the first one
-pub first_bad : {T X : Type 0} (IsLow : List T → List T → Type 0) (spell : X → List T) (Fits : X → Type 0) (goes : X → T → Bool) (read : List T → Read T X) → Format IsLow spell Fits goes read
-    → (x : X) → Fits x → (tokens rest : List T) → read tokens ≡ Err (Bad rest) → FirstBad spell Fits tokens rest
-first_bad {T} {X} IsLow spell Fits goes read f x0 fits0 tokens rest e =
-    let s = f.stuck tokens (Bad rest) e in
-    record {
-      front = s.front;
-      parts = s.parts;
-      viable = can_go_on spell Fits x0 fits0 s.front s.viable;
-      dead = λ t tail is on.
-          let whole : spell on.some ++ [] ≡ s.front ++ t ∷ (on.more ++ []) = ap (λ (u : List T). u ++ []) on.is ∙ append_assoc (s.front ++ t ∷ []) on.more [] ∙ append_assoc s.front (t ∷ []) (on.more ++ []) in
-          let good : read (spell on.some ++ []) ≡ Ok (on.some, []) = f.again on.some [] on.fits tt in
-          not_both (on.some, []) (Bad (t ∷ (on.more ++ []))) (sym good ∙ ap read whole ∙ s.cause t tail is (on.more ++ []));
-    }
+  -- with a token with which x doesn't go on, no text begins
+  pub no_longer : (x : X) (t : T) → Fits x → goes x t ≡ false → CanGoOn spell Fits (spell x ++ t ∷ []) → ⊥
+  no_longer x t fits ends on =
+      let rest : List T = t ∷ (on.more ++ []) in
+      let here : X × List T = (x, rest) in
+      let both = ok_is (on.some, []) here (sym (read_on (spell x) t on) ∙ f.again x rest fits ends) in
+      let none : [] ≡ rest = ap (λ (q : X × List T). q.1) both in
+      absurd cc
+
+  pub ends_of : (x : X) (rest : List T) → Fits x → Ends goes x rest → (t : T) (tail : List T) → rest ≡ t ∷ tail
+      → CanGoOn spell Fits (spell x ++ t ∷ []) → ⊥
+  ends_of x [] fits ends t tail is on = let none : [] ≡ t ∷ tail = is in absurd cc
+  ends_of x (u ∷ rest) fits ends t tail is on = let same : u ≡ t = cc in no_longer x t fits (ap (goes x) (sym same) ∙ ends) on
+
+  -- what is read stands in front
+  pub stands : (tokens : List T) (x : X) (rest : List T) → read tokens ≡ Ok (x, rest) → Stands spell Fits tokens x rest
+  stands tokens x rest e = let k = f.found tokens x rest e in record { parts = k.parts; fits = k.fits; ends = ends_of x rest k.fits k.ends }
+
+  -- what stands in front is read
+  pub is_read : (tokens : List T) (x : X) (rest : List T) → Stands spell Fits tokens x rest → read tokens ≡ Ok (x, rest)
+  is_read tokens x rest s =
+      ap read s.parts ∙ f.again x rest s.fits (ends_by goes x rest (λ t tail is g. s.ends t tail is (f.on x t s.fits g)))
+
+  -- a bad place is the first one
+  pub first_bad : (x : X) → Fits x → (tokens rest : List T) → read tokens ≡ Err (Bad rest) → FirstBad spell Fits tokens rest
+  first_bad x0 fits0 tokens rest e =
+      let s = f.stuck tokens (Bad rest) e in
+      record {
+        front = s.front;
+        parts = s.parts;
+        viable = can_go_on spell Fits x0 fits0 s.front s.viable;
+        dead = λ t tail is on.
+            not_both (on.some, []) (Bad (t ∷ (on.more ++ []))) (sym (read_on s.front t on) ∙ s.cause t tail is (on.more ++ []));
+      }

@@ -5,7 +5,8 @@ pub mod Joins
 pub mod Choices
 pub mod ItemSteps
 pub mod Items
-pub mod Many
+pub mod Ones
 pub mod Backs
 pub mod Tokens
 pub mod Longest
+pub mod Several

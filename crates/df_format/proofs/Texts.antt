@@ -2,6 +2,7 @@
 use Rattle.std.proofs.Common.{◌≡◌, ℕ, true, false, eqb, List, [], ◌∷◌, ◌++◌, Ok, Err, refl, sym, ap, ◌∙◌, inl, inr, eq-eqb}
 use Rattle.std.proofs.lemmas.Bool.{eqb-true}
 use Rattle.df_format.specs.Reading.{Stop, Bad, Low, ◌>>=◌, text_at}
+use Rattle.df_format.specs.Grammar.{CanGoOn}
 use Rattle.df_format.specs.Format.{Stuck, Format}
 use Rattle.df_format.proofs.Laws.{ok_is, not_both, bind_ok, bind_err, chosen, never, ends_never, viable_of}
 
@@ -87,10 +88,12 @@ IsText ws x = x ≡ ws
 abbrev pub own : List ℕ → List ℕ
 own x = x
 
-text_stops : (IsLow : List ℕ → List ℕ → Type 0) (ws bytes : List ℕ) (stop : Stop ℕ) → text_at ws bytes ≡ Err stop → Stuck IsLow own (IsText ws) (text_at ws) bytes stop
+text_stops : (IsLow : List ℕ → List ℕ → Type 0) (ws bytes : List ℕ) (stop : Stop ℕ) → text_at ws bytes ≡ Err stop
+    → Stuck IsLow own (IsText ws) (text_at ws) bytes stop
 text_stops IsLow ws bytes (Bad rest) e =
     let s = text_stuck ws bytes rest e in
-    record { front = s.front; parts = s.parts; viable = viable_of own (IsText ws) s.front (record { some = ws; fits = refl; more = s.more; is = s.is }); cause = s.stays }
+    let some : CanGoOn own (IsText ws) s.front = record { some = ws; fits = refl; more = s.more; is = s.is } in
+    record { front = s.front; parts = s.parts; viable = viable_of own (IsText ws) s.front some; cause = s.stays }
 text_stops IsLow ws bytes (Low rest) e = absurd (text_low ws bytes rest e)
 
 pub text_format : (IsLow : List ℕ → List ℕ → Type 0) (ws : List ℕ) → Format IsLow own (IsText ws) never (text_at ws)

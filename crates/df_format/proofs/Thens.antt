@@ -1,109 +1,124 @@
 -- One thing and then another.
-use Rattle.std.proofs.Common.{◌≡◌, Bool, true, List, [], ◌∷◌, ◌++◌, Ok, Err, refl, sym, ap, subst, ◌∙◌, append_assoc, inl, inr}
-use Rattle.df_format.specs.Reading.{Stop, Bad, Low, Read, ◌>>=◌, then_at}
+use Rattle.std.proofs.Common.{◌≡◌, Bool, true, List, [], ◌∷◌, ◌++◌, Ok, refl, sym, ap, subst, ◌∙◌, append_assoc, inl, inr}
+use Rattle.df_format.specs.Reading.{Read, ◌>>=◌, then_at}
 use Rattle.df_format.specs.Spelling.{then_spell}
 use Rattle.df_format.specs.Grammar.{CanGoOn}
-use Rattle.df_format.specs.Format.{Ends, Found, place, Cause, IsLocal, Format}
-use Rattle.df_format.proofs.Laws.{ok_is, not_both, bind_ok, bind_err, ends_first, viable_of, can_go_on, viable_map}
+use Rattle.df_format.specs.Format.{Ends, Found, place, IsLocal, Format}
+use Rattle.df_format.proofs.Laws.{ok_is, not_both, bind_ok, bind_err, stop_ends, viable_of, can_go_on, viable_map, cause_on}
 
 abbrev pub ThenFits : {X Y : Type 0} → (X → Type 0) → (Y → Type 0) → X × Y → Type 0
 ThenFits FX FY p = FX p.0 × FY p.1
 
--- the first alone can go on so
-pub then_extend : {T X Y : Type 0} (sx : X → List T) (FX : X → Type 0) (sy : Y → List T) (FY : Y → Type 0) (y0 : Y) → FY y0 → (front : List T) → CanGoOn sx FX front → CanGoOn (then_spell sx sy) (ThenFits FX FY) front
-then_extend {T} sx FX sy FY y0 fits0 front v = record { some = (v.some, y0); fits = (v.fits, fits0); more = v.more ++ sy y0; is = ap (λ (t : List T). t ++ sy y0) v.is ∙ append_assoc front v.more (sy y0) }
+module _ {T X Y : Type 0} (sx : X → List T) (FX : X → Type 0) (sy : Y → List T) (FY : Y → Type 0) where
+  abbrev BothCan : List T → Type 0
+  BothCan front = CanGoOn (then_spell sx sy) (ThenFits FX FY) front
 
--- behind the first, the second can go on so
-pub then_behind : {T X Y : Type 0} (sx : X → List T) (FX : X → Type 0) (sy : Y → List T) (FY : Y → Type 0) (x : X) → FX x → (front : List T) → CanGoOn sy FY front → CanGoOn (then_spell sx sy) (ThenFits FX FY) (sx x ++ front)
-then_behind {T} sx FX sy FY x fits front v = record { some = (x, v.some); fits = (fits, v.fits); more = v.more; is = ap (λ (t : List T). sx x ++ t) v.is ∙ sym (append_assoc (sx x) front v.more) }
+  -- the first alone can go on so
+  pub then_extend : (y0 : Y) → FY y0 → (front : List T) → CanGoOn sx FX front → BothCan front
+  then_extend y0 fits0 front v = record {
+    some = (v.some, y0);
+    fits = (v.fits, fits0);
+    more = v.more ++ sy y0;
+    is = ap (λ (t : List T). t ++ sy y0) v.is ∙ append_assoc front v.more (sy y0);
+  }
 
--- each of the two has low places of its own
-cause_first : {T X Y : Type 0} (Near Out : List T → List T → Type 0) → ((front rest : List T) → Near front rest → Out front rest) → (rx : List T → Read T X) (ry : List T → Read T Y) (front : List T) (stop : Stop T)
-    → ((t : T) (tail other : List T) → place stop ≡ t ∷ tail → rx (front ++ t ∷ other) ≡ Err (Bad (t ∷ other)) → ry (front ++ t ∷ other) ≡ Err (Bad (t ∷ other)))
-    → Cause Near rx front stop → Cause Out ry front stop
-cause_first Near Out low rx ry front (Bad rest) f c = λ t tail is other. f t tail other is (c t tail is other)
-cause_first Near Out low rx ry front (Low rest) f c = low front rest c
-
-cause_second : {T X Y : Type 0} (IsLow Out : List T → List T → Type 0) (before : List T) → ((front rest : List T) → IsLow front rest → Out (before ++ front) rest) → (rx : List T → Read T X) (ry : List T → Read T Y) (front : List T) (stop : Stop T)
-    → ((t : T) (tail other : List T) → place stop ≡ t ∷ tail → rx (front ++ t ∷ other) ≡ Err (Bad (t ∷ other)) → ry ((before ++ front) ++ t ∷ other) ≡ Err (Bad (t ∷ other)))
-    → Cause IsLow rx front stop → Cause Out ry (before ++ front) stop
-cause_second IsLow Out before low rx ry front (Bad rest) f c = λ t tail is other. f t tail other is (c t tail is other)
-cause_second IsLow Out before low rx ry front (Low rest) f c = low front rest c
+  -- behind the first, the second can go on so
+  pub then_behind : (x : X) → FX x → (front : List T) → CanGoOn sy FY front → BothCan (sx x ++ front)
+  then_behind x fits front v = record {
+    some = (x, v.some);
+    fits = (fits, v.fits);
+    more = v.more;
+    is = ap (λ (t : List T). sx x ++ t) v.is ∙ sym (append_assoc (sx x) front v.more);
+  }
 
 -- both end where the two end, the first before the second, which may be spelled by no tokens
-pub record EndsOfBoth {T X Y : Type 0} (sx : X → List T) (FX : X → Type 0) (gx : X → T → Bool) (sy : Y → List T) (FY : Y → Type 0) (gy : Y → T → Bool) (goes : X × Y → T → Bool) : Type 0 where
+pub record EndsOfBoth {T X Y : Type 0} (sx : X → List T) (FX : X → Type 0) (gx : X → T → Bool) (sy : Y → List T) (FY : Y → Type 0) (gy : Y → T → Bool)
+    (goes : X × Y → T → Bool) : Type 0 where
   pub joined : (x : X) (y : Y) (rest : List T) → FX x → FY y → Ends gx x (sy y ++ rest) → Ends gy y rest → Ends goes (x, y) rest
   pub apart : (x : X) (y : Y) (rest : List T) → FX x → FY y → Ends goes (x, y) rest → Ends gx x (sy y ++ rest) × Ends gy y rest
   pub on : (x : X) (y : Y) (t : T) → FX x → FY y → goes (x, y) t ≡ true → CanGoOn (then_spell sx sy) (ThenFits FX FY) ((sx x ++ sy y) ++ t ∷ [])
 
-pub then_format : {T X Y : Type 0} (Near IsLow Out : List T → List T → Type 0) (sx : X → List T) (FX : X → Type 0) (gx : X → T → Bool) (rx : List T → Read T X) (sy : Y → List T) (FY : Y → Type 0) (gy : Y → T → Bool) (ry : List T → Read T Y) (goes : X × Y → T → Bool)
-    → ((front rest : List T) → Near front rest → Out front rest) → ((x : X) (front rest : List T) → FX x → IsLow front rest → Out (sx x ++ front) rest)
-    → Format Near sx FX gx rx → Format IsLow sy FY gy ry → (y0 : Y) → FY y0 → EndsOfBoth sx FX gx sy FY gy goes
-    → Format Out (then_spell sx sy) (ThenFits FX FY) goes (then_at rx ry)
-then_format {T} {X} {Y} Near IsLow Out sx FX gx rx sy FY gy ry goes low_first low_second fx fy y0 fits0 both = record {
-  found = λ tokens p rest e.
-      let a = bind_ok (rx tokens) (λ x. ry x.1 >>= λ y. Ok ((x.0, y.0), y.1)) (p, rest) e in
-      let b = bind_ok (ry a.0.1) (λ y. Ok ((a.0.0, y.0), y.1)) (p, rest) a.2 in
-      let f1 = fx.found tokens a.0.0 a.0.1 a.1 in
-      let f2 = fy.found a.0.1 b.0.0 b.0.1 b.1 in
-      let made : (X × Y) × List T = ((a.0.0, b.0.0), b.0.1) in
-      let first : Ends gx a.0.0 (sy b.0.0 ++ b.0.1) = subst (λ (u : List T). Ends gx a.0.0 u) f2.parts f1.ends in
-      subst (λ (q : (X × Y) × List T). Found (then_spell sx sy) (ThenFits FX FY) goes tokens q.0 q.1) (ok_is made (p, rest) b.2)
-      (record {
-        parts = f1.parts ∙ ap (λ (t : List T). sx a.0.0 ++ t) f2.parts ∙ sym (append_assoc (sx a.0.0) (sy b.0.0) b.0.1);
-        fits = (f1.fits, f2.fits);
-        ends = both.joined a.0.0 b.0.0 b.0.1 f1.fits f2.fits first f2.ends;
-      });
-  again = λ p rest fits ends.
-      let e = both.apart p.0 p.1 rest fits.0 fits.1 ends in
-      ap (then_at rx ry) (append_assoc (sx p.0) (sy p.1) rest) ∙ rw (fx.again p.0 (sy p.1 ++ rest) fits.0 e.0, fy.again p.1 rest fits.1 e.1) refl;
-  stuck = λ tokens stop e.
-      elim (bind_err (rx tokens) (λ x. ry x.1 >>= λ y. Ok ((x.0, y.0), y.1)) stop e) [
-        | inl h ↦
-            let s = fx.stuck tokens stop h in
-            record {
-              front = s.front;
-              parts = s.parts;
-              viable = viable_map sx FX (then_spell sx sy) (ThenFits FX FY) s.front (then_extend sx FX sy FY y0 fits0 s.front) s.viable;
-              cause = cause_first Near Out low_first rx (then_at rx ry) s.front stop (λ t tail other is e. rw e refl) s.cause;
-            }
-        | inr h ↦
-            elim (bind_err (ry h.0.1) (λ y. Ok ((h.0.0, y.0), y.1)) stop h.2) [
-              | inl k ↦
-                  let f = fx.found tokens h.0.0 h.0.1 h.1 in
-                  let s = fy.stuck h.0.1 stop k in
-                  record {
-                    front = sx h.0.0 ++ s.front;
-                    parts = f.parts ∙ ap (λ (t : List T). sx h.0.0 ++ t) s.parts ∙ sym (append_assoc (sx h.0.0) s.front (place stop));
-                    viable = viable_of (then_spell sx sy) (ThenFits FX FY) (sx h.0.0 ++ s.front) (then_behind sx FX sy FY h.0.0 f.fits s.front (can_go_on sy FY y0 fits0 s.front s.viable));
-                    cause = cause_second IsLow Out (sx h.0.0) (λ front rest low. low_second h.0.0 front rest f.fits low) ry (then_at rx ry) s.front stop (λ t tail other is e.
-                        let ends : Ends gx h.0.0 (s.front ++ t ∷ other) = ends_first gx h.0.0 s.front t tail other (subst (λ (u : List T). Ends gx h.0.0 u) (s.parts ∙ ap (λ (u : List T). s.front ++ u) is) f.ends) in
-                        ap (then_at rx ry) (append_assoc (sx h.0.0) s.front (t ∷ other)) ∙ rw (fx.again h.0.0 (s.front ++ t ∷ other) f.fits ends, e) refl) s.cause;
-                  }
-              | inr k ↦ not_both ((h.0.0, k.0.0), k.0.1) stop k.2
-            ]
-      ];
-  on = λ p t fits g. both.on p.0 p.1 t fits.0 fits.1 g;
-}
+module _ {T X Y : Type 0} (Near IsLow Out : List T → List T → Type 0) (sx : X → List T) (FX : X → Type 0) (gx : X → T → Bool) (rx : List T → Read T X)
+    (sy : Y → List T) (FY : Y → Type 0) (gy : Y → T → Bool) (ry : List T → Read T Y) (goes : X × Y → T → Bool) where
+  abbrev BothFound : List T → (X × Y) × List T → Type 0
+  BothFound tokens q = Found (then_spell sx sy) (ThenFits FX FY) goes tokens q.0 q.1
+
+  pub then_format : ((front rest : List T) → Near front rest → Out front rest)
+      → ((x : X) (front rest : List T) → FX x → IsLow front rest → Out (sx x ++ front) rest)
+      → Format Near sx FX gx rx → Format IsLow sy FY gy ry → (y0 : Y) → FY y0 → EndsOfBoth sx FX gx sy FY gy goes
+      → Format Out (then_spell sx sy) (ThenFits FX FY) goes (then_at rx ry)
+  then_format low_first low_second fx fy y0 fits0 both = record {
+    found = λ tokens p rest e.
+        let a = bind_ok (rx tokens) (λ x. ry x.1 >>= λ y. Ok ((x.0, y.0), y.1)) (p, rest) e in
+        let b = bind_ok (ry a.0.1) (λ y. Ok ((a.0.0, y.0), y.1)) (p, rest) a.2 in
+        let f1 = fx.found tokens a.0.0 a.0.1 a.1 in
+        let f2 = fy.found a.0.1 b.0.0 b.0.1 b.1 in
+        let made : (X × Y) × List T = ((a.0.0, b.0.0), b.0.1) in
+        let first : Ends gx a.0.0 (sy b.0.0 ++ b.0.1) = subst (λ (u : List T). Ends gx a.0.0 u) f2.parts f1.ends in
+        subst (BothFound tokens) (ok_is made (p, rest) b.2) (record {
+          parts = f1.parts ∙ ap (λ (t : List T). sx a.0.0 ++ t) f2.parts ∙ sym (append_assoc (sx a.0.0) (sy b.0.0) b.0.1);
+          fits = (f1.fits, f2.fits);
+          ends = both.joined a.0.0 b.0.0 b.0.1 f1.fits f2.fits first f2.ends;
+        });
+    again = λ p rest fits ends.
+        let e = both.apart p.0 p.1 rest fits.0 fits.1 ends in
+        ap (then_at rx ry) (append_assoc (sx p.0) (sy p.1) rest) ∙ rw (fx.again p.0 (sy p.1 ++ rest) fits.0 e.0, fy.again p.1 rest fits.1 e.1) refl;
+    stuck = λ tokens stop e.
+        elim (bind_err (rx tokens) (λ x. ry x.1 >>= λ y. Ok ((x.0, y.0), y.1)) stop e) [
+          | inl h ↦
+              let s = fx.stuck tokens stop h in
+              record {
+                front = s.front;
+                parts = s.parts;
+                viable = viable_map sx FX (then_spell sx sy) (ThenFits FX FY) s.front (then_extend sx FX sy FY y0 fits0 s.front) s.viable;
+                cause = cause_on Near Out rx (then_at rx ry) s.front s.front stop (λ t tail other is e. rw e refl) (low_first s.front) s.cause;
+              }
+          | inr h ↦
+              elim (bind_err (ry h.0.1) (λ y. Ok ((h.0.0, y.0), y.1)) stop h.2) [
+                | inr k ↦ not_both ((h.0.0, k.0.0), k.0.1) stop k.2
+                | inl k ↦
+                    let f = fx.found tokens h.0.0 h.0.1 h.1 in
+                    let s = fy.stuck h.0.1 stop k in
+                    let x : List T = sx h.0.0 in
+                    let on = then_behind sx FX sy FY h.0.0 f.fits s.front (can_go_on sy FY y0 fits0 s.front s.viable) in
+                    record {
+                      front = x ++ s.front;
+                      parts = f.parts ∙ ap (λ (t : List T). x ++ t) s.parts ∙ sym (append_assoc x s.front (place stop));
+                      viable = viable_of (then_spell sx sy) (ThenFits FX FY) (x ++ s.front) on;
+                      cause = cause_on IsLow Out ry (then_at rx ry) s.front (x ++ s.front) stop (λ t tail other is e.
+                          let left : List T = s.front ++ t ∷ other in
+                          let ends = stop_ends gx h.0.0 h.0.1 s.front (place stop) t tail other s.parts is f.ends in
+                          ap (then_at rx ry) (append_assoc x s.front (t ∷ other)) ∙ rw (fx.again h.0.0 left f.fits ends, e) refl)
+                          (λ rest low. low_second h.0.0 s.front rest f.fits low) s.cause;
+                    }
+              ]
+        ];
+    on = λ p t fits g. both.on p.0 p.1 t fits.0 fits.1 g;
+  }
 
 -- ---- where the second tells the end of both
 
 abbrev pub then_goes : {T X Y : Type 0} → (Y → T → Bool) → X × Y → T → Bool
 then_goes gy p t = gy p.1 t
 
--- the first ends before the second wherever that ends
-pub ends_of_second : {T X Y : Type 0} (IsLow : List T → List T → Type 0) (sx : X → List T) (FX : X → Type 0) (gx : X → T → Bool) (sy : Y → List T) (FY : Y → Type 0) (gy : Y → T → Bool) (ry : List T → Read T Y) → Format IsLow sy FY gy ry
-    → ((x : X) (y : Y) (rest : List T) → FX x → FY y → Ends gy y rest → Ends gx x (sy y ++ rest)) → EndsOfBoth sx FX gx sy FY gy (then_goes gy)
-ends_of_second IsLow sx FX gx sy FY gy ry fy after = record {
-  joined = λ x y rest fits_x fits_y first second. second;
-  apart = λ x y rest fits_x fits_y ends. (after x y rest fits_x fits_y ends, ends);
-  on = λ x y t fits_x fits_y g. subst (CanGoOn (then_spell sx sy) (ThenFits FX FY)) (sym (append_assoc (sx x) (sy y) (t ∷ []))) (then_behind sx FX sy FY x fits_x (sy y ++ t ∷ []) (fy.on y t fits_y g));
-}
+module _ {T X Y : Type 0} (IsLow : List T → List T → Type 0) (sx : X → List T) (FX : X → Type 0) (gx : X → T → Bool) (sy : Y → List T) (FY : Y → Type 0)
+    (gy : Y → T → Bool) (ry : List T → Read T Y) (fy : Format IsLow sy FY gy ry)
+    (after : (x : X) (y : Y) (rest : List T) → FX x → FY y → Ends gy y rest → Ends gx x (sy y ++ rest)) where
+  -- the first ends before the second wherever that ends
+  pub ends_of_second : EndsOfBoth sx FX gx sy FY gy (then_goes gy)
+  ends_of_second = record {
+    joined = λ x y rest fits_x fits_y first second. second;
+    apart = λ x y rest fits_x fits_y ends. (after x y rest fits_x fits_y ends, ends);
+    on = λ x y t fits_x fits_y g. subst (CanGoOn (then_spell sx sy) (ThenFits FX FY)) (sym (append_assoc (sx x) (sy y) (t ∷ [])))
+        (then_behind sx FX sy FY x fits_x (sy y ++ t ∷ []) (fy.on y t fits_y g));
+  }
 
 -- both have the same low places
-pub then_second_format : {T X Y : Type 0} (IsLow : List T → List T → Type 0) (moved : IsLocal IsLow) (sx : X → List T) (FX : X → Type 0) (gx : X → T → Bool) (rx : List T → Read T X) (sy : Y → List T) (FY : Y → Type 0) (gy : Y → T → Bool) (ry : List T → Read T Y)
+pub then_second_format : {T X Y : Type 0} (IsLow : List T → List T → Type 0) (moved : IsLocal IsLow) (sx : X → List T) (FX : X → Type 0) (gx : X → T → Bool)
+    (rx : List T → Read T X) (sy : Y → List T) (FY : Y → Type 0) (gy : Y → T → Bool) (ry : List T → Read T Y)
     → Format IsLow sx FX gx rx → Format IsLow sy FY gy ry → (y0 : Y) → FY y0
     → ((x : X) (y : Y) (rest : List T) → FX x → FY y → Ends gy y rest → Ends gx x (sy y ++ rest))
     → Format IsLow (then_spell sx sy) (ThenFits FX FY) (then_goes gy) (then_at rx ry)
 then_second_format IsLow moved sx FX gx rx sy FY gy ry fx fy y0 fits0 after =
-    then_format IsLow IsLow IsLow sx FX gx rx sy FY gy ry (then_goes gy) (λ front rest low. low) (λ x front rest fits low. moved (sx x) front rest low) fx fy y0 fits0 (ends_of_second IsLow sx FX gx sy FY gy ry fy after)
+    then_format IsLow IsLow IsLow sx FX gx rx sy FY gy ry (then_goes gy) (λ front rest low. low) (λ x front rest fits low. moved (sx x) front rest low) fx fy
+    y0 fits0 (ends_of_second IsLow sx FX gx sy FY gy ry fy after)

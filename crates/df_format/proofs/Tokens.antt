@@ -1,15 +1,12 @@
 -- Laws by kind of token. A reader that stops at no low place keeps its laws whatever is low.
-use Rattle.std.proofs.Common.{◌≡◌, ℕ, suc, Bool, true, false, cond, List, [], ◌∷◌, ◌++◌, length, Option, Some, None, Ok, Err, refl, sym, ap, subst, ◌∙◌}
-use Rattle.std.proofs.Common.{append_assoc, ◌⊎◌, inl, inr}
-use Rattle.std.specs.List.{AllByRecursion, flat_map}
-use Rattle.df_format.specs.Reading.{Stop, Bad, Low, Read, ◌>>=◌, as_at, either_at, text_at, behind_at, closed_at, one_at, many_of}
-use Rattle.df_format.specs.Spelling.{one_spell, many_spell}
+use Rattle.std.proofs.Common.{◌≡◌, ℕ, Bool, true, false, cond, List, [], ◌∷◌, ◌++◌, Option, Some, None, Ok, Err, refl, sym, ap, subst, ◌∙◌, ◌⊎◌, inl, inr}
+use Rattle.df_format.specs.Reading.{Stop, Bad, Read, ◌>>=◌, as_at, either_at, text_at, behind_at, closed_at, one_at}
 use Rattle.df_format.specs.Grammar.{CanGoOn}
-use Rattle.df_format.specs.Format.{Ends, Found, IsViable, Cause, Stuck, IsLocal, Format}
-use Rattle.df_format.proofs.Laws.{ok_is, err_is, not_both, bind_ok, bind_err, chosen, never, ends_never, can_go_on, cause_behind}
+use Rattle.df_format.specs.Format.{Ends, Found, IsViable, Stuck, IsLocal, Format}
+use Rattle.df_format.proofs.Laws.{ok_is, err_is, not_both, bind_ok, bind_err, chosen, never, ends_never, can_go_on, cause_on}
 use Rattle.df_format.proofs.Choices.{Begins, either_format}
 use Rattle.df_format.proofs.Joins.{Views, as_format, alike_format, same_read, behind_format, closed_format}
-use Rattle.df_format.proofs.Many.{AllFit, Items, many_goes, many_format, one_format}
+use Rattle.df_format.proofs.Ones.{one_format}
 
 -- ---- no low place
 
@@ -20,20 +17,16 @@ nowhere front rest = ⊥
 pub nowhere_is_local : IsLocal nowhere
 nowhere_is_local before front rest low = low
 
-cause_as : {T X : Type 0} {IsLow Out : List T → List T → Type 0} (read : List T → Read T X) (front : List T) (stop : Stop T)
-    → ((front rest : List T) → IsLow front rest → Out front rest) → Cause IsLow read front stop → Cause Out read front stop
-cause_as read front (Bad rest) low c = c
-cause_as read front (Low rest) low c = low front rest c
-
 -- where one place is low, another is told
 pub low_as : {T X : Type 0} {IsLow Out : List T → List T → Type 0} {spell : X → List T} {Fits : X → Type 0} {goes : X → T → Bool} {read : List T → Read T X}
     → ((front rest : List T) → IsLow front rest → Out front rest) → Format IsLow spell Fits goes read → Format Out spell Fits goes read
-low_as {read = read} low f = record {
+low_as {IsLow = IsLow} {Out = Out} {read = read} low f = record {
   found = f.found;
   again = f.again;
   stuck = λ tokens stop e.
       let s = f.stuck tokens stop e in
-      record { front = s.front; parts = s.parts; viable = s.viable; cause = cause_as read s.front stop low s.cause };
+      let cause = cause_on IsLow Out read read s.front s.front stop (λ t tail other is e. e) (low s.front) s.cause in
+      record { front = s.front; parts = s.parts; viable = s.viable; cause = cause };
   on = f.on;
 }
 
@@ -90,21 +83,22 @@ bind_made make (Ok h) read = refl
 bind_made make (Err s) read = refl
 
 -- what make makes of what stands behind these bytes
-pub led : {X Y : Type 0} {IsLow : List ℕ → List ℕ → Type 0} {sx : X → List ℕ} {FX : X → Type 0} {gx : X → ℕ → Bool} {rx : List ℕ → Read ℕ X}
-    {sy : Y → List ℕ} {gy : Y → ℕ → Bool} → IsLocal IsLow → (ws : List ℕ) (make : X → Y) (x : X) → FX x → Format IsLow sx FX gx rx
+pub led : {X Y : Type 0} {IsLow Out : List ℕ → List ℕ → Type 0} {sx : X → List ℕ} {FX : X → Type 0} {gx : X → ℕ → Bool} {rx : List ℕ → Read ℕ X}
+    {sy : Y → List ℕ} {gy : Y → ℕ → Bool} (ws : List ℕ) (make : X → Y) → ((front rest : List ℕ) → IsLow front rest → Out (ws ++ front) rest)
+    → (x : X) → FX x → Format IsLow sx FX gx rx
     → ((x : X) → FX x → sy (make x) ≡ ws ++ sx x) → ((x : X) (c : ℕ) → FX x → gy (make x) c ≡ gx x c)
-    → Format IsLow sy (Of make FX) gy (behind_at ws (as_at make rx))
-led {IsLow = IsLow} {sx = sx} {FX = FX} {gx = gx} {rx = rx} {sy = sy} {gy = gy} moved ws make x fits f spelled alike =
-    same_read IsLow sy (Of make FX) gy (as_at make (behind_at ws rx)) (behind_at ws (as_at make rx)) (λ bytes. bind_made make (text_at ws bytes) rx)
-    (made make (behind_format IsLow moved ws sx FX gx rx x fits f) spelled alike)
+    → Format Out sy (Of make FX) gy (behind_at ws (as_at make rx))
+led {IsLow = IsLow} {Out = Out} {sx = sx} {FX = FX} {gx = gx} {rx = rx} {sy = sy} {gy = gy} ws make low x fits f spelled alike =
+    same_read Out sy (Of make FX) gy (as_at make (behind_at ws rx)) (behind_at ws (as_at make rx)) (λ bytes. bind_made make (text_at ws bytes) rx)
+    (made make (behind_format IsLow Out ws low sx FX gx rx x fits f) spelled alike)
 
 pub enclosed : {X : Type 0} {IsLow : List ℕ → List ℕ → Type 0} {spell text : X → List ℕ} {Fits : X → Type 0} {goes : X → ℕ → Bool} {read : List ℕ → Read ℕ X}
     → IsLocal IsLow → (ws : List ℕ) (w : ℕ) (x : X) → Fits x → ((x : X) → Fits x → goes x w ≡ false) → ((x : X) → Fits x → text x ≡ ws ++ (spell x ++ w ∷ []))
     → Format IsLow spell Fits goes read → Format IsLow text Fits never (behind_at ws (closed_at (w ∷ []) read))
 enclosed {IsLow = IsLow} {spell = spell} {Fits = Fits} {goes = goes} {read = read} moved ws w x fits apart spelled f =
     told_as spelled (λ x c h. refl)
-    (behind_format IsLow moved ws (λ x. spell x ++ w ∷ []) Fits never (closed_at (w ∷ []) read) x fits
-    (closed_format IsLow moved w [] spell Fits goes read apart f))
+    (behind_format IsLow IsLow ws (moved ws) (λ x. spell x ++ w ∷ []) Fits never (closed_at (w ∷ []) read) x fits
+    (closed_format IsLow w [] spell Fits goes read apart f))
 
 -- ---- where reading stops at a place
 
@@ -224,8 +218,8 @@ module _ {X Y : Type 0} {test : ℕ → Bool} {next : ℕ → List ℕ → Read 
                 front = c ∷ s.front;
                 parts = ap (λ (u : List ℕ). c ∷ u) s.parts;
                 viable = chain_can c s.front h.0 (can_go_on sy (FY c) y.0 y.1 s.front s.viable);
-                cause = cause_behind nowhere nowhere_is_local (next c) (chain_at test next make) (c ∷ []) s.front stop
-                    (λ t tail other is e. rw (h.0, e) refl) s.cause;
+                cause = cause_on nowhere nowhere (next c) (chain_at test next make) s.front (c ∷ s.front) stop
+                    (λ t tail other is e. rw (h.0, e) refl) (λ rest low. low) s.cause;
               }
         ]
       ]
@@ -259,49 +253,3 @@ passing_back test c x e = by (test c) refl e
 
 pub passing_format : (test : ℕ → Bool) → Format nowhere itself (λ c. test c ≡ true) never (one_at (passing test))
 passing_format test = one_format nowhere (λ c. c) (λ c. test c ≡ true) (passing test) (record { back = passing_back test; again = λ x fits. rw fits refl })
-
--- ---- as many of one kind as there are
-
-all_fit : {X : Type 0} (Fits : X → Type 0) (k : ℕ) (xs : List X) → AllFit (λ k. Fits) k xs → AllByRecursion Fits xs
-all_fit Fits k [] h = tt
-all_fit Fits k (x ∷ xs) h = (h.0, all_fit Fits (suc k) xs h.1)
-
-fit_all : {X : Type 0} (Fits : X → Type 0) (k : ℕ) (xs : List X) → AllByRecursion Fits xs → AllFit (λ k. Fits) k xs
-fit_all Fits k [] h = tt
-fit_all Fits k (x ∷ xs) h = (h.0, fit_all Fits (suc k) xs h.1)
-
-spelled_all : {X : Type 0} (spell : X → List ℕ) (k : ℕ) (xs : List X) → flat_map spell xs ≡ many_spell (λ k. spell) k xs
-spelled_all spell k [] = refl
-spelled_all spell k (x ∷ xs) = ap (λ (u : List ℕ). spell x ++ u) (spelled_all spell (suc k) xs)
-
-goes_all : {X : Type 0} (begins : ℕ → Bool) (k : ℕ) (xs : List X) (c : ℕ) → begins c ≡ many_goes (λ k. begins) never k xs c
-goes_all begins k [] c = refl
-goes_all begins k (x ∷ []) c = elim (begins c) as (λ b. b ≡ cond b true false) [ true ↦ refl | false ↦ refl ]
-goes_all begins k (x ∷ y ∷ xs) c = goes_all begins (suc k) (y ∷ xs) c
-
-pub each_format : {X : Type 0} (begins : ℕ → Bool) {spell : X → List ℕ} {Fits : X → Type 0} {read : List ℕ → Read ℕ X} → Format nowhere spell Fits never read
-    → ((x : X) → Fits x → Begins begins true (spell x)) → ((c : ℕ) → begins c ≡ true → CanGoOn spell Fits (c ∷ []))
-    → Format nowhere (flat_map spell) (AllByRecursion Fits) (λ xs. begins) (many_of (λ k. begins) (λ k. read) 0)
-each_format {X} begins {spell} {Fits} {read} f starts some =
-    alike_format nowhere (many_spell (λ k. spell) 0) (AllFit (λ k. Fits) 0) (many_goes (λ k. begins) never 0) (flat_map spell) (AllByRecursion Fits)
-    (λ xs. begins)
-    (many_of (λ k. begins) (λ k. read) 0)
-    (record {
-      to = all_fit Fits 0;
-      from = λ xs h. (
-        xs,
-        fit_all Fits 0 xs h,
-        refl,
-      );
-      spelled = λ xs h. spelled_all spell 0 xs;
-      alike = λ xs c h. goes_all begins 0 xs c;
-    })
-    (many_format nowhere nowhere_is_local (λ k. begins) (λ k. spell) (λ k. Fits) never (λ k. read) items 0)
-  where
-    items : Items nowhere (λ k. begins) (λ k. spell) (λ k. Fits) never (λ k. read)
-    items = record {
-      item = λ k c h. f;
-      starts = λ k x fits. let b = starts x fits in (b.first, b.others, b.is, b.test);
-      apart = λ k j x c fits h. refl;
-      some = λ k c h. some c h;
-    }

@@ -1,5 +1,5 @@
 -- Reading from left to right. The tokens of a literal are its bytes, those of a file its lines.
-use Rattle.std.specs.Prelude.{ℕ, zero, suc, Bool, List, [], ◌∷◌, ◌++◌, length, Option, Some, None, Result, Ok, Err, ◌==◌, if◌then◌else◌}
+use Rattle.std.specs.Prelude.{ℕ, zero, suc, Bool, false, List, [], ◌∷◌, ◌++◌, length, Option, Some, None, Result, Ok, Err, ◌==◌, if◌then◌else◌}
 
 -- why reading stopped, with the tokens from there on
 pub data Stop (T : Type 0) : Type 0 where
@@ -49,20 +49,10 @@ abbrev pub one_at : {T X : Type 0} → (T → Option X) → List T → Read T X
 one_at decode [] = Err (Bad [])
 one_at decode (t ∷ ts) = decoded (decode t) t ts
 
--- as many as there are tokens that begin one; the k-th is read by read k
-abbrev pub many_at : {T X : Type 0} → (ℕ → T → Bool) → (ℕ → List T → Read T X) → ℕ → ℕ → List T →
-    Read T (List X)
-many_at begins read n k [] = Ok ([], [])
-many_at begins read zero k (t ∷ ts) = Ok ([], t ∷ ts)
-many_at begins read (suc n) k (t ∷ ts) =
-    if begins k t
-    then (read k (t ∷ ts) >>= λ x. many_at begins read n (suc k) x.1 >>= λ xs. Ok
-    (x.0 ∷ xs.0, xs.1))
-    else Ok ([], t ∷ ts)
-
-abbrev pub many_of : {T X : Type 0} → (ℕ → T → Bool) → (ℕ → List T → Read T X) → ℕ → List T →
-    Read T (List X)
-many_of begins read k ts = many_at begins read (length ts) k ts
+-- whether the first of these tokens passes the test
+abbrev pub starts : {T : Type 0} → (T → Bool) → List T → Bool
+starts test [] = false
+starts test (t ∷ ts) = test t
 
 -- just these bytes
 abbrev pub text_at : List ℕ → List ℕ → Read ℕ (List ℕ)

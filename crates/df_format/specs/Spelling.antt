@@ -1,5 +1,5 @@
 -- How what is read one behind the other is spelled.
-use Rattle.std.specs.Prelude.{ℕ, suc, List, [], ◌∷◌, ◌++◌, Option, Some, None}
+use Rattle.std.specs.Prelude.{List, [], ◌∷◌, ◌++◌, Option, Some, None}
 
 -- one thing and then another
 abbrev pub then_spell : {T X Y : Type 0} → (X → List T) → (Y → List T) → X × Y → List T
@@ -13,11 +13,6 @@ maybe_spell spell (Some x) = spell x
 -- one token
 abbrev pub one_spell : {T X : Type 0} → (X → T) → X → List T
 one_spell token x = token x ∷ []
-
--- several, of which the first is the k-th
-abbrev pub many_spell : {T X : Type 0} → (ℕ → X → List T) → ℕ → List X → List T
-many_spell spell k [] = []
-many_spell spell k (x ∷ xs) = spell k x ++ many_spell spell (suc k) xs
 
 -- items, each behind sep
 abbrev pub more_spell : {T X : Type 0} → T → (X → List T) → List X → List T

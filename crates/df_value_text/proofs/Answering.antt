@@ -1,6 +1,5 @@
 -- What a format says of the answers of a reader that gives what reading gives.
-use Rattle.df_value_text.proofs.Names.{◌≡◌, ℕ, Bool, List, drop, Ok, Err, refl, sym, ap, ◌∙◌, inl, inr, Bad, Low, Read, Stands, Format, ok_is, err_is, not_both}
-use Rattle.df_value_text.proofs.Names.{stands, can_go_on, Fails, refusal, IsFound, IsRead, IsSyntaxAt, Fault}
+use Rattle.df_value_text.proofs.Names.{◌≡◌, ℕ, Bool, List, drop, Ok, Err, refl, sym, ap, ◌∙◌, inl, inr, Bad, Low, Read, Stands, Format, ok_is, err_is, not_both, stands, can_go_on, Fails, refusal, IsFound, IsRead, IsSyntaxAt, Fault}
 use Rattle.std.proofs.Common.{Result}
 use Rattle.std.specs.Prelude.{IfErr, IfOk}
 use Rattle.df_format.proofs.Laws.{is_read, first_bad}

@@ -1,9 +1,5 @@
 -- Bytes are read as they are spelled.
-use Rattle.df_value_text.proofs.Names.{◌≡◌, ℕ, zero, suc, ◌+◌, ◌*◌, ◌/◌, ◌%◌, ◌<◌, ◌≤◌, Bool, true, false, cond, List, [], ◌∷◌, ◌++◌, length, Some, None, Ok}
-use Rattle.df_value_text.proofs.Names.{Err, refl, ap, append_assoc, arith, codes, AllByRecursion, flat_map, nat_tests, Bad, Read, ◌>>=◌, decoded, one_at}
-use Rattle.df_value_text.proofs.Names.{many_at, many_of, CanGoOn, IsLocal, Format, never, same_read, nowhere, nowhere_is_local, any_low, fitting, enclosed}
-use Rattle.df_value_text.proofs.Names.{itself, passing, passing_format, chain_at, chain_format, Links, each_format, hex, hex_digit, is_hex, hex_byte, pairs_at}
-use Rattle.df_value_text.proofs.Names.{bytes_at, AreBytes}
+use Rattle.df_value_text.proofs.Names.{◌≡◌, ℕ, ◌+◌, ◌*◌, ◌/◌, ◌%◌, ◌<◌, Bool, true, false, cond, List, [], ◌∷◌, ◌++◌, Some, None, Ok, Err, refl, append_assoc, arith, codes, AllByRecursion, flat_map, nat_tests, Bad, Read, ◌>>=◌, decoded, one_at, CanGoOn, IsLocal, Format, never, same_read, nowhere, nowhere_is_local, any_low, fitting, enclosed, itself, passing, passing_format, chain_at, chain_format, Links, each_format, hex, hex_digit, is_hex, hex_byte, pairs_at, bytes_at, AreBytes, Each, two_at}
 use Rattle.df_value_text.specs.ReadBytes.{hex_value}
 
 abbrev pub pairs_text : List ℕ → List ℕ
@@ -46,14 +42,28 @@ byte_back x lt =
 -- ---- one pair
 
 -- the byte of this digit and the one that is read behind it
-abbrev pub hexed : ℕ → ℕ × List ℕ → Read ℕ ℕ
+abbrev hexed : ℕ → ℕ × List ℕ → Read ℕ ℕ
 hexed a y = Ok (hex_byte a y.0, y.1)
 
-abbrev IsByte : ℕ → Type 0
+abbrev pub IsByte : ℕ → Type 0
 IsByte b = b < 256
 
-abbrev pair_at : List ℕ → Read ℕ ℕ
-pair_at bytes = chain_at is_hex (λ a. one_at (passing is_hex)) hex_byte bytes
+-- reading two digits is a chain
+pub two_chain : (high : ℕ → Bool) (low : ℕ → ℕ → Bool) (bytes : List ℕ)
+    → chain_at high (λ a. one_at (passing (low a))) hex_byte bytes ≡ two_at high low bytes
+two_chain high low [] = refl
+two_chain high low (a ∷ []) = refl
+two_chain high low (a ∷ b ∷ cs) = by (low a b)
+  where
+    by : (z : Bool) → cond (high a) (decoded (cond z (Some b) None) b cs >>= hexed a) (Err (Bad (a ∷ b ∷ cs)))
+        ≡ cond (high a) (cond z (Ok (hex_byte a b, cs)) (Err (Bad (b ∷ cs)))) (Err (Bad (a ∷ b ∷ cs)))
+    by true = refl
+    by false = refl
+
+pub two_format : {high : ℕ → Bool} {low : ℕ → ℕ → Bool} {Fits : ℕ → Type 0}
+    → Links high (λ a. one_at (passing (low a))) hex_byte itself (λ a b. low a b ≡ true) hex Fits → Format nowhere hex Fits never (two_at high low)
+two_format {high} {low} {Fits} links =
+    same_read nowhere hex Fits never (chain_at high (λ a. one_at (passing (low a))) hex_byte) (two_at high low) (two_chain high low) (chain_format links)
 
 pair_links : Links is_hex (λ a. one_at (passing is_hex)) hex_byte itself (λ a b. is_hex b ≡ true) hex IsByte
 pair_links = record {
@@ -64,42 +74,17 @@ pair_links = record {
   spelled = pair_back;
 }
 
-pair_format : Format nowhere hex IsByte never pair_at
-pair_format = chain_format pair_links
-
 digit_on : (c : ℕ) → is_hex c ≡ true → CanGoOn hex IsByte (c ∷ [])
 digit_on c h = record { some = hex_byte c 48; fits = pair_small c 48 h refl; more = 48 ∷ []; is = pair_back c 48 h refl }
 
 -- ---- pairs
 
-abbrev pairs_of : ℕ → ℕ → List ℕ → Read ℕ (List ℕ)
-pairs_of n k bytes = many_at (λ k. is_hex) (λ k. pair_at) n k bytes
-
-abbrev put : ℕ → List ℕ × List ℕ → Read ℕ (List ℕ)
-put b xs = Ok (b ∷ xs.0, xs.1)
-
-abbrev pair_then : ℕ → ℕ → ℕ × List ℕ → Read ℕ (List ℕ)
-pair_then n k x = pairs_of n (suc k) x.1 >>= put x.0
-
--- as many pairs as there are bytes suffice
-pairs_many : (n k : ℕ) (bytes : List ℕ) → length bytes ≤ n → pairs_of n k bytes ≡ pairs_at bytes
-pairs_many n k [] le = refl
-pairs_many zero k (a ∷ cs) le = absurd (omega (arith, le))
-pairs_many (suc n) k (a ∷ []) le = by (is_hex a)
-  where
-    by : (h : Bool) → cond h ((cond h (Err (Bad [])) (Err (Bad (a ∷ [])))) >>= pair_then n k) (Ok ([], a ∷ [])) ≡ cond h (Err (Bad [])) (Ok ([], a ∷ []))
-    by true = refl
-    by false = refl
-pairs_many (suc n) k (a ∷ b ∷ cs) le =
-    let others : pairs_of n (suc k) cs ≡ pairs_at cs = pairs_many n (suc k) cs (omega (arith, le)) in
-    by others (is_hex a) (is_hex b)
-  where
-    by : pairs_of n (suc k) cs ≡ pairs_at cs → (h g : Bool)
-        → cond h ((cond h (decoded (cond g (Some b) None) b cs >>= hexed a) (Err (Bad (a ∷ b ∷ cs)))) >>= pair_then n k) (Ok ([], a ∷ b ∷ cs))
-        ≡ cond h (cond g (pairs_at cs >>= put (hex_byte a b)) (Err (Bad (b ∷ cs)))) (Ok ([], a ∷ b ∷ cs))
-    by others false g = refl
-    by others true false = refl
-    by others true true = ap (λ (r : Read ℕ (List ℕ)). r >>= put (hex_byte a b)) others
+pub pairs_each : Each is_hex hex IsByte (two_at is_hex (λ a. is_hex))
+pairs_each = record {
+  item = two_format pair_links;
+  first = λ x lt. record { first = hex_digit (x / 16); others = hex_digit (x % 16) ∷ []; is = refl; test = digit_is (x / 16) (omega (arith, lt)) };
+  some = digit_on;
+}
 
 are_bytes : (bs : List ℕ) → AllByRecursion IsByte bs → AreBytes bs
 are_bytes [] h = tt
@@ -110,10 +95,7 @@ bytes_are [] h = tt
 bytes_are (b ∷ bs) h = (h.0, bytes_are bs h.1)
 
 pairs_format : Format nowhere pairs_text AreBytes pairs_go pairs_at
-pairs_format =
-    same_read nowhere pairs_text AreBytes pairs_go (many_of (λ k. is_hex) (λ k. pair_at) 0) pairs_at (λ bytes. pairs_many (length bytes) 0 bytes (omega arith))
-    (fitting are_bytes bytes_are (each_format is_hex pair_format
-    (λ x lt. record { first = hex_digit (x / 16); others = hex_digit (x % 16) ∷ []; is = refl; test = digit_is (x / 16) (omega (arith, lt)) }) digit_on))
+pairs_format = fitting are_bytes bytes_are (each_format pairs_each)
 
 -- ---- in quotes
 

@@ -1,12 +1,7 @@
 -- A character of words is read as it is spelled.
-use Rattle.df_value_text.proofs.Names.{◌≡◌, ℕ, ◌/◌, ◌%◌, ◌<◌, Bool, true, false, cond, eqb, List, [], ◌∷◌, Some, None, Ok, Err, refl, arith, ◌⊎◌, inl, inr}
-use Rattle.df_value_text.proofs.Names.{nat_tests, Bad, ◌>>=◌, decoded, one_at, Format, told, never, same_read, behind_format, nowhere, nowhere_is_local}
-use Rattle.df_value_text.proofs.Names.{told_as, either_of, itself, passing, passing_format, chain_at, chain_format, Links, hex, hex_digit, escaped, is_hex}
-use Rattle.df_value_text.proofs.Names.{hex_byte, is_quoted, is_control, is_plain, escape_at, ascii_at, zero, suc, ◌≤◌, nat_lt, ◌++◌, sym, ap, subst, ◌∙◌}
-use Rattle.df_value_text.proofs.Names.{flat_map, scalar, low_scalar, append-nil, CanGoOn, Begins, Of, made, is_lead, trail_length, least_second, most_second}
-use Rattle.df_value_text.proofs.Names.{char_at, begins_char}
+use Rattle.df_value_text.proofs.Names.{◌≡◌, ℕ, ◌/◌, ◌%◌, ◌<◌, Bool, true, false, cond, eqb, List, [], ◌∷◌, refl, arith, ◌⊎◌, inl, inr, nat_tests, one_at, Format, told, never, behind_format, nowhere, nowhere_is_local, told_as, either_of, itself, passing, passing_format, Links, hex, hex_digit, escaped, is_hex, hex_byte, is_quoted, is_control, is_plain, escape_at, ascii_at, zero, suc, ◌≤◌, nat_lt, ◌++◌, sym, ap, subst, ◌∙◌, flat_map, scalar, low_scalar, append-nil, CanGoOn, Begins, Of, made, is_lead, trail_length, least_second, most_second, char_at, begins_char}
 use Rattle.df_value_text.specs.ReadEscape.{is_high, is_low, control_at}
-use Rattle.df_value_text.proofs.BytesLaws.{pair_back, byte_back, hexed}
+use Rattle.df_value_text.proofs.BytesLaws.{pair_back, byte_back, two_format}
 use Rattle.std.proofs.Math.Utf8.{encode}
 use Rattle.std.proofs.lemmas.Str.{encode_ascii}
 use Rattle.df_value_text.specs.ReadWords.{alone}
@@ -52,19 +47,8 @@ control_links = record {
   spelled = λ a b ha hb. pair_back a b (high_hex a ha) (low_hex a b hb);
 }
 
-control_chain : (bytes : List ℕ) → chain_at is_high (λ a. one_at (passing (is_low a))) hex_byte bytes ≡ control_at bytes
-control_chain [] = refl
-control_chain (a ∷ []) = refl
-control_chain (a ∷ b ∷ cs) = by (is_low a b)
-  where
-    by : (z : Bool) → cond (is_high a) (decoded (cond z (Some b) None) b cs >>= hexed a) (Err (Bad (a ∷ b ∷ cs)))
-        ≡ cond (is_high a) (cond z (Ok (hex_byte a b, cs)) (Err (Bad (b ∷ cs)))) (Err (Bad (a ∷ b ∷ cs)))
-    by true = refl
-    by false = refl
-
 control_format : Format nowhere hex IsControl never control_at
-control_format = same_read nowhere hex IsControl never (chain_at is_high (λ a. one_at (passing (is_low a))) hex_byte) control_at control_chain
-    (chain_format control_links)
+control_format = two_format control_links
 
 -- ---- what stands behind a `\`
 
@@ -115,7 +99,8 @@ plain_other c h = grind (arith, nat_tests)
 pub ascii_format : Format nowhere escaped (λ c. IsEscaped c ⊎ IsPlain c) never ascii_at
 ascii_format =
     either_of (λ c. eqb c 92)
-    (told_as escaped_is (λ c t h. refl) (behind_format nowhere nowhere_is_local (92 ∷ []) behind_slash IsEscaped never escape_at 34 (inl refl) escape_format))
+    (told_as escaped_is (λ c t h. refl)
+    (behind_format nowhere nowhere (92 ∷ []) (nowhere_is_local (92 ∷ [])) behind_slash IsEscaped never escape_at 34 (inl refl) escape_format))
     (told_as plain_is (λ c t h. refl) (passing_format is_plain)) (λ c h. record { first = 92; others = behind_slash c; is = escaped_is c h; test = refl })
     (λ c h. record { first = c; others = []; is = plain_is c h; test = plain_other c h })
 

@@ -1,6 +1,5 @@
 -- Walking over a value's spelling counts what the value has.
-use Rattle.df_value_text.proofs.Names.{◌≡◌, ℕ, ◌+◌, max, Bool, true, false, List, [], ◌∷◌, ◌++◌, length, refl, ap, subst, ◌∙◌, sym, append_assoc, arith, Place}
-use Rattle.df_value_text.proofs.Names.{Walk, begins, weight, next, nested, walk, walked}
+use Rattle.df_value_text.proofs.Names.{◌≡◌, ℕ, ◌+◌, max, Bool, true, false, List, [], ◌∷◌, ◌++◌, length, refl, ap, subst, ◌∙◌, sym, append_assoc, arith, Place, Walk, begins, weight, next, nested, walk, walked}
 use Rattle.df_value_text.specs.declared.place.Place.TheVariants as place
 
 -- a walk at this place, within these brackets, with these counts

@@ -1,9 +1,5 @@
 -- Walking over numbers, words, bytes and names.
-use Rattle.df_value_text.proofs.Names.{◌≡◌, ℕ, zero, suc, ◌+◌, ◌/◌, ◌%◌, ◌^◌, ◌<◌, ◌≤◌, Bool, true, false, eqb, ◌&&◌, List, [], ◌∷◌, ◌++◌, length}
-use Rattle.df_value_text.proofs.Names.{length-append, refl, sym, subst, arith, inl, inr, ℤ, pos, negsuc, IsUtf8, nat_lt, is_ascii_digit, decimal}
-use Rattle.df_value_text.proofs.Names.{signed_decimal, flat_map, list_all, scalar, scalars, encodes, and_parts, nat_tests, decimal_by_steps, flat_map-append}
-use Rattle.df_value_text.proofs.Names.{is_name, is_name_byte, is_letter, hex, hex_digit, escaped, is_hex, AreBytes, is_quoted, is_control, IsWhole, is_lead}
-use Rattle.df_value_text.proofs.Names.{trail_length, least_second, most_second, character}
+use Rattle.df_value_text.proofs.Names.{◌≡◌, ℕ, zero, suc, ◌+◌, ◌/◌, ◌%◌, ◌^◌, ◌<◌, ◌≤◌, Bool, true, false, eqb, ◌&&◌, List, [], ◌∷◌, ◌++◌, length, length-append, refl, sym, subst, arith, inl, inr, ℤ, pos, negsuc, IsUtf8, nat_lt, is_ascii_digit, decimal, signed_decimal, flat_map, list_all, scalar, scalars, encodes, and_parts, nat_tests, decimal_by_steps, flat_map-append, is_name, is_name_byte, is_letter, hex, hex_digit, escaped, is_hex, AreBytes, is_quoted, is_control, IsWhole, is_lead, trail_length, least_second, most_second, character}
 use Rattle.std.proofs.Math.Utf8.{encode}
 use Rattle.df_value_text.proofs.BytesLaws.{digit_is}
 use Rattle.df_value_text.proofs.CharLaws.{IsChar, ascii_small, least_is, most_is, encoded_char}

@@ -1,12 +1,7 @@
 -- Items in front of a closing byte, how deep values nest, and entries, read as they are spelled.
-use Rattle.df_value_text.proofs.Names.{◌≡◌, ℕ, Bool, true, false, eqb, List, [], ◌∷◌, ◌++◌, refl, sym, ap, subst, ◌∙◌, ◌⊎◌, inl, inr, eq-eqb, Read, as_at}
-use Rattle.df_value_text.proofs.Names.{more_spell, items_spell, IsLocal, Format, never, closed_format, Begins, Follow, ItemsFit, IsText, text_format, Of, made}
-use Rattle.df_value_text.proofs.Names.{fitting, either_of, joined, listed, none_listed, ended_at, suc, ◌+◌, ◌≤◌, max, arith, is_lt, name_cmp, Plain, Plains}
-use Rattle.df_value_text.proofs.Names.{Pairs, items, entries, no_items, item, no_entries, entry, from_list, from_pairs, node_count, items_node_count}
-use Rattle.df_value_text.proofs.Names.{entries_node_count, IsSpelled, AreSpelled, AreEntries, AreBehind, Ok, append_assoc, ℤ, pos, negsuc, not, codes, eqb-true}
-use Rattle.df_value_text.proofs.Names.{and_parts, nat_tests, ◌>>=◌, items_at, ok_is, bind_ok, then_second_format, then_goes, Parts, Leads, items_goes}
-use Rattle.df_value_text.proofs.Names.{items_format, format_shrinks, behind_format, own, Less, is_name, int, NameStandsLow, name_at, is_greatest, leads_entry}
-use Rattle.df_value_text.proofs.Names.{higher_at, given_at, entry_at, next_entry_at, value_text, entry_text}
+use Rattle.df_value_text.proofs.Names.{◌≡◌, ℕ, Bool, true, false, eqb, List, [], ◌∷◌, ◌++◌, refl, sym, ap, subst, ◌∙◌, ◌⊎◌, inl, inr, eq-eqb, Read, as_at, more_spell, items_spell, Format, never, closed_format, Begins, Follow, ItemsFit, IsText, text_format, Of, made, fitting, either_of, joined, listed, none_listed, ended_at, suc, ◌≤◌, max, arith, is_lt, name_cmp, Plain, Plains, Pairs, items, entries, no_items, item, no_entries, entry, from_list, from_pairs, node_count, items_node_count, entries_node_count, IsSpelled, AreSpelled, AreEntries, AreBehind, Ok, append_assoc, ℤ, pos, negsuc, not, eqb-true, and_parts, nat_tests, ◌>>=◌, items_at, ok_is, bind_ok, then_at, in_map, low_as, nowhere, append-nil, flat_map, then_goes, Parts, Leads, items_goes, items_format, format_shrinks, behind_format, own, Less, int, is_greatest, leads_entry, higher_at, given_at, entry_at, next_entry_at, value_text, entry_text}
+use Rattle.df_format.proofs.Items.{last_of, last_split}
+use Rattle.df_value_text.specs.OrderNames.{LowWithin, MayFollow, IsOpen, Open, open_text, entries_led}
 use Rattle.df_value_text.proofs.PathLaws.{joined_items}
 use Rattle.df_value_text.proofs.NameLaws.{IsName, name_goes, name_format}
 use Rattle.df_value_text.proofs.HigherLaws.{AfterName, is_less, NearName, higher_format, greatest, above_fits, not_greatest}
@@ -56,12 +51,12 @@ module _ {X : Type 0} (spell : X → List ℕ) (Fits : X → Type 0) (After : X 
   of_chain [] h = inl (last ∷ [], refl, refl)
   of_chain (x ∷ xs) h = inr ((x, xs), h, refl)
 
-  pub ended_format : {IsLow : List ℕ → List ℕ → Type 0} {goes : X × List X → ℕ → Bool} {read : List ℕ → Read ℕ (X × List X)} → IsLocal IsLow
+  pub ended_format : {IsLow : List ℕ → List ℕ → Type 0} {goes : X × List X → ℕ → Bool} {read : List ℕ → Read ℕ (X × List X)}
       → ((xs : X × List X) → ItemsFit Fits After xs → goes xs last ≡ false) → Format IsLow (items_spell 44 spell) (ItemsFit Fits After) goes read
       → Format IsLow (ended_text last spell) (Chain Fits After) never (ended_at last read)
-  ended_format {IsLow} {goes} {read} moved ends f =
+  ended_format {IsLow} {goes} {read} ends f =
       fitting chain_of of_chain (either_of (λ c. eqb c last) (made none_listed (text_format IsLow (last ∷ [])) (λ w h. sym h) (λ w c h. refl))
-      (closed_format IsLow moved last [] (λ xs. joined 44 spell xs) (IsSome Fits After) (goes_on goes) (as_at listed read)
+      (closed_format IsLow last [] (λ xs. joined 44 spell xs) (IsSome Fits After) (goes_on goes) (as_at listed read)
       (λ xs h. subst (λ (ys : List X). goes_on goes ys last ≡ false) h.2 (ends h.0 h.1)) (made listed f (λ x h. joined_items 44 spell x.0 x.1) (λ x c h. refl)))
       none_begins some_begins)
 
@@ -170,24 +165,6 @@ entries_from n es h k =
 
 -- ---- entries
 
--- Front ends with an entry and a comma, and the name at rest isn't above that entry's. It holds behind
--- any bytes; that the entry is one of the map at hand is said of a whole value.
-pub record IsLowName (front rest : List ℕ) : Type 0 where
-  pub before : List ℕ
-  pub prev : List ℕ × Plain
-  pub named : is_name prev.0 ≡ true
-  pub is : front ≡ before ++ (entry_text prev ++ codes ",")
-  pub low : NameStandsLow prev.0 rest
-
-pub low_is_local : IsLocal IsLowName
-low_is_local before front rest low = record {
-  before = before ++ low.before;
-  prev = low.prev;
-  named = low.named;
-  is = ap (λ (u : List ℕ). before ++ u) low.is ∙ sym (append_assoc before low.before (entry_text low.prev ++ 44 ∷ []));
-  low = low.low;
-}
-
 -- only a number goes on
 abbrev pub value_goes : Plain → ℕ → Bool
 value_goes (int z) c = whole_goes z c
@@ -210,10 +187,6 @@ value_apart _ c h = refl
 pub name_apart : (name : List ℕ) → name_goes name 61 ≡ false
 name_apart name = grind (arith, nat_tests)
 
--- low behind an entry and a comma: the name itself, or some place in the value
-abbrev pub NearEntry : List ℕ × Plain → List ℕ → List ℕ → Type 0
-NearEntry prev front rest = NearName prev.0 front rest ⊎ IsLowName front rest
-
 -- `=` and a value
 abbrev given_text : Plain → List ℕ
 given_text p = 61 ∷ value_text p
@@ -221,32 +194,113 @@ given_text p = 61 ∷ value_text p
 abbrev pub entry_goes : List ℕ × Plain → ℕ → Bool
 entry_goes e c = value_goes e.1 c
 
-near_entry : (prev : List ℕ × Plain) (front rest : List ℕ) → IsName prev.0 → NearEntry prev front rest → IsLowName (entry_text prev ++ (44 ∷ front)) rest
-near_entry prev front rest fits (inl near) =
-    record { before = []; prev = prev; named = fits; is = ap (λ (u : List ℕ). entry_text prev ++ (44 ∷ u)) near.0; low = near.1 }
-near_entry prev front rest fits (inr low) =
-    subst (λ (u : List ℕ). IsLowName u rest) (append_assoc (entry_text prev) (44 ∷ []) front) (low_is_local (entry_text prev ++ 44 ∷ []) front rest low)
-
 pub not_true : (b : Bool) → not b ≡ true → b ≡ false
 not_true false h = refl
 not_true true h = absurd cc
 
-module _ (n : ℕ) (inner : List ℕ → Read ℕ Plain) (f : Format IsLowName value_text (LevelFits n) value_goes inner) where
-  given_format : Format IsLowName given_text (LevelFits n) value_goes (given_at inner)
-  given_format = behind_format IsLowName low_is_local (61 ∷ []) value_text (LevelFits n) value_goes inner (int (pos 0)) (omega arith, omega arith) f
+-- ---- what is low in a list or a map is so in the value
 
-  pub entry_format : Format IsLowName entry_text (LevelEntry n) entry_goes (entry_at inner)
-  entry_format =
-      then_second_format IsLowName low_is_local own IsName name_goes name_at given_text (LevelFits n) value_goes (given_at inner)
-      (name_format IsLowName) given_format (int (pos 0)) (omega arith, omega arith) (λ name p rest fits fits_p ends. name_apart name)
+-- items, each with a comma behind it
+abbrev pub led : {X : Type 0} → (X → List ℕ) → List X → List ℕ
+led spell xs = flat_map (λ x. spell x ++ 44 ∷ []) xs
+
+-- one more in front of these
+pub led_one : {X : Type 0} (spell : X → List ℕ) (x : X) (xs : List X) (inner : List ℕ)
+    → led spell (x ∷ xs) ++ inner ≡ spell x ++ (44 ∷ (led spell xs ++ inner))
+led_one spell x xs inner = append_assoc (spell x ++ 44 ∷ []) (led spell xs) inner ∙ append_assoc (spell x) (44 ∷ []) (led spell xs ++ inner)
+
+-- items and a comma, as they are read and as each has its comma
+pub items_led : {X : Type 0} (spell : X → List ℕ) (x : X) (xs : List X) (rest : List ℕ)
+    → items_spell 44 spell (x, xs) ++ (44 ∷ rest) ≡ led spell (x ∷ xs) ++ rest
+items_led spell x [] rest = ap (λ (u : List ℕ). u ++ (44 ∷ rest)) (append-nil (spell x)) ∙ sym (led_one spell x [] rest)
+items_led spell x (y ∷ ys) rest = append_assoc (spell x) (44 ∷ items_spell 44 spell (y, ys)) (44 ∷ rest)
+    ∙ ap (λ (u : List ℕ). spell x ++ (44 ∷ u)) (items_led spell y ys rest) ∙ sym (led_one spell x (y ∷ ys) rest)
+
+pub low_open : (o : Open) (inner rest : List ℕ) → IsOpen o → LowWithin inner rest → LowWithin (open_text o ++ inner) rest
+low_open o inner rest is low = record {
+  opened = o ∷ low.opened;
+  are = (is, low.are);
+  es = low.es;
+  last = low.last;
+  other = low.other;
+  may = low.may;
+  is = ap (λ (u : List ℕ). open_text o ++ u) low.is ∙ sym (append_assoc (open_text o) (flat_map open_text low.opened)
+      (40 ∷ entries_led (low.es ++ low.last ∷ [])));
+  low = low.low;
+}
+
+-- behind such a name and `=`
+abbrev LowEntry : (List ℕ → Type 0) → List ℕ → List ℕ → Type 0
+LowEntry F front rest = (name : List ℕ) × (inner : List ℕ) × F name × (front ≡ name ++ (61 ∷ inner)) × LowWithin inner rest
+
+-- behind a comma: the name itself, or some place in the value
+abbrev pub NearEntry : List ℕ × Plain → List ℕ → List ℕ → Type 0
+NearEntry prev front rest = NearName prev.0 front rest ⊎ LowEntry (AfterName prev.0) front rest
+
+abbrev pub LowInMap : List ℕ → List ℕ → Type 0
+LowInMap front rest = LowWithin (40 ∷ front) rest
+
+low_entry : (es : List (List ℕ × Plain)) (name inner front rest : List ℕ) → MayFollow es name → front ≡ name ++ (61 ∷ inner) → LowWithin inner rest
+    → LowInMap (entries_led es ++ front) rest
+low_entry es name inner front rest may is low =
+    subst (λ (u : List ℕ). LowInMap u rest)
+    (append_assoc (entries_led es) (name ++ 61 ∷ []) inner ∙ ap (λ (u : List ℕ). entries_led es ++ u) (append_assoc name (61 ∷ []) inner ∙ sym is))
+    (low_open (in_map es name) inner rest may low)
+
+follow_last : {X : Type 0} (After : X → X → Type 0) (x : X) (xs : List X) (y : X) → Follow After x xs → After (last_of x xs) y → Follow After x (xs ++ y ∷ [])
+follow_last After x [] y follow after = (after, tt)
+follow_last After x (z ∷ zs) y follow after = (follow.0, follow_last After z zs y follow.1 after)
+
+module _ (n : ℕ) (e : List ℕ × Plain) (es : List (List ℕ × Plain)) (y : List ℕ × Plain) (front rest : List ℕ) (fits : LevelEntry n e)
+    (follow : Follow (LevelAfter n) e es) (after : LevelAfter n (last_of e es) y) where
+  may_follow : (name : List ℕ) → AfterName (last_of e es).0 name → MayFollow (e ∷ es) name
+  may_follow name above = (y.1, (entries_to n (e ∷ (es ++ (name, y.1) ∷ [])) (fits, follow_last (LevelAfter n) e es (name, y.1) follow (above, after.1))).0)
+
+  near_entry : NearEntry (last_of e es) front rest → LowInMap (items_spell 44 entry_text (e, es) ++ (44 ∷ front)) rest
+  near_entry (inr low) =
+      subst (λ (u : List ℕ). LowInMap u rest) (sym (items_led entry_text e es front))
+      (low_entry (e ∷ es) low.0 low.1 front rest (may_follow low.0 low.2) low.3 low.4)
+  near_entry (inl near) =
+      let split = last_split e es in
+      record {
+        opened = [];
+        are = tt;
+        es = split.0;
+        last = last_of e es;
+        other = y.0;
+        may = subst (λ (u : List (List ℕ × Plain)). MayFollow u y.0) split.1 (may_follow y.0 after.0);
+        is = ap (λ (u : List ℕ). 40 ∷ u) (items_led entry_text e es front ∙ ap (λ (u : List ℕ). entries_led (e ∷ es) ++ u) near.0
+            ∙ append-nil (entries_led (e ∷ es)) ∙ ap entries_led split.1);
+        low = near.1;
+      }
+
+module _ (n : ℕ) (inner : List ℕ → Read ℕ Plain) (f : Format LowWithin value_text (LevelFits n) value_goes inner) where
+  abbrev LowGiven : List ℕ → List ℕ → Type 0
+  LowGiven front rest = (inner : List ℕ) × (front ≡ 61 ∷ inner) × LowWithin inner rest
+
+  given_format : Format LowGiven given_text (LevelFits n) value_goes (given_at inner)
+  given_format = behind_format LowWithin LowGiven (61 ∷ []) (λ front rest low. (front, refl, low)) value_text (LevelFits n) value_goes inner (int (pos 0))
+      (omega arith, omega arith) f
+
+  -- an entry whose name is read so
+  named_format : {F : List ℕ → Type 0} {name : List ℕ → Read ℕ (List ℕ)} (Near : List ℕ → List ℕ → Type 0) → Format Near own F name_goes name
+      → Format (λ front rest. Near front rest ⊎ LowEntry F front rest) entry_text (λ e. F e.0 × LevelFits n e.1) entry_goes (then_at name (given_at inner))
+  named_format {F} {name} Near fx =
+      then_format Near LowGiven (λ front rest. Near front rest ⊎ LowEntry F front rest) own F name_goes name given_text (LevelFits n) value_goes
+      (given_at inner) (then_goes value_goes) (λ front rest low. inl low)
+      (λ x front rest fits low. inr (x, low.0, fits, ap (λ (u : List ℕ). x ++ u) low.1, low.2)) fx given_format (int (pos 0)) (omega arith, omega arith)
+      (ends_of_second LowGiven own F name_goes given_text (LevelFits n) value_goes (given_at inner) given_format
+      (λ x p rest fits fits_p ends. name_apart x))
+
+  pub entry_format : Format LowInMap entry_text (LevelEntry n) entry_goes (entry_at inner)
+  entry_format = low_as first (named_format nowhere (name_format nowhere))
+    where
+      first : (front rest : List ℕ) → (nowhere front rest ⊎ LowEntry IsName front rest) → LowInMap front rest
+      first front rest (inl low) = absurd low
+      first front rest (inr low) = low_entry [] low.0 low.1 front rest (int (pos 0), (low.2, omega arith, tt)) low.3 low.4
 
   pub next_format : (prev : List ℕ × Plain) → Format (NearEntry prev) entry_text (LevelAfter n prev) entry_goes (next_entry_at inner prev.0)
-  next_format prev =
-      then_format (NearName prev.0) IsLowName (NearEntry prev) own (AfterName prev.0) name_goes (higher_at prev.0) given_text (LevelFits n) value_goes
-      (given_at inner) (then_goes value_goes) (λ front rest low. inl low) (λ name front rest fits low. inr (low_is_local name front rest low))
-      (higher_format prev.0) given_format (int (pos 0)) (omega arith, omega arith)
-      (ends_of_second IsLowName own (AfterName prev.0) name_goes given_text (LevelFits n) value_goes (given_at inner) given_format
-      (λ name p rest fits fits_p ends. name_apart name))
+  next_format prev = named_format (NearName prev.0) (higher_format prev.0)
 
   pub entries_parts : Parts NearEntry leads_entry 44 entry_text (LevelEntry n) (LevelAfter n) entry_goes (λ prev. next_entry_at inner prev.0)
   entries_parts = record {
@@ -258,19 +312,16 @@ module _ (n : ℕ) (inner : List ℕ → Read ℕ Plain) (f : Format IsLowName v
     at_sep = λ e fits. value_apart e.1 44 (inl refl);
   }
 
-  entries_lead : Leads IsLowName NearEntry leads_entry 44 entry_text (LevelEntry n) (LevelAfter n)
+  entries_lead : Leads LowInMap NearEntry leads_entry 44 entry_text (LevelEntry n) (LevelAfter n)
   entries_lead = record {
     first = λ prev c cs ds. refl;
     some = λ prev cs fits h. ((greatest, prev.1), (above_fits prev.0 fits.0 (not_true (is_greatest prev.0) h), fits.1));
-    near = λ prev front rest fits near. near_entry prev front rest fits.0 near;
+    near = near_entry n;
   }
 
-  pub entries_format : Format IsLowName (items_spell 44 entry_text) (ItemsFit (LevelEntry n) (LevelAfter n)) (items_goes leads_entry entry_goes)
+  pub entries_format : Format LowInMap (items_spell 44 entry_text) (ItemsFit (LevelEntry n) (LevelAfter n)) (items_goes leads_entry entry_goes)
       (items_at leads_entry (entry_at inner) (λ prev. next_entry_at inner prev.0))
-  entries_format =
-      items_format IsLowName low_is_local NearEntry leads_entry 44 entry_text (LevelEntry n) (LevelAfter n) entry_goes (entry_at inner)
-      (λ prev. next_entry_at inner prev.0)
-      entries_parts entries_lead entry_format
+  entries_format = items_format entries_parts entries_lead (entry_at inner) entry_format
 
 -- the name of an entry that is read is above the one before it
 pub is_higher : (inner : List ℕ → Read ℕ Plain) (prev text : List ℕ) (e : List ℕ × Plain) (rest : List ℕ) → next_entry_at inner prev text ≡ Ok (e, rest)

@@ -1,6 +1,5 @@
 -- Low names, names that aren't, and walks, worked out by hand.
-use Rattle.df_value_text.proofs.Names.{◌≡◌, ℕ, suc, List, [], ◌∷◌, Err, refl, sym, ◌∙◌, arith, codes, Bad, Low, err_is, is_longest, items, no_items, in_list}
-use Rattle.df_value_text.proofs.Names.{in_map, LowInValue, true, false, ◌++◌, counts_of}
+use Rattle.df_value_text.proofs.Names.{◌≡◌, ℕ, suc, List, [], ◌∷◌, Err, refl, sym, ◌∙◌, arith, codes, Bad, Low, err_is, is_longest, items, no_items, in_list, in_map, LowInValue, true, false, ◌++◌, counts_of}
 use Rattle.df_value_text.specs.ReadValue.{value_within}
 use Rattle.df_value_text.proofs.HigherLaws.{name_whole}
 use Rattle.df_value_text.proofs.LowLaws.{low_read}

@@ -1,10 +1,5 @@
 -- Labels and privileges are read as they are spelled.
-use Rattle.df_value_text.proofs.Names.{◌≡◌, ℕ, Bool, true, false, eqb, List, [], ◌∷◌, ◌++◌, Option, Some, None, refl, sym, ap, subst, append_assoc, arith, ◌⊎◌}
-use Rattle.df_value_text.proofs.Names.{inl, inr, is_ascii_digit, eqb-true, nat_tests, then_at, text_at, closed_at, maybe_spell, CanGoOn, Ends, Format, never}
-use Rattle.df_value_text.proofs.Names.{ends_never, then_second_format, then_goes, text_format, own, IsText, closed_format, Begins, MaybeFits, maybe_goes}
-use Rattle.df_value_text.proofs.Names.{maybe_format, last_goes, Of, led, viewed, fitting, either_of, Privilege, Right, Plus, Minus, PlusAuth, MinusAuth}
-use Rattle.df_value_text.proofs.Names.{tag_text, tags_text, label_text, privilege_text, IsTag, AreTags, IsTagSet, IsLabel, IsPrivilege, IsLowTag, tag_at}
-use Rattle.df_value_text.proofs.Names.{tags_at, leads_tag, label_at, auth_at, plus_of, right_at, privilege_at}
+use Rattle.df_value_text.proofs.Names.{◌≡◌, ℕ, Bool, true, false, eqb, List, [], ◌∷◌, ◌++◌, Option, Some, None, refl, sym, ap, subst, append_assoc, arith, ◌⊎◌, inl, inr, is_ascii_digit, eqb-true, nat_tests, then_at, text_at, closed_at, maybe_spell, CanGoOn, Ends, Format, never, ends_never, then_second_format, then_goes, text_format, own, IsText, closed_format, Begins, MaybeFits, maybe_goes, maybe_format, last_goes, Of, led, viewed, fitting, either_of, Privilege, Right, Plus, Minus, PlusAuth, MinusAuth, tag_text, tags_text, label_text, privilege_text, IsTag, AreTags, IsTagSet, IsLabel, IsPrivilege, IsLowTag, tag_at, tags_at, leads_tag, label_at, auth_at, plus_of, right_at, privilege_at}
 use Rattle.df_format.specs.Spelling.{then_spell}
 use Rattle.df_format.proofs.Thens.{ThenFits}
 use Rattle.df_value_text.specs.Label.{right_text}
@@ -42,14 +37,14 @@ sets_format : Format IsLowTag sets_text SetsFit (then_goes never) (then_at (clos
 sets_format =
     then_second_format IsLowTag low_is_local (λ tags. tags_text tags ++ 124 ∷ []) IsTagSet never (closed_at (124 ∷ []) tags_at)
     (λ tags. tags_text tags ++ 125 ∷ []) IsTagSet never (closed_at (125 ∷ []) tags_at)
-    (closed_format IsLowTag low_is_local 124 [] tags_text IsTagSet tags_goes tags_at (λ tags fits. tags_end_at tags 124 fits refl refl refl refl) tags_format)
-    (closed_format IsLowTag low_is_local 125 [] tags_text IsTagSet tags_goes tags_at (λ tags fits. tags_end_at tags 125 fits refl refl refl refl) tags_format)
+    (closed_format IsLowTag 124 [] tags_text IsTagSet tags_goes tags_at (λ tags fits. tags_end_at tags 124 fits refl refl refl refl) tags_format)
+    (closed_format IsLowTag 125 [] tags_text IsTagSet tags_goes tags_at (λ tags fits. tags_end_at tags 125 fits refl refl refl refl) tags_format)
     [] (tt, tt) (λ x y rest fx fy ends. ends_never x ((tags_text y ++ 125 ∷ []) ++ rest))
 
 pub label_format : Format IsLowTag label_text IsLabel never label_at
 label_format =
     fitting (λ label h. subst IsLabel h.2 h.1) (λ label h. ((label.s, label.i), h, refl))
-    (led low_is_local (123 ∷ []) label_of ([], []) ((tt, tt), (tt, tt)) sets_format (λ sets h. simp append_assoc) (λ sets c h. refl))
+    (led (123 ∷ []) label_of (low_is_local (123 ∷ [])) ([], []) ((tt, tt), (tt, tt)) sets_format (λ sets h. simp append_assoc) (λ sets c h. refl))
 
 -- ---- privileges
 
@@ -116,8 +111,9 @@ minus_begins word h = record { first = 45; others = maybe_spell own word; is = m
 
 pub right_format : Format nowhere right_text IsRight right_goes right_at
 right_format =
-    fitting (λ r h. tt) (λ r h. signed r) (either_of (λ c. eqb c 43) (led nowhere_is_local (43 ∷ []) plus_of None tt auth_format plus_spelled plus_alike)
-    (led nowhere_is_local (45 ∷ []) minus_of None tt auth_format minus_spelled minus_alike)
+    fitting (λ r h. tt) (λ r h. signed r) (either_of (λ c. eqb c 43)
+    (led (43 ∷ []) plus_of (nowhere_is_local (43 ∷ [])) None tt auth_format plus_spelled plus_alike)
+    (led (45 ∷ []) minus_of (nowhere_is_local (45 ∷ [])) None tt auth_format minus_spelled minus_alike)
     (λ r h. subst (λ (r : Right). Begins (λ c. eqb c 43) true (right_text r)) h.2 (plus_begins h.0 h.1))
     (λ r h. subst (λ (r : Right). Begins (λ c. eqb c 43) false (right_text r)) h.2 (minus_begins h.0 h.1)))
 

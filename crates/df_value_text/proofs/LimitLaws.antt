@@ -1,8 +1,5 @@
 -- Reading up to the first byte by which a count of freezing is passed, and what it says of all bytes.
-use Rattle.df_value_text.proofs.Names.{◌≡◌, None, Some, ℕ, suc, ◌+◌, ◌<◌, ◌≤◌, List, [], ◌∷◌, ◌++◌, length, length-append, take, drop, Ok, Err, refl, sym, ap}
-use Rattle.df_value_text.proofs.Names.{subst, ◌∙◌, append_assoc, arith, ◌⊎◌, inl, inr, true, nat_le, nat_lt, nat_tests, append-nil, drop_all, length-take-le}
-use Rattle.df_value_text.proofs.Names.{CanGoOn, Stands, Bad, Low, told, IsWithinLimits, Plain, Fails, refusal, FirstOver, NeverOver, counts_of, IsSpelled}
-use Rattle.df_value_text.proofs.Names.{IsValue, NameStandsLow, LowInValue, value_text, FirstBadValue, FirstTooLarge, IsWithinBefore, Fault}
+use Rattle.df_value_text.proofs.Names.{◌≡◌, None, Some, ℕ, suc, ◌+◌, ◌<◌, ◌≤◌, List, [], ◌∷◌, ◌++◌, length, length-append, take, drop, Ok, Err, refl, sym, ap, subst, ◌∙◌, append_assoc, arith, ◌⊎◌, inl, inr, true, nat_le, nat_lt, nat_tests, append-nil, drop_all, length-take-le, CanGoOn, Stands, Bad, Low, told, IsWithinLimits, Plain, Fails, refusal, FirstOver, NeverOver, counts_of, IsSpelled, IsValue, NameStandsLow, LowInValue, value_text, FirstBadValue, FirstTooLarge, IsWithinBefore, Fault}
 use Rattle.std.proofs.Common.{Result, min}
 use Rattle.std.specs.Result.{result_err}
 use Rattle.std.proofs.lemmas.List.{length-drop}
@@ -14,8 +11,7 @@ use Rattle.df_value_text.proofs.Answering.{told_low}
 use Rattle.df_value_text.proofs.LowLaws.{low_read}
 use Rattle.df_value_text.proofs.ValueAnswers.{Enough, first_bad_value, first_low_value, no_low_name, stops_low}
 use Rattle.df_value_text.proofs.ValueLaws.{value_format}
-use Rattle.df_value_text.proofs.LimitFronts.{viable_before, with_over, over_length, over_parts, within_in_front, over_behind, first_too_large, over_once}
-use Rattle.df_value_text.proofs.LimitFronts.{Faulty, faulty_front, faulty_longer, over_shorter, longer_parts, inside_of, low_shorter}
+use Rattle.df_value_text.proofs.LimitFronts.{viable_before, with_over, over_length, over_parts, within_in_front, over_behind, first_too_large, over_once, Faulty, faulty_front, faulty_longer, over_shorter, longer_parts, inside_of, low_shorter}
 use Rattle.df_value_text.specs.declared.refused.Fault.TheVariants as fault
 use Rattle.df_value_text.specs.declared.refused.TextRefused.TheVariants as refused
 

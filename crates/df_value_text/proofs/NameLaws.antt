@@ -1,7 +1,5 @@
 -- A name is read as it is spelled.
-use Rattle.df_value_text.proofs.Names.{◌≡◌, ℕ, zero, suc, ◌<◌, ◌≤◌, Bool, true, false, cond, ◌&&◌, List, [], ◌∷◌, ◌++◌, length, take, drop, Ok, refl, sym, ap}
-use Rattle.df_value_text.proofs.Names.{◌∙◌, arith, ◌⊎◌, inl, inr, length-append, nat_lt, list_all, nat_tests, append-nil, is_letter, is_name_byte, is_name}
-use Rattle.df_value_text.proofs.Names.{CanGoOn, Ends, Found, Format, any_low, first_at, first_format, own, name_bytes, name_at}
+use Rattle.df_value_text.proofs.Names.{◌≡◌, ℕ, zero, suc, ◌<◌, ◌≤◌, Bool, true, false, cond, ◌&&◌, List, [], ◌∷◌, ◌++◌, length, take, drop, Ok, refl, sym, ap, ◌∙◌, arith, ◌⊎◌, inl, inr, length-append, nat_lt, list_all, nat_tests, append-nil, is_letter, is_name_byte, is_name, CanGoOn, Ends, Found, Format, any_low, first_at, first_format, own, name_bytes, name_at}
 use Rattle.std.proofs.Common.{take-append-drop}
 use Rattle.std.proofs.lemmas.List.Folds.{list_all-append}
 use Rattle.std.proofs.Math.Seq.{take-append_seam, drop-append_seam}

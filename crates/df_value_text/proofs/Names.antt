@@ -5,43 +5,38 @@ pub use Rattle.df_format.proofs.Items.{Follow, ItemsFit, LastEnds, Leads, Parts,
 pub use Rattle.df_format.proofs.Joins.{behind_format, closed_format, same_read}
 pub use Rattle.df_format.proofs.Laws.{bind_err, bind_ok, can_go_on, chosen, ends_never, err_is, never, not_both, ok_is, stands, told, viable_of}
 pub use Rattle.df_format.proofs.Longest.{Whole, goes_on, is_longest, longest_read}
+pub use Rattle.df_format.proofs.Several.{Each, all_none, all_step, all_stop, each_format, each_several}
 pub use Rattle.df_format.proofs.Texts.{IsText, own, text_format, text_found}
 pub use Rattle.df_format.proofs.Thens.{then_goes, then_second_format}
-pub use Rattle.df_format.proofs.Tokens.{Links, Of, any_low, chain_at, chain_format, each_format, either_of, enclosed, first_at, first_format, first_stops}
-pub use Rattle.df_format.proofs.Tokens.{fitting, itself, led, low_as, made, nowhere, nowhere_is_local, passing, passing_format, told_as, viewed}
+pub use Rattle.df_format.proofs.Tokens.{Links, Of, any_low, chain_at, chain_format, either_of, enclosed, first_at, first_format, first_stops, fitting, itself, led, low_as, made, nowhere, nowhere_is_local, passing, passing_format, told_as, viewed}
 pub use Rattle.df_format.specs.Format.{Ends, Format, Found, IsLocal, Stuck}
 pub use Rattle.df_format.specs.Grammar.{CanGoOn, IsLongest, Stands}
-pub use Rattle.df_format.specs.Reading.{Bad, Low, Read, Stop, as_at, behind_at, closed_at, decoded, either_at, items_at, many_at, many_of, more_at, more_of}
-pub use Rattle.df_format.specs.Reading.{one_at, text_at, then_at, with_front, ◌>>=◌}
+pub use Rattle.df_format.specs.Reading.{Bad, Low, Read, Stop, as_at, behind_at, closed_at, decoded, all_at, either_at, items_at, more_at, more_of, starts, one_at, text_at, then_at, with_front, ◌>>=◌}
 pub use Rattle.df_format.specs.Spelling.{items_spell, maybe_spell, more_spell}
 pub use Rattle.df_frozen.specs.Limits.{IsWithinLimits}
 pub use Rattle.df_frozen.specs.Name.{is_letter, is_name, is_name_byte, name_cmp}
-pub use Rattle.df_frozen.specs.Plain.{Pairs, Plain, Plains, byte_count, bytes, depth, entries, entries_node_count, entry, from_list, from_pairs, int, item}
-pub use Rattle.df_frozen.specs.Plain.{items, items_node_count, no_entries, no_items, node_count, words}
+pub use Rattle.df_frozen.specs.Plain.{Pairs, Plain, Plains, byte_count, bytes, depth, entries, entries_node_count, entry, from_list, from_pairs, int, item, items, items_node_count, no_entries, no_items, node_count, words}
 pub use Rattle.df_label.specs.Tag.{tag_cmp}
 pub use Rattle.df_label.specs.declared.label.Label.{Label}
 pub use Rattle.df_label.specs.declared.privilege.Privilege.{Privilege}
 pub use Rattle.df_label.specs.declared.privilege.Right.{Right}
 pub use Rattle.df_label.specs.declared.privilege.Right.TheVariants.{Minus, MinusAuth, Plus, PlusAuth}
-pub use Rattle.df_value_text.specs.Counting.{AreWithin, FirstOver, IsOver, NeverOver, begins, character, closed, closes, counts_of, nested, next, start, walk}
-pub use Rattle.df_value_text.specs.Counting.{walked, weight}
+pub use Rattle.df_value_text.specs.Counting.{AreWithin, FirstOver, IsOver, NeverOver, begins, character, closed, closes, counts_of, nested, next, start, walk, walked, weight}
 pub use Rattle.df_value_text.specs.Fits.{AreBehind, AreEntries, AreNumbers, AreSpelled, AreTags, IsLabel, IsPrivilege, IsSpelled, IsTag, IsTagSet, IsValue}
 pub use Rattle.df_value_text.specs.Join.{joined}
 pub use Rattle.df_value_text.specs.Label.{label_text, path_text, privilege_text, tag_text, tags_text}
 pub use Rattle.df_value_text.specs.Number.{begins_with, digits_at, number_at}
 pub use Rattle.df_value_text.specs.Order.{IsLowTag, StandsLow}
 pub use Rattle.df_value_text.specs.OrderNames.{LowInValue, NameStandsLow, in_list, in_map}
-pub use Rattle.df_value_text.specs.ReadBytes.{AreBytes, bytes_at, hex_byte, is_hex, pairs_at}
+pub use Rattle.df_value_text.specs.ReadBytes.{AreBytes, bytes_at, hex_byte, is_hex, pairs_at, two_at}
 pub use Rattle.df_value_text.specs.ReadEscape.{ascii_at, escape_at, is_control, is_plain, is_quoted}
 pub use Rattle.df_value_text.specs.ReadLabel.{auth_at, label_at, plus_of, privilege_at, right_at}
 pub use Rattle.df_value_text.specs.ReadName.{name_at, name_bytes}
-pub use Rattle.df_value_text.specs.ReadTag.{begins_digit, ended, leads_number, leads_tag, listed, longest_at, next_at, numbers_at, optional, short_at}
-pub use Rattle.df_value_text.specs.ReadTag.{some_tags_at, tag_at, tags_at}
-pub use Rattle.df_value_text.specs.ReadValue.{ended_at, entry_at, given_at, higher_at, is_greatest, leads_entry, leads_value, leaf_at, list_at, list_of}
-pub use Rattle.df_value_text.specs.ReadValue.{map_at, map_of, next_entry_at, node_at, none_listed}
+pub use Rattle.df_value_text.specs.ReadTag.{begins_digit, ended, leads_number, leads_tag, listed, longest_at, next_at, numbers_at, optional, short_at, some_tags_at, tag_at, tags_at}
+pub use Rattle.df_value_text.specs.ReadValue.{ended_at, entry_at, given_at, higher_at, is_greatest, leads_entry, leads_value, leaf_at, list_at, list_of, map_at, map_of, next_entry_at, node_at, none_listed}
 pub use Rattle.df_value_text.specs.ReadWhole.{IsWhole, minus, positive_at, whole_at}
 pub use Rattle.df_value_text.specs.ReadWide.{is_between, is_lead, least_second, most_second, trail_at, trail_length, wide_at}
-pub use Rattle.df_value_text.specs.ReadWords.{begins_char, char_at, chars_at, starts, words_at}
+pub use Rattle.df_value_text.specs.ReadWords.{begins_char, char_at, chars_at, words_at}
 pub use Rattle.df_value_text.specs.Value.{entries_text, entry_text, escaped, hex, hex_digit, items_text, value_text}
 pub use Rattle.df_value_text.specs.ValueFault.{FirstBadValue, FirstLowName, FirstTooLarge, IsWithinBefore}
 pub use Rattle.df_value_text.specs.code.Answer.{Fails, IsFound, IsRead, IsSyntaxAt, refusal}
@@ -49,9 +44,7 @@ pub use Rattle.df_value_text.specs.code.WordEnd.{EndsWord}
 pub use Rattle.df_value_text.specs.declared.counting.Walk.{Walk}
 pub use Rattle.df_value_text.specs.declared.place.Place.{Place}
 pub use Rattle.df_value_text.specs.declared.refused.Fault.{Fault}
-pub use Rattle.std.proofs.Common.{Bool, Err, List, None, Ok, Option, Some, [], add-one, ap, append_assoc, arith, cond, decimal, drop, eq-eqb, eqb, false}
-pub use Rattle.std.proofs.Common.{get_or, inl, inr, length, length-append, max, nat_lt, negsuc, not, pos, refl, subst, suc, sym, take, true, zero, ℕ, ℤ, ◌%◌}
-pub use Rattle.std.proofs.Common.{◌&&◌, ◌*◌, ◌++◌, ◌+◌, ◌-◌, ◌/◌, ◌<◌, ◌^◌, ◌||◌, ◌∙◌, ◌∷◌, ◌≡◌, ◌≤◌, ◌⊎◌}
+pub use Rattle.std.proofs.Common.{Bool, Err, List, None, Ok, Option, Some, [], add-one, ap, append_assoc, arith, cond, decimal, drop, eq-eqb, eqb, false, get_or, inl, inr, length, length-append, max, nat_lt, negsuc, not, pos, refl, subst, suc, sym, take, true, zero, ℕ, ℤ, ◌%◌, ◌&&◌, ◌*◌, ◌++◌, ◌+◌, ◌-◌, ◌/◌, ◌<◌, ◌^◌, ◌||◌, ◌∙◌, ◌∷◌, ◌≡◌, ◌≤◌, ◌⊎◌}
 pub use Rattle.std.proofs.Math.Seq.{drop-cons}
 pub use Rattle.std.proofs.Math.Utf8.{encodes, low_scalar, scalar, scalars}
 pub use Rattle.std.proofs.lemmas.Bool.{and_parts, eqb-true, ltb-true}

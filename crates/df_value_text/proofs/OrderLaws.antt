@@ -1,12 +1,12 @@
 -- A tag that isn't above the one before it is refused at its first byte.
-use Rattle.df_value_text.proofs.Names.{◌≡◌, ℕ, List, [], ◌∷◌, ◌++◌, Ok, Err, refl, sym, ap, ◌∙◌, append_assoc, inl, inr, Low, items_at, longest_read, tag_text}
-use Rattle.df_value_text.proofs.Names.{tags_text, IsTagSet, StandsLow, tag_at, next_at, leads_tag, tags_at, label_at}
+use Rattle.df_value_text.proofs.Names.{◌≡◌, ℕ, List, [], ◌∷◌, ◌++◌, Ok, Err, refl, sym, ap, ◌∙◌, append_assoc, inl, inr, Low, items_at, longest_read, tag_text, tags_text, IsTagSet, StandsLow, tag_at, next_at, leads_tag, tags_at, label_at}
 use Rattle.df_value_text.specs.Order.{LowInLabel}
 use Rattle.df_value_text.proofs.PathLaws.{long_whole}
-use Rattle.df_value_text.proofs.TagLaws.{nowhere, nowhere_is_local, tag_format}
+use Rattle.df_value_text.proofs.TagLaws.{nowhere, nowhere_is_local, joined_items, tag_format}
 use Rattle.df_value_text.proofs.TagSetLaws.{tags_parts, follow_tags, tags_format}
 use Rattle.df_value_text.proofs.LabelLaws.{tags_end_at}
-use Rattle.df_value_text.proofs.LowItems.{led, joined_led, last_same, items_stopped}
+use Rattle.df_value_text.proofs.EntryLaws.{led, items_led}
+use Rattle.df_value_text.proofs.LowItems.{last_same, items_stopped}
 
 next_low : (prev rest : List ℕ) → StandsLow prev rest → next_at prev rest ≡ Err (Low rest)
 next_low prev rest s = rw (longest_read long_whole rest s.tag s.more s.longest, s.low) refl
@@ -18,7 +18,7 @@ set_low tag tags before prev rest is fits s =
     (tag_format nowhere nowhere_is_local) (tag ∷ tags) rest (Low rest) (fits.0.0, follow_tags tag tags fits.0.1 fits.1)
     (λ none. absurd (let no : tag ∷ tags ≡ [] = none in cc))
     (λ front last e h. (refl, ap (λ (t : List ℕ). next_at t rest) (last_same front before last prev (sym e ∙ is)) ∙ next_low prev rest s)) in
-    ap tags_at (joined_led tag_text tag tags rest) ∙ rw low refl
+    ap (λ (u : List ℕ). tags_at (u ++ (44 ∷ rest))) (joined_items 44 tag_text tag tags) ∙ ap tags_at (items_led tag_text tag tags rest) ∙ rw low refl
 
 pub tags_low : (tags : List (List ℕ)) (prev rest : List ℕ) → IsTagSet (tags ++ prev ∷ []) → StandsLow prev rest
     → tags_at (tags_text (tags ++ prev ∷ []) ++ (44 ∷ rest)) ≡ Err (Low rest)

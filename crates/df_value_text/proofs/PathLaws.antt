@@ -1,9 +1,5 @@
 -- Numbers with dots between them, and the longest tag, are read as they are spelled.
-use Rattle.df_value_text.proofs.Names.{◌≡◌, ℕ, zero, suc, ◌≤◌, true, false, cond, ◌&&◌, eqb, List, [], ◌∷◌, ◌++◌, length, Ok, Err, refl, sym, ap, subst, ◌∙◌}
-use Rattle.df_value_text.proofs.Names.{append_assoc, arith, inl, inr, eq-eqb, is_ascii_digit, decimal, eqb-true, and_parts, nat_tests, append-nil, Stop, Bad}
-use Rattle.df_value_text.proofs.Names.{Read, ◌>>=◌, behind_at, more_at, more_of, items_at, more_spell, items_spell, Format, ok_is, err_is, not_both, bind_ok}
-use Rattle.df_value_text.proofs.Names.{bind_err, told, chosen, Follow, Parts, LastEnds, items_found, items_again, Shrinks, format_shrinks, Whole, joined}
-use Rattle.df_value_text.proofs.Names.{path_text, tag_text, AreNumbers, IsTag, short_at, begins_digit, leads_number, listed, numbers_at, longest_at}
+use Rattle.df_value_text.proofs.Names.{◌≡◌, ℕ, zero, suc, ◌≤◌, true, false, cond, ◌&&◌, eqb, List, [], ◌∷◌, ◌++◌, length, Ok, Err, refl, sym, ap, subst, ◌∙◌, append_assoc, arith, inl, inr, eq-eqb, is_ascii_digit, decimal, eqb-true, and_parts, nat_tests, append-nil, Stop, Bad, Read, ◌>>=◌, behind_at, more_at, more_of, items_at, more_spell, items_spell, Format, ok_is, err_is, not_both, bind_ok, bind_err, told, chosen, Follow, Parts, LastEnds, items_found, items_again, Shrinks, format_shrinks, Whole, joined, path_text, tag_text, AreNumbers, IsTag, short_at, begins_digit, leads_number, listed, numbers_at, longest_at}
 use Rattle.df_value_text.proofs.NumberLaws.{number_format, number_goes, number_first, number_of, number_stops, first_fits, first_digit}
 pub use Rattle.df_format.proofs.Tokens.{nowhere, nowhere_is_local}
 

@@ -1,10 +1,7 @@
 -- Sets of tags are read as they are spelled.
-use Rattle.df_value_text.proofs.Names.{◌≡◌, ℕ, Bool, true, false, eqb, List, [], ◌∷◌, ◌++◌, Option, Some, None, refl, sym, ap, ◌∙◌, append_assoc, length-append}
-use Rattle.df_value_text.proofs.Names.{length, arith, decimal, nat_list_cmp_total, is_lt, eqb-true, nat_tests, items_at, more_spell, items_spell, maybe_spell}
-use Rattle.df_value_text.proofs.Names.{CanGoOn, IsLocal, Format, Follow, Parts, ItemsFit, Leads, last_goes, items_goes, items_format, Shrinks, MaybeFits}
-use Rattle.df_value_text.proofs.Names.{maybe_goes, maybe_format, tag_cmp, path_text, tag_text, tags_text, IsTag, AreTags, IsTagSet, StandsLow, IsLowTag, tag_at}
-use Rattle.df_value_text.proofs.Names.{next_at, leads_tag, optional, tags_at}
+use Rattle.df_value_text.proofs.Names.{◌≡◌, ℕ, Bool, true, false, eqb, List, [], ◌∷◌, ◌++◌, Option, Some, None, refl, sym, ap, ◌∙◌, append_assoc, length-append, length, arith, decimal, nat_list_cmp_total, is_lt, eqb-true, nat_tests, items_at, more_spell, items_spell, maybe_spell, CanGoOn, IsLocal, Format, Follow, Parts, ItemsFit, Leads, last_goes, items_goes, items_format, Shrinks, MaybeFits, maybe_goes, maybe_format, tag_cmp, path_text, tag_text, tags_text, IsTag, AreTags, IsTagSet, StandsLow, IsLowTag, tag_at, next_at, leads_tag, optional, tags_at}
 use Rattle.df_format.specs.Reading.{maybe_at}
+use Rattle.df_format.proofs.Items.{last_behind, last_of}
 use Rattle.df_format.proofs.Joins.{as_format}
 use Rattle.df_label.specs.Ascending.{IsAscending}
 use Rattle.df_label.proofs.SetFacts.{below_trans}
@@ -69,7 +66,15 @@ tags_lead : Leads IsLowTag NearTag leads_tag 44 tag_text IsTag AfterTag
 tags_lead = record {
   first = λ prev c cs ds. refl;
   some = λ prev cs fits h. let l = with_dot prev fits in (l.first ∷ l.others, (l.fits, ap is_lt l.above));
-  near = λ prev front rest fits near. record { before = []; prev = prev; is = ap (λ (u : List ℕ). tag_text prev ++ (44 ∷ u)) near.0; low = near.1 };
+  near = λ tag tags next front rest fits follow after near.
+      let b = last_behind 44 tag_text tag tags in
+      let last : List ℕ = tag_text (last_of tag tags) in
+      record {
+        before = b.0;
+        prev = last_of tag tags;
+        is = ap (λ (u : List ℕ). u ++ (44 ∷ front)) b.1 ∙ append_assoc b.0 last (44 ∷ front) ∙ ap (λ (u : List ℕ). b.0 ++ (last ++ (44 ∷ u))) near.0;
+        low = near.1;
+      };
 }
 
 ascend : (tag : List ℕ) (tags : List (List ℕ)) → Follow AfterTag tag tags → IsAscending tag_cmp (tag ∷ tags)
@@ -128,5 +133,4 @@ tags_format =
     (record { to = tags_to; from = tags_from; spelled = tags_spelled; alike = tags_alike })
     (maybe_format IsLowTag begins_tag (items_spell 44 tag_text) (ItemsFit IsTag AfterTag) (items_goes leads_tag tag_goes) (items_at leads_tag tag_at next_at)
     (λ x fits. record { first = 35; others = path_text x.0 ++ more_spell 44 tag_text x.1; is = refl; test = refl })
-    tags_some (items_format IsLowTag low_is_local NearTag leads_tag 44 tag_text IsTag AfterTag tag_goes tag_at next_at tags_parts tags_lead
-    (tag_format IsLowTag low_is_local)))
+    tags_some (items_format tags_parts tags_lead tag_at (tag_format IsLowTag low_is_local)))

@@ -1,7 +1,5 @@
 -- The loops that read numbers and tags, step by step.
-use Rattle.df_value_text.proofs.Names.{◌≡◌, ℕ, ◌+◌, ◌-◌, ◌<◌, ◌≤◌, ◌^◌, true, false, List, [], ◌∷◌, ◌++◌, length, get_or, drop, take, Some, Ok, Err, Bool, None}
-use Rattle.df_value_text.proofs.Names.{cond, refl, sym, ap, ◌∙◌, arith, length-append, AllByRecursion, Read, as_at, items_at, begins_with, leads_number, tag_at}
-use Rattle.df_value_text.proofs.Names.{next_at, leads_tag, listed, optional, some_tags_at, tags_at, AreNumbers, AreTags, IsTag, tag_cmp, tags_text}
+use Rattle.df_value_text.proofs.Names.{◌≡◌, ℕ, ◌+◌, ◌-◌, ◌<◌, ◌≤◌, ◌^◌, true, false, List, [], ◌∷◌, ◌++◌, length, get_or, drop, take, Some, Ok, Err, Bool, None, cond, refl, sym, ap, ◌∙◌, arith, length-append, AllByRecursion, Read, as_at, items_at, begins_with, leads_number, tag_at, next_at, leads_tag, listed, optional, some_tags_at, tags_at, AreNumbers, AreTags, IsTag, tag_cmp, tags_text}
 use Rattle.std.specs.Prelude.{All}
 use Rattle.std.proofs.Math.Seq.{get_or-append_seam, take-append_seam}
 use Rattle.std.proofs.lemmas.List.{length-drop, length_push}

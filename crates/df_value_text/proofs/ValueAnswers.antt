@@ -1,8 +1,5 @@
 -- What reading, with as many levels as a text may need, says of the values that stand in it.
-use Rattle.df_value_text.proofs.Names.{◌≡◌, ℕ, suc, ◌+◌, ◌<◌, ◌≤◌, true, false, List, [], ◌∷◌, ◌++◌, length, drop, Ok, Err, refl, sym, ap, subst, ◌∙◌, arith}
-use Rattle.df_value_text.proofs.Names.{inl, inr, pos, append_cancel_right, Stop, Bad, Low, CanGoOn, Stands, Ends, ok_is, err_is, not_both, told, can_go_on}
-use Rattle.df_value_text.proofs.Names.{IsWithinLimits, Plain, int, words, bytes, items, entries, node_count, Fails, refusal, IsFound, IsRead, IsSpelled}
-use Rattle.df_value_text.proofs.Names.{IsValue, LowInValue, value_text, Fault}
+use Rattle.df_value_text.proofs.Names.{◌≡◌, ℕ, suc, ◌+◌, ◌<◌, ◌≤◌, true, false, List, [], ◌∷◌, ◌++◌, length, drop, Ok, Err, refl, sym, ap, subst, ◌∙◌, arith, inl, inr, pos, append_cancel_right, Stop, Bad, Low, CanGoOn, Stands, Ends, ok_is, err_is, not_both, told, can_go_on, IsWithinLimits, Plain, int, words, bytes, items, entries, node_count, Fails, refusal, IsFound, IsRead, IsSpelled, IsValue, LowInValue, value_text, Fault}
 use Rattle.df_format.specs.Grammar.{FirstBad}
 use Rattle.df_format.specs.Format.{IsViable}
 use Rattle.df_format.proofs.Laws.{viable_map, no_longer, first_bad}
@@ -10,12 +7,11 @@ use Rattle.df_value_text.specs.ValueFault.{FirstLow}
 use Rattle.df_value_text.specs.OrderNames.{LowWithin}
 use Rattle.df_value_text.specs.ReadValue.{value_within}
 use Rattle.df_value_text.proofs.Answering.{no_refusal}
-use Rattle.df_value_text.proofs.EntryLaws.{IsLowName, LevelFits, nest_few}
-use Rattle.df_value_text.proofs.LowLaws.{low_found, low_read}
+use Rattle.df_value_text.proofs.EntryLaws.{LevelFits, nest_few}
+use Rattle.df_value_text.proofs.LowLaws.{low_read}
 use Rattle.df_value_text.proofs.TagLaws.{nowhere, nowhere_is_local}
 use Rattle.df_value_text.proofs.ValueLaws.{value_goes, value_format}
 use Rattle.df_value_text.proofs.WholeLaws.{whole_format}
-use Rattle.df_value_text.specs.declared.refused.Fault.TheVariants as fault
 use Rattle.df_value_text.specs.declared.refused.TextRefused.TheVariants as refused
 
 -- ---- any number of levels that suffices
@@ -30,7 +26,7 @@ level_on n front on le = record { some = on.some; fits = level_fits on.some n le
 pub value_ends : (p : Plain) (c : ℕ) → IsSpelled p → value_goes p c ≡ false → CanGoOn value_text IsSpelled (value_text p ++ c ∷ []) → ⊥
 value_ends p c fits g on =
     let n : ℕ = node_count p + node_count on.some in
-    no_longer IsLowName value_text (LevelFits n) value_goes (value_within n) (value_format n) p c (level_fits p n (omega arith) fits) g
+    no_longer LowWithin value_text (LevelFits n) value_goes (value_within n) (value_format n) p c (level_fits p n (omega arith) fits) g
     (level_on n (value_text p ++ c ∷ []) on (omega arith))
 
 -- what goes on is a number, and a longer one is within the limits too
@@ -111,7 +107,7 @@ first_bad_value text at rest h =
       viable = spelled_on m s.front s.viable;
       dead = λ c tail is on.
           let n : ℕ = suc (length text) + node_count on.some in
-          let k = first_bad IsLowName value_text (LevelFits n) value_goes (value_within n) (value_format n) (int (pos 0)) (zero_fits, omega arith)
+          let k = first_bad LowWithin value_text (LevelFits n) value_goes (value_within n) (value_format n) (int (pos 0)) (zero_fits, omega arith)
           (drop at text) rest (h n (omega arith)) in
           let same : s.front ≡ k.front = append_cancel_right s.front k.front rest (sym s.parts ∙ k.parts) in
           let longer = level_on n (s.front ++ c ∷ []) on (omega arith) in
@@ -123,9 +119,7 @@ pub first_low_value : (text : List ℕ) (at : ℕ) (rest : List ℕ) → Enough 
 first_low_value text at rest h =
     let m : ℕ = suc (length text) in
     let s = (value_format m).stuck (drop at text) (Low rest) (h m (omega arith)) in
-    let l = low_found m (drop at text) rest (h m (omega arith)) in
-    let same : l.0 ≡ s.front = append_cancel_right l.0 s.front rest (sym l.1 ∙ s.parts) in
-    record { front = s.front; parts = s.parts; viable = spelled_on m s.front s.viable; low = subst (λ (u : List ℕ). LowWithin u rest) same l.2 }
+    record { front = s.front; parts = s.parts; viable = spelled_on m s.front s.viable; low = s.cause }
 
 -- ---- a low name
 

@@ -1,14 +1,9 @@
 -- Values are read as they are spelled.
-use Rattle.df_value_text.proofs.Names.{◌≡◌, ℕ, zero, suc, ◌<◌, Bool, true, false, eqb, List, [], ◌∷◌, ◌++◌, refl, sym, ap, subst, append_assoc, arith, ◌⊎◌, inl}
-use Rattle.df_value_text.proofs.Names.{inr, ℤ, pos, negsuc, IsUtf8, codes, decimal, flat_map, eqb-true, nat_tests, Read, behind_at, Format, IsLocal, Begins}
-use Rattle.df_value_text.proofs.Names.{Parts, Leads, last_goes, items_format, format_shrinks, Shrinks, Of, made, led, fitting, either_of, is_letter, Plain, int}
-use Rattle.df_value_text.proofs.Names.{words, bytes, items, entries, from_list, from_pairs, IsSpelled, AreBytes, IsWhole, leads_value, list_of, list_at}
-use Rattle.df_value_text.proofs.Names.{leads_entry, next_entry_at, map_of, map_at, leaf_at, node_at, escaped, hex, value_text, items_text, entries_text}
-use Rattle.df_value_text.proofs.Names.{entry_text}
+use Rattle.df_value_text.proofs.Names.{◌≡◌, ℕ, zero, suc, ◌<◌, Bool, true, false, eqb, List, [], ◌∷◌, ◌++◌, refl, sym, ap, subst, arith, ◌⊎◌, inl, inr, ℤ, pos, negsuc, IsUtf8, codes, decimal, flat_map, eqb-true, nat_tests, Read, behind_at, Format, Begins, nowhere, nowhere_is_local, any_low, low_as, in_list, Parts, Leads, last_goes, items_format, format_shrinks, Shrinks, Of, made, led, fitting, either_of, is_letter, Plain, int, words, bytes, items, entries, from_list, from_pairs, IsSpelled, AreBytes, IsWhole, leads_value, list_of, list_at, leads_entry, next_entry_at, map_of, map_at, leaf_at, node_at, escaped, hex, value_text, items_text, entries_text, entry_text}
+use Rattle.df_value_text.specs.OrderNames.{LowWithin}
 use Rattle.df_value_text.specs.ReadValue.{value_within}
 use Rattle.df_value_text.proofs.BytesLaws.{bytes_format}
-use Rattle.df_value_text.proofs.EntryLaws.{Chain, ended_format, IsLowName, low_is_local, entries_parts, entries_format, LevelFits, LevelEntry, LevelAfter}
-use Rattle.df_value_text.proofs.EntryLaws.{items_to, items_from, entries_to, entries_from}
+use Rattle.df_value_text.proofs.EntryLaws.{Chain, ended_format, items_led, low_open, entries_parts, entries_format, LevelFits, LevelEntry, LevelAfter, items_to, items_from, entries_to, entries_from}
 use Rattle.df_value_text.proofs.NameLaws.{IsName}
 use Rattle.df_value_text.proofs.NumberLaws.{no_digit_begins}
 use Rattle.df_value_text.proofs.Values.{items_text-joined, entries_text-joined}
@@ -56,13 +51,13 @@ scalar_opens : (p : Plain) → IsScalar p → OpensBy 34 false p
 scalar_opens p (inl h) = opens_of 34 false (λ s k. bytes_open 34 false s refl) p h
 scalar_opens p (inr h) = opens_of 34 false (λ z k. int_opens 34 (inl (omega arith)) z k) p h
 
-pub leaf_format : (IsLow : List ℕ → List ℕ → Type 0) → IsLocal IsLow → Format IsLow value_text IsLeaf value_goes leaf_at
-leaf_format IsLow moved =
-    either_of (λ c. eqb c 34) (made words (words_format IsLow moved) (λ s h. refl) (λ s c h. refl))
-    (either_of (λ c. eqb c 120) (made bytes (bytes_format IsLow moved) (λ s h. refl) (λ s c h. refl))
-    (made int (whole_format IsLow moved) (λ z h. refl) (λ z c h. refl))
+leaf_format : Format LowWithin value_text IsLeaf value_goes leaf_at
+leaf_format =
+    any_low LowWithin (either_of (λ c. eqb c 34) (made words (words_format nowhere nowhere_is_local) (λ s h. refl) (λ s c h. refl))
+    (either_of (λ c. eqb c 120) (made bytes (bytes_format nowhere nowhere_is_local) (λ s h. refl) (λ s c h. refl))
+    (made int (whole_format nowhere nowhere_is_local) (λ z h. refl) (λ z c h. refl))
     (opens_of 120 true (λ s k. bytes_open 120 true s refl)) (opens_of 120 false (int_opens 120 (inr (omega arith)))))
-    (opens_of 34 true (λ s k. words_open 34 true s refl)) scalar_opens
+    (opens_of 34 true (λ s k. words_open 34 true s refl)) scalar_opens)
 
 -- a leaf is what nests in no list or map
 leaf_level : (n : ℕ) (p : Plain) → IsLeaf p → LevelFits n p
@@ -133,52 +128,55 @@ entries_end : (e : List ℕ × Plain) (es : List (List ℕ × Plain)) → last_g
 entries_end e [] = value_apart e.1 41 (inr (inr refl))
 entries_end e (d ∷ es) = entries_end d es
 
-items_lead : (n : ℕ) → Leads IsLowName (λ prev. IsLowName) leads_value 44 value_text (LevelFits n) (λ prev. LevelFits n)
+abbrev LowInList : List ℕ → List ℕ → Type 0
+LowInList front rest = LowWithin (91 ∷ front) rest
+
+items_lead : (n : ℕ) → Leads LowInList (λ prev. LowWithin) leads_value 44 value_text (LevelFits n) (λ prev. LevelFits n)
 items_lead n = record {
   first = λ prev c cs ds. refl;
   some = λ prev cs fits h. (prev, fits);
-  near = λ prev front rest fits low.
-      subst (λ (u : List ℕ). IsLowName u rest) (append_assoc (value_text prev) (44 ∷ []) front) (low_is_local (value_text prev ++ 44 ∷ []) front rest low);
+  near = λ p ps q front rest fits follow after low. subst (λ (u : List ℕ). LowInList u rest) (sym (items_led value_text p ps front))
+      (low_open (in_list (p ∷ ps)) front rest (items_to n (p ∷ ps) (fits, follow)).0 low);
 }
 
-module _ (n : ℕ) (inner : List ℕ → Read ℕ Plain) (f : Format IsLowName value_text (LevelFits n) value_goes inner) where
-  pub items_parts : Parts (λ prev. IsLowName) leads_value 44 value_text (LevelFits n) (λ prev. LevelFits n) value_goes (λ prev. inner)
+module _ (n : ℕ) (inner : List ℕ → Read ℕ Plain) (f : Format LowWithin value_text (LevelFits n) value_goes inner) where
+  pub items_parts : Parts (λ prev. LowWithin) leads_value 44 value_text (LevelFits n) (λ prev. LevelFits n) value_goes (λ prev. inner)
   items_parts = record {
     item = λ prev fits. f;
-    shrinks = λ prev. format_shrinks IsLowName value_text (LevelFits n) value_goes inner f;
+    shrinks = λ prev. format_shrinks LowWithin value_text (LevelFits n) value_goes inner f;
     fits = λ prev p fits after. after;
     only = λ prev c cs h. eqb-true c 44 h;
     led = λ prev p more fits after. refl;
     at_sep = λ p fits. value_apart p 44 (inl refl);
   }
 
-  list_format : Format IsLowName value_text (IsListOf n) value_goes (behind_at (91 ∷ []) (list_at inner))
+  list_format : Format LowWithin value_text (IsListOf n) value_goes (behind_at (91 ∷ []) (list_at inner))
   list_format =
-      led low_is_local (91 ∷ []) list_of [] tt
-      (ended_format value_text (LevelFits n) (λ prev. LevelFits n) 93 (λ p fits. value_opens p fits.0) low_is_local (λ ps fits. items_end ps.0 ps.1)
-      (items_format IsLowName low_is_local (λ prev. IsLowName) leads_value 44 value_text (LevelFits n) (λ prev. LevelFits n) value_goes inner
-      (λ prev. inner) items_parts (items_lead n) f)) (λ ps h. ap (λ (u : List ℕ). 91 ∷ (u ++ 93 ∷ [])) (items_text-joined ps)) (λ ps c h. refl)
+      led (91 ∷ []) list_of (λ front rest low. low) [] tt
+      (ended_format value_text (LevelFits n) (λ prev. LevelFits n) 93 (λ p fits. value_opens p fits.0) (λ ps fits. items_end ps.0 ps.1)
+      (items_format items_parts (items_lead n) inner (low_as (λ front rest low. low_open (in_list []) front rest tt low) f)))
+      (λ ps h. ap (λ (u : List ℕ). 91 ∷ (u ++ 93 ∷ [])) (items_text-joined ps)) (λ ps c h. refl)
 
-  map_format : Format IsLowName value_text (IsMapOf n) value_goes (behind_at (40 ∷ []) (map_at inner))
+  map_format : Format LowWithin value_text (IsMapOf n) value_goes (behind_at (40 ∷ []) (map_at inner))
   map_format =
-      led low_is_local (40 ∷ []) map_of [] tt
-      (ended_format entry_text (LevelEntry n) (LevelAfter n) 41 (λ e fits. name_opens e.0 (61 ∷ value_text e.1) fits.0) low_is_local
+      led (40 ∷ []) map_of (λ front rest low. low) [] tt
+      (ended_format entry_text (LevelEntry n) (LevelAfter n) 41 (λ e fits. name_opens e.0 (61 ∷ value_text e.1) fits.0)
       (λ es fits. entries_end es.0 es.1) (entries_format n inner f))
       (λ es h. ap (λ (u : List ℕ). 40 ∷ (u ++ 41 ∷ [])) (entries_text-joined es)) (λ es c h. refl)
 
-  node_format : Format IsLowName value_text (LevelFits (suc n)) value_goes (node_at inner)
+  node_format : Format LowWithin value_text (LevelFits (suc n)) value_goes (node_at inner)
   node_format =
       fitting (kinds_level n) (level_kinds n) (either_of (λ c. eqb c 91) list_format
-      (either_of (λ c. eqb c 40) map_format (leaf_format IsLowName low_is_local) (map_opens n 40 true refl) (leaf_opens 40 (inl (omega arith)) refl refl))
+      (either_of (λ c. eqb c 40) map_format leaf_format (map_opens n 40 true refl) (leaf_opens 40 (inl (omega arith)) refl refl))
       (list_opens n 91 true refl) (others_open n))
 
-pub value_format : (n : ℕ) → Format IsLowName value_text (LevelFits n) value_goes (value_within n)
+pub value_format : (n : ℕ) → Format LowWithin value_text (LevelFits n) value_goes (value_within n)
 unfolding value_within
-value_format zero = fitting (leaf_level 0) level_leaf (leaf_format IsLowName low_is_local)
+value_format zero = fitting (leaf_level 0) level_leaf leaf_format
 value_format (suc n) = node_format n (value_within n) (value_format n)
 
 pub value_shrinks : (n : ℕ) → Shrinks (value_within n)
-value_shrinks n = format_shrinks IsLowName value_text (LevelFits n) value_goes (value_within n) (value_format n)
+value_shrinks n = format_shrinks LowWithin value_text (LevelFits n) value_goes (value_within n) (value_format n)
 
 pub next_entry_shrinks : (n : ℕ) (prev : List ℕ × Plain) → Shrinks (next_entry_at (value_within n) prev.0)
 next_entry_shrinks n = (entries_parts n (value_within n) (value_format n)).shrinks

@@ -1,6 +1,5 @@
 -- Lists and maps, item by item.
-use Rattle.df_value_text.proofs.Names.{◌≡◌, ℕ, List, [], ◌∷◌, ◌++◌, refl, ap, ◌∙◌, append_assoc, Plain, from_list, from_pairs, joined, value_text, items_text}
-use Rattle.df_value_text.proofs.Names.{entries_text, entry_text}
+use Rattle.df_value_text.proofs.Names.{◌≡◌, ℕ, List, [], ◌∷◌, ◌++◌, refl, ap, ◌∙◌, append_assoc, Plain, from_list, from_pairs, joined, value_text, items_text, entries_text, entry_text}
 
 -- items are spelled one by one
 pub items_text-joined : (ps : List Plain) → items_text (from_list ps) ≡ joined 44 value_text ps

@@ -1,8 +1,5 @@
 -- A whole number is read as it is spelled.
-use Rattle.df_value_text.proofs.Names.{◌≡◌, ℕ, suc, ◌-◌, ◌^◌, ◌<◌, ◌≤◌, Bool, true, false, cond, eqb, List, [], ◌∷◌, ◌++◌, Ok, Err, refl, sym, ap, ◌∙◌, arith}
-use Rattle.df_value_text.proofs.Names.{◌⊎◌, inl, inr, ℤ, pos, negsuc, decimal, signed_decimal, eqb-true, Bad, Found, IsLocal, Format, ok_is, told, Begins}
-use Rattle.df_value_text.proofs.Names.{nowhere, any_low, Of, made, led, fitting, either_of, first_at, first_format, number_at, digits_at, IsWhole, positive_at}
-use Rattle.df_value_text.proofs.Names.{minus, whole_at}
+use Rattle.df_value_text.proofs.Names.{◌≡◌, ℕ, suc, ◌-◌, ◌^◌, ◌<◌, ◌≤◌, Bool, true, false, cond, eqb, List, [], ◌∷◌, ◌++◌, Ok, Err, refl, sym, ap, ◌∙◌, arith, ◌⊎◌, inl, inr, ℤ, pos, negsuc, decimal, signed_decimal, eqb-true, Bad, Found, IsLocal, Format, ok_is, told, Begins, nowhere, any_low, Of, made, led, fitting, either_of, first_at, first_format, number_at, digits_at, IsWhole, positive_at, minus, whole_at}
 use Rattle.df_value_text.proofs.NumberLaws.{number_goes, first_fits, number_of, number_read, number_found, number_on, number_format, zero_read, no_digit_begins}
 
 -- ---- numbers above 0
@@ -94,7 +91,7 @@ sign_either z (inr h) = rw (← h.2) (let small : h.0 < 2 ^ 63 = omega (arith, h
 whole_nowhere : Format nowhere signed_decimal IsWhole whole_goes whole_at
 whole_nowhere =
     fitting sign_either either_sign (either_of (λ c. eqb c 45)
-    (led (λ before front rest low. low) (45 ∷ []) minus 1 (omega arith, omega arith) (positive_format most_below (omega arith))
+    (led (45 ∷ []) minus (λ front rest low. absurd low) 1 (omega arith, omega arith) (positive_format most_below (omega arith))
     (λ n fits. ap (λ (k : ℕ). 45 ∷ decimal k) (back n fits.0)) (λ n c fits. ap (λ (k : ℕ). number_goes most_below k c) (back n fits.0)))
     (made pos (number_format nowhere most_above (omega arith)) (λ n fits. refl) (λ n c fits. refl))
     minus_begins natural_begins)

@@ -1,7 +1,5 @@
 -- Words are read as they are spelled.
-use Rattle.df_value_text.proofs.Names.{◌≡◌, ℕ, Bool, true, List, [], ◌∷◌, ◌++◌, Ok, refl, ap, ◌∙◌, append_assoc, IsUtf8, AllByRecursion, concat, flat_map}
-use Rattle.df_value_text.proofs.Names.{scalar, scalars, encodes, and_parts, flat_map-append, IsLocal, Format, never, nowhere, nowhere_is_local, any_low, viewed}
-use Rattle.df_value_text.proofs.Names.{enclosed, each_format, escaped, begins_char, chars_at, words_at}
+use Rattle.df_value_text.proofs.Names.{◌≡◌, ℕ, Bool, true, List, [], ◌∷◌, ◌++◌, Ok, refl, ap, ◌∙◌, append_assoc, IsUtf8, AllByRecursion, concat, flat_map, scalar, scalars, encodes, and_parts, flat_map-append, IsLocal, Format, never, nowhere, nowhere_is_local, any_low, viewed, enclosed, each_format, escaped, begins_char, char_at, chars_at, words_at, Each}
 use Rattle.std.proofs.Math.Utf8.{encode}
 use Rattle.df_value_text.specs.Value.{words_text}
 use Rattle.df_value_text.proofs.CharLaws.{chars_text, IsChar, char_format, char_starts, char_some, char_encoded, encoded_char}
@@ -31,9 +29,12 @@ utf8_all (c ∷ cs) h =
     let more = utf8_all cs both.1 in
     (encode c ∷ more.0, (encoded_char c both.0, more.1), ap (λ (u : List ℕ). encode c ++ u) more.2)
 
+pub chars_each : Each begins_char chars_text IsChar char_at
+chars_each = record { item = char_format; first = char_starts; some = char_some }
+
 chars_format : Format nowhere chars_text IsUtf8 chars_go chars_at
 chars_format =
-    viewed concat (each_format begins_char char_format char_starts char_some) (record {
+    viewed concat (each_format chars_each) (record {
       to = all_utf8;
       from = λ text u. let all = utf8_all u.0 u.1.0 in
           (all.0, all.1, all.2 ∙ u.1.1);

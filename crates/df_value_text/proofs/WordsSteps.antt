@@ -1,17 +1,13 @@
 -- The readers of names, characters, bytes and words, step by step.
-use Rattle.df_value_text.proofs.Names.{◌≡◌, ℕ, zero, suc, ◌+◌, ◌-◌, ◌<◌, ◌≤◌, true, false, List, [], ◌∷◌, length, get_or, take, drop, Ok, refl, sym, ap, ◌∙◌}
-use Rattle.df_value_text.proofs.Names.{arith, drop_all, drop-drop, is_letter, is_name, is_name_byte, name_bytes, name_at, Bool, nat_lt, ◌++◌, inl, inr, told}
-use Rattle.df_value_text.proofs.Names.{nat_tests, Read, ◌>>=◌, with_front, onto, is_between, is_lead, trail_length, least_second, most_second, trail_at}
-use Rattle.df_value_text.proofs.Names.{wide_at, starts, length-append, text_at, text_found, is_hex, hex_byte, pairs_at, not, ◌&&◌, ◌||◌, cond, eqb, Err}
-use Rattle.df_value_text.proofs.Names.{append_assoc, add-one, nat_le, concat, drop-cons, and_parts, ltb-true, Stop, many_at, many_of, list_all, ok_is, err_is}
-use Rattle.df_value_text.proofs.Names.{not_both, is_plain, is_quoted, char_at, begins_char, chars_at}
+use Rattle.df_value_text.proofs.Names.{◌≡◌, ℕ, zero, suc, ◌+◌, ◌-◌, ◌<◌, ◌≤◌, true, false, List, [], ◌∷◌, length, get_or, take, drop, Ok, refl, sym, ap, ◌∙◌, arith, drop_all, drop-drop, is_letter, is_name, is_name_byte, name_bytes, name_at, Bool, nat_lt, ◌++◌, inl, inr, told, nat_tests, Read, ◌>>=◌, with_front, onto, is_between, is_lead, trail_length, least_second, most_second, trail_at, wide_at, starts, length-append, text_at, text_found, is_hex, hex_byte, pairs_at, not, ◌&&◌, ◌||◌, cond, eqb, Err, append_assoc, add-one, nat_le, concat, drop-cons, and_parts, ltb-true, Stop, list_all, ok_is, err_is, not_both, is_plain, is_quoted, char_at, begins_char, chars_at, all_none, all_step, all_stop, each_several, all_at}
 use Rattle.df_value_text.proofs.Loops.{first_of, front_on}
 use Rattle.df_value_text.proofs.NameLaws.{name_format}
 use Rattle.std.proofs.Common.{length-drop}
 use Rattle.std.proofs.lemmas.Bool.{lt-ltb}
-use Rattle.df_format.proofs.Laws.{bind_same}
 use Rattle.df_value_text.specs.code.Short.{plain_run}
-use Rattle.df_value_text.proofs.CharLaws.{char_format, char_starts, plain_begins}
+use Rattle.df_value_text.proofs.BytesLaws.{pairs_each}
+use Rattle.df_value_text.proofs.CharLaws.{plain_begins}
+use Rattle.df_value_text.proofs.WordsLaws.{chars_each}
 
 -- ---- names
 
@@ -102,7 +98,7 @@ two_of bytes place lt =
     (first_of bytes (place + 1) lt ∙ ap (λ (n : ℕ). get_or bytes (place + 1) 0 ∷ drop n bytes) same)
 
 pair_first : (a b : ℕ) (cs : List ℕ) → is_hex a ≡ true → is_hex b ≡ true → pairs_at (a ∷ b ∷ cs) ≡ (pairs_at cs >>= onto (hex_byte a b))
-pair_first a b cs ha hb = rw (ha, hb) refl
+pair_first a b cs ha hb = all_step (each_several pairs_each) (a ∷ b ∷ cs) (hex_byte a b) cs ha (rw (ha, hb) refl)
 
 -- a pair is read
 pub pair_read : (bytes : List ℕ) (place : ℕ) (out more : List ℕ) (total : Read ℕ (List ℕ)) → place + 1 < length bytes
@@ -116,9 +112,7 @@ pair_read bytes place out more total lt ha hb is so_far =
 
 -- no digit stands there
 pub no_pair : (text : List ℕ) → starts is_hex text ≡ false → pairs_at text ≡ Ok ([], text)
-no_pair [] h = refl
-no_pair (a ∷ []) h = rw h refl
-no_pair (a ∷ b ∷ cs) h = rw h refl
+no_pair text h = all_none (each_several pairs_each) text h
 
 -- fixed bytes end no earlier than they begin
 pub text_onward : (bytes ws x : List ℕ) (at end : ℕ) → at ≤ length bytes → end ≤ length bytes → text_at ws (drop at bytes) ≡ Ok (x, drop end bytes) → at ≤ end
@@ -128,52 +122,23 @@ text_onward bytes ws x at end within le e =
 
 -- ---- words
 
-abbrev begins : ℕ → ℕ → Bool
-begins k c = begins_char c
+abbrev joined : Read ℕ (List (List ℕ)) → Read ℕ (List ℕ)
+joined r = r >>= λ (xs : List (List ℕ) × List ℕ). Ok (concat xs.0, xs.1)
 
-abbrev read : ℕ → List ℕ → Read ℕ (List ℕ)
-read k bytes = char_at bytes
-
--- a character takes a byte at least
-char_takes : (c : ℕ) (cs x rest : List ℕ) → char_at (c ∷ cs) ≡ Ok (x, rest) → length rest ≤ length cs
-char_takes c cs x rest e =
-    let f = char_format.found (c ∷ cs) x rest e in
-    let s = char_starts x f.fits in
-    let whole : c ∷ cs ≡ s.first ∷ (s.others ++ rest) = f.parts ∙ ap (λ (u : List ℕ). u ++ rest) s.is in
-    omega (arith, ap length whole, length-append s.others rest)
-
--- more steps than there are bytes change nothing, and nor does the number of the first
-many_same : (n m k j : ℕ) (ts : List ℕ) → length ts ≤ n → length ts ≤ m → many_at begins read n k ts ≡ many_at begins read m j ts
-many_same n m k j [] l h = refl
-many_same zero m k j (t ∷ ts) l h = absurd (omega arith)
-many_same (suc n) zero k j (t ∷ ts) l h = absurd (omega arith)
-many_same (suc n) (suc m) k j (t ∷ ts) l h =
-    ap (λ (r : Read ℕ (List (List ℕ))). cond (begins_char t) r (Ok ([], t ∷ ts)))
-    (bind_same (char_at (t ∷ ts)) (λ x. many_at begins read n (suc k) x.1 >>= onto x.0) (λ x. many_at begins read m (suc j) x.1 >>= onto x.0) (λ x e.
-    let shorter = char_takes t ts x.0 x.1 e in
-    ap (λ (r : Read ℕ (List (List ℕ))). r >>= onto x.0) (many_same n m (suc k) (suc j) x.1 (omega (arith, shorter, l)) (omega (arith, shorter, h)))))
-
-joined_front : (x : List ℕ) (r : Read ℕ (List (List ℕ))) → ((r >>= onto x) >>= λ (xs : List (List ℕ) × List ℕ). Ok (concat xs.0, xs.1)) ≡ with_front x
-    (r >>= λ (xs : List (List ℕ) × List ℕ). Ok (concat xs.0, xs.1))
+joined_front : (x : List ℕ) (r : Read ℕ (List (List ℕ))) → joined (r >>= onto x) ≡ with_front x (joined r)
 joined_front x (Ok xs) = refl
 joined_front x (Err s) = refl
 
 -- a character, and those behind it
 chars_step : (bytes x rest : List ℕ) → starts begins_char bytes ≡ true → char_at bytes ≡ Ok (x, rest) → chars_at bytes ≡ with_front x (chars_at rest)
-chars_step [] x rest h e = absurd cc
-chars_step (c ∷ cs) x rest h e =
-    let shorter = char_takes c cs x rest e in
-    let same : many_at begins read (length cs) 1 rest ≡ many_of begins read 0 rest = many_same (length cs) (length rest) 1 0 rest shorter (omega arith) in
-    let first : many_of begins read 0 (c ∷ cs) ≡ (many_of begins read 0 rest >>= onto x) = rw (h, e, same) refl in
-    ap (λ (r : Read ℕ (List (List ℕ))). r >>= λ (xs : List (List ℕ) × List ℕ). Ok (concat xs.0, xs.1)) first ∙ joined_front x (many_of begins read 0 rest)
+chars_step bytes x rest h e =
+    ap joined (all_step (each_several chars_each) bytes x rest h e) ∙ joined_front x (all_at (starts begins_char) char_at rest)
 
 chars_stop : (bytes : List ℕ) (stop : Stop ℕ) → starts begins_char bytes ≡ true → char_at bytes ≡ Err stop → chars_at bytes ≡ Err stop
-chars_stop [] stop h e = absurd cc
-chars_stop (c ∷ cs) stop h e = rw (h, e) refl
+chars_stop bytes stop h e = ap joined (all_stop (each_several chars_each) bytes stop h e)
 
 pub chars_none : (bytes : List ℕ) → starts begins_char bytes ≡ false → chars_at bytes ≡ Ok ([], bytes)
-chars_none [] h = refl
-chars_none (c ∷ cs) h = rw h refl
+chars_none bytes h = ap joined (all_none (each_several chars_each) bytes h)
 
 -- ---- behind what was read before
 

@@ -1,6 +1,6 @@
 -- Reading bytes, in pairs of hexadecimal digits.
 use Rattle.std.specs.Prelude.{ℕ, ◌+◌, ◌-◌, ◌*◌, ◌<◌, Bool, ◌&&◌, ◌||◌, List, [], ◌∷◌, Ok, Err, nat_le, nat_lt, if◌then◌else◌, ⊤}
-use Rattle.df_format.specs.Reading.{Bad, Read, ◌>>=◌, behind_at, closed_at}
+use Rattle.df_format.specs.Reading.{Bad, Read, all_at, starts, behind_at, closed_at}
 
 -- 0 to 9 or a to f
 abbrev pub is_hex : ℕ → Bool
@@ -14,15 +14,18 @@ hex_value c = if nat_lt c 58 then c - 48 else c - 87
 abbrev pub hex_byte : ℕ → ℕ → ℕ
 hex_byte high low = 16 * hex_value high + hex_value low
 
+-- the byte of two digits that pass these tests, the second behind the first
+abbrev pub two_at : (ℕ → Bool) → (ℕ → ℕ → Bool) → List ℕ → Read ℕ ℕ
+two_at high low [] = Err (Bad [])
+two_at high low (a ∷ []) = if high a then Err (Bad []) else Err (Bad (a ∷ []))
+two_at high low (a ∷ b ∷ cs) =
+    if high a
+    then (if low a b then Ok (hex_byte a b, cs) else Err (Bad (b ∷ cs)))
+    else Err (Bad (a ∷ b ∷ cs))
+
 -- as many pairs of digits as there are
 abbrev pub pairs_at : List ℕ → Read ℕ (List ℕ)
-pairs_at [] = Ok ([], [])
-pairs_at (a ∷ []) = if is_hex a then Err (Bad []) else Ok ([], a ∷ [])
-pairs_at (a ∷ b ∷ cs) =
-    if is_hex a
-    then (if is_hex b then (pairs_at cs >>= λ xs. Ok (hex_byte a b ∷ xs.0, xs.1))
-    else Err (Bad (b ∷ cs)))
-    else Ok ([], a ∷ b ∷ cs)
+pairs_at bytes = all_at (starts is_hex) (two_at is_hex (λ a. is_hex)) bytes
 
 -- bytes, behind `x"` and in front of `"`
 abbrev pub bytes_at : List ℕ → Read ℕ (List ℕ)

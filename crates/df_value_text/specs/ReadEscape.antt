@@ -1,7 +1,7 @@
 -- Reading a byte of ASCII within words.
-use Rattle.std.specs.Prelude.{ℕ, Bool, ◌&&◌, ◌||◌, not, List, [], ◌∷◌, Option, Some, None, Ok, Err, ◌==◌, nat_le, nat_lt, if◌then◌else◌}
-use Rattle.df_format.specs.Reading.{Bad, Read, one_at, either_at, behind_at}
-use Rattle.df_value_text.specs.ReadBytes.{is_hex, hex_byte}
+use Rattle.std.specs.Prelude.{ℕ, Bool, ◌&&◌, ◌||◌, not, List, [], ◌∷◌, Option, Some, None, ◌==◌, nat_le, nat_lt, if◌then◌else◌}
+use Rattle.df_format.specs.Reading.{Read, one_at, either_at, behind_at}
+use Rattle.df_value_text.specs.ReadBytes.{is_hex, two_at}
 
 -- `"` or `\`
 abbrev pub is_quoted : ℕ → Bool
@@ -29,12 +29,7 @@ is_low a b = if a == 55 then b == 102 else is_hex b
 
 -- a control byte in two digits
 abbrev pub control_at : List ℕ → Read ℕ ℕ
-control_at [] = Err (Bad [])
-control_at (a ∷ []) = if is_high a then Err (Bad []) else Err (Bad (a ∷ []))
-control_at (a ∷ b ∷ cs) =
-    if is_high a
-    then (if is_low a b then Ok (hex_byte a b, cs) else Err (Bad (b ∷ cs)))
-    else Err (Bad (a ∷ b ∷ cs))
+control_at bytes = two_at is_high is_low bytes
 
 -- what stands behind a `\`
 abbrev pub escape_at : List ℕ → Read ℕ ℕ

@@ -1,7 +1,7 @@
 -- Reading words, character by character.
-use Rattle.std.specs.Prelude.{ℕ, Bool, false, ◌||◌, List, [], ◌∷◌, ◌==◌, nat_lt}
+use Rattle.std.specs.Prelude.{ℕ, Bool, ◌||◌, List, [], ◌∷◌, ◌==◌, nat_lt}
 use Rattle.std.specs.List.{concat}
-use Rattle.df_format.specs.Reading.{Read, as_at, either_at, many_of, behind_at, closed_at}
+use Rattle.df_format.specs.Reading.{Read, as_at, either_at, all_at, starts, behind_at, closed_at}
 use Rattle.df_value_text.specs.ReadEscape.{is_plain, ascii_at}
 use Rattle.df_value_text.specs.ReadWide.{is_lead, wide_at}
 
@@ -17,14 +17,9 @@ char_at bytes = either_at (λ c. nat_lt c 128) (as_at alone ascii_at) wide_at by
 abbrev pub begins_char : ℕ → Bool
 begins_char c = (c == 92) || (is_plain c || is_lead c)
 
--- whether the first of these bytes passes the test
-abbrev pub starts : (ℕ → Bool) → List ℕ → Bool
-starts test [] = false
-starts test (c ∷ cs) = test c
-
 -- as many characters as there are: their bytes
 abbrev pub chars_at : List ℕ → Read ℕ (List ℕ)
-chars_at bytes = as_at concat (many_of (λ k. begins_char) (λ k. char_at) 0) bytes
+chars_at bytes = as_at concat (all_at (starts begins_char) char_at) bytes
 
 -- words, in quotes: the bytes of the text
 abbrev pub words_at : List ℕ → Read ℕ (List ℕ)

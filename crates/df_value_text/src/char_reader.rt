@@ -4,7 +4,8 @@ ghost use Rattle.df_format.specs.Reading.{with_front};
 ghost use Rattle.df_value_text.specs.code.Answer.{Gives};
 ghost use Rattle.df_value_text.specs.ReadEscape.{ascii_at, control_at, escape_at, is_high, is_low, is_plain, is_quoted};
 ghost use Rattle.df_value_text.specs.ReadWide.{is_between, is_lead, least_second, most_second, trail_at, trail_length, wide_at};
-ghost use Rattle.df_value_text.specs.ReadWords.{begins_char, char_at, starts};
+ghost use Rattle.df_format.specs.Reading.{starts};
+ghost use Rattle.df_value_text.specs.ReadWords.{begins_char, char_at};
 
 use crate::Fault;
 use crate::bytes_reader::{hex_byte, is_hex};

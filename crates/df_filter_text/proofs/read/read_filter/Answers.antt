@@ -1,8 +1,7 @@
 use Rattle.df_filter_text.proofs.Names.{List, drop, length-drop, sym, ap, arith, length, ◌∙◌, Clause, begins_with}
 use Rattle.std.proofs.lemmas.Bool.{true≢false}
 use Rattle.std.proofs.lemmas.Result.{err_from_is_err_and}
-use Rattle.df_filter_text.proofs.Whole.{some_bytes, nothing_left, failed_only, failed_many, failed_refused, whole_is, fifth_stands, has_fifth, read_fits}
-use Rattle.df_filter_text.proofs.Whole.{read_is, bad_behind, none_whole}
+use Rattle.df_filter_text.proofs.Whole.{some_bytes, nothing_left, failed_only, failed_many, failed_refused, whole_is, fifth_stands, has_fifth, read_fits, read_is, bad_behind, none_whole}
 use Rattle.df_filter_text.proofs.read.read_filter.Goals as goal
 
 pub returns-then-is_empty-clause-only : goal.returns-then-is_empty-clause-only

@@ -1,7 +1,6 @@
 use Rattle.std.proofs.Common.{arith, sym, ◌∙◌, ◌-◌, ◌+◌, drop}
 use Rattle.df_value_text.proofs.WordsSteps.{none_left, none_there, none_fits}
-use Rattle.df_value_text.proofs.name_reader.name_end.Goals.{then-loop-count-test+then-at-count+else-is_name_byte}
-use Rattle.df_value_text.proofs.name_reader.name_end.Goals.{then-loop-count-test+else-at-count, else-loop-count-test}
+use Rattle.df_value_text.proofs.name_reader.name_end.Goals.{then-loop-count-test+then-at-count+else-is_name_byte, then-loop-count-test+else-at-count, else-loop-count-test}
 use Rattle.df_value_text.proofs.name_reader.name_end.Goals as goal
 
 pub returns-clause-value : goal.returns-clause-value

@@ -4,14 +4,11 @@ use Rattle.df_frozen.specs.Plain.{Plain, items, entries, from_list, from_pairs}
 use Rattle.df_frozen.specs.Value.{named, plain}
 use Rattle.df_value_text.specs.code.Answer.{Gives}
 use Rattle.df_value_text.specs.ReadName.{name_at}
-use Rattle.df_value_text.specs.ReadValue.{leads_value, list_of, leads_entry, higher_at, given_at, entry_at, next_entry_at, map_of}
-use Rattle.df_value_text.specs.ReadValue.{value_within}
+use Rattle.df_value_text.specs.ReadValue.{leads_value, list_of, leads_entry, higher_at, given_at, entry_at, next_entry_at, map_of, value_within}
 use Rattle.df_value_text.proofs.EntryLaws.{is_higher}
 use Rattle.df_value_text.proofs.Loops.{fails_by, begun, left_on, left_stops, left_done, comma_led, no_comma}
-use Rattle.df_value_text.proofs.ValueSteps.{pushed, put_behind, up_to_one, up_to_more}
+use Rattle.df_value_text.proofs.ValueSteps.{pushed, put_behind, up_to_one, up_to_more, begins_within, opened_list, opened_map, leaf_same, both_read, a_list, a_map, none_made, first_stops, inside_stops, closing_stops, inside_reads, entry_led, entry_last}
 use Rattle.df_value_text.proofs.ValueLaws.{value_shrinks, next_entry_shrinks}
-use Rattle.df_value_text.proofs.ValueSteps.{begins_within, opened_list, opened_map, leaf_same, both_read, a_list, a_map, none_made, first_stops, inside_stops}
-use Rattle.df_value_text.proofs.ValueSteps.{closing_stops, inside_reads, entry_led, entry_last}
 use Rattle.df_value_text.proofs.value_reader.+read.Goals as goal
 
 -- ---- values

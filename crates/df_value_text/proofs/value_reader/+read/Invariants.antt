@@ -3,8 +3,7 @@ use Rattle.df_frozen.specs.Plain.{Plain, items, entries, from_list, from_pairs}
 use Rattle.df_frozen.specs.Value.{plain}
 use Rattle.df_value_text.specs.ReadValue.{leads_value, leads_entry, next_entry_at, value_within}
 use Rattle.df_value_text.proofs.Loops.{Left}
-use Rattle.df_value_text.proofs.ValueSteps.{AreUpTo}
-use Rattle.df_value_text.proofs.ValueSteps.{a_list, a_map, all_in}
+use Rattle.df_value_text.proofs.ValueSteps.{AreUpTo, a_list, a_map, all_in}
 use Rattle.df_value_text.proofs.value_reader.+read.Given as goal
 
 abbrev pub decreases-value_at : goal.decreases-value_at

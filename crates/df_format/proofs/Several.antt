@@ -1,0 +1,189 @@
+-- As many things as stand there.
+use Rattle.std.proofs.Common.{◌≡◌, ℕ, zero, suc, ◌<◌, ◌≤◌, Bool, true, false, cond, List, [], ◌∷◌, ◌++◌, length, Ok, Err, refl, sym, ap, subst, ◌∙◌, append_assoc, length-append, arith, inl, inr}
+use Rattle.std.specs.List.{AllByRecursion, flat_map}
+use Rattle.df_format.specs.Reading.{Stop, Bad, Read, ◌>>=◌, starts, while_at, all_at}
+use Rattle.df_format.specs.Grammar.{CanGoOn}
+use Rattle.df_format.specs.Format.{Ends, Found, Stuck, place, Format}
+use Rattle.df_format.proofs.Laws.{ok_is, not_both, bind_ok, bind_err, bind_same, told, never, ends_never, viable_of, can_go_on, first_same, cause_on, cause_of}
+use Rattle.df_format.proofs.Choices.{Begins}
+use Rattle.df_format.proofs.ItemSteps.{onto}
+use Rattle.df_format.proofs.Backs.{Back, all_back}
+use Rattle.df_format.proofs.Tokens.{nowhere}
+
+-- Nothing stands where there are no tokens, and what stands in front has some.
+pub record Several {T X : Type 0} (stands : List T → Bool) (read : List T → Read T X) : Type 0 where
+  pub none : stands [] ≡ false
+  pub some : (tokens : List T) (x : X) (rest : List T) → read tokens ≡ Ok (x, rest) → length rest < length tokens
+
+module _ {T X : Type 0} {stands : List T → Bool} {read : List T → Read T X} (s : Several stands read) where
+  while_fuel : (n m : ℕ) (tokens : List T) → length tokens ≤ n → length tokens ≤ m → while_at stands read n tokens ≡ while_at stands read m tokens
+  while_fuel zero zero tokens l k = refl
+  while_fuel zero (suc m) [] l k = rw s.none refl
+  while_fuel zero (suc m) (t ∷ ts) l k = absurd (omega arith)
+  while_fuel (suc n) zero [] l k = rw s.none refl
+  while_fuel (suc n) zero (t ∷ ts) l k = absurd (omega arith)
+  while_fuel (suc n) (suc m) tokens l k =
+      ap (λ (r : Read T (List X)). cond (stands tokens) r (Ok ([], tokens)))
+      (bind_same (read tokens) (λ x. while_at stands read n x.1 >>= onto x.0) (λ x. while_at stands read m x.1 >>= onto x.0) (λ x e.
+      let shorter = s.some tokens x.0 x.1 e in
+      ap (λ (r : Read T (List X)). r >>= onto x.0) (while_fuel n m x.1 (omega arith) (omega arith))))
+
+  -- one, and those behind it
+  pub all_more : (tokens : List T) → stands tokens ≡ true → all_at stands read tokens ≡ (read tokens >>= λ x. all_at stands read x.1 >>= onto x.0)
+  all_more [] h = let no : false ≡ true = sym s.none ∙ h in absurd cc
+  all_more (t ∷ ts) h =
+      ap (λ b. cond b (read (t ∷ ts) >>= λ x. while_at stands read (length ts) x.1 >>= onto x.0) (Ok ([], t ∷ ts))) h
+      ∙ bind_same (read (t ∷ ts)) (λ x. while_at stands read (length ts) x.1 >>= onto x.0) (λ x. all_at stands read x.1 >>= onto x.0) (λ x e.
+      let shorter = s.some (t ∷ ts) x.0 x.1 e in
+      ap (λ (r : Read T (List X)). r >>= onto x.0) (while_fuel (length ts) (length x.1) x.1 (omega arith) (omega arith)))
+
+  pub all_step : (tokens : List T) (x : X) (rest : List T) → stands tokens ≡ true → read tokens ≡ Ok (x, rest)
+      → all_at stands read tokens ≡ (all_at stands read rest >>= onto x)
+  all_step tokens x rest h e = all_more tokens h ∙ rw e refl
+
+  pub all_stop : (tokens : List T) (stop : Stop T) → stands tokens ≡ true → read tokens ≡ Err stop → all_at stands read tokens ≡ Err stop
+  all_stop tokens stop h e = all_more tokens h ∙ rw e refl
+
+  pub all_none : (tokens : List T) → stands tokens ≡ false → all_at stands read tokens ≡ Ok ([], tokens)
+  all_none [] h = refl
+  all_none (t ∷ ts) h = rw h refl
+
+-- ---- of which the first byte tells
+
+-- each ends by itself and begins so, and each such byte begins one
+pub record Each {X : Type 0} (begins : ℕ → Bool) (spell : X → List ℕ) (Fits : X → Type 0) (read : List ℕ → Read ℕ X) : Type 0 where
+  pub item : Format nowhere spell Fits never read
+  pub first : (x : X) → Fits x → Begins begins true (spell x)
+  pub some : (c : ℕ) → begins c ≡ true → CanGoOn spell Fits (c ∷ [])
+
+module _ {X : Type 0} {begins : ℕ → Bool} {spell : X → List ℕ} {Fits : X → Type 0} {read : List ℕ → Read ℕ X} (p : Each begins spell Fits read) where
+  pub each_several : Several (starts begins) read
+  each_several = record {
+    none = refl;
+    some = λ tokens x rest e.
+        let f = p.item.found tokens x rest e in
+        let b = p.first x f.fits in
+        omega (arith, ap length f.parts, length-append (spell x) rest, ap length b.is);
+  }
+
+  stands_some : (x : X) (rest : List ℕ) → Fits x → starts begins (spell x ++ rest) ≡ true
+  stands_some x rest fits = let b = p.first x fits in ap (λ (u : List ℕ). starts begins (u ++ rest)) b.is ∙ b.test
+
+  each_back : Back (starts begins) spell Fits (λ rest. Unit {0}) read
+  each_back = record {
+    back = λ x rest fits next. p.item.again x rest fits (ends_never x rest);
+    stand = stands_some;
+    some = λ x fits. let b = p.first x fits in omega (arith, ap length b.is);
+    next = λ x rest fits. tt;
+  }
+
+  abbrev goes : List X → ℕ → Bool
+  goes xs c = begins c
+
+  ends_here : (xs : List X) (rest : List ℕ) → Ends goes xs rest → starts begins rest ≡ false
+  ends_here xs [] h = refl
+  ends_here xs (c ∷ cs) h = h
+
+  here_ends : (xs : List X) (rest : List ℕ) → starts begins rest ≡ false → Ends goes xs rest
+  here_ends xs [] h = tt
+  here_ends xs (c ∷ cs) h = h
+
+  abbrev AllFit : List X → Type 0
+  AllFit xs = AllByRecursion Fits xs
+
+  each_found : (n : ℕ) (tokens : List ℕ) (xs : List X) (rest : List ℕ) → length tokens ≤ n → all_at (starts begins) read tokens ≡ Ok (xs, rest)
+      → Found (flat_map spell) AllFit goes tokens xs rest
+  each_found n [] xs rest le e =
+      subst (λ (q : List X × List ℕ). Found (flat_map spell) AllFit goes [] q.0 q.1) (ok_is ([], []) (xs, rest) e)
+      (record { parts = refl; fits = tt; ends = tt })
+  each_found zero (c ∷ cs) xs rest le e = absurd (omega arith)
+  each_found (suc n) (c ∷ cs) xs rest le e =
+      elim (told (begins c)) [
+        | inr h ↦
+            subst (λ (q : List X × List ℕ). Found (flat_map spell) AllFit goes (c ∷ cs) q.0 q.1)
+            (ok_is ([], c ∷ cs) (xs, rest) (sym (all_none each_several (c ∷ cs) h) ∙ e)) (record { parts = refl; fits = tt; ends = h })
+        | inl h ↦
+            let a = bind_ok (read (c ∷ cs)) (λ x. all_at (starts begins) read x.1 >>= onto x.0) (xs, rest) (sym (all_more each_several (c ∷ cs) h) ∙ e) in
+            let b = bind_ok (all_at (starts begins) read a.0.1) (onto a.0.0) (xs, rest) a.2 in
+            let f = p.item.found (c ∷ cs) a.0.0 a.0.1 a.1 in
+            let shorter = each_several.some (c ∷ cs) a.0.0 a.0.1 a.1 in
+            let r = each_found n a.0.1 b.0.0 b.0.1 (omega arith) b.1 in
+            subst (λ (q : List X × List ℕ). Found (flat_map spell) AllFit goes (c ∷ cs) q.0 q.1) (ok_is (a.0.0 ∷ b.0.0, b.0.1) (xs, rest) b.2) (record {
+              parts = f.parts ∙ ap (λ (u : List ℕ). spell a.0.0 ++ u) r.parts ∙ sym (append_assoc (spell a.0.0) (flat_map spell b.0.0) b.0.1);
+              fits = (f.fits, r.fits);
+              ends = here_ends (a.0.0 ∷ b.0.0) b.0.1 (ends_here b.0.0 b.0.1 r.ends);
+            })
+      ]
+
+  first_can : (front : List ℕ) → CanGoOn spell Fits front → CanGoOn (flat_map spell) AllFit front
+  first_can front v = record {
+    some = v.some ∷ [];
+    fits = (v.fits, tt);
+    more = v.more ++ [];
+    is = ap (λ (u : List ℕ). u ++ []) v.is ∙ append_assoc front v.more [];
+  }
+
+  behind_can : (x : X) (front : List ℕ) → Fits x → CanGoOn (flat_map spell) AllFit front → CanGoOn (flat_map spell) AllFit (spell x ++ front)
+  behind_can x front fits v = record {
+    some = x ∷ v.some;
+    fits = (fits, v.fits);
+    more = v.more;
+    is = ap (λ (u : List ℕ). spell x ++ u) v.is ∙ sym (append_assoc (spell x) front v.more);
+  }
+
+  each_stuck : (n : ℕ) (tokens : List ℕ) (stop : Stop ℕ) → length tokens ≤ n → all_at (starts begins) read tokens ≡ Err stop
+      → Stuck nowhere (flat_map spell) AllFit (all_at (starts begins) read) tokens stop
+  each_stuck n [] stop le e = not_both ([], []) stop e
+  each_stuck zero (c ∷ cs) stop le e = absurd (omega arith)
+  each_stuck (suc n) (c ∷ cs) stop le e =
+      elim (told (begins c)) [
+        | inr h ↦ not_both ([], c ∷ cs) stop (sym (all_none each_several (c ∷ cs) h) ∙ e)
+        | inl h ↦
+            elim (bind_err (read (c ∷ cs)) (λ x. all_at (starts begins) read x.1 >>= onto x.0) stop (sym (all_more each_several (c ∷ cs) h) ∙ e)) [
+              | inl k ↦
+                  let s = p.item.stuck (c ∷ cs) stop k in
+                  let y = p.some c h in
+                  record {
+                    front = s.front;
+                    parts = s.parts;
+                    viable = viable_of (flat_map spell) AllFit s.front (first_can s.front (can_go_on spell Fits y.some y.fits s.front s.viable));
+                    cause = cause_of nowhere read (all_at (starts begins) read) s.front stop (λ t tail other is e.
+                        let o = first_same s.front c t cs tail other (s.parts ∙ ap (λ (u : List ℕ). s.front ++ u) is) in
+                        all_stop each_several (s.front ++ t ∷ other) (Bad (t ∷ other)) (ap (starts begins) o.1 ∙ h) e) s.cause;
+                  }
+              | inr k ↦ elim (bind_err (all_at (starts begins) read k.0.1) (onto k.0.0) stop k.2) [
+                | inr m ↦ not_both (k.0.0 ∷ m.0.0, m.0.1) stop m.2
+                | inl m ↦
+                    let f = p.item.found (c ∷ cs) k.0.0 k.0.1 k.1 in
+                    let shorter = each_several.some (c ∷ cs) k.0.0 k.0.1 k.1 in
+                    let s = each_stuck n k.0.1 stop (omega arith) m in
+                    let x : List ℕ = spell k.0.0 in
+                    let on = can_go_on (flat_map spell) AllFit [] tt s.front s.viable in
+                    record {
+                      front = x ++ s.front;
+                      parts = f.parts ∙ ap (λ (u : List ℕ). x ++ u) s.parts ∙ sym (append_assoc x s.front (place stop));
+                      viable = viable_of (flat_map spell) AllFit (x ++ s.front) (behind_can k.0.0 s.front f.fits on);
+                      cause = cause_on nowhere nowhere (all_at (starts begins) read) (all_at (starts begins) read) s.front (x ++ s.front) stop
+                          (λ t tail other is e.
+                          let left : List ℕ = s.front ++ t ∷ other in
+                          let one : read (x ++ left) ≡ Ok (k.0.0, left) = p.item.again k.0.0 left f.fits (ends_never k.0.0 left) in
+                          ap (all_at (starts begins) read) (append_assoc x s.front (t ∷ other))
+                          ∙ all_step each_several (x ++ left) k.0.0 left (stands_some k.0.0 left f.fits) one ∙ rw e refl) (λ rest low. low) s.cause;
+                    }
+              ]
+            ]
+      ]
+
+  each_on : (xs : List X) (c : ℕ) → AllFit xs → begins c ≡ true → CanGoOn (flat_map spell) AllFit (flat_map spell xs ++ c ∷ [])
+  each_on [] c fits g = first_can (c ∷ []) (p.some c g)
+  each_on (x ∷ xs) c fits g =
+      subst (CanGoOn (flat_map spell) AllFit) (sym (append_assoc (spell x) (flat_map spell xs) (c ∷ [])))
+      (behind_can x (flat_map spell xs ++ c ∷ []) fits.0 (each_on xs c fits.1 g))
+
+  pub each_format : Format nowhere (flat_map spell) AllFit goes (all_at (starts begins) read)
+  each_format = record {
+    found = λ tokens xs rest e. each_found (length tokens) tokens xs rest (omega arith) e;
+    again = λ xs rest fits ends. all_back each_back xs rest fits tt (ends_here xs rest ends);
+    stuck = λ tokens stop e. each_stuck (length tokens) tokens stop (omega arith) e;
+    on = each_on;
+  }
