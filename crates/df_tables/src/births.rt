@@ -95,6 +95,9 @@ pub fn make_room(
     ensures labels { labels.new.items ≡ labels.old.items }
     ensures seats { roll.new.seats ≡ roll.old.seats }
 {
+    if n == 0 {
+        return Ok(());
+    }
     rows.reserve(n)?;
     labels.reserve(n)?;
     roll.reserve(n)

@@ -129,11 +129,13 @@ fn give(unit: &mut Unit) -> Result<Answer, NoMemory>
     if !is_event(&reply) {
         return Ok(quiet(reply));
     }
-    let effect = match unit.line.pop() {
-        Some(given) => Effect::Given(given),
-        None => Effect::Nothing,
-    };
-    Ok(Answer { reply, effect })
+    match unit.line.pop() {
+        Some(given) => Ok(Answer {
+            reply,
+            effect: Effect::Given(given),
+        }),
+        None => Ok(quiet(reply)),
+    }
 }
 
 /// Hands the first delivery that is left to the unit at a place over to it, and answers its get.
@@ -144,10 +146,7 @@ pub fn give_at(units: &mut [Unit], place: usize) -> Result<Answer, NoMemory>
     ensures unchanged { OnErr result (units.new ≡ units.old) }
 {
     let unit = &mut units[place];
-    match give(unit) {
-        Ok(answer) => Ok(answer),
-        Err(refused) => Err(refused),
-    }
+    give(unit)
 }
 
 /// Counts a subscription in the own state of the unit at a place. Takes no memory.
