@@ -11,25 +11,28 @@ use std::alloc::Global;
 use std::collections::VecDeque;
 use std::marker::Model;
 
-/// The deliveries that are left, and those about to be.
+/// The deliveries that are left, and behind them those about to be.
 #[derive(Drop)]
 pub struct Line {
-    left: VecDeque<Given>,
-    staged: VecDeque<Given>,
+    deliveries: VecDeque<Given>,
+    /// How many are left.
+    left: usize,
 }
 
 impl Model for Line {
-    ghost use Rattle.std.specs.Prelude.{◌+◌, ◌≤◌};
-    ghost use Rattle.std.specs.VecDeque.{deque_len, deque_capacity};
+    ghost use Rattle.std.specs.Prelude.{◌≤◌, length, drop, take};
     ghost use Rattle.df_tables.specs.Line.{LineState, line_code};
 
     ghost Value = { LineState };
 
     ghost coded = { line_code };
 
-    ghost view = { λ a. record { left = a.left.items; staged = a.staged.items } };
+    ghost view = { λ a. record {
+      left = take a.left a.deliveries.items;
+      staged = drop a.left a.deliveries.items;
+    } };
 
-    ghost invariant = { λ a. deque_len a.left + deque_len a.staged ≤ deque_capacity a.left };
+    ghost invariant = { λ a. a.left ≤ length a.deliveries.items };
 }
 
 impl Line {
@@ -38,8 +41,8 @@ impl Line {
         ensures { result ≡ record { left = []; staged = [] } }
     {
         Line {
-            left: VecDeque::new(alloc),
-            staged: VecDeque::new(alloc),
+            deliveries: VecDeque::new(alloc),
+            left: 0,
         }
     }
 
@@ -47,21 +50,24 @@ impl Line {
     pub fn first(&self) -> Option<&Given>
         ensures { option_copied result ≡ slice_get self.now.left 0 }
     {
-        self.left.front()
+        if self.left == 0 {
+            return None;
+        }
+        self.deliveries.front()
     }
 
     /// Whether no delivery is left.
     pub fn is_empty(&self) -> bool
         ensures { result ≡ is_nil self.now.left }
     {
-        self.left.is_empty()
+        self.left == 0
     }
 
     /// How many deliveries are left.
     pub fn len(&self) -> usize
         ensures { result ≡ length self.now.left }
     {
-        self.left.len()
+        self.left
     }
 
     /// Takes the first delivery that is left.
@@ -69,7 +75,11 @@ impl Line {
         ensures first { result ≡ slice_get self.old.left 0 }
         ensures left { self.new ≡ record self.old { left = drop 1 self.old.left } }
     {
-        self.left.pop_front()
+        if self.left == 0 {
+            return None;
+        }
+        self.left -= 1;
+        self.deliveries.pop_front()
     }
 
     /// Makes one more ready, with all the memory that it needs.
@@ -77,14 +87,10 @@ impl Line {
         ensures ok { OnOk result (self.new ≡ staged_more given self.old) }
         ensures unchanged { OnErr result (self.new ≡ self.old) }
     {
-        let Ok(()) = self.staged.reserve(1) else {
+        let Ok(()) = self.deliveries.reserve(1) else {
             return Err(NoMemory);
         };
-        let room = self.staged.len() + 1;
-        let Ok(()) = self.left.reserve(room) else {
-            return Err(NoMemory);
-        };
-        self.staged.push_back_reserved(given);
+        self.deliveries.push_back_reserved(given);
         Ok(())
     }
 
@@ -92,13 +98,13 @@ impl Line {
     pub fn settle(&mut self)
         ensures { self.new ≡ settled self.old }
     {
-        let _left = self.left.append(&mut self.staged);
+        self.left = self.deliveries.len();
     }
 
     /// Lets go what is ready.
     pub fn quiet(&mut self)
         ensures { self.new ≡ quiet self.old }
     {
-        self.staged.clear();
+        self.deliveries.truncate(self.left);
     }
 }
