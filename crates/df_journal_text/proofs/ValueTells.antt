@@ -1,5 +1,5 @@
 -- What the reader of values answers, as a word of a line.
-use Rattle.df_journal_text.proofs.Names.{◌≡◌, ℕ, ◌+◌, ◌≤◌, true, false, cond, List, [], ◌∷◌, ◌++◌, length, drop, Ok, Err, refl, sym, ap, subst, ◌∙◌, arith}
+use Rattle.df_journal_text.proofs.Names.{◌≡◌, ℕ, ◌≤◌, true, false, List, [], ◌∷◌, ◌++◌, length, drop, Ok, Err, refl, sym, ap, subst, ◌∙◌, arith}
 use Rattle.df_journal_text.proofs.Names.{append-nil, length-append, inl, inr, text_at, Ends, not_both, told, text_found, IsSpelled, IsValue, value_at}
 use Rattle.df_journal_text.proofs.Names.{value_within, value_text, Fails, IsFound, IsRead, IsSyntaxAt, EndsWord, Fault, nowhere, nowhere_is_local, value_format}
 use Rattle.df_journal_text.proofs.Names.{value_goes, value_stands, IsLargeWord, IsTooLarge, word, word_at, Tells, line_fault, value_fault}
@@ -7,14 +7,14 @@ use Rattle.std.specs.Prelude.{nat_lt}
 use Rattle.std.proofs.lemmas.Bool.Decides.{nat_tests}
 use Rattle.df_format.specs.Grammar.{CanGoOn, Stands}
 use Rattle.df_format.proofs.Longest.{goes_on}
-use Rattle.df_value_text.specs.Counting.{AreWithin, FirstOver, begins, counts_of, start, walk, walked}
-use Rattle.df_value_text.specs.declared.counting.Walk.{Walk}
+use Rattle.df_value_text.specs.Counting.{AreWithin, FirstOver, counts_of, start, walked}
 use Rattle.df_value_text.specs.OrderNames.{LowInValue}
 use Rattle.df_value_text.specs.ValueFault.{FirstTooLarge, IsTooLargeAt, IsWithinBefore, NamesTooLarge, NoLowBefore}
 use Rattle.df_value_text.specs.declared.refused.TextRefused.{TextRefused}
 use Rattle.df_value_text.proofs.CountingEnds.{counted_behind}
 use Rattle.df_value_text.proofs.CountingFronts.{walked_on, within_before}
 use Rattle.df_value_text.proofs.CountingLaws.{walked-append}
+use Rattle.df_value_text.proofs.CountingSteps.{walked_few}
 use Rattle.df_value_text.proofs.LimitLaws.{no_value}
 use Rattle.df_value_text.proofs.ValueAnswers.{level_fits, value_ends}
 use Rattle.df_value_text.proofs.WholeLaws.{whole_format}
@@ -42,19 +42,11 @@ stands_ends : (p : Plain) (rest : List ℕ) → IsSpelled p
 stands_ends p [] fits ends = tt
 stands_ends p (c ∷ rest) fits ends = elim (told (value_goes p c)) [ inl h ↦ absurd (ends c rest refl (value_on p c fits h)) | inr h ↦ h ]
 
--- a byte counts one node at most
-walk-nodes : (w : Walk) (c : ℕ) → (walk w c).nodes ≤ w.nodes + 1
-walk-nodes w c = elim (begins w.place c) as (λ b. cond b (w.nodes + 1) w.nodes ≤ w.nodes + 1) [ true ↦ omega arith | false ↦ omega arith ]
-
-walked-nodes : (w : Walk) (cs : List ℕ) → (walked w cs).nodes ≤ w.nodes + length cs
-walked-nodes w [] = omega arith
-walked-nodes w (c ∷ cs) = omega (arith, walk-nodes w c, walked-nodes (walk w c) cs)
-
 -- a value has no more nodes than bytes
 few_nodes : (p : Plain) → IsSpelled p → node_count p ≤ length (value_text p)
 few_nodes p fits =
     let exact = counted_behind p fits [] in
-    omega (arith, exact.nodes, walked-nodes start (value_text p ++ []), ap length (append-nil (value_text p)))
+    omega (arith, exact.nodes, (walked_few start (value_text p ++ [])).nodes, ap length (append-nil (value_text p)))
 
 value_is : (bytes : List ℕ) (p : Plain) (rest : List ℕ) → Stands value_text IsValue bytes p rest → value_at bytes ≡ Ok (p, rest)
 value_is bytes p rest s =

@@ -1,13 +1,9 @@
 //! Reading calls: the words behind the unit's.
 ghost use Rattle.std.specs.Prelude.{◌≤◌, length, drop};
-ghost use Rattle.df_format.specs.Reading.{as_at, then_at};
-ghost use Rattle.df_unit.specs.declared.call.Call.TheVariants.{AttachPrivilege, CloneEvent, DelPart, ReadPart};
-ghost use Rattle.df_value_text.specs.ReadLabel.{label_at, privilege_at};
-ghost use Rattle.df_value_text.specs.ReadName.{name_at};
 ghost use Rattle.df_value_text.specs.code.Answer.{Gives};
 ghost use Rattle.df_journal_text.specs.Fits.{IsCall};
 ghost use Rattle.df_journal_text.specs.Large.{IsLargeCall};
-ghost use Rattle.df_journal_text.specs.ReadCall.{act_at, braced_at, call_at, change_at, half_at, handle_at, last_kinds, named_kinds, plain_kinds, spot_at};
+ghost use Rattle.df_journal_text.specs.ReadCall.{act_at, braced_at, call_at, change_at, half_at, last_kinds, named_kinds, plain_kinds, spot_at};
 ghost use Rattle.df_journal_text.specs.ReadWords.{kinds_at, word_at};
 ghost use Rattle.df_journal_text.specs.code.Judging.{EndsCall, Tells, call_text};
 
@@ -27,6 +23,7 @@ use df_value_text::{Fault, byte_at};
 use std::alloc::Global;
 
 /// The handle, the label and the name that are the next words, and the place behind them.
+#[inline(always)]
 fn spot_at(
     alloc: Global,
     known: &mut KnownLabel,
@@ -90,7 +87,6 @@ fn braced_word(alloc: Global, bytes: &[u8], at: usize) -> Result<(TagSet, usize)
 }
 
 /// The call of one of the last kinds, and the place behind it.
-#[inline(never)]
 fn last_call_at(alloc: Global, bytes: &[u8], at: usize) -> Result<(Call, usize), Fault>
     requires { at ≤ length bytes.now }
     ensures { Gives (λ c. c) bytes.now result (kinds_at last_kinds (drop at bytes.now)) }
@@ -134,83 +130,28 @@ fn named_call_at(
     ensures { Gives (λ c. c) bytes.now result (kinds_at named_kinds (drop at bytes.now)) }
 {
     if let Some(start) = keyword_at(bytes, at, b" del") {
-        return deleting_at(alloc, known, bytes, start);
+        let ((h, (label, name)), end) = spot_at(alloc, known, bytes, start)?;
+        return Ok((Call::DelPart { h, label, name }, end));
     }
     if let Some(start) = keyword_at(bytes, at, b" read") {
-        return reading_at(bytes, start);
+        let (h, behind) = number_word(bytes, start)?;
+        let (name, end) = name_word(bytes, behind)?;
+        return Ok((Call::ReadPart { h, name }, end));
     }
     if let Some(start) = keyword_at(bytes, at, b" clone") {
-        return cloning_at(alloc, known, bytes, start);
+        let (h, behind) = number_word(bytes, start)?;
+        let (label, end) = known.label_word(alloc, bytes, behind)?;
+        return Ok((Call::CloneEvent { h, label }, end));
     }
     if let Some(start) = keyword_at(bytes, at, b" attach") {
-        return attaching_at(alloc, known, bytes, start);
+        let ((h, (label, name)), behind) = spot_at(alloc, known, bytes, start)?;
+        let (p, end) = privilege_word(alloc, bytes, behind)?;
+        return Ok((Call::AttachPrivilege { h, label, name, p }, end));
     }
     last_call_at(alloc, bytes, at)
 }
 
-/// The call whose keyword `del` stands before the place, and the place behind it.
-fn deleting_at(
-    alloc: Global,
-    known: &mut KnownLabel,
-    bytes: &[u8],
-    at: usize,
-) -> Result<(Call, usize), Fault>
-    requires { at ≤ length bytes.now }
-    ensures { Gives (λ c. c) bytes.now result
-        (as_at (λ x. DelPart x.0 x.1.0 x.1.1) spot_at (drop at bytes.now)) }
-{
-    let ((h, (label, name)), end) = spot_at(alloc, known, bytes, at)?;
-    Ok((Call::DelPart { h, label, name }, end))
-}
-
-/// The call whose keyword `read` stands before the place, and the place behind it.
-fn reading_at(bytes: &[u8], at: usize) -> Result<(Call, usize), Fault>
-    requires { at ≤ length bytes.now }
-    ensures { Gives (λ c. c) bytes.now result
-        (as_at (λ x. ReadPart x.0 x.1) (handle_at (word_at name_at)) (drop at bytes.now)) }
-{
-    let (h, behind) = number_word(bytes, at)?;
-    let (name, end) = name_word(bytes, behind)?;
-    Ok((Call::ReadPart { h, name }, end))
-}
-
-/// The call whose keyword `clone` stands before the place, and the place behind it.
-#[inline(never)]
-fn cloning_at(
-    alloc: Global,
-    known: &mut KnownLabel,
-    bytes: &[u8],
-    at: usize,
-) -> Result<(Call, usize), Fault>
-    requires { at ≤ length bytes.now }
-    ensures { Gives (λ c. c) bytes.now result
-        (as_at (λ x. CloneEvent x.0 x.1) (handle_at (word_at label_at)) (drop at bytes.now)) }
-{
-    let (h, behind) = number_word(bytes, at)?;
-    let (label, end) = known.label_word(alloc, bytes, behind)?;
-    Ok((Call::CloneEvent { h, label }, end))
-}
-
-/// The call whose keyword `attach` stands before the place, and the place behind it.
-#[inline(never)]
-fn attaching_at(
-    alloc: Global,
-    known: &mut KnownLabel,
-    bytes: &[u8],
-    at: usize,
-) -> Result<(Call, usize), Fault>
-    requires { at ≤ length bytes.now }
-    ensures { Gives (λ c. c) bytes.now result
-        (as_at (λ x. AttachPrivilege x.0.0 x.0.1.0 x.0.1.1 x.1)
-        (then_at spot_at (word_at privilege_at)) (drop at bytes.now)) }
-{
-    let ((h, (label, name)), behind) = spot_at(alloc, known, bytes, at)?;
-    let (p, end) = privilege_word(alloc, bytes, behind)?;
-    Ok((Call::AttachPrivilege { h, label, name, p }, end))
-}
-
 /// The call at the place, of any kind but that with a value, and the place behind it.
-#[inline(never)]
 fn plain_call_at(
     alloc: Global,
     known: &mut KnownLabel,

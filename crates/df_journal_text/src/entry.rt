@@ -21,6 +21,7 @@ use df_label::{Label, NoMemory};
 use df_unit::{Commit, Effect, Entry, Reply};
 
 /// Appends a handle behind the words of its call, and ends the line.
+#[inline(always)]
 fn append_handle(h: u32, to: &mut Vec<u8>) -> Result<(), NoMemory>
     ensures { OnOk result (to.new.items ≡ to.old.items ++ answer_text (Handle h)) }
 {
@@ -69,6 +70,7 @@ fn append_answer(reply: &Reply, to: &mut Vec<u8>) -> Result<(), NoMemory>
 }
 
 /// Appends a handle behind the words of its call, and the line of a note.
+#[inline(always)]
 fn append_noted_handle(h: u32, note: &Note, to: &mut Vec<u8>) -> Result<(), NoMemory>
     ensures { OnOk result (to.new.items ≡ to.old.items
         ++ (answer_text (Handle h) ++ note_text note.now)) }

@@ -71,6 +71,7 @@ impl KnownLabel {
     }
 
     /// The label that is known, where its word stands at the place, and the place behind it.
+    #[inline(always)]
     fn standing(&self, bytes: &[u8], at: usize) -> Option<(&Label, usize)>
         requires { at ≤ length bytes.now }
         ensures { IfSome result (λ k. (k.1 ≤ length bytes.now)
@@ -102,6 +103,7 @@ impl KnownLabel {
     }
 
     /// The label at the place, and the place behind it.
+    #[inline(always)]
     pub fn label_at(
         &mut self,
         alloc: Global,
@@ -121,6 +123,7 @@ impl KnownLabel {
     }
 
     /// The label that is the next word, and the place behind it.
+    #[inline(always)]
     pub fn label_word(
         &mut self,
         alloc: Global,
@@ -136,6 +139,7 @@ impl KnownLabel {
     }
 
     /// The label and the name that are the next two words, and the place behind them.
+    #[inline(always)]
     pub fn named_at(
         &mut self,
         alloc: Global,

@@ -41,6 +41,7 @@ impl Notes {
     }
 
     /// The note of this contamination, which the unit at a place has.
+    #[inline(always)]
     pub fn of(
         &mut self,
         place: Option<usize>,

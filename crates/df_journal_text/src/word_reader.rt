@@ -42,6 +42,7 @@ pub fn keyword_at(bytes: &[u8], at: usize, keyword: &[u8]) -> Option<usize>
 }
 
 /// The number of 32 bits that is the next word, and the place behind it.
+#[inline(always)]
 pub fn number_word(bytes: &[u8], at: usize) -> Result<(u32, usize), Fault>
     requires { at ≤ length bytes.now }
     ensures { Gives (λ n. n) bytes.now result (word_at short_at (drop at bytes.now)) }
@@ -69,6 +70,7 @@ pub fn label_word(alloc: Global, bytes: &[u8], at: usize) -> Result<(Label, usiz
 }
 
 /// The name that is the next word, and the place behind it.
+#[inline(always)]
 pub fn name_word(bytes: &[u8], at: usize) -> Result<(Name, usize), Fault>
     requires { at ≤ length bytes.now }
     ensures { Gives (λ n. n) bytes.now result (word_at name_at (drop at bytes.now)) }
