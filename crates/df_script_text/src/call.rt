@@ -29,6 +29,7 @@ pub fn common_call_at(bytes: &[u8], at: usize) -> Option<(CommonLine<'_>, usize)
 
 /// A root's call at the place, with its words, and the place behind them; none where another
 /// stands there, or memory is wanting.
+#[inline(always)]
 pub fn root_call_at<'a>(
     alloc: Global,
     known: &mut KnownLabel,
