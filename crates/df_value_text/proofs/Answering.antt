@@ -1,11 +1,6 @@
 -- What a format says of the answers of a reader that gives what reading gives.
-use Rattle.df_value_text.proofs.Names.{◌≡◌, ℕ, Bool, List, drop, Ok, Err, refl, sym, ap, ◌∙◌, inl, inr, Bad, Low, Read, Stands, Format, ok_is, err_is, not_both, stands, can_go_on, Fails, refusal, IsFound, IsRead, IsSyntaxAt, Fault}
-use Rattle.std.proofs.Common.{Result}
-use Rattle.std.specs.Prelude.{IfErr, IfOk}
-use Rattle.df_format.proofs.Laws.{is_read, first_bad}
+use Rattle.df_value_text.proofs.Names.{◌≡◌, ℕ, Bool, List, drop, Ok, Err, refl, sym, ap, ◌∙◌, inl, inr, Bad, Low, Read, Stands, Format, ok_is, err_is, not_both, stands, can_go_on, Fails, refusal, IsFound, IsRead, IsSyntaxAt, Fault, Result, IfErr, IfOk, is_read, first_bad, TellsSyntaxAt, TextRefused}
 use Rattle.df_value_text.specs.code.Answer.{Gives, NamesBad, NamesBadOrLow, told}
-use Rattle.df_value_text.specs.ValueFault.{TellsSyntaxAt}
-use Rattle.df_value_text.specs.declared.refused.TextRefused.{TextRefused}
 use Rattle.df_value_text.specs.declared.refused.Fault.TheVariants as fault
 use Rattle.df_value_text.specs.declared.refused.TextRefused.TheVariants as refused
 

@@ -1,6 +1,5 @@
 -- A literal that is spelled is read back, where a word ends, and what stands behind it is left.
-use Rattle.df_value_text.proofs.Names.{◌≡◌, ℕ, ◌<◌, ◌≤◌, ◌^◌, true, false, eqb, List, [], ◌∷◌, ◌++◌, length, Ok, decimal, refl, sym, ap, ◌∙◌, append_assoc, arith, length-append, is_ascii_digit, append-nil, nat_tests, closed_at, Ends, ends_never, is_name, Plain, node_count, Label, Privilege, start, IsLabel, IsPrivilege, IsSpelled, IsTag, IsTagSet, label_text, path_text, privilege_text, tag_text, tags_text, number_at, label_at, privilege_at, name_at, numbers_at, short_at, tag_at, tags_at, value_text, EndsWord}
-use Rattle.df_value_text.specs.ReadValue.{value_at}
+use Rattle.df_value_text.proofs.Names.{◌≡◌, ℕ, ◌<◌, ◌≤◌, ◌^◌, true, false, eqb, List, [], ◌∷◌, ◌++◌, length, Ok, decimal, refl, sym, ap, ◌∙◌, append_assoc, arith, length-append, is_ascii_digit, append-nil, nat_tests, closed_at, Ends, ends_never, is_name, Plain, node_count, Label, Privilege, start, IsLabel, IsPrivilege, IsSpelled, IsTag, IsTagSet, label_text, path_text, privilege_text, tag_text, tags_text, number_at, label_at, privilege_at, name_at, numbers_at, short_at, tag_at, tags_at, value_text, EndsWord, value_at}
 use Rattle.df_value_text.proofs.CountingEnds.{counted_behind}
 use Rattle.df_value_text.proofs.CountingSteps.{walked_few}
 use Rattle.df_value_text.proofs.LabelLaws.{label_format, privilege_format, tags_end_at}

@@ -1,6 +1,5 @@
 -- Bytes are read as they are spelled.
-use Rattle.df_value_text.proofs.Names.{◌≡◌, ℕ, ◌+◌, ◌*◌, ◌/◌, ◌%◌, ◌<◌, Bool, true, false, cond, List, [], ◌∷◌, ◌++◌, Some, None, Ok, Err, refl, append_assoc, arith, codes, AllByRecursion, flat_map, nat_tests, Bad, Read, ◌>>=◌, decoded, one_at, CanGoOn, IsLocal, Format, never, same_read, nowhere, nowhere_is_local, any_low, fitting, enclosed, itself, passing, passing_format, chain_at, chain_format, Links, each_format, hex, hex_digit, is_hex, hex_byte, pairs_at, bytes_at, AreBytes, Each, two_at}
-use Rattle.df_value_text.specs.ReadBytes.{hex_value}
+use Rattle.df_value_text.proofs.Names.{◌≡◌, ℕ, ◌+◌, ◌*◌, ◌/◌, ◌%◌, ◌<◌, Bool, true, false, cond, List, [], ◌∷◌, ◌++◌, Some, None, Ok, Err, refl, append_assoc, arith, codes, AllByRecursion, flat_map, nat_tests, Bad, Read, ◌>>=◌, decoded, one_at, CanGoOn, IsLocal, Format, never, same_read, nowhere, nowhere_is_local, any_low, fitting, enclosed, itself, passing, passing_format, chain_at, chain_format, Links, each_format, hex, hex_digit, is_hex, hex_byte, pairs_at, bytes_at, AreBytes, Each, two_at, hex_value}
 
 abbrev pub pairs_text : List ℕ → List ℕ
 pairs_text bytes = flat_map hex bytes

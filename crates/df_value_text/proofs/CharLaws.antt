@@ -1,10 +1,8 @@
 -- A character of words is read as it is spelled.
-use Rattle.df_value_text.proofs.Names.{◌≡◌, ℕ, ◌/◌, ◌%◌, ◌<◌, Bool, true, false, cond, eqb, List, [], ◌∷◌, refl, arith, ◌⊎◌, inl, inr, nat_tests, one_at, Format, told, never, behind_format, nowhere, nowhere_is_local, told_as, either_of, itself, passing, passing_format, Links, hex, hex_digit, escaped, is_hex, hex_byte, is_quoted, is_control, is_plain, escape_at, ascii_at, zero, suc, ◌≤◌, nat_lt, ◌++◌, sym, ap, subst, ◌∙◌, flat_map, scalar, low_scalar, append-nil, CanGoOn, Begins, Of, made, is_lead, trail_length, least_second, most_second, char_at, begins_char}
-use Rattle.df_value_text.specs.ReadEscape.{is_high, is_low, control_at}
+use Rattle.df_value_text.proofs.Names.{◌≡◌, ℕ, ◌/◌, ◌%◌, ◌<◌, Bool, true, false, cond, eqb, List, [], ◌∷◌, refl, arith, ◌⊎◌, inl, inr, nat_tests, one_at, Format, told, never, behind_format, nowhere, nowhere_is_local, told_as, either_of, itself, passing, passing_format, Links, hex, hex_digit, escaped, is_hex, hex_byte, is_quoted, is_control, is_plain, escape_at, ascii_at, zero, suc, ◌≤◌, nat_lt, ◌++◌, sym, ap, subst, ◌∙◌, flat_map, scalar, low_scalar, append-nil, CanGoOn, Begins, Of, made, is_lead, trail_length, least_second, most_second, char_at, begins_char, is_high, is_low, control_at, alone}
 use Rattle.df_value_text.proofs.BytesLaws.{pair_back, byte_back, two_format}
 use Rattle.std.proofs.Math.Utf8.{encode}
 use Rattle.std.proofs.lemmas.Str.{encode_ascii}
-use Rattle.df_value_text.specs.ReadWords.{alone}
 use Rattle.df_value_text.proofs.WideLaws.{IsWide, IsTrail, order, below, not_below, behind_some, between_is, wide_format, wide_char, char_wide}
 
 -- ---- a control byte in two digits

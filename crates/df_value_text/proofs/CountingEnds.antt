@@ -1,11 +1,5 @@
 -- Behind the whole value nothing counts.
-use Rattle.df_value_text.proofs.Names.{◌≡◌, ℕ, ◌+◌, ◌<◌, ◌≤◌, max, Bool, true, false, cond, List, [], ◌∷◌, ◌++◌, length, take, drop, refl, sym, ap, subst, ◌∙◌, append_assoc, arith, inl, inr, ltb-true, append-nil, length-take-le, is_ascii_digit, goes_on, IsWithinLimits, Plain, int, node_count, byte_count, depth, value_text, IsSpelled, Place, Walk, closed, closes, walked, start, counts_of, AreWithin, IsOver, FirstOver, NeverOver}
-use Rattle.std.proofs.Common.{ltb}
-use Rattle.std.specs.Prelude.{◌↔◌}
-use Rattle.std.proofs.lemmas.Bool.{ltb-false}
-use Rattle.std.proofs.lemmas.List.{drop-append-le, take-append-drop}
-use Rattle.df_frozen.specs.Limits.{most_nodes, most_bytes, most_depth}
-use Rattle.df_value_text.specs.Counting.{AreCountsOf}
+use Rattle.df_value_text.proofs.Names.{◌≡◌, ℕ, ◌+◌, ◌<◌, ◌≤◌, max, Bool, true, false, cond, List, [], ◌∷◌, ◌++◌, length, take, drop, refl, sym, ap, subst, ◌∙◌, append_assoc, arith, inl, inr, ltb-true, append-nil, length-take-le, is_ascii_digit, goes_on, IsWithinLimits, Plain, int, node_count, byte_count, depth, value_text, IsSpelled, Place, Walk, closed, closes, walked, start, counts_of, AreWithin, IsOver, FirstOver, NeverOver, ltb, ◌↔◌, ltb-false, drop-append-le, take-append-drop, most_nodes, most_bytes, most_depth, AreCountsOf}
 use Rattle.df_value_text.proofs.CountingLaws.{at, Adds, same, passes, walked-append}
 use Rattle.df_value_text.proofs.CountingValues.{ended}
 use Rattle.df_value_text.proofs.CountingFronts.{counted_value, never_over}

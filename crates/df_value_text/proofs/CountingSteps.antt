@@ -1,9 +1,6 @@
 -- The search for the first byte by which a count is passed, and texts that pass none.
-use Rattle.df_value_text.proofs.Names.{◌≡◌, ℕ, suc, ◌+◌, ◌*◌, ◌<◌, ◌≤◌, max, Bool, true, false, cond, eqb, List, [], ◌∷◌, length, refl, arith, inl, inr, nat_tests, Place, Walk, character, nested, start, walk, walked, weight, NeverOver, is_hex, is_name_byte, ◌-◌, ◌||◌, ◌++◌, take, drop, get_or, sym, ap, subst, ◌∙◌, append_assoc, drop-drop, eqb-true, pos, is_ascii_digit, int, words, is_plain, begins_with, counts_of, AreWithin, drop_all, IsOver, FirstOver}
-use Rattle.df_value_text.specs.code.Short.{open_count, plain_run}
+use Rattle.df_value_text.proofs.Names.{◌≡◌, ℕ, suc, ◌+◌, ◌*◌, ◌<◌, ◌≤◌, max, Bool, true, false, cond, eqb, List, [], ◌∷◌, length, refl, arith, inl, inr, nat_tests, Place, Walk, character, nested, start, walk, walked, weight, NeverOver, is_hex, is_name_byte, ◌-◌, ◌||◌, ◌++◌, take, drop, get_or, sym, ap, subst, ◌∙◌, append_assoc, drop-drop, eqb-true, pos, is_ascii_digit, int, words, is_plain, begins_with, counts_of, AreWithin, drop_all, IsOver, FirstOver, open_count, plain_run, take-append-drop, most_bytes}
 use Rattle.df_value_text.proofs.CountingFronts.{is_step, brackets_on, nested_low, never_over}
-use Rattle.std.proofs.lemmas.List.{take-append-drop}
-use Rattle.df_frozen.specs.Limits.{most_bytes}
 use Rattle.df_value_text.proofs.CountingEnds.{ended_still, within_still, Counts, done_still}
 use Rattle.df_value_text.proofs.CountingLaws.{Adds, at, joins, nothing, opens, passes, same, walked-append, told as counted}
 use Rattle.df_value_text.proofs.Loops.{behind_it, first_of}

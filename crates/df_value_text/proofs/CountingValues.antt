@@ -1,7 +1,5 @@
 -- Walking over a value's spelling counts its nodes, its bytes and its depth.
-use Rattle.df_value_text.proofs.Names.{◌≡◌, ℕ, ◌+◌, max, Bool, true, false, List, [], ◌∷◌, ◌++◌, length, refl, arith, is_ascii_digit, Plain, Plains, Pairs, int, words, bytes, items, entries, no_items, item, no_entries, entry, node_count, items_node_count, entries_node_count, byte_count, depth, value_text, items_text, entries_text, IsSpelled, AreSpelled, AreEntries, closed, Place}
-use Rattle.df_frozen.specs.Plain.{items_byte_count, entries_byte_count, items_depth, entries_depth}
-use Rattle.df_value_text.specs.Counting.{behind}
+use Rattle.df_value_text.proofs.Names.{◌≡◌, ℕ, ◌+◌, max, Bool, true, false, List, [], ◌∷◌, ◌++◌, length, refl, arith, is_ascii_digit, Plain, Plains, Pairs, int, words, bytes, items, entries, no_items, item, no_entries, entry, node_count, items_node_count, entries_node_count, byte_count, depth, value_text, items_text, entries_text, IsSpelled, AreSpelled, AreEntries, closed, Place, items_byte_count, entries_byte_count, items_depth, entries_depth, behind}
 use Rattle.df_value_text.proofs.CountingLaws.{Adds, told, joins, and_more, passes, opens}
 use Rattle.df_value_text.proofs.CountingTexts.{number_adds, text_adds, pairs_add, name_adds}
 use Rattle.df_value_text.specs.declared.place.Place.TheVariants as place

@@ -1,8 +1,5 @@
 -- A name above another is read as it is spelled, and above each but the greatest there is one.
-use Rattle.df_value_text.proofs.Names.{◌≡◌, ℕ, zero, suc, ◌<◌, ◌≤◌, Bool, true, false, eqb, List, [], ◌∷◌, ◌++◌, length, Ok, Err, refl, sym, ap, subst, ◌∙◌, append_assoc, arith, inl, inr, nat_le, list_all, nat_cmp_is, tied_itself, nat_cmp_total, nat_list_cmp_total, Ordering, Less, Equal, Greater, is_lt, nat_cmp, eqb-true, and_parts, nat_tests, Stop, Bad, Low, CanGoOn, Ends, Stuck, Format, ok_is, err_is, not_both, bind_ok, bind_err, told, chosen, Whole, is_longest, own, nowhere, first_stops, is_letter, is_name_byte, name_cmp, NameStandsLow, name_at, is_greatest, higher_at}
-use Rattle.df_format.proofs.Longest.{whole_format}
-use Rattle.df_format.proofs.Tokens.{first_stays}
-use Rattle.df_value_text.specs.ReadValue.{higher}
+use Rattle.df_value_text.proofs.Names.{◌≡◌, ℕ, zero, suc, ◌<◌, ◌≤◌, Bool, true, false, eqb, List, [], ◌∷◌, ◌++◌, length, Ok, Err, refl, sym, ap, subst, ◌∙◌, append_assoc, arith, inl, inr, nat_le, list_all, nat_cmp_is, tied_itself, nat_cmp_total, nat_list_cmp_total, Ordering, Less, Equal, Greater, is_lt, nat_cmp, eqb-true, and_parts, nat_tests, Stop, Bad, Low, CanGoOn, Ends, Stuck, Format, ok_is, err_is, not_both, bind_ok, bind_err, told, chosen, Whole, is_longest, own, nowhere, first_stops, is_letter, is_name_byte, name_cmp, NameStandsLow, name_at, is_greatest, higher_at, whole_format, first_stays, higher}
 use Rattle.df_value_text.proofs.NameLaws.{IsName, name_goes, name_of, name_first, name_format}
 
 abbrev pub AfterName : List ℕ → List ℕ → Type 0

@@ -1,9 +1,5 @@
 -- Labels and privileges are read as they are spelled.
-use Rattle.df_value_text.proofs.Names.{◌≡◌, ℕ, Bool, true, false, eqb, List, [], ◌∷◌, ◌++◌, Option, Some, None, refl, sym, ap, subst, append_assoc, arith, ◌⊎◌, inl, inr, is_ascii_digit, eqb-true, nat_tests, then_at, text_at, closed_at, maybe_spell, CanGoOn, Ends, Format, never, ends_never, then_second_format, then_goes, text_format, own, IsText, closed_format, Begins, MaybeFits, maybe_goes, maybe_format, last_goes, Of, led, viewed, fitting, either_of, Privilege, Right, Plus, Minus, PlusAuth, MinusAuth, tag_text, tags_text, label_text, privilege_text, IsTag, AreTags, IsTagSet, IsLabel, IsPrivilege, IsLowTag, tag_at, tags_at, leads_tag, label_at, auth_at, plus_of, right_at, privilege_at}
-use Rattle.df_format.specs.Spelling.{then_spell}
-use Rattle.df_format.proofs.Thens.{ThenFits}
-use Rattle.df_value_text.specs.Label.{right_text}
-use Rattle.df_value_text.specs.ReadLabel.{label_of, minus_of, privilege_of}
+use Rattle.df_value_text.proofs.Names.{◌≡◌, ℕ, Bool, true, false, eqb, List, [], ◌∷◌, ◌++◌, Option, Some, None, refl, sym, ap, subst, append_assoc, arith, ◌⊎◌, inl, inr, is_ascii_digit, eqb-true, nat_tests, then_at, text_at, closed_at, maybe_spell, CanGoOn, Ends, Format, never, ends_never, then_second_format, then_goes, text_format, own, IsText, closed_format, Begins, MaybeFits, maybe_goes, maybe_format, last_goes, Of, led, viewed, fitting, either_of, Privilege, Right, Plus, Minus, PlusAuth, MinusAuth, tag_text, tags_text, label_text, privilege_text, IsTag, AreTags, IsTagSet, IsLabel, IsPrivilege, IsLowTag, tag_at, tags_at, leads_tag, label_at, auth_at, plus_of, right_at, privilege_at, then_spell, ThenFits, right_text, label_of, minus_of, privilege_of}
 use Rattle.df_value_text.proofs.TagLaws.{nowhere, nowhere_is_local, tag_goes, tag_format}
 use Rattle.df_value_text.proofs.TagSetLaws.{tags_goes, tags_format, low_is_local}
 

@@ -1,11 +1,8 @@
 -- Reading up to the first byte by which a count of freezing is passed, and what it says of all bytes.
-use Rattle.df_value_text.proofs.Names.{◌≡◌, None, Some, ℕ, suc, ◌+◌, ◌<◌, ◌≤◌, List, [], ◌∷◌, ◌++◌, length, length-append, take, drop, Ok, Err, refl, sym, ap, subst, ◌∙◌, append_assoc, arith, ◌⊎◌, inl, inr, true, nat_le, nat_lt, nat_tests, append-nil, drop_all, length-take-le, CanGoOn, Stands, Bad, Low, told, IsWithinLimits, Plain, Fails, refusal, FirstOver, NeverOver, counts_of, IsSpelled, IsValue, NameStandsLow, LowInValue, value_text, FirstBadValue, FirstTooLarge, IsWithinBefore, Fault}
-use Rattle.std.proofs.Common.{Result, min}
+use Rattle.df_value_text.proofs.Names.{◌≡◌, None, Some, ℕ, suc, ◌+◌, ◌<◌, ◌≤◌, List, [], ◌∷◌, ◌++◌, length, length-append, take, drop, Ok, Err, refl, sym, ap, subst, ◌∙◌, append_assoc, arith, ◌⊎◌, inl, inr, true, nat_le, nat_lt, nat_tests, append-nil, drop_all, length-take-le, CanGoOn, Stands, Bad, Low, told, IsWithinLimits, Plain, Fails, refusal, FirstOver, NeverOver, counts_of, IsSpelled, IsValue, NameStandsLow, LowInValue, value_text, FirstBadValue, FirstTooLarge, IsWithinBefore, Fault, Result, min, IsTooLargeAt, NamesTooLarge, NamesValueFault, NoLowBefore, TellsSyntaxAt, up_to, TextRefused}
 use Rattle.std.specs.Result.{result_err}
 use Rattle.std.proofs.lemmas.List.{length-drop}
 use Rattle.df_value_text.specs.ReadValue.{value_within}
-use Rattle.df_value_text.specs.ValueFault.{IsTooLargeAt, NamesTooLarge, NamesValueFault, NoLowBefore, TellsSyntaxAt, up_to}
-use Rattle.df_value_text.specs.declared.refused.TextRefused.{TextRefused}
 use Rattle.df_value_text.proofs.CountingEnds.{value_within as counted_within, front_whole, not_both, over_inside, value_over}
 use Rattle.df_value_text.proofs.Answering.{told_low}
 use Rattle.df_value_text.proofs.LowLaws.{low_read}

@@ -1,8 +1,5 @@
 -- Items read one behind the other, as the code reads them.
-use Rattle.df_value_text.proofs.Names.{◌≡◌, ℕ, ◌+◌, ◌<◌, Bool, true, false, cond, List, [], ◌∷◌, ◌++◌, length, get_or, take, drop, Ok, Err, refl, sym, ap, ◌∙◌, arith, add-one, drop-cons, Stop, Bad, Low, Read, ◌>>=◌, as_at, either_at, behind_at, more_of, items_at, text_at, with_front, onto, regroup, take_more, append-nil, Shrinks, item_read, item_failed, no_more, Fails, begins_with, listed, Fault}
-use Rattle.std.specs.Prelude.{◌==◌}
-use Rattle.std.proofs.Common.{length-drop}
-use Rattle.std.proofs.lemmas.List.{drop_more}
+use Rattle.df_value_text.proofs.Names.{◌≡◌, ℕ, ◌+◌, ◌<◌, Bool, true, false, cond, List, [], ◌∷◌, ◌++◌, length, get_or, take, drop, Ok, Err, refl, sym, ap, ◌∙◌, arith, add-one, drop-cons, Stop, Bad, Low, Read, ◌>>=◌, as_at, either_at, behind_at, more_of, items_at, text_at, with_front, onto, regroup, take_more, append-nil, Shrinks, item_read, item_failed, no_more, Fails, begins_with, listed, Fault, ◌==◌, length-drop, drop_more}
 use Rattle.df_value_text.specs.declared.refused.Fault.TheVariants as fault
 
 -- a fault is one of another reader that stops there too

@@ -1,6 +1,5 @@
 -- Items of which the next stops at a low place, and what never stops at one.
-use Rattle.df_value_text.proofs.Names.{◌≡◌, ℕ, Bool, true, List, [], ◌∷◌, ◌++◌, Ok, Err, refl, ap, ◌∙◌, Stop, Read, more_of, items_at, Format, Follow, Parts, more_step}
-use Rattle.df_format.proofs.Longest.{same_split}
+use Rattle.df_value_text.proofs.Names.{◌≡◌, ℕ, Bool, true, List, [], ◌∷◌, ◌++◌, Ok, Err, refl, ap, ◌∙◌, Stop, Read, more_of, items_at, Format, Follow, Parts, more_step, same_split}
 use Rattle.df_value_text.proofs.EntryLaws.{Chain, led, led_one}
 
 -- ---- items, of which the next stops

@@ -1,6 +1,5 @@
 -- Where the path of what is open leads to a low name, reading stops there.
-use Rattle.df_value_text.proofs.Names.{◌≡◌, ℕ, zero, suc, ◌+◌, ◌≤◌, true, eqb, List, [], ◌∷◌, ◌++◌, length, Err, refl, sym, ap, subst, ◌∙◌, append_assoc, length-append, arith, inl, inr, flat_map, eqb-true, Stop, Bad, Low, Read, items_at, err_is, told, Parts, longest_read, Plain, from_list, from_pairs, items_node_count, entries_node_count, NameStandsLow, in_list, in_map, LowInValue, ended_at, leads_value, list_at, leads_entry, entry_at, next_entry_at, map_at, entry_text, nowhere}
-use Rattle.df_value_text.specs.OrderNames.{Open, values_led, entries_led, open_text, LowWithin, MayFollow, IsOpen, AreOpen}
+use Rattle.df_value_text.proofs.Names.{◌≡◌, ℕ, zero, suc, ◌+◌, ◌≤◌, true, eqb, List, [], ◌∷◌, ◌++◌, length, Err, refl, sym, ap, subst, ◌∙◌, append_assoc, length-append, arith, inl, inr, flat_map, eqb-true, Stop, Bad, Low, Read, items_at, err_is, told, Parts, longest_read, Plain, from_list, from_pairs, items_node_count, entries_node_count, NameStandsLow, in_list, in_map, LowInValue, ended_at, leads_value, list_at, leads_entry, entry_at, next_entry_at, map_at, entry_text, nowhere, Open, values_led, entries_led, open_text, LowWithin, MayFollow, IsOpen, AreOpen}
 use Rattle.df_value_text.specs.ReadValue.{value_within}
 use Rattle.df_value_text.proofs.EntryLaws.{Chain, LowInMap, NearEntry, entry_goes, entry_format, entries_parts, name_apart, LevelEntry, LevelAfter, items_nest_few, entries_nest_few, list_chain, entries_chain}
 use Rattle.df_value_text.proofs.HigherLaws.{AfterName, name_whole, higher_format, not_greatest}

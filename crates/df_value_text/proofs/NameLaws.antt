@@ -1,9 +1,7 @@
 -- A name is read as it is spelled.
-use Rattle.df_value_text.proofs.Names.{◌≡◌, ℕ, zero, suc, ◌<◌, ◌≤◌, Bool, true, false, cond, ◌&&◌, List, [], ◌∷◌, ◌++◌, length, take, drop, Ok, refl, sym, ap, ◌∙◌, arith, ◌⊎◌, inl, inr, length-append, nat_lt, list_all, nat_tests, append-nil, is_letter, is_name_byte, is_name, CanGoOn, Ends, Found, Format, any_low, first_at, first_format, own, name_bytes, name_at}
+use Rattle.df_value_text.proofs.Names.{◌≡◌, ℕ, zero, suc, ◌<◌, ◌≤◌, Bool, true, false, cond, ◌&&◌, List, [], ◌∷◌, ◌++◌, length, take, drop, Ok, refl, sym, ap, ◌∙◌, arith, ◌⊎◌, inl, inr, length-append, nat_lt, list_all, nat_tests, append-nil, is_letter, is_name_byte, is_name, CanGoOn, Ends, Found, Format, any_low, first_at, first_format, own, name_bytes, name_at, take-append_seam, drop-append_seam, longest_name}
 use Rattle.std.proofs.Common.{take-append-drop}
 use Rattle.std.proofs.lemmas.List.Folds.{list_all-append}
-use Rattle.std.proofs.Math.Seq.{take-append_seam, drop-append_seam}
-use Rattle.df_frozen.specs.Limits.{longest_name}
 
 abbrev pub IsName : List ℕ → Type 0
 IsName name = is_name name ≡ true

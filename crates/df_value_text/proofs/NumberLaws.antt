@@ -1,6 +1,5 @@
 -- A number is read as it is spelled.
-use Rattle.df_value_text.proofs.Names.{◌≡◌, ℕ, zero, suc, ◌+◌, ◌-◌, ◌*◌, ◌/◌, ◌%◌, ◌^◌, ◌<◌, ◌≤◌, Bool, true, false, cond, ◌&&◌, eqb, List, [], ◌∷◌, ◌++◌, Ok, Err, refl, sym, ap, subst, ◌∙◌, append_assoc, arith, ◌⊎◌, inl, inr, nat_le, is_ascii_digit, decimal, eqb-true, nat_tests, append-nil, decimal_by_steps, Stop, Bad, CanGoOn, Ends, Found, Format, chosen, Begins, any_low, first_at, first_stops, first_format, number_at, digits_at}
-use Rattle.std.proofs.lemmas.Fmt.{decimal_digit, decimal_step}
+use Rattle.df_value_text.proofs.Names.{◌≡◌, ℕ, zero, suc, ◌+◌, ◌-◌, ◌*◌, ◌/◌, ◌%◌, ◌^◌, ◌<◌, ◌≤◌, Bool, true, false, cond, ◌&&◌, eqb, List, [], ◌∷◌, ◌++◌, Ok, Err, refl, sym, ap, subst, ◌∙◌, append_assoc, arith, ◌⊎◌, inl, inr, nat_le, is_ascii_digit, decimal, eqb-true, nat_tests, append-nil, decimal_by_steps, Stop, Bad, CanGoOn, Ends, Found, Format, chosen, Begins, any_low, first_at, first_stops, first_format, number_at, digits_at, decimal_digit, decimal_step}
 
 -- c is a digit with which a number goes on from n
 abbrev pub digit_fits : ℕ → ℕ → ℕ → Bool

@@ -1,6 +1,5 @@
 -- A tag that isn't above the one before it is refused at its first byte.
-use Rattle.df_value_text.proofs.Names.{◌≡◌, ℕ, List, [], ◌∷◌, ◌++◌, Ok, Err, refl, sym, ap, ◌∙◌, append_assoc, inl, inr, Low, items_at, longest_read, tag_text, tags_text, IsTagSet, StandsLow, tag_at, next_at, leads_tag, tags_at, label_at}
-use Rattle.df_value_text.specs.Order.{LowInLabel}
+use Rattle.df_value_text.proofs.Names.{◌≡◌, ℕ, List, [], ◌∷◌, ◌++◌, Ok, Err, refl, sym, ap, ◌∙◌, append_assoc, inl, inr, Low, items_at, longest_read, tag_text, tags_text, IsTagSet, StandsLow, tag_at, next_at, leads_tag, tags_at, label_at, LowInLabel}
 use Rattle.df_value_text.proofs.PathLaws.{long_whole}
 use Rattle.df_value_text.proofs.TagLaws.{nowhere, nowhere_is_local, joined_items, tag_format}
 use Rattle.df_value_text.proofs.TagSetLaws.{tags_parts, follow_tags, tags_format}

@@ -1,9 +1,5 @@
 -- Sets of tags are read as they are spelled.
-use Rattle.df_value_text.proofs.Names.{◌≡◌, ℕ, Bool, true, false, eqb, List, [], ◌∷◌, ◌++◌, Option, Some, None, refl, sym, ap, ◌∙◌, append_assoc, length-append, length, arith, decimal, nat_list_cmp_total, is_lt, eqb-true, nat_tests, items_at, more_spell, items_spell, maybe_spell, CanGoOn, IsLocal, Format, Follow, Parts, ItemsFit, Leads, last_goes, items_goes, items_format, Shrinks, MaybeFits, maybe_goes, maybe_format, tag_cmp, path_text, tag_text, tags_text, IsTag, AreTags, IsTagSet, StandsLow, IsLowTag, tag_at, next_at, leads_tag, optional, tags_at}
-use Rattle.df_format.specs.Reading.{maybe_at}
-use Rattle.df_format.proofs.Items.{last_behind, last_of}
-use Rattle.df_format.proofs.Joins.{as_format}
-use Rattle.df_label.specs.Ascending.{IsAscending}
+use Rattle.df_value_text.proofs.Names.{◌≡◌, ℕ, Bool, true, false, eqb, List, [], ◌∷◌, ◌++◌, Option, Some, None, refl, sym, ap, ◌∙◌, append_assoc, length-append, length, arith, decimal, nat_list_cmp_total, is_lt, eqb-true, nat_tests, items_at, more_spell, items_spell, maybe_spell, CanGoOn, IsLocal, Format, Follow, Parts, ItemsFit, Leads, last_goes, items_goes, items_format, Shrinks, MaybeFits, maybe_goes, maybe_format, tag_cmp, path_text, tag_text, tags_text, IsTag, AreTags, IsTagSet, StandsLow, IsLowTag, tag_at, next_at, leads_tag, optional, tags_at, maybe_at, last_behind, last_of, as_format, IsAscending}
 use Rattle.df_label.proofs.SetFacts.{below_trans}
 use Rattle.df_label.proofs.TagSetFacts.{tag_cmp_exact}
 use Rattle.df_value_text.proofs.HigherLaws.{is_less}

@@ -1,12 +1,8 @@
 -- The loops that read numbers and tags, step by step.
-use Rattle.df_value_text.proofs.Names.{◌≡◌, ℕ, ◌+◌, ◌-◌, ◌<◌, ◌≤◌, ◌^◌, true, false, List, [], ◌∷◌, ◌++◌, length, get_or, drop, take, Some, Ok, Err, Bool, None, cond, refl, sym, ap, ◌∙◌, arith, length-append, AllByRecursion, Read, as_at, items_at, begins_with, leads_number, tag_at, next_at, leads_tag, listed, optional, some_tags_at, tags_at, AreNumbers, AreTags, IsTag, tag_cmp, tags_text}
-use Rattle.std.specs.Prelude.{All}
-use Rattle.std.proofs.Math.Seq.{get_or-append_seam, take-append_seam}
+use Rattle.df_value_text.proofs.Names.{◌≡◌, ℕ, ◌+◌, ◌-◌, ◌<◌, ◌≤◌, ◌^◌, true, false, List, [], ◌∷◌, ◌++◌, length, get_or, drop, take, Some, Ok, Err, Bool, None, cond, refl, sym, ap, ◌∙◌, arith, length-append, AllByRecursion, Read, as_at, items_at, begins_with, leads_number, tag_at, next_at, leads_tag, listed, optional, some_tags_at, tags_at, AreNumbers, AreTags, IsTag, tag_cmp, tags_text, All, get_or-append_seam, take-append_seam, IsAscending, leads_at}
 use Rattle.std.proofs.lemmas.List.{length-drop, length_push}
 use Rattle.std.proofs.lemmas.List.Elements.{All-from_recursion}
-use Rattle.df_label.specs.Ascending.{IsAscending}
 use Rattle.df_label.specs.Spelling.{AreShort}
-use Rattle.df_value_text.specs.ReadTag.{leads_at}
 use Rattle.df_value_text.proofs.TagSetLaws.{tags_format}
 use Rattle.df_value_text.proofs.Loops.{LedTo, drop_first}
 pub use Rattle.df_value_text.proofs.Loops.{behind_it}

@@ -1,10 +1,5 @@
 -- What reading, with as many levels as a text may need, says of the values that stand in it.
-use Rattle.df_value_text.proofs.Names.{◌≡◌, ℕ, suc, ◌+◌, ◌<◌, ◌≤◌, true, false, List, [], ◌∷◌, ◌++◌, length, drop, Ok, Err, refl, sym, ap, subst, ◌∙◌, arith, inl, inr, pos, append_cancel_right, Stop, Bad, Low, CanGoOn, Stands, Ends, ok_is, err_is, not_both, told, can_go_on, IsWithinLimits, Plain, int, words, bytes, items, entries, node_count, Fails, refusal, IsFound, IsRead, IsSpelled, IsValue, LowInValue, value_text, Fault}
-use Rattle.df_format.specs.Grammar.{FirstBad}
-use Rattle.df_format.specs.Format.{IsViable}
-use Rattle.df_format.proofs.Laws.{viable_map, no_longer, first_bad}
-use Rattle.df_value_text.specs.ValueFault.{FirstLow}
-use Rattle.df_value_text.specs.OrderNames.{LowWithin}
+use Rattle.df_value_text.proofs.Names.{◌≡◌, ℕ, suc, ◌+◌, ◌<◌, ◌≤◌, true, false, List, [], ◌∷◌, ◌++◌, length, drop, Ok, Err, refl, sym, ap, subst, ◌∙◌, arith, inl, inr, pos, append_cancel_right, Stop, Bad, Low, CanGoOn, Stands, Ends, ok_is, err_is, not_both, told, can_go_on, IsWithinLimits, Plain, int, words, bytes, items, entries, node_count, Fails, refusal, IsFound, IsRead, IsSpelled, IsValue, LowInValue, value_text, Fault, FirstBad, IsViable, viable_map, no_longer, first_bad, FirstLow, LowWithin}
 use Rattle.df_value_text.specs.ReadValue.{value_within}
 use Rattle.df_value_text.proofs.Answering.{no_refusal}
 use Rattle.df_value_text.proofs.EntryLaws.{LevelFits, nest_few}

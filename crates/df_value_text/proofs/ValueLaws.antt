@@ -1,6 +1,5 @@
 -- Values are read as they are spelled.
-use Rattle.df_value_text.proofs.Names.{◌≡◌, ℕ, zero, suc, ◌<◌, Bool, true, false, eqb, List, [], ◌∷◌, ◌++◌, refl, sym, ap, subst, arith, ◌⊎◌, inl, inr, ℤ, pos, negsuc, IsUtf8, codes, decimal, flat_map, eqb-true, nat_tests, Read, behind_at, Format, Begins, nowhere, nowhere_is_local, any_low, low_as, in_list, Parts, Leads, last_goes, items_format, format_shrinks, Shrinks, Of, made, led, fitting, either_of, is_letter, Plain, int, words, bytes, items, entries, from_list, from_pairs, IsSpelled, AreBytes, IsWhole, leads_value, list_of, list_at, leads_entry, next_entry_at, map_of, map_at, leaf_at, node_at, escaped, hex, value_text, items_text, entries_text, entry_text}
-use Rattle.df_value_text.specs.OrderNames.{LowWithin}
+use Rattle.df_value_text.proofs.Names.{◌≡◌, ℕ, zero, suc, ◌<◌, Bool, true, false, eqb, List, [], ◌∷◌, ◌++◌, refl, sym, ap, subst, arith, ◌⊎◌, inl, inr, ℤ, pos, negsuc, IsUtf8, codes, decimal, flat_map, eqb-true, nat_tests, Read, behind_at, Format, Begins, nowhere, nowhere_is_local, any_low, low_as, in_list, Parts, Leads, last_goes, items_format, format_shrinks, Shrinks, Of, made, led, fitting, either_of, is_letter, Plain, int, words, bytes, items, entries, from_list, from_pairs, IsSpelled, AreBytes, IsWhole, leads_value, list_of, list_at, leads_entry, next_entry_at, map_of, map_at, leaf_at, node_at, escaped, hex, value_text, items_text, entries_text, entry_text, LowWithin}
 use Rattle.df_value_text.specs.ReadValue.{value_within}
 use Rattle.df_value_text.proofs.BytesLaws.{bytes_format}
 use Rattle.df_value_text.proofs.EntryLaws.{Chain, ended_format, items_led, low_open, entries_parts, entries_format, LevelFits, LevelEntry, LevelAfter, items_to, items_from, entries_to, entries_from}

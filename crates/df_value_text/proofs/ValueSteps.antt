@@ -1,8 +1,6 @@
 -- The reader of values, step by step.
-use Rattle.df_value_text.proofs.Names.{◌≡◌, ℕ, List, [], ◌∷◌, ◌++◌, Some, refl, sym, ap, ◌∙◌, nat_list_cmp_total, Less, Greater, name_cmp, Plain, items, entries, item, entry, from_list, from_pairs, zero, suc, ◌+◌, ◌<◌, ◌≤◌, Bool, true, false, ◌&&◌, length, drop, Ok, Err, arith, not, and_parts, Stop, Bad, Read, then_at, as_at, text_at, closed_at, items_at, begins_with, listed, either_at, behind_at, ended_at, entry_at, next_entry_at, leads_value, list_at, list_of, is_greatest, leads_entry, map_at, map_of, leaf_at}
-use Rattle.std.specs.Ordering.{ordering_reverse}
+use Rattle.df_value_text.proofs.Names.{◌≡◌, ℕ, List, [], ◌∷◌, ◌++◌, Some, refl, sym, ap, ◌∙◌, nat_list_cmp_total, Less, Greater, name_cmp, Plain, items, entries, item, entry, from_list, from_pairs, zero, suc, ◌+◌, ◌<◌, ◌≤◌, Bool, true, false, ◌&&◌, length, drop, Ok, Err, arith, not, and_parts, Stop, Bad, Read, then_at, as_at, text_at, closed_at, items_at, begins_with, listed, either_at, behind_at, ended_at, entry_at, next_entry_at, leads_value, list_at, list_of, is_greatest, leads_entry, map_at, map_of, leaf_at, ordering_reverse, ◌==◌}
 use Rattle.df_frozen.specs.Place.{push_item, put_entry, push_at, put_at}
-use Rattle.std.specs.Prelude.{◌==◌}
 use Rattle.df_value_text.specs.ReadValue.{value_within}
 use Rattle.df_value_text.proofs.Loops.{LedTo, drop_first, behind_it, either_behind}
 

@@ -1,7 +1,6 @@
 -- Characters of several bytes are read as they stand.
-use Rattle.df_value_text.proofs.Names.{◌≡◌, ℕ, zero, suc, ◌+◌, ◌-◌, ◌*◌, ◌/◌, ◌<◌, ◌≤◌, Bool, true, false, nat_lt, List, [], ◌∷◌, refl, sym, subst, ◌∙◌, arith, ◌⊎◌, inl, inr, nat_tests, scalar, low_scalar, Read, Format, never, told, same_read, own, text_format, nowhere, chain_at, chain_format, Links, is_between, is_lead, trail_length, least_second, most_second, trail_at, wide_at}
+use Rattle.df_value_text.proofs.Names.{◌≡◌, ℕ, zero, suc, ◌+◌, ◌-◌, ◌*◌, ◌/◌, ◌<◌, ◌≤◌, Bool, true, false, nat_lt, List, [], ◌∷◌, refl, sym, subst, ◌∙◌, arith, ◌⊎◌, inl, inr, nat_tests, scalar, low_scalar, Read, Format, never, told, same_read, own, text_format, nowhere, chain_at, chain_format, Links, is_between, is_lead, trail_length, least_second, most_second, trail_at, wide_at, led_at}
 use Rattle.std.proofs.Math.Utf8.{next, encode, scalar_cases}
-use Rattle.df_value_text.specs.ReadWide.{led_at}
 
 -- ---- a byte that passes a test, and what stands behind it
 

@@ -1,6 +1,5 @@
 -- A literal that is written stands there where a word ends.
-use Rattle.df_value_text.proofs.Names.{◌≡◌, ℕ, suc, Bool, true, false, cond, eqb, List, [], ◌∷◌, ◌++◌, ℤ, pos, negsuc, refl, sym, subst, inl, inr, Stands, Ends, never, ends_never, stands, Plain, int, words, bytes, items, entries, Label, Privilege, Right, Plus, Minus, PlusAuth, MinusAuth, IsLabel, IsPrivilege, IsTag, IsValue, label_text, privilege_text, tag_text, IsLowTag, label_at, privilege_at, tag_at, value_text, EndsWord}
-use Rattle.df_value_text.specs.code.WordEnd.{IsBreak}
+use Rattle.df_value_text.proofs.Names.{◌≡◌, ℕ, suc, Bool, true, false, cond, eqb, List, [], ◌∷◌, ◌++◌, ℤ, pos, negsuc, refl, sym, subst, inl, inr, Stands, Ends, never, ends_never, stands, Plain, int, words, bytes, items, entries, Label, Privilege, Right, Plus, Minus, PlusAuth, MinusAuth, IsLabel, IsPrivilege, IsTag, IsValue, label_text, privilege_text, tag_text, IsLowTag, label_at, privilege_at, tag_at, value_text, EndsWord, IsBreak}
 use Rattle.df_value_text.proofs.LabelLaws.{label_format, privilege_format, privilege_goes, right_goes}
 use Rattle.df_value_text.proofs.NumberLaws.{number_goes}
 use Rattle.df_value_text.proofs.TagLaws.{nowhere, nowhere_is_local, tag_goes, tag_format}

@@ -1,7 +1,6 @@
 -- Words are read as they are spelled.
-use Rattle.df_value_text.proofs.Names.{◌≡◌, ℕ, Bool, true, List, [], ◌∷◌, ◌++◌, Ok, refl, ap, ◌∙◌, append_assoc, IsUtf8, AllByRecursion, concat, flat_map, scalar, scalars, encodes, and_parts, flat_map-append, IsLocal, Format, never, nowhere, nowhere_is_local, any_low, viewed, enclosed, each_format, escaped, begins_char, char_at, chars_at, words_at, Each}
+use Rattle.df_value_text.proofs.Names.{◌≡◌, ℕ, Bool, true, List, [], ◌∷◌, ◌++◌, Ok, refl, ap, ◌∙◌, append_assoc, IsUtf8, AllByRecursion, concat, flat_map, scalar, scalars, encodes, and_parts, flat_map-append, IsLocal, Format, never, nowhere, nowhere_is_local, any_low, viewed, enclosed, each_format, escaped, begins_char, char_at, chars_at, words_at, Each, words_text}
 use Rattle.std.proofs.Math.Utf8.{encode}
-use Rattle.df_value_text.specs.Value.{words_text}
 use Rattle.df_value_text.proofs.CharLaws.{chars_text, IsChar, char_format, char_starts, char_some, char_encoded, encoded_char}
 
 -- characters go on with what begins another

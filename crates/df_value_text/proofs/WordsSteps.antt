@@ -1,10 +1,7 @@
 -- The readers of names, characters, bytes and words, step by step.
-use Rattle.df_value_text.proofs.Names.{◌≡◌, ℕ, zero, suc, ◌+◌, ◌-◌, ◌<◌, ◌≤◌, true, false, List, [], ◌∷◌, length, get_or, take, drop, Ok, refl, sym, ap, ◌∙◌, arith, drop_all, drop-drop, is_letter, is_name, is_name_byte, name_bytes, name_at, Bool, nat_lt, ◌++◌, inl, inr, told, nat_tests, Read, ◌>>=◌, with_front, onto, is_between, is_lead, trail_length, least_second, most_second, trail_at, wide_at, starts, length-append, text_at, text_found, is_hex, hex_byte, pairs_at, not, ◌&&◌, ◌||◌, cond, eqb, Err, append_assoc, add-one, nat_le, concat, drop-cons, and_parts, ltb-true, Stop, list_all, ok_is, err_is, not_both, is_plain, is_quoted, char_at, begins_char, chars_at, all_none, all_step, all_stop, each_several, all_at}
+use Rattle.df_value_text.proofs.Names.{◌≡◌, ℕ, zero, suc, ◌+◌, ◌-◌, ◌<◌, ◌≤◌, true, false, List, [], ◌∷◌, length, get_or, take, drop, Ok, refl, sym, ap, ◌∙◌, arith, drop_all, drop-drop, is_letter, is_name, is_name_byte, name_bytes, name_at, Bool, nat_lt, ◌++◌, inl, inr, told, nat_tests, Read, ◌>>=◌, with_front, onto, is_between, is_lead, trail_length, least_second, most_second, trail_at, wide_at, starts, length-append, text_at, text_found, is_hex, hex_byte, pairs_at, not, ◌&&◌, ◌||◌, cond, eqb, Err, append_assoc, add-one, nat_le, concat, drop-cons, and_parts, ltb-true, Stop, list_all, ok_is, err_is, not_both, is_plain, is_quoted, char_at, begins_char, chars_at, all_none, all_step, all_stop, each_several, all_at, length-drop, lt-ltb, plain_run}
 use Rattle.df_value_text.proofs.Loops.{first_of, front_on}
 use Rattle.df_value_text.proofs.NameLaws.{name_format}
-use Rattle.std.proofs.Common.{length-drop}
-use Rattle.std.proofs.lemmas.Bool.{lt-ltb}
-use Rattle.df_value_text.specs.code.Short.{plain_run}
 use Rattle.df_value_text.proofs.BytesLaws.{pairs_each}
 use Rattle.df_value_text.proofs.CharLaws.{plain_begins}
 use Rattle.df_value_text.proofs.WordsLaws.{chars_each}

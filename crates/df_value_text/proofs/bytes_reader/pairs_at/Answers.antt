@@ -1,7 +1,4 @@
-use Rattle.std.proofs.Common.{ℕ, [], ◌∷◌, ◌++◌, ap, drop, sym, ◌∙◌, arith}
-use Rattle.std.proofs.lemmas.List.{drop_all}
-use Rattle.df_value_text.specs.ReadBytes.{is_hex, pairs_at}
-use Rattle.df_format.specs.Reading.{starts}
+use Rattle.df_value_text.proofs.Names.{ℕ, [], ◌∷◌, ◌++◌, ap, drop, sym, ◌∙◌, arith, drop_all, is_hex, pairs_at, starts}
 use Rattle.df_value_text.proofs.WordsSteps.{pair_read, no_pair}
 use Rattle.df_value_text.proofs.Loops.{first_of, front_done}
 use Rattle.df_value_text.proofs.bytes_reader.pairs_at.Goals.{then-loop-place-test+else-is_hex, else-loop-place-test}

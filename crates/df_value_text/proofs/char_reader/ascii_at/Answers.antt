@@ -1,6 +1,4 @@
-use Rattle.std.proofs.Common.{sym, ◌∙◌}
-use Rattle.df_format.specs.Reading.{one_at}
-use Rattle.df_value_text.specs.ReadEscape.{escape_at, is_plain, kept}
+use Rattle.df_value_text.proofs.Names.{sym, ◌∙◌, one_at, escape_at, is_plain, kept}
 use Rattle.df_value_text.proofs.Loops.{either_behind}
 use Rattle.df_value_text.proofs.char_reader.ascii_at.Goals as goal
 

@@ -1,5 +1,4 @@
-use Rattle.std.proofs.Common.{◌-◌, sym, ◌∙◌}
-use Rattle.std.proofs.lemmas.Bool.{leb-true}
+use Rattle.df_value_text.proofs.Names.{◌-◌, sym, ◌∙◌, leb-true}
 use Rattle.df_value_text.proofs.CountingSteps.{few_words}
 use Rattle.df_value_text.proofs.counting.are_few_words.Goals as goal
 

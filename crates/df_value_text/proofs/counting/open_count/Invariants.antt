@@ -1,5 +1,4 @@
-use Rattle.std.proofs.Common.{◌≡◌, ◌+◌, ◌≤◌, drop}
-use Rattle.df_value_text.specs.code.Short.{open_count}
+use Rattle.df_value_text.proofs.Names.{◌≡◌, ◌+◌, ◌≤◌, drop, open_count}
 use Rattle.df_value_text.proofs.counting.open_count.Given as goal
 
 abbrev pub invariant-loop-byte : goal.invariant-loop-byte

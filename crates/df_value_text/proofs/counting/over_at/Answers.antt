@@ -1,5 +1,4 @@
-use Rattle.std.proofs.Common.{subst, sym, arith}
-use Rattle.df_value_text.specs.Counting.{IsCounted}
+use Rattle.df_value_text.proofs.Names.{subst, sym, arith, IsCounted}
 use Rattle.df_value_text.proofs.CountingFronts.{counted_on}
 use Rattle.df_value_text.proofs.CountingSteps.{reached_on, reached_over, never_ended, never_done}
 use Rattle.df_value_text.proofs.counting.over_at.Goals as goal

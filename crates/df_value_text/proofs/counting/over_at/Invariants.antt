@@ -1,5 +1,4 @@
-use Rattle.std.proofs.Common.{length, ◌-◌, ◌≤◌}
-use Rattle.df_value_text.specs.Counting.{AreWithin, IsCounted}
+use Rattle.df_value_text.proofs.Names.{length, ◌-◌, ◌≤◌, AreWithin, IsCounted}
 use Rattle.df_value_text.proofs.CountingSteps.{Reached}
 use Rattle.df_value_text.proofs.counting.over_at.Given as goal
 

@@ -1,7 +1,4 @@
-use Rattle.std.proofs.Common.{[], ◌∷◌, refl, sym, ◌∙◌}
-use Rattle.std.proofs.lemmas.Result.{err_from_is_err_and}
-use Rattle.df_format.specs.Reading.{as_at, behind_at}
-use Rattle.df_value_text.specs.ReadLabel.{auth_at, minus_of, plus_of}
+use Rattle.df_value_text.proofs.Names.{[], ◌∷◌, refl, sym, ◌∙◌, err_from_is_err_and, as_at, behind_at, auth_at, minus_of, plus_of}
 use Rattle.df_value_text.proofs.Loops.{either_behind, fails_by}
 use Rattle.df_value_text.proofs.label_reader.right_at.Goals as goal
 

@@ -1,5 +1,4 @@
-use Rattle.std.proofs.Common.{◌≡◌, ◌≤◌, length, take, drop}
-use Rattle.df_format.specs.Reading.{text_at, with_front}
+use Rattle.df_value_text.proofs.Names.{◌≡◌, ◌≤◌, length, take, drop, text_at, with_front}
 use Rattle.df_value_text.proofs.label_reader.text_at.Given as goal
 
 -- what is left is read as all was to be

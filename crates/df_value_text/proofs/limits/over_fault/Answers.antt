@@ -1,6 +1,4 @@
-use Rattle.std.proofs.Common.{sym, ◌∙◌, arith}
-use Rattle.std.proofs.lemmas.List.{length-take-le}
-use Rattle.df_frozen.specs.Value.{plain}
+use Rattle.df_value_text.proofs.Names.{sym, ◌∙◌, arith, length-take-le, plain}
 use Rattle.df_value_text.proofs.LimitLaws.{is_cut, ok_by, err_by, value_cut, fault_cut, order_cut, no_low_cut}
 use Rattle.df_value_text.proofs.limits.over_fault.Goals as goal
 

@@ -1,8 +1,4 @@
-use Rattle.std.proofs.Common.{ℕ, suc, length, drop, arith}
-use Rattle.std.proofs.lemmas.Result.{err_from_is_err_and}
-use Rattle.df_frozen.specs.Value.{plain}
-use Rattle.df_frozen.specs.declared.frozen.Frozen.{Frozen}
-use Rattle.df_value_text.specs.code.Answer.{refusal}
+use Rattle.df_value_text.proofs.Names.{ℕ, suc, length, drop, arith, err_from_is_err_and, plain, Frozen, refusal}
 use Rattle.df_value_text.proofs.Answering.{syntax_told}
 use Rattle.df_value_text.proofs.LimitLaws.{fault_within, order_within, read_within}
 use Rattle.df_value_text.proofs.ValueAnswers.{found_value, only_value, only_fault, no_low_name}

@@ -1,5 +1,4 @@
-use Rattle.std.proofs.Common.{length, ◌+◌, ◌-◌, ◌≡◌, ◌≤◌, drop}
-use Rattle.df_value_text.specs.ReadName.{name_bytes}
+use Rattle.df_value_text.proofs.Names.{length, ◌+◌, ◌-◌, ◌≡◌, ◌≤◌, drop, name_bytes}
 use Rattle.df_value_text.proofs.name_reader.name_end.Given as goal
 
 -- what is counted so far, and what is left to count, make all

@@ -1,5 +1,4 @@
-use Rattle.std.proofs.Common.{length, ◌-◌, ◌≡◌, ◌≤◌, drop}
-use Rattle.df_value_text.specs.Number.{digits_at}
+use Rattle.df_value_text.proofs.Names.{length, ◌-◌, ◌≡◌, ◌≤◌, drop, digits_at}
 use Rattle.df_value_text.proofs.number_reader.digits_at.Given as goal
 
 -- what is left is read as all was to be

@@ -1,10 +1,6 @@
-use Rattle.std.proofs.Common.{◌≡◌, ℤ, Ok, ap, drop, pos, refl, sym, ◌+◌, ◌∙◌, arith}
+use Rattle.df_value_text.proofs.Names.{◌≡◌, ℤ, Ok, ap, drop, pos, refl, sym, ◌+◌, ◌∙◌, arith, err_from_is_err_and, as_at, number_at, minus, positive_at}
 use Rattle.std.proofs.lemmas.Int.{to_z-of_z}
 use mir.Syntax.{w64}
-use Rattle.std.proofs.lemmas.Result.{err_from_is_err_and}
-use Rattle.df_format.specs.Reading.{as_at}
-use Rattle.df_value_text.specs.Number.{number_at}
-use Rattle.df_value_text.specs.ReadWhole.{minus, positive_at}
 use Rattle.df_value_text.proofs.Loops.{either_behind, fails_by}
 use Rattle.df_value_text.proofs.WholeLaws.{positive_format}
 use Rattle.df_value_text.proofs.number_reader.whole_at.Goals as goal

@@ -1,5 +1,4 @@
-use Rattle.std.proofs.Common.{[], drop}
-use Rattle.df_value_text.specs.ReadLabel.{label_at}
+use Rattle.df_value_text.proofs.Names.{[], drop, label_at}
 use Rattle.df_value_text.proofs.LabelLaws.{label_format}
 use Rattle.df_value_text.proofs.Answering.{found_by, only_by, names_either, names_low}
 use Rattle.df_value_text.proofs.OrderLaws.{label_low}

@@ -1,5 +1,4 @@
-use Rattle.std.proofs.Common.{[], ◌∷◌, arith}
-use Rattle.df_label.specs.declared.privilege.Right.TheVariants.{Plus}
+use Rattle.df_value_text.proofs.Names.{[], ◌∷◌, arith, Plus}
 use Rattle.df_value_text.proofs.LabelLaws.{privilege_format}
 use Rattle.df_value_text.proofs.Answering.{found_by, only_by, names_bad}
 use Rattle.df_value_text.proofs.readers.read_privilege.Goals as goal

@@ -1,5 +1,4 @@
-use Rattle.std.proofs.Common.{drop}
-use Rattle.df_frozen.specs.declared.frozen.Frozen.{Frozen}
+use Rattle.df_value_text.proofs.Names.{drop, Frozen}
 use Rattle.df_value_text.proofs.Answering.{syntax_told}
 use Rattle.df_value_text.proofs.LimitLaws.{large_told, never_large, no_value}
 use Rattle.df_value_text.proofs.readers.read_value.Goals as goal

@@ -1,7 +1,4 @@
-use Rattle.std.proofs.Common.{◌≡◌, ◌<◌, [], ◌∷◌, length, drop, ap, sym, ◌∙◌, arith, rules}
-use Rattle.std.proofs.lemmas.Result.{err_from_is_err_and}
-use Rattle.std.proofs.lemmas.List.{length_push}
-use Rattle.df_value_text.specs.ReadTag.{short_at, leads_number}
+use Rattle.df_value_text.proofs.Names.{◌≡◌, ◌<◌, [], ◌∷◌, length, drop, ap, sym, ◌∙◌, arith, rules, err_from_is_err_and, length_push, short_at, leads_number}
 use Rattle.df_value_text.proofs.Loops.{fails_by, begun, left_on, left_stops, left_done}
 use Rattle.df_value_text.proofs.PathLaws.{short_shrinks}
 use Rattle.df_value_text.proofs.TagSteps.{number_led, no_number}

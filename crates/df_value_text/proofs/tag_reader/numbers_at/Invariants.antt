@@ -1,5 +1,4 @@
-use Rattle.std.proofs.Common.{ℕ, ◌-◌, ◌≤◌, ◌<◌, length, drop}
-use Rattle.df_value_text.specs.ReadTag.{short_at, leads_number, numbers_at}
+use Rattle.df_value_text.proofs.Names.{ℕ, ◌-◌, ◌≤◌, ◌<◌, length, drop, short_at, leads_number, numbers_at}
 use Rattle.df_value_text.proofs.Loops.{Left}
 use Rattle.df_value_text.proofs.tag_reader.numbers_at.Given as goal
 

@@ -1,5 +1,4 @@
-use Rattle.std.proofs.Common.{List, ℕ, Ok, [], ◌∷◌, ap, drop, refl, sym, ◌∙◌}
-use Rattle.df_value_text.specs.ReadTag.{short_at, leads_number}
+use Rattle.df_value_text.proofs.Names.{List, ℕ, Ok, [], ◌∷◌, ap, drop, refl, sym, ◌∙◌, short_at, leads_number}
 use Rattle.df_value_text.proofs.Loops.{begun, left_done}
 use Rattle.df_value_text.proofs.TagSteps.{no_number}
 use Rattle.df_value_text.proofs.tag_reader.path_at.Goals as goal

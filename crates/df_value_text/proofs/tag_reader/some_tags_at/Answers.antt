@@ -1,8 +1,4 @@
-use Rattle.std.proofs.Common.{◌≡◌, ◌+◌, List, ℕ, [], ◌∷◌, Err, length, drop, sym, ap, ◌∙◌, arith, rules}
-use Rattle.std.proofs.lemmas.Result.{err_from_is_err_and}
-use Rattle.std.proofs.lemmas.List.{length_push}
-use Rattle.df_format.specs.Reading.{Stop}
-use Rattle.df_value_text.specs.ReadTag.{tag_at, next_at, leads_tag}
+use Rattle.df_value_text.proofs.Names.{◌≡◌, ◌+◌, List, ℕ, [], ◌∷◌, Err, length, drop, sym, ap, ◌∙◌, arith, rules, err_from_is_err_and, length_push, Stop, tag_at, next_at, leads_tag}
 use Rattle.df_value_text.proofs.Loops.{fails_by, begun, left_on, left_stops, left_done, comma_led, no_comma}
 use Rattle.df_value_text.proofs.TagSetLaws.{next_shrinks}
 use Rattle.df_value_text.proofs.TagSteps.{last_is}

@@ -1,6 +1,5 @@
-use Rattle.std.proofs.Common.{◌≡◌, ℕ, List, ◌-◌, ◌≤◌, [], ◌∷◌, ◌++◌, length, drop}
+use Rattle.df_value_text.proofs.Names.{◌≡◌, ℕ, List, ◌-◌, ◌≤◌, [], ◌∷◌, ◌++◌, length, drop, next_at, leads_tag, some_tags_at}
 use Rattle.std.specs.Vec.{vec_len}
-use Rattle.df_value_text.specs.ReadTag.{next_at, leads_tag, some_tags_at}
 use Rattle.df_value_text.proofs.Loops.{Left}
 use Rattle.df_value_text.proofs.tag_reader.some_tags_at.Given as goal
 

@@ -1,5 +1,4 @@
-use Rattle.std.proofs.Common.{drop, sym, ◌∙◌}
-use Rattle.std.proofs.lemmas.Result.{err_from_is_err_and}
+use Rattle.df_value_text.proofs.Names.{drop, sym, ◌∙◌, err_from_is_err_and}
 use Rattle.df_value_text.proofs.Loops.{fails_by}
 use Rattle.df_value_text.proofs.TagSteps.{set_read, some_tags}
 use Rattle.df_value_text.proofs.tag_reader.tags_at.Goals as goal

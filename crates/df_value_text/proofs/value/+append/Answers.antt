@@ -1,11 +1,6 @@
-use Rattle.std.proofs.Common.{◌≡◌, ◌<◌, ℕ, suc, ◌++◌, map, arith, ap, sym, subst, ◌∙◌}
+use Rattle.df_value_text.proofs.Names.{◌≡◌, ◌<◌, ℕ, suc, ◌++◌, map, arith, ap, sym, subst, ◌∙◌, length-map, depth, entries_depth, from_pairs, plain, named, joined, value_text, entry_text}
 use Rattle.std.proofs.Math.ListN.{get_or-map}
-use Rattle.std.proofs.lemmas.List.{length-map}
-use Rattle.df_frozen.specs.Plain.{depth, entries_depth, from_pairs}
-use Rattle.df_frozen.specs.Value.{plain, named}
 use Rattle.df_frozen.proofs.Contents.{depth_at, entry_depth_at}
-use Rattle.df_value_text.specs.Join.{joined}
-use Rattle.df_value_text.specs.Value.{value_text, entry_text}
 use Rattle.df_value_text.proofs.Joins.{item_appended}
 use Rattle.df_value_text.proofs.Values.{items_text-joined, entries_text-joined, enclosed, entry_appended}
 use Rattle.df_value_text.proofs.value.+append.Goals as goal

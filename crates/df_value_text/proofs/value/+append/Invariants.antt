@@ -1,8 +1,4 @@
-use Rattle.std.proofs.Common.{◌≡◌, ◌+◌, ◌*◌, ◌++◌, map, take}
-use Rattle.df_frozen.specs.Plain.{depth, items_depth, entries_depth, from_pairs}
-use Rattle.df_frozen.specs.Value.{plain, plain_all, named}
-use Rattle.df_value_text.specs.Join.{joined}
-use Rattle.df_value_text.specs.Value.{value_text, entry_text}
+use Rattle.df_value_text.proofs.Names.{◌≡◌, ◌+◌, ◌*◌, ◌++◌, map, take, depth, items_depth, entries_depth, from_pairs, plain, plain_all, named, joined, value_text, entry_text}
 use Rattle.df_value_text.proofs.value.+append.Given as goal
 
 abbrev pub decreases-append_value : goal.decreases-append_value

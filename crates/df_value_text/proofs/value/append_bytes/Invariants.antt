@@ -1,6 +1,5 @@
 use Rattle.std.proofs.Common.{◌≡◌, ◌++◌, take, codes}
-use Rattle.std.specs.List.{flat_map}
-use Rattle.df_value_text.specs.Value.{hex}
+use Rattle.df_value_text.proofs.Names.{flat_map, hex}
 use Rattle.df_value_text.proofs.value.append_bytes.Given as goal
 
 abbrev pub invariant-loop-byte : goal.invariant-loop-byte

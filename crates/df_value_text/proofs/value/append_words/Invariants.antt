@@ -1,6 +1,5 @@
 use Rattle.std.proofs.Common.{◌≡◌, ◌++◌, take, codes}
-use Rattle.std.specs.List.{flat_map}
-use Rattle.df_value_text.specs.Value.{escaped}
+use Rattle.df_value_text.proofs.Names.{flat_map, escaped}
 use Rattle.df_value_text.proofs.value.append_words.Given as goal
 
 abbrev pub invariant-loop-byte : goal.invariant-loop-byte

@@ -1,9 +1,4 @@
-use Rattle.std.proofs.Common.{ℕ, suc, ◌+◌, List, [], ◌∷◌, ◌++◌, length, drop, Ok, refl, sym, ap, subst, ◌∙◌, arith}
-use Rattle.std.proofs.lemmas.Result.{err_from_is_err_and}
-use Rattle.df_frozen.specs.Plain.{Plain, items, entries, from_list, from_pairs}
-use Rattle.df_frozen.specs.Value.{named, plain}
-use Rattle.df_value_text.specs.code.Answer.{Gives}
-use Rattle.df_value_text.specs.ReadName.{name_at}
+use Rattle.df_value_text.proofs.Names.{ℕ, suc, ◌+◌, List, [], ◌∷◌, ◌++◌, length, drop, Ok, refl, sym, ap, subst, ◌∙◌, arith, err_from_is_err_and, Plain, items, entries, from_list, from_pairs, named, plain, Gives, name_at}
 use Rattle.df_value_text.specs.ReadValue.{leads_value, list_of, leads_entry, higher_at, given_at, entry_at, next_entry_at, map_of, value_within}
 use Rattle.df_value_text.proofs.EntryLaws.{is_higher}
 use Rattle.df_value_text.proofs.Loops.{fails_by, begun, left_on, left_stops, left_done, comma_led, no_comma}

@@ -1,6 +1,4 @@
-use Rattle.std.proofs.Common.{◌≡◌, ℕ, ◌+◌, ◌-◌, ◌*◌, ◌<◌, ◌≤◌, List, length, drop}
-use Rattle.df_frozen.specs.Plain.{Plain, items, entries, from_list, from_pairs}
-use Rattle.df_frozen.specs.Value.{plain}
+use Rattle.df_value_text.proofs.Names.{◌≡◌, ℕ, ◌+◌, ◌-◌, ◌*◌, ◌<◌, ◌≤◌, List, length, drop, Plain, items, entries, from_list, from_pairs, plain}
 use Rattle.df_value_text.specs.ReadValue.{leads_value, leads_entry, next_entry_at, value_within}
 use Rattle.df_value_text.proofs.Loops.{Left}
 use Rattle.df_value_text.proofs.ValueSteps.{AreUpTo, a_list, a_map, all_in}

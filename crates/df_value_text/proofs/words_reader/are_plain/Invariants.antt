@@ -1,6 +1,4 @@
-use Rattle.std.proofs.Common.{◌≡◌, take}
-use Rattle.std.specs.List.{list_all}
-use Rattle.df_value_text.specs.ReadEscape.{is_plain}
+use Rattle.df_value_text.proofs.Names.{◌≡◌, take, list_all, is_plain}
 use Rattle.df_value_text.proofs.words_reader.are_plain.Given as goal
 
 abbrev pub invariant-loop-byte : goal.invariant-loop-byte

@@ -1,6 +1,4 @@
-use Rattle.std.proofs.Common.{drop, sym, ◌∙◌, arith}
-use Rattle.std.proofs.lemmas.Result.{err_from_is_err_and}
-use Rattle.df_value_text.specs.ReadWords.{chars_at}
+use Rattle.df_value_text.proofs.Names.{drop, sym, ◌∙◌, arith, err_from_is_err_and, chars_at}
 use Rattle.df_value_text.proofs.Loops.{fails_by, front_done}
 use Rattle.df_value_text.proofs.WordsSteps.{char_read, char_broken, chars_none}
 use Rattle.df_value_text.proofs.words_reader.chars_at.Goals as goal

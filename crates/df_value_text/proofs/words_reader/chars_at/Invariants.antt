@@ -1,6 +1,4 @@
-use Rattle.std.proofs.Common.{length, ◌-◌, ◌≡◌, ◌≤◌, drop}
-use Rattle.df_format.specs.Reading.{with_front}
-use Rattle.df_value_text.specs.ReadWords.{chars_at}
+use Rattle.df_value_text.proofs.Names.{length, ◌-◌, ◌≡◌, ◌≤◌, drop, with_front, chars_at}
 use Rattle.df_value_text.proofs.words_reader.chars_at.Given as goal
 
 -- what is left is read as all was to be

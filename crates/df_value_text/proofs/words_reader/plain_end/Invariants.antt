@@ -1,5 +1,4 @@
-use Rattle.std.proofs.Common.{length, ◌+◌, ◌-◌, ◌≡◌, ◌≤◌, drop}
-use Rattle.df_value_text.specs.code.Short.{plain_run}
+use Rattle.df_value_text.proofs.Names.{length, ◌+◌, ◌-◌, ◌≡◌, ◌≤◌, drop, plain_run}
 use Rattle.df_value_text.proofs.words_reader.plain_end.Given as goal
 
 -- the bytes so far stand for themselves, and those that are left make all
