@@ -1,23 +1,5 @@
 -- A journal that is gone over, as far as it was read.
-use Rattle.std.proofs.Common.{◌≡◌, ℕ, ◌+◌, ◌≤◌, Bool, true, List, [], ◌∷◌, ◌++◌, ◌-◌, IsTrue, take, drop, eqb, length, refl, sym, ap, ◌∙◌, append_assoc, arith, ◌↔◌}
-use Rattle.std.specs.List.{flat_map, starts_with}
-use Rattle.std.proofs.lemmas.Bool.Decides.{Decides-eqb}
-use Rattle.std.proofs.lemmas.List.{drop-drop, flat_map_more, length-drop, take_all}
-use Rattle.std.proofs.lemmas.List.Elements.{All-nil, All-push}
-use Rattle.std.proofs.lemmas.Slice.Eq.{starts_is}
-use Rattle.df_lines.specs.Lines.{ended}
-use Rattle.df_start.specs.declared.start.RootStart.{RootStart}
-use Rattle.df_unit.specs.declared.entry.Noted.{Noted}
-use Rattle.df_journal_text.specs.Entry.{noted_text}
-use Rattle.df_journal_text.specs.Start.{start_text}
-use Rattle.df_script_text.specs.code.Stops.{AreRootsAt}
-use Rattle.df_script_text.proofs.Files.{roots_text-numbered}
-use Rattle.df_journal_file.specs.Cursor.{CursorState, HasPassed, front_text}
-use Rattle.df_journal_file.specs.Either.{IsJournalOf, journal_by}
-use Rattle.df_journal_file.specs.Journal.{EndsFile}
-use Rattle.df_journal_file.specs.code.Entries.{IsWholeBy}
-use Rattle.df_journal_file.specs.code.Files.{IsFirstAt, first_of}
-use Rattle.df_journal_file.specs.code.Places.{IsHere}
+use Rattle.df_journal_file.proofs.Names.{◌≡◌, ℕ, ◌+◌, ◌≤◌, Bool, true, List, [], ◌∷◌, ◌++◌, ◌-◌, IsTrue, take, drop, eqb, length, refl, sym, ap, ◌∙◌, append_assoc, arith, ◌↔◌, flat_map, starts_with, Decides-eqb, drop-drop, flat_map_more, length-drop, take_all, All-nil, All-push, starts_is, ended, RootStart, Noted, noted_text, start_text, AreRootsAt, roots_text-numbered, CursorState, HasPassed, front_text, IsJournalOf, journal_by, EndsFile, IsWholeBy, IsFirstAt, first_of, IsHere}
 use Rattle.df_journal_file.proofs.Texts.{journal_is, regroup, run_line}
 
 -- the cursor at a place

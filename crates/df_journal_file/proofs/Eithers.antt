@@ -1,9 +1,5 @@
 -- A journal that was read in one of its versions.
-use Rattle.std.proofs.Common.{ℕ, List, None, refl, subst}
-use Rattle.df_start.specs.declared.start.RootStart.{RootStart}
-use Rattle.df_unit.specs.declared.entry.Entry.{Entry}
-use Rattle.df_unit.specs.declared.entry.Noted.{Noted}
-use Rattle.df_journal_file.specs.Either.{First, IsEitherText, IsFirstOf, IsJournalOf, IsSecondOf, Journal, Second}
+use Rattle.df_journal_file.proofs.Names.{ℕ, List, None, refl, subst, RootStart, Entry, Noted, First, IsEitherText, IsFirstOf, IsJournalOf, IsSecondOf, Journal, Second}
 use Rattle.df_journal_file.proofs.Texts.{one_journal, text_of, version_of, wanted_text}
 
 module _ (bytes : List ℕ) (journal : Journal) where

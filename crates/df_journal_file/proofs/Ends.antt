@@ -1,8 +1,6 @@
 -- Where the entries of a journal end.
-use Rattle.std.proofs.Common.{◌≡◌, ℕ, ◌≤◌, List, ◌∷◌, ◌++◌, length, length-append, length-drop, drop, codes, refl, sym, ap, subst, ◌∙◌, arith, append-nil, inl, inr}
-use Rattle.std.proofs.lemmas.List.{drop_all}
-use Rattle.df_lines.specs.Lines.{IsLine}
-use Rattle.df_journal_file.specs.Journal.{EndsFile}
+use Rattle.df_journal_file.proofs.Names.{◌≡◌, ℕ, ◌≤◌, List, ◌∷◌, ◌++◌, length, length-append, drop, codes, refl, sym, ap, subst, ◌∙◌, arith, append-nil, inl, inr, drop_all, IsLine, EndsFile}
+use Rattle.std.proofs.Common.{length-drop}
 use Rattle.df_journal_file.proofs.Feeds.{spoken}
 use Rattle.df_journal_file.proofs.Fronts.{SameFirst, not_open, same_line}
 

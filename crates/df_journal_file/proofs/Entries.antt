@@ -1,22 +1,6 @@
 -- Entries and the lines below them, put together.
-use Rattle.std.proofs.Common.{◌≡◌, ◌≢◌, ℕ, ◌≤◌, ◌<◌, Bool, true, false, List, [], ◌∷◌, ◌++◌, length, drop, Option, Some, None, Ok, codes, refl, sym, ap, subst, ◌∙◌, arith, append_assoc, inl, inr}
-use Rattle.df_label.specs.declared.label.Label.{Label}
-use Rattle.df_unit.specs.declared.call.Call.{Call}
-use Rattle.df_unit.specs.declared.commit.Commit.{Commit}
-use Rattle.df_value_text.specs.Fits.{IsLabel}
-use Rattle.df_unit.specs.declared.name.UnitName.{UnitName}
-use Rattle.df_unit.specs.declared.parts.PartRead.{PartRead}
-use Rattle.df_unit.specs.declared.reply.Reply.{Reply}
+use Rattle.df_journal_file.proofs.Names.{◌≡◌, ℕ, Bool, true, false, List, [], ◌++◌, drop, Option, Some, None, refl, sym, ap, subst, ◌∙◌, arith, append_assoc, inl, inr, Label, Call, Commit, IsLabel, UnitName, PartRead, Reply, Effect, Done, Emitted, Noted, call_line, effect_text, note_text, noted_text, reads_text, IsAnswer, IsBare, IsCalled, IsNoteOf, HasNote, ShowsSome, IsNoteBy, IsShownBy, IsSomeCommit, IsSomeEffectOf, IsWholeBy, NotesNone, ShowsNone, IsHere}
 use Rattle.df_unit.specs.declared.reply.Reply.TheVariants as reply
-use Rattle.df_unit.specs.declared.entry.Effect.{Effect}
-use Rattle.df_unit.specs.declared.entry.Entry.TheVariants.{Done, Emitted}
-use Rattle.df_unit.specs.declared.entry.Noted.{Noted}
-use Rattle.df_journal_text.specs.Entry.{call_line, effect_text, note_text, noted_text, reads_text}
-use Rattle.df_journal_text.specs.Fits.{IsAnswer, IsBare, IsCalled, IsNoteOf}
-use Rattle.df_journal_file.specs.Journal.{HasNote, ShowsSome}
-use Rattle.df_journal_file.specs.code.Entries.{IsNoteBy, IsShownBy, IsSomeCommit, IsSomeEffectOf, IsWholeBy}
-use Rattle.df_journal_file.specs.code.Languages.{NotesNone, ShowsNone}
-use Rattle.df_journal_file.specs.code.Places.{IsHere}
 use Rattle.df_journal_file.proofs.Feeds.{CallTold, told_line}
 
 -- ---- entries of units

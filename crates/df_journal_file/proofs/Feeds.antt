@@ -1,34 +1,9 @@
 -- The lines of a journal have no line feed but their last byte.
-use Rattle.std.proofs.Common.{◌≡◌, ℕ, ◌<◌, ◌^◌, Bool, true, false, cond, eqb, List, [], ◌∷◌, ◌++◌, map, get_or, codes, decimal, refl, sym, ap, subst, ◌∙◌, append_assoc, inl, inr}
-use Rattle.std.specs.List.{AllByRecursion}
-use Rattle.std.proofs.lemmas.List.Concat.{flat_map-append}
-use Rattle.std.proofs.lemmas.List.Elements.{All-cons, All-nil, recursion_from_All}
+use Rattle.df_journal_file.proofs.Names.{◌≡◌, ℕ, ◌<◌, ◌^◌, Bool, true, false, cond, eqb, List, [], ◌∷◌, ◌++◌, map, get_or, codes, decimal, refl, sym, ap, subst, ◌∙◌, append_assoc, inl, inr, AllByRecursion, flat_map-append, All-cons, All-nil, recursion_from_All, Label, IsLine, ended, Part, Spot, Call, EventName, UnitName, PartRead, Reply, IsLabel, IsPrivilege, label_text, privilege_text, tag_text, value_text, call_words, call_line, part_line, read_line, spot_line, ArePrivileges, IsCalled, IsEvent, IsPart, IsPartRead, IsReply, IsSpot, spaced, word, event_text, unit_text, reply_words, Avoids, Avoids-line, Avoids-words, IsLine-value, IsLine-word, AreWords-privileges, is_word, is_word-actor, is_word-append, is_word-decimal, is_word-label, is_word-name, is_word-privilege, is_word-tag, number_word, event_line, note_line}
 use Rattle.df_format.proofs.Laws.{told}
-use Rattle.df_label.specs.declared.label.Label.{Label}
-use Rattle.df_lines.specs.Lines.{IsLine, ended}
-use Rattle.df_part.specs.declared.part.Part.{Part}
-use Rattle.df_part.specs.declared.edit.Spot.{Spot}
 use Rattle.df_label.specs.declared.privilege.Privilege.{Privilege}
-use Rattle.df_unit.specs.declared.call.Call.{Call}
-use Rattle.df_unit.specs.declared.name.EventName.{EventName}
-use Rattle.df_unit.specs.declared.name.UnitName.{UnitName}
-use Rattle.df_unit.specs.declared.parts.PartRead.{PartRead}
-use Rattle.df_unit.specs.declared.reply.Reply.{Reply}
 use Rattle.df_unit.specs.declared.reply.Reply.TheVariants as reply
-use Rattle.df_value_text.specs.Fits.{IsLabel, IsPrivilege}
-use Rattle.df_value_text.specs.Label.{label_text, privilege_text, tag_text}
-use Rattle.df_value_text.specs.Value.{value_text}
-use Rattle.df_journal_text.specs.Call.{call_words}
-use Rattle.df_journal_text.specs.Entry.{call_line, part_line, read_line, spot_line}
-use Rattle.df_journal_text.specs.Fits.{ArePrivileges, IsCalled, IsEvent, IsPart, IsPartRead, IsReply, IsSpot}
-use Rattle.df_journal_text.specs.Line.{spaced, word}
-use Rattle.df_journal_text.specs.Name.{event_text, unit_text}
-use Rattle.df_journal_text.specs.Reply.{reply_words}
 use Rattle.df_script_text.proofs.Calls.{Avoids-call}
-use Rattle.df_script_text.proofs.Splits.{Avoids, Avoids-line, Avoids-words}
-use Rattle.df_script_text.proofs.Values.{IsLine-value, IsLine-word}
-use Rattle.df_script_text.proofs.Words.{AreWords-privileges, is_word, is_word-actor, is_word-append, is_word-decimal, is_word-label, is_word-name, is_word-privilege, is_word-tag, number_word}
-use Rattle.df_journal_file.specs.Below.{event_line, note_line}
 use Rattle.df_journal_file.proofs.Fronts.{same_line, same_rest}
 
 -- this is a line with its line feed

@@ -1,14 +1,7 @@
 -- Texts that begin alike, and texts whose first lines are the same.
-use Rattle.std.proofs.Common.{◌≡◌, ℕ, ◌<◌, ◌&&◌, true, false, Bool, eqb, List, [], ◌∷◌, ◌++◌, length, refl, sym, ap, subst, ◌∙◌, arith, append_assoc, ◌⊎◌, inl, inr}
-use Rattle.std.proofs.lemmas.Bool.{eqb-true}
-use Rattle.std.proofs.lemmas.List.{append_cancel_left}
-use Rattle.std.proofs.lemmas.List.Concat.{flat_map-append}
-use Rattle.std.proofs.lemmas.List.Elements.{All-cons, All-nil}
+use Rattle.df_journal_file.proofs.Names.{◌≡◌, ℕ, ◌<◌, ◌&&◌, true, false, Bool, eqb, List, [], ◌∷◌, ◌++◌, length, refl, sym, ap, subst, ◌∙◌, arith, append_assoc, ◌⊎◌, inl, inr, eqb-true, append_cancel_left, flat_map-append, All-cons, All-nil, EndsLine, IsLine, ended, lines_text, begins_with, begins_pair}
 use Rattle.df_format.proofs.Laws.{told}
-use Rattle.df_lines.specs.Lines.{EndsLine, IsLine, ended, lines_text}
 use Rattle.df_lines.proofs.Splits.{pieces, pieces-line, some_pieces}
-use Rattle.df_value_text.specs.Number.{begins_with}
-use Rattle.df_journal_text.specs.ReadWords.{begins_pair}
 
 -- a test has one result
 pub one_result : {A : Type 0} {b : Bool} → b ≡ true → b ≡ false → A

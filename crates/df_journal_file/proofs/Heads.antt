@@ -1,27 +1,9 @@
 -- The first bytes of what may stand from a place on, and texts that may.
-use Rattle.std.proofs.Common.{◌≡◌, ℕ, ◌+◌, Bool, true, false, eqb, pos, List, [], ◌∷◌, ◌++◌, length, codes, refl, sym, ap, subst, ◌∙◌, arith, lit<, lit≤, ◌⊎◌, inl, inr}
-use Rattle.std.specs.Char.{is_ascii_digit}
-use Rattle.std.specs.List.{flat_map}
-use Rattle.std.proofs.lemmas.List.Elements.{All-cons, All-nil}
+use Rattle.df_journal_file.proofs.Names.{◌≡◌, ℕ, ◌+◌, Bool, true, false, eqb, pos, List, [], ◌∷◌, ◌++◌, length, codes, refl, sym, ap, subst, ◌∙◌, arith, lit<, lit≤, ◌⊎◌, inl, inr, is_ascii_digit, flat_map, All-cons, All-nil, Label, Begins, Spot, Part, EventName, PartRead, Reply, IsLabel, IsPrivilege, IsValue, begins_digit, part_line, read_line, spot_line, ArePrivileges, IsAnswer, IsEvent, IsPart, IsPartRead, IsSpot, begins_pair, event_line, note_line, EndsFile, AddsFrom, BehindSome, CommitFrom, EditFrom, EffectFrom, EntriesFrom, GivenFrom, HandedFrom, Many, NoteFrom, ReadFrom, ShownFrom, Then}
 use Rattle.df_frozen.specs.Name.{is_name}
 use Rattle.df_frozen.specs.Plain.{Plain, int}
-use Rattle.df_label.specs.declared.label.Label.{Label}
-use Rattle.df_lines.specs.FirstBad.{Begins}
-use Rattle.df_part.specs.declared.edit.Spot.{Spot}
-use Rattle.df_part.specs.declared.part.Part.{Part}
-use Rattle.df_unit.specs.declared.name.EventName.{EventName}
 use Rattle.df_unit.specs.declared.name.UnitName.TheVariants.{Root}
-use Rattle.df_unit.specs.declared.parts.PartRead.{PartRead}
-use Rattle.df_unit.specs.declared.reply.Reply.{Reply}
 use Rattle.df_unit.specs.declared.reply.Reply.TheVariants as reply
-use Rattle.df_value_text.specs.Fits.{IsLabel, IsPrivilege, IsValue}
-use Rattle.df_value_text.specs.ReadTag.{begins_digit}
-use Rattle.df_journal_text.specs.Entry.{part_line, read_line, spot_line}
-use Rattle.df_journal_text.specs.Fits.{ArePrivileges, IsAnswer, IsEvent, IsPart, IsPartRead, IsSpot}
-use Rattle.df_journal_text.specs.ReadWords.{begins_pair}
-use Rattle.df_journal_file.specs.Below.{event_line, note_line}
-use Rattle.df_journal_file.specs.Journal.{EndsFile}
-use Rattle.df_journal_file.specs.code.Languages.{AddsFrom, BehindSome, CommitFrom, EditFrom, EffectFrom, EntriesFrom, GivenFrom, HandedFrom, Many, NoteFrom, ReadFrom, ShownFrom, Then}
 use Rattle.df_journal_file.proofs.Fronts.{and_false}
 use Rattle.df_journal_file.proofs.Opens.{AtHead, called_begins, digit_begins, none_left, opened, shows_or_not}
 

@@ -17,3 +17,4 @@ pub mod Ends
 pub mod Eithers
 pub mod Cursors
 pub mod Versions
+pub mod Names

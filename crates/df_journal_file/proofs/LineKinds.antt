@@ -1,18 +1,6 @@
 -- The kinds of lines below that of a call.
-use Rattle.std.proofs.Common.{◌≡◌, ℕ, Bool, true, false, eqb, List, [], ◌∷◌, ◌++◌, codes, refl, sym, subst, inl, inr}
-use Rattle.std.specs.Char.{is_ascii_digit}
-use Rattle.df_part.specs.declared.part.Part.{Part}
-use Rattle.df_value_text.specs.Fits.{IsLabel}
+use Rattle.df_journal_file.proofs.Names.{◌≡◌, ℕ, Bool, true, false, eqb, List, [], ◌∷◌, ◌++◌, codes, refl, sym, subst, inl, inr, is_ascii_digit, Part, IsLabel, part_line, read_line, spot_line, IsEvent, IsPart, IsPartRead, IsSpot, IsLargePart, IsLargeShown, begins_pair, is_word, event_line, note_line, IsPartFront, IsValueFront, AddsFrom, BehindSome, EditFrom, EffectFrom, EntriesFrom, Many, ReadFrom, IsCommitMark}
 use Rattle.df_unit.specs.declared.reply.Reply.TheVariants as reply
-use Rattle.df_journal_text.specs.Entry.{part_line, read_line, spot_line}
-use Rattle.df_journal_text.specs.Fits.{IsEvent, IsPart, IsPartRead, IsSpot}
-use Rattle.df_journal_text.specs.Large.{IsLargePart, IsLargeShown}
-use Rattle.df_journal_text.specs.ReadWords.{begins_pair}
-use Rattle.df_script_text.proofs.Words.{is_word}
-use Rattle.df_journal_file.specs.Below.{event_line, note_line}
-use Rattle.df_journal_file.specs.TooLarge.{IsPartFront, IsValueFront}
-use Rattle.df_journal_file.specs.code.Languages.{AddsFrom, BehindSome, EditFrom, EffectFrom, EntriesFrom, Many, ReadFrom}
-use Rattle.df_journal_file.specs.code.Marks.{IsCommitMark}
 use Rattle.df_journal_file.proofs.Feeds.{event_feeds, note_feeds, part_feeds, shown_feeds, spot_feeds}
 use Rattle.df_journal_file.proofs.Heads.{adds_begin, edit_some, effect_begins, entries_begin, parts_some, read_some}
 use Rattle.df_journal_file.proofs.Runs.{IsBareKind, IsRun}

@@ -1,19 +1,7 @@
 -- The first bad line behind other lines, and the first bad line where a line is to stand.
-use Rattle.std.proofs.Common.{◌≡◌, ℕ, ◌<◌, ◌≤◌, List, [], ◌∷◌, ◌++◌, length, drop, codes, decimal, refl, sym, ap, subst, ◌∙◌, arith, append_assoc, append-nil, length-append, inl, inr, Result, Ok, Err, IfErr}
+use Rattle.df_journal_file.proofs.Names.{◌≡◌, ℕ, ◌<◌, ◌≤◌, List, [], ◌∷◌, ◌++◌, length, drop, codes, decimal, refl, sym, ap, subst, ◌∙◌, arith, append_assoc, append-nil, length-append, inl, inr, Result, Ok, Err, IfErr, All, All-append, All-cons, All-nil, Begins, IsFirstBad, EndsLine, IsLine, ended, lines_text, FileFault, label_text, word, unit_text, StopsAt, IsLargeIn, IsValueFront, IsSpelled, StopsLine, IsStop, Onto, StopsIn}
 use Rattle.std.specs.Prelude.{IsErrAnd}
-use Rattle.std.specs.List.{All}
-use Rattle.std.proofs.lemmas.List.Elements.{All-append, All-cons, All-nil}
-use Rattle.df_lines.specs.FirstBad.{Begins, IsFirstBad}
-use Rattle.df_lines.specs.Lines.{EndsLine, IsLine, ended, lines_text}
-use Rattle.df_lines.specs.declared.fault.FileFault.{FileFault}
 use Rattle.df_lines.specs.declared.fault.FileFault.TheVariants as stop
-use Rattle.df_value_text.specs.Label.{label_text}
-use Rattle.df_journal_text.specs.Line.{word}
-use Rattle.df_journal_text.specs.Name.{unit_text}
-use Rattle.df_script_text.specs.code.Stops.{StopsAt}
-use Rattle.df_journal_file.specs.TooLarge.{IsLargeIn, IsValueFront}
-use Rattle.df_journal_file.specs.code.Places.{IsSpelled, StopsLine}
-use Rattle.df_journal_file.specs.code.Stops.{IsStop, Onto, StopsIn}
 use Rattle.df_journal_file.proofs.Feeds.{IsFed}
 use Rattle.df_journal_file.proofs.Fronts.{Alike, SameFirst, alike_line, alike_long, alike_same, first_alike, first_line, lines_join, not_open, same_line}
 

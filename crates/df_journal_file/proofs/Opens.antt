@@ -1,40 +1,9 @@
 -- What stands at the head of entries, and entries of what stands there.
-use Rattle.std.proofs.Common.{◌≡◌, ℕ, ◌+◌, ◌<◌, Bool, true, false, eqb, List, [], ◌∷◌, ◌++◌, length, Option, Some, None, codes, refl, sym, ap, subst, ◌∙◌, arith, append_assoc, ◌⊎◌, inl, inr}
-use Rattle.std.specs.Char.{is_ascii_digit}
-use Rattle.std.specs.List.{All, flat_map}
-use Rattle.std.proofs.lemmas.Bool.{eqb-true}
-use Rattle.std.proofs.lemmas.List.Elements.{All-cons, All-head, All-nil, All-tail}
+use Rattle.df_journal_file.proofs.Names.{◌≡◌, ℕ, ◌+◌, ◌<◌, Bool, true, false, eqb, List, [], ◌∷◌, ◌++◌, length, Option, Some, None, codes, refl, sym, ap, subst, ◌∙◌, arith, append_assoc, ◌⊎◌, inl, inr, is_ascii_digit, All, flat_map, eqb-true, All-cons, All-head, All-nil, All-tail, Label, Call, Commit, Effect, Entry, Done, Emitted, Noted, UnitName, PartRead, Reply, IsLabel, begins_with, begins_digit, call_words, call_line, effect_text, entry_text, note_text, noted_text, part_line, reads_text, spot_line, IsAnswer, IsCalled, IsCommit, IsEffectOf, IsEntry, IsNoteOf, IsPartRead, IsReply, spaced, unit_text, begins_pair, reply_words, more_first, unit_first, event_line, ChangesSome, EditsSome, EndsFile, HasNote, ShowsSome, IsNoteBy, IsShownBy, IsSomeCommit, IsSomeEffectOf, IsWholeBy, commit_lines, AddsFrom, CommitFrom, DoneFrom, EditFrom, EffectFrom, EntriesFrom, GivenFrom, NoteFrom, ShownFrom, ShowsNone}
 use Rattle.df_format.proofs.Laws.{told}
-use Rattle.df_label.specs.declared.label.Label.{Label}
-use Rattle.df_part.specs.declared.edit.Spot.{Spot}
-use Rattle.df_part.specs.declared.part.Part.{Part}
-use Rattle.df_unit.specs.declared.call.Call.{Call}
-use Rattle.df_unit.specs.declared.commit.Commit.{Commit}
 use Rattle.df_unit.specs.declared.commit.Given.{Given}
-use Rattle.df_unit.specs.declared.entry.Effect.{Effect}
 use Rattle.df_unit.specs.declared.entry.Effect.TheVariants as effect
-use Rattle.df_unit.specs.declared.entry.Entry.{Entry}
-use Rattle.df_unit.specs.declared.entry.Entry.TheVariants.{Done, Emitted}
-use Rattle.df_unit.specs.declared.entry.Noted.{Noted}
-use Rattle.df_unit.specs.declared.name.UnitName.{UnitName}
-use Rattle.df_unit.specs.declared.parts.PartRead.{PartRead}
-use Rattle.df_unit.specs.declared.reply.Reply.{Reply}
 use Rattle.df_unit.specs.declared.reply.Reply.TheVariants as reply
-use Rattle.df_value_text.specs.Fits.{IsLabel}
-use Rattle.df_value_text.specs.Number.{begins_with}
-use Rattle.df_value_text.specs.ReadTag.{begins_digit}
-use Rattle.df_journal_text.specs.Call.{call_words}
-use Rattle.df_journal_text.specs.Entry.{call_line, edit_text, effect_text, entry_text, note_text, noted_text, part_line, reads_text, spot_line}
-use Rattle.df_journal_text.specs.Fits.{IsAnswer, IsCalled, IsCommit, IsEffectOf, IsEntry, IsNoteOf, IsPartRead, IsReply}
-use Rattle.df_journal_text.specs.Line.{spaced}
-use Rattle.df_journal_text.specs.Name.{unit_text}
-use Rattle.df_journal_text.specs.ReadWords.{begins_pair}
-use Rattle.df_journal_text.specs.Reply.{reply_words}
-use Rattle.df_journal_text.proofs.JournalBacks.{more_first, unit_first}
-use Rattle.df_journal_file.specs.Below.{event_line}
-use Rattle.df_journal_file.specs.Journal.{ChangesSome, EditsSome, EndsFile, HasNote, ShowsSome}
-use Rattle.df_journal_file.specs.code.Entries.{IsNoteBy, IsShownBy, IsSomeCommit, IsSomeEffectOf, IsWholeBy, commit_lines}
-use Rattle.df_journal_file.specs.code.Languages.{AddsFrom, CommitFrom, DoneFrom, EditFrom, EffectFrom, EntriesFrom, GivenFrom, NoteFrom, ShownFrom, ShowsNone}
 use Rattle.df_journal_file.proofs.Feeds.{CallTold, told_line}
 use Rattle.df_journal_file.proofs.Entries.{alone, done_of, done_spelled, done_whole, emitted_whole, no_note, some_note}
 

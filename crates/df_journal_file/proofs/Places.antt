@@ -1,13 +1,8 @@
 -- What is spelled from one place to another, and lines at a place.
-use Rattle.std.proofs.Common.{◌≡◌, ℕ, ◌≤◌, List, [], ◌∷◌, ◌++◌, length, drop, Option, Some, None, Result, Ok, Err, refl, sym, ap, subst, ◌∙◌, arith, append_assoc, append-nil}
-use Rattle.std.specs.List.{flat_map}
-use Rattle.std.proofs.lemmas.List.Concat.{flat_map-append}
-use Rattle.std.proofs.lemmas.List.Elements.{All-push}
-use Rattle.df_journal_text.specs.code.Judging.{TellsLine, ended}
+use Rattle.df_journal_file.proofs.Names.{◌≡◌, ℕ, ◌≤◌, List, [], ◌∷◌, ◌++◌, length, drop, Option, Some, None, Result, Ok, Err, refl, sym, ap, subst, ◌∙◌, arith, append_assoc, append-nil, flat_map, flat_map-append, All-push, TellsLine, StopsAt, ArePassed, IsHere, IsLineHere, IsSpelled, TellsAt, finished}
+use Rattle.df_journal_text.specs.code.Judging.{ended}
 use Rattle.df_journal_text.specs.declared.line_fault.LineFault.{LineFault}
 use Rattle.df_journal_text.specs.declared.line_fault.LineFault.TheVariants as fault
-use Rattle.df_script_text.specs.code.Stops.{StopsAt}
-use Rattle.df_journal_file.specs.code.Places.{ArePassed, IsHere, IsLineHere, IsSpelled, TellsAt, finished}
 
 -- ---- from one place to another
 

@@ -1,21 +1,12 @@
 -- What is told of a file that isn't a journal.
-use Rattle.std.proofs.Common.{◌≡◌, ℕ, ◌+◌, false, List, [], length, eqb, Result, Ok, Err, IfErr, IfOk, refl, sym, ◌∙◌, append-nil}
-use Rattle.std.proofs.lemmas.List.Elements.{All-nil}
+use Rattle.df_journal_file.proofs.Names.{◌≡◌, ℕ, ◌+◌, false, List, [], length, eqb, Result, Ok, Err, IfErr, IfOk, refl, sym, ◌∙◌, append-nil, All-nil, IsFirstBad, lines_text, FileFault, front_is, IsRead, IsLargeIn, answered, IsStop, StopsIn}
 use Rattle.std.proofs.lemmas.Result.{IfErr-weaker}
-use Rattle.df_lines.specs.FirstBad.{IsFirstBad}
-use Rattle.df_lines.specs.Lines.{lines_text}
 use Rattle.df_lines.specs.Refused.{IsRefused, NamesBadLine}
 use Rattle.df_lines.specs.code.Faults.{IsBadPlace, IsInside, NamesBadPlace}
-use Rattle.df_lines.specs.declared.fault.FileFault.{FileFault}
 use Rattle.df_lines.specs.declared.fault.FileFault.TheVariants as stop
 use Rattle.df_lines.specs.declared.refused.FileRefused.{FileRefused}
 use Rattle.df_lines.specs.declared.refused.FileRefused.TheVariants as refusal
 use Rattle.df_lines.proofs.FirstBad.{names_line, refused_syntax, refused_too_large}
-use Rattle.df_script_text.proofs.Files.{front_is}
-use Rattle.df_journal_file.specs.Journal.{IsRead}
-use Rattle.df_journal_file.specs.TooLarge.{IsLargeIn}
-use Rattle.df_journal_file.specs.code.Files.{answered}
-use Rattle.df_journal_file.specs.code.Stops.{IsStop, StopsIn}
 
 -- the first bad line is told, and whether a value is too large there
 pub record TellsFirstBad {J : Type 0} (IsText : List ℕ → Type 0) (bytes : List ℕ) (q : Result J FileRefused) : Type 0 where

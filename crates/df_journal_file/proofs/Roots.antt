@@ -1,25 +1,8 @@
 -- The lines of roots, and the line `run` behind them.
-use Rattle.std.proofs.Common.{◌≡◌, ℕ, ◌+◌, ◌<◌, ◌≤◌, ◌^◌, Bool, List, [], ◌∷◌, ◌++◌, length, drop, map, codes, decimal, refl, sym, ap, subst, ◌∙◌, arith, append_assoc, ◌⊎◌, inl, inr}
-use Rattle.std.specs.List.{All, AllByRecursion}
-use Rattle.std.proofs.lemmas.List.{append_cancel_left}
-use Rattle.std.proofs.lemmas.List.Elements.{All-cons, All-head, All-nil, All-tail, recursion_from_All}
-use Rattle.df_lines.specs.FirstBad.{Begins}
-use Rattle.df_lines.specs.Lines.{IsLine, ended, lines_text}
-use Rattle.df_lines.specs.declared.fault.FileFault.{FileFault}
+use Rattle.df_journal_file.proofs.Names.{◌≡◌, ℕ, ◌+◌, ◌<◌, ◌≤◌, ◌^◌, Bool, List, [], ◌∷◌, ◌++◌, length, drop, map, codes, decimal, refl, sym, ap, subst, ◌∙◌, arith, append_assoc, ◌⊎◌, inl, inr, All, AllByRecursion, append_cancel_left, All-cons, All-head, All-nil, All-tail, recursion_from_All, Begins, IsLine, ended, lines_text, FileFault, RootStart, label_text, privilege_text, begins_with, IsRoot, root_text, roots_text, AreRootsAt, IsHeadLine, RootsStop, StopsRoot, AreLines-roots, run, AreWords-root, Avoids-line, Avoids-words, IsLine-word, IsLargeIn, EntriesFrom, HeadFrom, Onto, StopsIn}
 use Rattle.df_lines.specs.declared.fault.FileFault.TheVariants as stop
-use Rattle.df_start.specs.declared.start.RootStart.{RootStart}
-use Rattle.df_value_text.specs.Label.{label_text, privilege_text}
-use Rattle.df_value_text.specs.Number.{begins_with}
-use Rattle.df_journal_text.specs.Fits.{IsRoot}
-use Rattle.df_journal_text.specs.Start.{root_text, roots_text}
 use Rattle.df_script_text.specs.code.Lines.{numbered}
-use Rattle.df_script_text.specs.code.Stops.{ArePassed, AreRootsAt, IsHeadLine, RootsStop, StopsRoot}
-use Rattle.df_script_text.proofs.Files.{AreLines-roots, run}
-use Rattle.df_script_text.proofs.Splits.{AreWords-root, Avoids-line, Avoids-words}
-use Rattle.df_script_text.proofs.Values.{IsLine-word}
-use Rattle.df_journal_file.specs.TooLarge.{IsLargeIn}
-use Rattle.df_journal_file.specs.code.Languages.{EntriesFrom, HeadFrom}
-use Rattle.df_journal_file.specs.code.Stops.{Onto, StopsIn}
+use Rattle.df_script_text.specs.code.Stops.{ArePassed}
 use Rattle.df_journal_file.proofs.Feeds.{IsFed, fed_rest}
 use Rattle.df_journal_file.proofs.Fronts.{one_result}
 use Rattle.df_journal_file.proofs.Ontos.{bad_here, onto, onto_fed}

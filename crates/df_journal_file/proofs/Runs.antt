@@ -1,18 +1,6 @@
 -- One line and what may stand behind it; lines with the same mark, as many as there are, and what may stand behind them.
-use Rattle.std.proofs.Common.{◌≡◌, ℕ, suc, ◌+◌, ◌<◌, ◌≤◌, true, false, eqb, List, [], ◌∷◌, ◌++◌, length, drop, refl, sym, ap, subst, ◌∙◌, arith, append_assoc, length-append, ◌⊎◌, inl, inr}
-use Rattle.std.specs.List.{All, AllByRecursion, flat_map}
-use Rattle.std.proofs.lemmas.List.Concat.{flat_map-append}
-use Rattle.std.proofs.lemmas.List.Elements.{All-append, All-cons, All-head, All-nil, All-tail, recursion_from_All}
-use Rattle.df_lines.specs.FirstBad.{Begins}
-use Rattle.df_lines.specs.Lines.{IsLine, ended, lines_text}
-use Rattle.df_lines.specs.declared.fault.FileFault.{FileFault}
+use Rattle.df_journal_file.proofs.Names.{◌≡◌, ℕ, suc, ◌+◌, ◌<◌, ◌≤◌, true, false, eqb, List, [], ◌∷◌, ◌++◌, length, drop, refl, sym, ap, subst, ◌∙◌, arith, append_assoc, length-append, ◌⊎◌, inl, inr, All, AllByRecursion, flat_map, flat_map-append, All-append, All-cons, All-head, All-nil, All-tail, recursion_from_All, Begins, IsLine, ended, lines_text, FileFault, begins_with, begins_pair, IsLargeIn, BehindSome, Many, Then, AreMarked, ArePassed, IsHere, MarkedStop, StopsLine, Onto, StopsIn}
 use Rattle.df_lines.specs.declared.fault.FileFault.TheVariants as stop
-use Rattle.df_value_text.specs.Number.{begins_with}
-use Rattle.df_journal_text.specs.ReadWords.{begins_pair}
-use Rattle.df_journal_file.specs.TooLarge.{IsLargeIn}
-use Rattle.df_journal_file.specs.code.Languages.{BehindSome, Many, Then}
-use Rattle.df_journal_file.specs.code.Places.{AreMarked, ArePassed, IsHere, MarkedStop, StopsLine}
-use Rattle.df_journal_file.specs.code.Stops.{Onto, StopsIn}
 use Rattle.df_journal_file.proofs.Feeds.{IsFed, fed_rest}
 use Rattle.df_journal_file.proofs.Fronts.{first_alike, one_result}
 use Rattle.df_journal_file.proofs.Ontos.{line_stop, never_stop, onto, onto_fed, onto_here}

@@ -1,34 +1,10 @@
 -- What is read of an entry, step by step, and where that stops.
-use Rattle.std.proofs.Common.{◌≡◌, ◌≢◌, ℕ, ◌≤◌, Bool, true, false, List, [], ◌∷◌, ◌++◌, length, drop, Ok, codes, refl, sym, ap, subst, ◌∙◌, arith, ◌⊎◌, inl, inr}
-use Rattle.df_format.proofs.Laws.{ok_is}
-use Rattle.df_lines.specs.declared.fault.FileFault.{FileFault}
+use Rattle.df_journal_file.proofs.Names.{◌≡◌, ℕ, ◌≤◌, Bool, true, false, List, [], ◌∷◌, ◌++◌, length, drop, codes, refl, sym, ap, subst, ◌∙◌, arith, ◌⊎◌, inl, inr, ok_is, FileFault, Spot, Part, Call, UnitName, PartRead, Reply, IsLabel, begins_with, begins_digit, part_line, spot_line, IsCalled, IsPart, IsSpot, IsLargeCalled, unit_text, unit_at, begins_pair, answer_at, call_text, note_line, EditsSome, EndsFile, CommitFrom, EditFrom, EffectFrom, EntriesFrom, HandedFrom, IsHanding, NoteFrom, NotesNone, ReadFrom, ShownFrom, ShowsNone, Then, IsUnitHere, AreMarked, IsHere, StopsLine, Onto, StopsIn}
 use Rattle.df_lines.specs.declared.fault.FileFault.TheVariants as stop
-use Rattle.df_part.specs.declared.edit.Spot.{Spot}
-use Rattle.df_part.specs.declared.part.Part.{Part}
-use Rattle.df_unit.specs.declared.call.Call.{Call}
-use Rattle.df_unit.specs.declared.name.UnitName.{UnitName}
-use Rattle.df_unit.specs.declared.parts.PartRead.{PartRead}
-use Rattle.df_unit.specs.declared.reply.Reply.{Reply}
 use Rattle.df_unit.specs.declared.reply.Reply.TheVariants as reply
-use Rattle.df_value_text.specs.Fits.{IsLabel}
-use Rattle.df_value_text.specs.Number.{begins_with}
-use Rattle.df_value_text.specs.ReadTag.{begins_digit}
-use Rattle.df_journal_text.specs.Entry.{part_line, spot_line}
-use Rattle.df_journal_text.specs.Fits.{IsCalled, IsPart, IsSpot}
-use Rattle.df_journal_text.specs.Large.{IsLargeCalled}
-use Rattle.df_journal_text.specs.Name.{unit_text}
 use Rattle.df_journal_text.specs.ReadCall.{call_at}
-use Rattle.df_journal_text.specs.ReadName.{unit_at}
-use Rattle.df_journal_text.specs.ReadWords.{begins_pair}
-use Rattle.df_journal_text.specs.code.Judging.{answer_at, call_text}
 use Rattle.df_journal_text.proofs.Frames.{unended}
 use Rattle.df_journal_text.proofs.LineTells.{answer_text, called, called_line}
-use Rattle.df_journal_file.specs.Below.{note_line}
-use Rattle.df_journal_file.specs.Journal.{EditsSome, EndsFile}
-use Rattle.df_journal_file.specs.code.Languages.{CommitFrom, EditFrom, EffectFrom, EntriesFrom, HandedFrom, IsHanding, NoteFrom, NotesNone, ReadFrom, ShownFrom, ShowsNone, Then}
-use Rattle.df_journal_file.specs.code.Marks.{IsUnitHere}
-use Rattle.df_journal_file.specs.code.Places.{AreMarked, IsHere, StopsLine}
-use Rattle.df_journal_file.specs.code.Stops.{Onto, StopsIn}
 use Rattle.df_journal_file.proofs.Feeds.{CallTold, call_feeds, fed_rest, fed_same, told_line}
 use Rattle.df_journal_file.proofs.Fronts.{SameFirst, first_alike, one_result}
 use Rattle.df_journal_file.proofs.Heads.{edit_some, entries_begin, entries_some}

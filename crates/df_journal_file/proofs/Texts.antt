@@ -1,35 +1,8 @@
 -- Whole journals: their first line, their roots and their entries.
-use Rattle.std.proofs.Common.{◌≡◌, ℕ, Bool, true, false, List, [], ◌∷◌, ◌++◌, drop, map, Option, Some, None, Ok, codes, refl, sym, ap, subst, ◌∙◌, arith, lit<, append_assoc, inl, inr}
+use Rattle.df_journal_file.proofs.Names.{◌≡◌, ℕ, Bool, true, false, List, [], ◌∷◌, ◌++◌, drop, map, Option, Some, None, Ok, codes, refl, sym, ap, subst, ◌∙◌, arith, lit<, append_assoc, inl, inr, All, AllByRecursion, flat_map, append_cancel_left, All-map, All-weaker, recursion_from_All, ok_is, Label, Begins, IsLine, ended, FileFault, RootStart, Entry, Done, Emitted, Noted, begins_with, noted_text, AreRoots, IsJournal, IsNoteOf, IsNoted, line, EndsJournal, IsUnmarked, journal_at, start_text, journal_back, front_text, First, IsJournalOf, Journal, Second, journal_by, EndsFile, IsWholeEntry, IsLargeIn, IsWholeBy, IsEitherFirst, IsFirstAt, IsText, IsWanted, StopsFirst, first_of, EntriesFrom, HeadFrom, Onto, StopsIn}
 use mathlib.Core.Bool.{beq, not}
-use Rattle.std.specs.List.{All, AllByRecursion, flat_map}
-use Rattle.std.proofs.lemmas.List.{append_cancel_left}
-use Rattle.std.proofs.lemmas.List.Elements.{All-map, All-weaker, recursion_from_All}
 use Rattle.std.proofs.lemmas.List.Folds.{flat_map-map}
-use Rattle.df_format.proofs.Laws.{ok_is}
-use Rattle.df_label.specs.declared.label.Label.{Label}
-use Rattle.df_lines.specs.FirstBad.{Begins}
-use Rattle.df_lines.specs.Lines.{IsLine, ended}
-use Rattle.df_lines.specs.declared.fault.FileFault.{FileFault}
 use Rattle.df_lines.specs.declared.fault.FileFault.TheVariants as stop
-use Rattle.df_start.specs.declared.start.RootStart.{RootStart}
-use Rattle.df_unit.specs.declared.entry.Entry.{Entry}
-use Rattle.df_unit.specs.declared.entry.Entry.TheVariants.{Done, Emitted}
-use Rattle.df_unit.specs.declared.entry.Noted.{Noted}
-use Rattle.df_value_text.specs.Number.{begins_with}
-use Rattle.df_journal_text.specs.Entry.{noted_text}
-use Rattle.df_journal_text.specs.Fits.{AreRoots, IsJournal, IsNoteOf, IsNoted}
-use Rattle.df_journal_text.specs.Line.{line}
-use Rattle.df_journal_text.specs.ReadEntry.{EndsJournal, IsUnmarked, journal_at}
-use Rattle.df_journal_text.specs.Start.{start_text}
-use Rattle.df_journal_text.proofs.JournalBacks.{journal_back}
-use Rattle.df_journal_file.specs.Cursor.{front_text}
-use Rattle.df_journal_file.specs.Either.{First, IsJournalOf, Journal, Second, journal_by}
-use Rattle.df_journal_file.specs.Journal.{EndsFile, IsWholeEntry}
-use Rattle.df_journal_file.specs.TooLarge.{IsLargeIn}
-use Rattle.df_journal_file.specs.code.Entries.{IsWholeBy}
-use Rattle.df_journal_file.specs.code.Files.{IsEitherFirst, IsFirstAt, IsText, IsWanted, StopsFirst, first_of}
-use Rattle.df_journal_file.specs.code.Languages.{EntriesFrom, HeadFrom}
-use Rattle.df_journal_file.specs.code.Stops.{Onto, StopsIn}
 use Rattle.df_journal_file.proofs.Feeds.{IsFed, spoken}
 use Rattle.df_journal_file.proofs.Ontos.{bad_here, onto_fed}
 use Rattle.df_journal_file.proofs.Roots.{head_some}

@@ -1,26 +1,7 @@
 -- Values that are too large, where a line may stand that has one.
-use Rattle.std.proofs.Common.{◌≡◌, ℕ, ◌+◌, ◌&&◌, Bool, true, false, eqb, List, [], ◌∷◌, ◌++◌, codes, decimal, refl, sym, ap, subst, ◌∙◌, arith, append_assoc, append-nil, inl, inr}
-use Rattle.std.specs.Char.{is_ascii_digit}
-use Rattle.std.specs.List.{flat_map}
-use Rattle.std.proofs.lemmas.List.Elements.{All-cons, All-nil}
-use Rattle.df_label.specs.declared.label.Label.{Label}
-use Rattle.df_part.specs.declared.part.Part.{Part}
+use Rattle.df_journal_file.proofs.Names.{◌≡◌, ℕ, ◌+◌, ◌&&◌, Bool, true, false, eqb, List, [], ◌∷◌, ◌++◌, codes, decimal, refl, sym, ap, subst, ◌∙◌, arith, append_assoc, append-nil, inl, inr, is_ascii_digit, flat_map, All-cons, All-nil, Label, Part, UnitName, label_text, begins_with, begins_digit, value_text, call_line, part_line, read_line, IsCalled, IsPart, IsPartRead, IsLargeCalled, IsLargePart, IsLargeShown, word, unit_text, begins_pair, more_first, unit_first, IsCallFront, IsLargeIn, IsPartFront, IsShownFront, IsValueFront, BehindSome, EntriesFrom, Many, ReadFrom}
 use Rattle.df_unit.specs.declared.call.Call.TheVariants.{AddPart}
-use Rattle.df_unit.specs.declared.name.UnitName.{UnitName}
 use Rattle.df_unit.specs.declared.reply.Reply.TheVariants as reply
-use Rattle.df_value_text.specs.Label.{label_text}
-use Rattle.df_value_text.specs.Number.{begins_with}
-use Rattle.df_value_text.specs.ReadTag.{begins_digit}
-use Rattle.df_value_text.specs.Value.{value_text}
-use Rattle.df_journal_text.specs.Entry.{call_line, part_line, read_line}
-use Rattle.df_journal_text.specs.Fits.{IsCalled, IsPart, IsPartRead}
-use Rattle.df_journal_text.specs.Large.{IsLargeCalled, IsLargePart, IsLargeShown}
-use Rattle.df_journal_text.specs.Line.{word}
-use Rattle.df_journal_text.specs.Name.{unit_text}
-use Rattle.df_journal_text.specs.ReadWords.{begins_pair}
-use Rattle.df_journal_text.proofs.JournalBacks.{more_first, unit_first}
-use Rattle.df_journal_file.specs.TooLarge.{IsCallFront, IsLargeIn, IsPartFront, IsShownFront, IsValueFront}
-use Rattle.df_journal_file.specs.code.Languages.{BehindSome, EntriesFrom, Many, ReadFrom}
 use Rattle.df_journal_file.proofs.Feeds.{CallTold}
 use Rattle.df_journal_file.proofs.Fronts.{one_result}
 use Rattle.df_journal_file.proofs.Heads.{entries_begin, ok_some, part_fits, part_with, read_fits, read_with, zero_fits, zero_value}

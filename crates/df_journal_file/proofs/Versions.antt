@@ -1,21 +1,5 @@
 -- Entries that were read up to a place, and what their version keeps of them.
-use Rattle.std.proofs.Common.{◌≡◌, ℕ, ◌≤◌, Bool, List, [], ◌∷◌, ◌++◌, length, drop, map, refl, sym, ap, subst, ◌∙◌, true, false, append-nil, append_assoc}
-use Rattle.std.specs.List.{flat_map}
-use Rattle.std.proofs.lemmas.List.{map-append, map-id}
-use Rattle.std.proofs.lemmas.List.Elements.{All-nil}
-use Rattle.df_start.specs.declared.start.RootStart.{RootStart}
-use Rattle.df_unit.specs.declared.entry.Entry.{Entry}
-use Rattle.df_unit.specs.declared.entry.Noted.{Noted}
-use Rattle.df_journal_text.specs.Entry.{noted_text}
-use Rattle.df_script_text.specs.code.Stops.{AreRootsAt}
-use Rattle.df_journal_file.specs.Cursor.{front_text}
-use Rattle.df_journal_file.specs.Either.{First, IsJournalOf, Second}
-use Rattle.df_journal_file.specs.Journal.{EndsFile}
-use Rattle.df_journal_file.specs.code.Entries.{IsWholeBy}
-use Rattle.df_journal_file.specs.code.Files.{AreKept, IsFirstAt, IsKeptOf, first_of}
-use Rattle.df_journal_file.specs.code.Languages.{EntriesFrom}
-use Rattle.df_journal_file.specs.code.Places.{ArePassed, IsHere}
-use Rattle.df_journal_file.specs.code.Stops.{Onto}
+use Rattle.df_journal_file.proofs.Names.{◌≡◌, ℕ, ◌≤◌, Bool, List, [], ◌∷◌, ◌++◌, length, drop, map, refl, sym, ap, subst, ◌∙◌, true, false, append-nil, append_assoc, flat_map, map-append, map-id, All-nil, RootStart, Entry, Noted, noted_text, AreRootsAt, front_text, First, IsJournalOf, Second, EndsFile, IsWholeBy, AreKept, IsFirstAt, IsKeptOf, first_of, EntriesFrom, ArePassed, IsHere, Onto}
 use Rattle.df_journal_file.proofs.Cursors.{begun}
 use Rattle.df_journal_file.proofs.Places.{more_passed, none_here}
 use Rattle.df_journal_file.proofs.Texts.{journal_is}

@@ -1,28 +1,14 @@
 -- The lines that have no value.
-use Rattle.std.proofs.Common.{◌≡◌, ℕ, List, [], ◌∷◌, ◌++◌, Ok, codes, decimal, refl, sym, ap, ◌∙◌, append_assoc, append-nil, inl}
+use Rattle.df_journal_file.proofs.Names.{◌≡◌, ℕ, List, [], ◌∷◌, ◌++◌, Ok, codes, decimal, refl, sym, ap, ◌∙◌, append_assoc, append-nil, inl, Label, Spot, EventName, IsLabel, label_text, spot_line, IsEvent, IsSpot, word, event_text, unit_text, deleted_at, spot_of, event_at, event_of, word_at, event_line, note_line, WholeLine}
 use Rattle.df_format.specs.Reading.{behind_at}
-use Rattle.df_label.specs.declared.label.Label.{Label}
-use Rattle.df_part.specs.declared.edit.Spot.{Spot}
-use Rattle.df_unit.specs.declared.name.EventName.{EventName}
-use Rattle.df_value_text.specs.Fits.{IsLabel}
-use Rattle.df_value_text.specs.Label.{label_text}
 use Rattle.df_value_text.specs.ReadLabel.{label_at}
 use Rattle.df_value_text.specs.ReadName.{name_at}
-use Rattle.df_journal_text.specs.Entry.{spot_line}
-use Rattle.df_journal_text.specs.Fits.{IsEvent, IsSpot}
-use Rattle.df_journal_text.specs.Line.{word}
-use Rattle.df_journal_text.specs.Name.{event_text, unit_text}
-use Rattle.df_journal_text.specs.ReadEntry.{deleted_at, spot_of}
-use Rattle.df_journal_text.specs.ReadName.{event_at, event_of}
-use Rattle.df_journal_text.specs.ReadWords.{word_at}
 use Rattle.df_journal_text.specs.code.Judging.{ended}
 use Rattle.df_journal_text.proofs.CallFounds.{named_finds}
 use Rattle.df_journal_text.proofs.Founds.{Finds, finds_as, finds_behind, finds_then, finds_word, label_finds, short_finds, unit_finds}
 use Rattle.df_journal_text.proofs.NameBacks.{event_word}
 use Rattle.df_journal_text.proofs.StartBacks.{behind_back}
 use Rattle.df_journal_text.proofs.WordBacks.{label_word, name_word}
-use Rattle.df_journal_file.specs.Below.{event_line, note_line}
-use Rattle.df_journal_text.proofs.Wholes.{WholeLine}
 
 -- a line of one word
 one_word : (mark text : List ℕ) → (mark ++ (word text ++ [])) ++ 10 ∷ [] ≡ ended (mark ++ word text)

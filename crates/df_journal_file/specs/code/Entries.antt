@@ -1,5 +1,5 @@
 -- What is read of entries from a place on.
-use Rattle.std.specs.Prelude.{◌≡◌, ◌≢◌, ℕ, ◌≤◌, ◌<◌, Bool, true, false, List, [], ◌++◌, length, drop, Option, Some, None, ◌⊎◌}
+use Rattle.std.specs.Prelude.{◌≡◌, ◌≢◌, ℕ, ◌<◌, Bool, true, false, List, [], ◌++◌, length, Option, Some, None, ◌⊎◌}
 use Rattle.std.specs.List.{All}
 use Rattle.df_label.specs.declared.label.Label.{Label}
 use Rattle.df_part.specs.declared.part.Part.{Part}

@@ -1,5 +1,4 @@
-use Rattle.std.proofs.Common.{arith, refl}
-use Rattle.df_journal_file.specs.code.Languages.{EditFrom}
+use Rattle.df_journal_file.proofs.Names.{arith, refl, EditFrom}
 use Rattle.df_journal_file.proofs.Heads.{commit_some}
 use Rattle.df_journal_file.proofs.LineKinds.{commit_kind}
 use Rattle.df_journal_file.proofs.Ontos.{stopped}

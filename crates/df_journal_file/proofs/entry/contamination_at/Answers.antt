@@ -1,5 +1,4 @@
-use Rattle.std.proofs.Common.{refl}
-use Rattle.df_journal_file.specs.code.Languages.{NotesNone, ShownFrom}
+use Rattle.df_journal_file.proofs.Names.{refl, NotesNone, ShownFrom}
 use Rattle.df_journal_file.proofs.Entries.{no_note, some_note}
 use Rattle.df_journal_file.proofs.Fronts.{one_result}
 use Rattle.df_journal_file.proofs.Heads.{note_some}

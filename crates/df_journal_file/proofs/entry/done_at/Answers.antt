@@ -1,4 +1,4 @@
-use Rattle.std.proofs.Common.{arith}
+use Rattle.df_journal_file.proofs.Names.{arith}
 use Rattle.df_journal_file.proofs.Entries.{done_read}
 use Rattle.df_journal_file.proofs.Ontos.{stopped}
 use Rattle.df_journal_file.proofs.Steps.{called_onto, called_stop}

@@ -1,11 +1,4 @@
-use Rattle.std.proofs.Common.{List, sym, subst, ◌+◌, arith, length, refl}
-use Rattle.df_part.specs.declared.edit.Spot.{Spot}
-use Rattle.df_part.specs.declared.part.Part.{Part}
-use Rattle.df_journal_text.specs.Entry.{edit_text}
-use Rattle.df_journal_file.specs.Journal.{EditsSome}
-use Rattle.df_journal_file.specs.code.Entries.{IsSomeEdit}
-use Rattle.df_journal_file.specs.code.Languages.{EntriesFrom}
-use Rattle.df_journal_file.specs.code.Places.{IsHere}
+use Rattle.df_journal_file.proofs.Names.{List, sym, subst, ◌+◌, arith, length, refl, Spot, Part, edit_text, EditsSome, IsSomeEdit, EntriesFrom, IsHere}
 use Rattle.df_journal_file.proofs.Fronts.{one_result}
 use Rattle.df_journal_file.proofs.LineKinds.{adds_run, spots_run}
 use Rattle.df_journal_file.proofs.Ontos.{stopped}

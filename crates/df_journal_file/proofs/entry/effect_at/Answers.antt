@@ -1,7 +1,5 @@
-use Rattle.std.proofs.Common.{sym, ◌∙◌, inl, refl, subst}
+use Rattle.df_journal_file.proofs.Names.{sym, ◌∙◌, inl, refl, subst, Reply, IsSomeEffectOf}
 use Rattle.df_unit.specs.declared.entry.Effect.TheVariants as effect
-use Rattle.df_unit.specs.declared.reply.Reply.{Reply}
-use Rattle.df_journal_file.specs.code.Entries.{IsSomeEffectOf}
 use Rattle.df_journal_file.proofs.Places.{as_here, none_here}
 use Rattle.df_journal_file.proofs.Steps.{commit_onto, handed_onto, nothing_onto}
 use Rattle.df_journal_file.proofs.Ontos.{stopped}

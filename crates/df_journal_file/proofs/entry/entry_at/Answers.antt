@@ -1,4 +1,4 @@
-use Rattle.std.proofs.Common.{inr, refl, sym, ◌∙◌}
+use Rattle.df_journal_file.proofs.Names.{inr, refl, sym, ◌∙◌}
 use Rattle.df_journal_file.proofs.Entries.{emitted_whole}
 use Rattle.df_journal_file.proofs.Places.{as_here}
 use Rattle.df_journal_file.proofs.Steps.{emitted_onto}

@@ -1,10 +1,5 @@
-use Rattle.std.proofs.Common.{List, arith, refl, sym, subst, true, ◌∙◌}
+use Rattle.df_journal_file.proofs.Names.{List, arith, refl, sym, subst, true, ◌∙◌, Part, given_text, IsGivenFor, EntriesFrom, GivenFrom, IsHere}
 use Rattle.df_lines.specs.declared.fault.FileFault.TheVariants as stop
-use Rattle.df_part.specs.declared.part.Part.{Part}
-use Rattle.df_journal_text.specs.Entry.{given_text}
-use Rattle.df_journal_file.specs.code.Entries.{IsGivenFor}
-use Rattle.df_journal_file.specs.code.Languages.{EntriesFrom, GivenFrom}
-use Rattle.df_journal_file.specs.code.Places.{IsHere}
 use Rattle.df_journal_file.proofs.Heads.{handed_some}
 use Rattle.df_journal_file.proofs.LineKinds.{given_run, handed_kind}
 use Rattle.df_journal_file.proofs.Ontos.{stopped}

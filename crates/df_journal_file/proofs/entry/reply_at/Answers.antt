@@ -1,12 +1,6 @@
-use Rattle.std.proofs.Common.{List, arith, refl, sym, subst, true, ◌∙◌, [], inl, inr}
+use Rattle.df_journal_file.proofs.Names.{List, arith, refl, sym, subst, true, ◌∙◌, [], inl, inr, PartRead, reads_text, IsShownBy, EffectFrom, IsHere, StopsIn}
 use Rattle.df_lines.specs.declared.fault.FileFault.TheVariants as stop
-use Rattle.df_unit.specs.declared.parts.PartRead.{PartRead}
 use Rattle.df_unit.specs.declared.reply.Reply.TheVariants as reply
-use Rattle.df_journal_text.specs.Entry.{reads_text}
-use Rattle.df_journal_file.specs.code.Entries.{IsShownBy}
-use Rattle.df_journal_file.specs.code.Languages.{EffectFrom}
-use Rattle.df_journal_file.specs.code.Places.{IsHere}
-use Rattle.df_journal_file.specs.code.Stops.{StopsIn}
 use Rattle.df_journal_file.proofs.Entries.{alone, bare_parts}
 use Rattle.df_journal_file.proofs.LineKinds.{read_run}
 use Rattle.df_journal_file.proofs.Ontos.{stopped}

@@ -1,5 +1,4 @@
-use Rattle.std.proofs.Common.{Bool, None, subst}
-use Rattle.df_journal_file.specs.code.Files.{IsFirstAt, first_of}
+use Rattle.df_journal_file.proofs.Names.{Bool, None, subst, IsFirstAt, first_of}
 use Rattle.df_journal_file.proofs.Ontos.{stopped}
 use Rattle.df_journal_file.proofs.Versions.{noted_kept, plain_kept}
 use Rattle.df_journal_file.proofs.Texts.{text_stop}

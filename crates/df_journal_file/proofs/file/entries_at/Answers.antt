@@ -1,5 +1,4 @@
-use Rattle.std.proofs.Common.{[], ◌∷◌, ◌++◌, ap, ◌∙◌, drop, rules}
-use Rattle.df_journal_file.specs.Journal.{EndsFile}
+use Rattle.df_journal_file.proofs.Names.{[], ◌∷◌, ◌++◌, ap, ◌∙◌, drop, rules, EndsFile}
 use Rattle.df_journal_file.proofs.Versions.{all_kept, more_read, none_read}
 use Rattle.df_journal_file.proofs.file.entries_at.Goals as goal
 

@@ -1,4 +1,4 @@
-use Rattle.std.proofs.Common.{◌-◌, length}
+use Rattle.df_journal_file.proofs.Names.{◌-◌, length}
 use Rattle.df_journal_file.proofs.Versions.{IsReadTo}
 use Rattle.df_journal_file.proofs.file.entries_at.Given as goal
 

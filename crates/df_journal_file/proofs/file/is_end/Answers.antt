@@ -1,5 +1,4 @@
-use Rattle.std.proofs.Common.{drop, length}
-use Rattle.std.proofs.lemmas.Bool.Decides.{Decides-eqb}
+use Rattle.df_journal_file.proofs.Names.{drop, length, Decides-eqb}
 use Rattle.df_journal_file.proofs.Ends.{line_ends, open_ends}
 use Rattle.df_journal_file.proofs.file.is_end.Goals as goal
 

@@ -1,5 +1,4 @@
-use Rattle.std.proofs.lemmas.Bool.Decides.{Decides-eqb}
-use Rattle.std.proofs.lemmas.Slice.Eq.{slice_eq-Decides}
+use Rattle.df_journal_file.proofs.Names.{Decides-eqb, slice_eq-Decides}
 use Rattle.df_journal_file.proofs.file.is_line.Goals as goal
 
 pub returns : goal.returns

@@ -1,5 +1,4 @@
-use Rattle.std.proofs.Common.{inl, inr}
-use Rattle.df_journal_file.specs.Either.{IsEitherText, journal_in}
+use Rattle.df_journal_file.proofs.Names.{inl, inr, IsEitherText, journal_in}
 use Rattle.df_journal_file.proofs.Eithers.{either_first, either_second, either_text}
 use Rattle.df_journal_file.proofs.Refusals as refusals
 use Rattle.df_journal_file.proofs.file.read_either.Goals as goal

@@ -1,5 +1,4 @@
-use Rattle.df_journal_file.specs.Either.{First}
-use Rattle.df_journal_file.specs.Journal.{IsPlainText}
+use Rattle.df_journal_file.proofs.Names.{First, IsPlainText}
 use Rattle.df_journal_file.proofs.Versions.{plain_kept}
 use Rattle.df_journal_file.proofs.Refusals as refusals
 use Rattle.df_journal_file.proofs.Texts.{one_plain, text_of}

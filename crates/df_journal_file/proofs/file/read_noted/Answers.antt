@@ -1,5 +1,4 @@
-use Rattle.df_journal_file.specs.Either.{Second}
-use Rattle.df_journal_file.specs.Journal.{IsNotedText}
+use Rattle.df_journal_file.proofs.Names.{Second, IsNotedText}
 use Rattle.df_journal_file.proofs.Versions.{noted_kept}
 use Rattle.df_journal_file.proofs.Refusals as refusals
 use Rattle.df_journal_file.proofs.Texts.{one_noted, text_of}

@@ -1,6 +1,5 @@
-use Rattle.std.proofs.Common.{refl}
+use Rattle.df_journal_file.proofs.Names.{refl, IsEitherFirst}
 use Rattle.df_script_text.proofs.Stops.{open_stop}
-use Rattle.df_journal_file.specs.code.Files.{IsEitherFirst}
 use Rattle.df_journal_file.proofs.file.version_at.Goals as goal
 
 pub returns-in_default-clause-stops : goal.returns-in_default-clause-stops

@@ -1,5 +1,4 @@
-use Rattle.std.proofs.Common.{Bool, Some, refl, subst}
-use Rattle.df_journal_file.specs.code.Files.{IsFirstAt, first_of}
+use Rattle.df_journal_file.proofs.Names.{Bool, Some, refl, subst, IsFirstAt, first_of}
 use Rattle.df_journal_file.proofs.Ontos.{stopped}
 use Rattle.df_journal_file.proofs.Texts.{other_stop, same_version, text_stop}
 use Rattle.df_journal_file.proofs.file.version_whole.Goals as goal

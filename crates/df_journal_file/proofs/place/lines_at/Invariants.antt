@@ -1,5 +1,4 @@
-use Rattle.std.proofs.Common.{◌-◌, ◌∷◌, [], length}
-use Rattle.df_journal_file.specs.code.Places.{ArePassed}
+use Rattle.df_journal_file.proofs.Names.{◌-◌, ◌∷◌, [], length, ArePassed}
 use Rattle.df_journal_file.proofs.place.lines_at.Given as goal
 
 -- the lines so far stand in front of the place

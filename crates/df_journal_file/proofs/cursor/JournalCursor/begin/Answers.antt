@@ -1,4 +1,4 @@
-use Rattle.std.proofs.Common.{None}
+use Rattle.df_journal_file.proofs.Names.{None}
 use Rattle.df_journal_file.proofs.Cursors.{begun}
 use Rattle.df_journal_file.proofs.Ontos.{stopped}
 use Rattle.df_journal_file.proofs.Roots.{roots_stop}

@@ -1,8 +1,4 @@
-use Rattle.std.proofs.Common.{◌≡◌, IfErr, false, subst, sym, true, ◌∙◌}
-use Rattle.df_journal_file.specs.Cursor.{CursorState, HasPassed}
-use Rattle.df_journal_file.specs.Either.{IsJournalOf, journal_by}
-use Rattle.df_journal_file.specs.code.Languages.{EntriesFrom}
-use Rattle.df_journal_file.specs.code.Stops.{StopsIn}
+use Rattle.df_journal_file.proofs.Names.{◌≡◌, IfErr, false, subst, sym, true, ◌∙◌, CursorState, HasPassed, IsJournalOf, journal_by, EntriesFrom, StopsIn}
 use Rattle.df_journal_file.proofs.Cursors.{all_read, passed_on}
 use Rattle.df_journal_file.proofs.Ontos.{stopped}
 use Rattle.df_journal_file.proofs.cursor.JournalCursor.next_entry.Goals as goal

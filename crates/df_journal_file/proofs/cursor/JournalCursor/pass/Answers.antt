@@ -1,6 +1,4 @@
-use Rattle.std.proofs.Common.{subst, sym, ◌∙◌}
-use Rattle.df_journal_file.specs.Cursor.{CursorState, HasPassed}
-use Rattle.df_journal_file.specs.code.Entries.{IsWholeBy}
+use Rattle.df_journal_file.proofs.Names.{subst, sym, ◌∙◌, CursorState, HasPassed, IsWholeBy}
 use Rattle.df_journal_file.proofs.Cursors.{StandIf, all_behind, lines_stand, passed_lines}
 use Rattle.df_journal_file.proofs.cursor.JournalCursor.pass.Goals as goal
 

@@ -1,4 +1,4 @@
-use Rattle.df_journal_text.proofs.Wholes.{told}
+use Rattle.df_journal_file.proofs.Names.{told}
 use Rattle.df_journal_file.proofs.WordLines.{event_whole}
 use Rattle.df_journal_file.proofs.told.EventNameTold.read.Goals as goal
 
