@@ -4,7 +4,7 @@ use Rattle.df_format.specs.Reading.{Stop, Bad, Low, Read, ◌>>=◌, maybe_at, e
 use Rattle.df_format.specs.Spelling.{maybe_spell}
 use Rattle.df_format.specs.Grammar.{CanGoOn}
 use Rattle.df_format.specs.Format.{Ends, Found, Stuck, Format}
-use Rattle.df_format.proofs.Laws.{ok_is, not_both, bind_ok, bind_err, chosen, viable_map, cause_of, first_same}
+use Rattle.df_format.proofs.Laws.{ok_is, not_both, bind_ok, bind_err, chosen, stuck_as, first_same}
 
 -- a spelling begins with such a token
 pub record Begins {T : Type 0} (begins : T → Bool) (to : Bool) (text : List T) : Type 0 where
@@ -82,14 +82,9 @@ module _ {T X : Type 0} (IsLow : List T → List T → Type 0) (begins : T → B
               | inr k ↦ not_both (Some k.0.0, k.0.1) stop k.2
               | inl k ↦
                   let s = fx.stuck (t ∷ ts) stop k in
-                  record {
-                    front = s.front;
-                    parts = s.parts;
-                    viable = viable_map spell Fits (maybe_spell spell) (MaybeFits Fits) s.front (some_can s.front) s.viable;
-                    cause = cause_of IsLow read (maybe_at begins read) s.front stop (λ u tail other is e.
-                        let o = first_same s.front t u ts tail other (s.parts ∙ ap (λ (v : List T). s.front ++ v) is) in
-                        maybe_some (s.front ++ u ∷ other) t o.0 o.1 h.0 ∙ rw e refl) s.cause;
-                  }
+                  stuck_as s some_can (λ u tail other is e.
+                  let o = first_same s.front t u ts tail other (s.parts ∙ ap (λ (v : List T). s.front ++ v) is) in
+                  maybe_some (s.front ++ u ∷ other) t o.0 o.1 h.0 ∙ rw e refl) (λ front rest low. low)
             ]
       ]
 
@@ -139,24 +134,14 @@ module _ {T X : Type 0} (IsLow : List T → List T → Type 0) (begins : T → B
       elim (chosen (begins t) (read (t ∷ ts)) (other (t ∷ ts)) (Err stop) e) [
         | inl h ↦
             let s = f.stuck (t ∷ ts) stop h.1 in
-            record {
-              front = s.front;
-              parts = s.parts;
-              viable = viable_map spell F spell Either s.front (left_can s.front) s.viable;
-              cause = cause_of IsLow read (either_at begins read other) s.front stop (λ u tail more is e.
-                  let o = first_same s.front t u ts tail more (s.parts ∙ ap (λ (v : List T). s.front ++ v) is) in
-                  either_yes (s.front ++ u ∷ more) t o.0 o.1 h.0 ∙ e) s.cause;
-            }
+            stuck_as s left_can (λ u tail more is e.
+            let o = first_same s.front t u ts tail more (s.parts ∙ ap (λ (v : List T). s.front ++ v) is) in
+            either_yes (s.front ++ u ∷ more) t o.0 o.1 h.0 ∙ e) (λ front rest low. low)
         | inr h ↦
             let s = g.stuck (t ∷ ts) stop h.1 in
-            record {
-              front = s.front;
-              parts = s.parts;
-              viable = viable_map spell G spell Either s.front (right_can s.front) s.viable;
-              cause = cause_of IsLow other (either_at begins read other) s.front stop (λ u tail more is e.
-                  let o = first_same s.front t u ts tail more (s.parts ∙ ap (λ (v : List T). s.front ++ v) is) in
-                  either_no (s.front ++ u ∷ more) t o.0 o.1 h.0 ∙ e) s.cause;
-            }
+            stuck_as s right_can (λ u tail more is e.
+            let o = first_same s.front t u ts tail more (s.parts ∙ ap (λ (v : List T). s.front ++ v) is) in
+            either_no (s.front ++ u ∷ more) t o.0 o.1 h.0 ∙ e) (λ front rest low. low)
       ]
 
   either_on : (x : X) (t : T) → Either x → goes x t ≡ true → CanGoOn spell Either (spell x ++ t ∷ [])

@@ -4,8 +4,8 @@ use Rattle.std.proofs.lemmas.List.{append-nil}
 use Rattle.df_format.specs.Reading.{Stop, Read, ◌>>=◌, more_of, items_at}
 use Rattle.df_format.specs.Spelling.{more_spell, items_spell}
 use Rattle.df_format.specs.Grammar.{CanGoOn}
-use Rattle.df_format.specs.Format.{Ends, place, Cause, Format}
-use Rattle.df_format.proofs.Laws.{ok_is, not_both, bind_ok, bind_err, told, stop_ends, viable_of, can_go_on, viable_map, cause_on, cause_of}
+use Rattle.df_format.specs.Format.{Ends, Stuck, Format}
+use Rattle.df_format.proofs.Laws.{ok_is, not_both, bind_ok, bind_err, told, stop_ends, can_within, can_behind, can_go_on, stuck_as, stuck_behind}
 use Rattle.df_format.proofs.ItemSteps.{Shrinks, onto, more_step, more_stop}
 
 -- ---- what is owed of an item
@@ -189,30 +189,17 @@ module _ {T X : Type 0} {IsLow : List T → List T → Type 0} {Near : X → Lis
     pub after : After (last_of prev xs) other
     pub near : Near (last_of prev xs) inner rest
 
-  record MoreStuck (prev : X) (tokens : List T) (stop : Stop T) : Type 0 where
-    pub front : List T
-    pub parts : tokens ≡ front ++ place stop
-    pub viable : CanGoOn (more_spell sep spell) (Follow After prev) front
-    pub cause : Cause (LowItem prev) (more_of leads next prev) front stop
+  abbrev MoreStuck : X → List T → Stop T → Type 0
+  MoreStuck prev tokens stop = Stuck (LowItem prev) (more_spell sep spell) (Follow After prev) (more_of leads next prev) tokens stop
 
   -- one more item behind a separator
   viable_one : (prev : X) (front : List T) → CanGoOn spell (After prev) front → CanGoOn (more_spell sep spell) (Follow After prev) (sep ∷ front)
-  viable_one prev front v = record {
-    some = v.some ∷ [];
-    fits = (v.fits, tt);
-    more = v.more ++ [];
-    is = ap (λ (u : List T). sep ∷ (u ++ [])) v.is ∙ ap (λ (u : List T). sep ∷ u) (append_assoc front v.more []);
-  }
+  viable_one prev front v = can_within v (v.some ∷ []) (v.fits, tt) (sep ∷ []) [] refl
 
   -- an item, and what may follow it
   viable_more : (prev x : X) (front : List T) → After prev x → CanGoOn (more_spell sep spell) (Follow After x) front
       → CanGoOn (more_spell sep spell) (Follow After prev) (sep ∷ (spell x ++ front))
-  viable_more prev x front a v = record {
-    some = x ∷ v.some;
-    fits = (a, v.fits);
-    more = v.more;
-    is = ap (λ (u : List T). sep ∷ u) (ap (λ (u : List T). spell x ++ u) v.is ∙ sym (append_assoc (spell x) front v.more));
-  }
+  viable_more prev x front a v = can_behind v (x ∷ v.some) (a, v.fits) (sep ∷ spell x) refl
 
   low_more : (prev x : X) (front rest : List T) → After prev x → LowItem x front rest → LowItem prev (sep ∷ (spell x ++ front)) rest
   low_more prev x front rest after low = record {
@@ -247,14 +234,10 @@ module _ {T X : Type 0} {IsLow : List T → List T → Type 0} {Near : X → Lis
               | inl k ↦
                   let s = (p.item prev fits).stuck ts stop k in
                   let y = l.some prev ts fits lead in
-                  record {
-                    front = sep ∷ s.front;
-                    parts = ap (λ (u : List T). t ∷ u) s.parts ∙ ap (λ (v : T). v ∷ (s.front ++ place stop)) same;
-                    viable = viable_one prev s.front (can_go_on spell (After prev) y.0 y.1 s.front s.viable);
-                    cause = cause_on (Near prev) (LowItem prev) (next prev) (more_of leads next prev) s.front (sep ∷ s.front) stop (λ u tail other is e.
-                        more_step leads next p.shrinks prev sep (s.front ++ u ∷ other) (on (s.front ++ u ∷ other)) ∙ rw e refl)
-                        (λ rest low. record { xs = []; inner = s.front; is = refl; follow = tt; other = y.0; after = y.1; near = low }) s.cause;
-                  }
+                  stuck_behind s (sep ∷ []) (t ∷ ts) (ap (λ (v : T). v ∷ ts) same)
+                  (λ front v. viable_one prev front (can_go_on spell (After prev) y.0 y.1 front v))
+                  (λ u tail other is e. more_step leads next p.shrinks prev sep (s.front ++ u ∷ other) (on (s.front ++ u ∷ other)) ∙ rw e refl)
+                  (λ rest low. record { xs = []; inner = s.front; is = refl; follow = tt; other = y.0; after = y.1; near = low })
               | inr k ↦
                   let f = (p.item prev fits).found ts k.0.0 k.0.1 k.1 in
                   let shorter = p.shrinks prev ts k.0.0 k.0.1 k.1 in
@@ -263,41 +246,24 @@ module _ {T X : Type 0} {IsLow : List T → List T → Type 0} {Near : X → Lis
                     | inl m ↦
                         let s = more_stuck n k.0.0 k.0.1 stop (p.fits prev k.0.0 fits f.fits) (omega arith) m in
                         let x : List T = spell k.0.0 in
-                        record {
-                          front = sep ∷ (x ++ s.front);
-                          parts = ap (λ (u : List T). t ∷ u)
-                              (f.parts ∙ ap (λ (u : List T). x ++ u) s.parts ∙ sym (append_assoc x s.front (place stop)))
-                              ∙ ap (λ (v : T). v ∷ ((x ++ s.front) ++ place stop)) same;
-                          viable = viable_more prev k.0.0 s.front f.fits s.viable;
-                          cause = cause_on (LowItem k.0.0) (LowItem prev) (more_of leads next k.0.0) (more_of leads next prev) s.front
-                              (sep ∷ (x ++ s.front)) stop (λ u tail other is e.
-                              let left : List T = s.front ++ u ∷ other in
-                              let ends = stop_ends goes k.0.0 k.0.1 s.front (place stop) u tail other s.parts is f.ends in
-                              let at_item : next prev (x ++ left) ≡ Ok (k.0.0, left) = (p.item prev fits).again k.0.0 left f.fits ends in
-                              ap (λ (v : List T). more_of leads next prev (sep ∷ v)) (append_assoc x s.front (u ∷ other))
-                              ∙ more_step leads next p.shrinks prev sep (x ++ left) (on (x ++ left)) ∙ rw (at_item, e) refl)
-                              (λ rest low. low_more prev k.0.0 s.front rest f.fits low) s.cause;
-                        }
+                        stuck_behind s (sep ∷ x) (t ∷ ts) (ap (λ (u : List T). t ∷ u) f.parts ∙ ap (λ (v : T). v ∷ (x ++ k.0.1)) same)
+                        (λ front v. viable_more prev k.0.0 front f.fits (can_go_on (more_spell sep spell) (Follow After k.0.0) [] tt front v))
+                        (λ u tail other is e.
+                        let left : List T = s.front ++ u ∷ other in
+                        let ends = stop_ends goes k.0.0 k.0.1 s.front u tail other is f.ends in
+                        let at_item : next prev (x ++ left) ≡ Ok (k.0.0, left) = (p.item prev fits).again k.0.0 left f.fits ends in
+                        more_step leads next p.shrinks prev sep (x ++ left) (on (x ++ left)) ∙ rw (at_item, e) refl)
+                        (λ rest low. low_more prev k.0.0 s.front rest f.fits low)
                   ]
             ]
       ]
 
   items_extend : (front : List T) → CanGoOn spell Fits front → CanGoOn (items_spell sep spell) (ItemsFit Fits After) front
-  items_extend front v = record {
-    some = (v.some, []);
-    fits = (v.fits, tt);
-    more = v.more ++ [];
-    is = ap (λ (u : List T). u ++ []) v.is ∙ append_assoc front v.more [];
-  }
+  items_extend front v = can_within v (v.some, []) (v.fits, tt) [] [] refl
 
   items_behind : (x : X) (front : List T) → Fits x → CanGoOn (more_spell sep spell) (Follow After x) front
       → CanGoOn (items_spell sep spell) (ItemsFit Fits After) (spell x ++ front)
-  items_behind x front fits v = record {
-    some = (x, v.some);
-    fits = (fits, v.fits);
-    more = v.more;
-    is = ap (λ (u : List T). spell x ++ u) v.is ∙ sym (append_assoc (spell x) front v.more);
-  }
+  items_behind x front fits v = can_behind v (x, v.some) (fits, v.fits) (spell x) refl
 
   -- where the last item goes on, or another may follow, a longer text begins so
   items_on : (F : X → Type 0) → ((x : X) (t : T) → F x → goes x t ≡ true → CanGoOn spell F (spell x ++ t ∷ [])) → ((x : X) → F x → Fits x)
@@ -345,31 +311,19 @@ module _ {T X : Type 0} {IsLow : List T → List T → Type 0} {Near : X → Lis
     again = λ xs rest fits ends. items_again p IsLow first fx xs rest fits (ends_last xs rest ends);
     stuck = λ tokens stop e.
         elim (bind_err (first tokens) (λ x. more_of leads next x.0 x.1 >>= λ xs. Ok ((x.0, xs.0), xs.1)) stop e) [
-          | inl h ↦
-              let s = fx.stuck tokens stop h in
-              record {
-                front = s.front;
-                parts = s.parts;
-                viable = viable_map spell Fits (items_spell sep spell) (ItemsFit Fits After) s.front (items_extend s.front) s.viable;
-                cause = cause_of IsLow first (items_at leads first next) s.front stop (λ t tail other is e. rw e refl) s.cause;
-              }
+          | inl h ↦ stuck_as (fx.stuck tokens stop h) items_extend (λ t tail other is e. rw e refl) (λ front rest low. low)
           | inr h ↦
               elim (bind_err (more_of leads next h.0.0 h.0.1) (λ xs. Ok ((h.0.0, xs.0), xs.1)) stop h.2) [
                 | inr k ↦ not_both ((h.0.0, k.0.0), k.0.1) stop k.2
                 | inl k ↦
                     let f = fx.found tokens h.0.0 h.0.1 h.1 in
                     let s = more_stuck (length h.0.1) h.0.0 h.0.1 stop f.fits (omega arith) k in
-                    let x : List T = spell h.0.0 in
-                    record {
-                      front = x ++ s.front;
-                      parts = f.parts ∙ ap (λ (u : List T). x ++ u) s.parts ∙ sym (append_assoc x s.front (place stop));
-                      viable = viable_of (items_spell sep spell) (ItemsFit Fits After) (x ++ s.front) (items_behind h.0.0 s.front f.fits s.viable);
-                      cause = cause_on (LowItem h.0.0) IsLow (more_of leads next h.0.0) (items_at leads first next) s.front (x ++ s.front) stop
-                          (λ t tail other is e.
-                          let ends = stop_ends goes h.0.0 h.0.1 s.front (place stop) t tail other s.parts is f.ends in
-                          ap (items_at leads first next) (append_assoc x s.front (t ∷ other)) ∙ rw (fx.again h.0.0 (s.front ++ t ∷ other) f.fits ends, e) refl)
-                          (λ rest low. low_items h.0.0 s.front rest f.fits low) s.cause;
-                    }
+                    stuck_behind s (spell h.0.0) tokens f.parts
+                    (λ front v. items_behind h.0.0 front f.fits (can_go_on (more_spell sep spell) (Follow After h.0.0) [] tt front v))
+                    (λ t tail other is e.
+                    let left : List T = s.front ++ t ∷ other in
+                    let ends = stop_ends goes h.0.0 h.0.1 s.front t tail other is f.ends in
+                    rw (fx.again h.0.0 left f.fits ends, e) refl) (λ rest low. low_items h.0.0 s.front rest f.fits low)
               ]
         ];
     on = λ xs t fits g. items_on Fits fx.on (λ x a. a) xs.0 xs.1 t fits.0 fits.1 g;

@@ -4,7 +4,7 @@ use Rattle.df_format.specs.Reading.{Read, ◌>>=◌, then_at, as_at, text_at, be
 use Rattle.df_format.specs.Spelling.{then_spell}
 use Rattle.df_format.specs.Grammar.{CanGoOn}
 use Rattle.df_format.specs.Format.{Ends, Found, Format}
-use Rattle.df_format.proofs.Laws.{ok_is, not_both, bind_ok, bind_err, never, ends_never, viable_map, cause_of}
+use Rattle.df_format.proofs.Laws.{ok_is, not_both, bind_ok, bind_err, never, ends_never, stuck_as}
 use Rattle.df_format.proofs.Thens.{then_format, ends_of_second, ThenFits, then_goes}
 use Rattle.df_format.proofs.Texts.{text_format, own, IsText}
 
@@ -50,14 +50,7 @@ module _ {T X Y : Type 0} (IsLow : List T → List T → Type 0) (make : X → Y
     stuck = λ tokens stop e.
         elim (bind_err (rx tokens) (λ x. Ok (make x.0, x.1)) stop e) [
           | inr h ↦ not_both (make h.0.0, h.0.1) stop h.2
-          | inl h ↦
-              let s = fx.stuck tokens stop h in
-              record {
-                front = s.front;
-                parts = s.parts;
-                viable = viable_map sx FX sy FY s.front (as_can s.front) s.viable;
-                cause = cause_of IsLow rx (as_at make rx) s.front stop (λ t tail other is e. rw e refl) s.cause;
-              }
+          | inl h ↦ stuck_as (fx.stuck tokens stop h) as_can (λ t tail other is e. rw e refl) (λ front rest low. low)
         ];
     on = λ y t fits g.
         let b = v.from y fits in
@@ -74,12 +67,7 @@ same_read IsLow spell Fits goes r s same f = record {
   again = λ x rest fits ends. sym (same (spell x ++ rest)) ∙ f.again x rest fits ends;
   stuck = λ tokens stop e.
       let k = f.stuck tokens stop (same tokens ∙ e) in
-      record {
-        front = k.front;
-        parts = k.parts;
-        viable = k.viable;
-        cause = cause_of IsLow r s k.front stop (λ t tail other is e. sym (same (k.front ++ t ∷ other)) ∙ e) k.cause;
-      };
+      stuck_as k (λ front v. v) (λ t tail other is e. sym (same (k.front ++ t ∷ other)) ∙ e) (λ front rest low. low);
   on = f.on;
 }
 

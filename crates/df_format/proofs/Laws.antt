@@ -1,8 +1,8 @@
 -- Steps of readers, and one thing behind another.
-use Rattle.std.proofs.Common.{◌≡◌, Bool, true, false, cond, List, [], ◌∷◌, ◌++◌, Result, Ok, Err, refl, sym, ap, subst, ◌∙◌, append_assoc, ◌⊎◌, inl, inr}
+use Rattle.std.proofs.Common.{◌≡◌, Bool, true, false, cond, List, [], ◌∷◌, ◌++◌, Result, Ok, Err, refl, sym, ap, subst, ◌∙◌, append_assoc, append-nil, ◌⊎◌, inl, inr}
 use Rattle.df_format.specs.Reading.{Stop, Bad, Low, Read, ◌>>=◌}
 use Rattle.df_format.specs.Grammar.{CanGoOn, Stands, FirstBad}
-use Rattle.df_format.specs.Format.{Ends, IsViable, place, Cause, Format}
+use Rattle.df_format.specs.Format.{Ends, IsViable, place, Cause, Stuck, Format}
 
 -- ---- steps
 
@@ -54,11 +54,10 @@ ends_first : {T X : Type 0} (goes : X → T → Bool) (x : X) (front : List T) (
 ends_first goes x [] t tail other h = h
 ends_first goes x (u ∷ front) t tail other h = h
 
--- something ends in front of the first token from which on reading stops, whatever stands behind that
-pub stop_ends : {T X : Type 0} (goes : X → T → Bool) (x : X) (left front rest : List T) (t : T) (tail other : List T) → left ≡ front ++ rest
-    → rest ≡ t ∷ tail → Ends goes x left → Ends goes x (front ++ t ∷ other)
-stop_ends {T} goes x left front rest t tail other parts is ends =
-    ends_first goes x front t tail other (subst (λ (v : List T). Ends goes x v) (parts ∙ ap (λ (v : List T). front ++ v) is) ends)
+-- something ends in front of a token, whatever stands behind that
+pub stop_ends : {T X : Type 0} (goes : X → T → Bool) (x : X) (left front : List T) (t : T) (tail other : List T) → left ≡ front ++ t ∷ tail → Ends goes x left
+    → Ends goes x (front ++ t ∷ other)
+stop_ends {T} goes x left front t tail other parts ends = ends_first goes x front t tail other (subst (λ (v : List T). Ends goes x v) parts ends)
 
 -- what never goes on ends everywhere
 abbrev pub never : {T X : Type 0} → X → T → Bool
@@ -84,6 +83,22 @@ pub viable_map : {T X Y : Type 0} (sx : X → List T) (FX : X → Type 0) (sy : 
 viable_map sx FX sy FY [] f v = tt
 viable_map sx FX sy FY (t ∷ ts) f v = f v
 
+module _ {T X Y : Type 0} {sx : X → List T} {FX : X → Type 0} {sy : Y → List T} {FY : Y → Type 0} {front : List T} (v : CanGoOn sx FX front) (y : Y)
+    (fits : FY y) (before : List T) where
+  -- something else, in whose text that of the first stands
+  pub can_within : (more : List T) → sy y ≡ before ++ (sx v.some ++ more) → CanGoOn sy FY (before ++ front)
+  can_within more e = record {
+    some = y;
+    fits = fits;
+    more = v.more ++ more;
+    is = e ∙ ap (λ (u : List T). before ++ (u ++ more)) v.is ∙ ap (λ (u : List T). before ++ u) (append_assoc front v.more more)
+        ∙ sym (append_assoc before front (v.more ++ more));
+  }
+
+  -- with which it ends
+  pub can_behind : sy y ≡ before ++ sx v.some → CanGoOn sy FY (before ++ front)
+  can_behind e = can_within [] (e ∙ ap (λ (u : List T). before ++ u) (sym (append-nil (sx v.some))))
+
 -- the first token of what stands before a place is that of all
 pub first_same : {T : Type 0} (front : List T) (t u : T) (ts tail other : List T) → t ∷ ts ≡ front ++ u ∷ tail → (o : List T) × (front ++ u ∷ other ≡ t ∷ o)
 first_same [] t u ts tail other e = let same : t ≡ u = cc in (other, ap (λ v. v ∷ other) (sym same))
@@ -99,12 +114,33 @@ pub cause_on : {T X Y : Type 0} (IsLow Out : List T → List T → Type 0) (rx :
 cause_on IsLow Out rx ry front behind (Bad rest) f low c = λ t tail is other. f t tail other is (c t tail is other)
 cause_on IsLow Out rx ry front behind (Low rest) f low c = low rest c
 
--- of another reader that stops there too
-pub cause_of : {T X Y : Type 0} (IsLow : List T → List T → Type 0) (rx : List T → Read T X) (ry : List T → Read T Y) (front : List T) (stop : Stop T)
-    → ((t : T) (tail other : List T) → place stop ≡ t ∷ tail → rx (front ++ t ∷ other) ≡ Err (Bad (t ∷ other))
-    → ry (front ++ t ∷ other) ≡ Err (Bad (t ∷ other)))
-    → Cause IsLow rx front stop → Cause IsLow ry front stop
-cause_of IsLow rx ry front stop f = cause_on IsLow IsLow rx ry front front stop f (λ rest low. low)
+-- ---- where one reader stops, another does
+
+module _ {T X Y : Type 0} {IsLow Out : List T → List T → Type 0} {sx : X → List T} {FX : X → Type 0} {rx : List T → Read T X} {sy : Y → List T}
+    {FY : Y → Type 0} {ry : List T → Read T Y} {stop : Stop T} {tokens : List T} (s : Stuck IsLow sx FX rx tokens stop) where
+  -- the other, of the same tokens
+  pub stuck_as : ((front : List T) → CanGoOn sx FX front → CanGoOn sy FY front)
+      → ((t : T) (tail other : List T) → place stop ≡ t ∷ tail → rx (s.front ++ t ∷ other) ≡ Err (Bad (t ∷ other))
+      → ry (s.front ++ t ∷ other) ≡ Err (Bad (t ∷ other))) → ((front rest : List T) → IsLow front rest → Out front rest) → Stuck Out sy FY ry tokens stop
+  stuck_as can stops low = record {
+    front = s.front;
+    parts = s.parts;
+    viable = viable_map sx FX sy FY s.front (can s.front) s.viable;
+    cause = cause_on IsLow Out rx ry s.front s.front stop stops (low s.front) s.cause;
+  }
+
+  -- the other, of these tokens behind others
+  pub stuck_behind : (before whole : List T) → whole ≡ before ++ tokens → ((front : List T) → IsViable sx FX front → CanGoOn sy FY (before ++ front))
+      → ((t : T) (tail other : List T) → tokens ≡ s.front ++ t ∷ tail → rx (s.front ++ t ∷ other) ≡ Err (Bad (t ∷ other))
+      → ry (before ++ (s.front ++ t ∷ other)) ≡ Err (Bad (t ∷ other))) → ((rest : List T) → IsLow s.front rest → Out (before ++ s.front) rest)
+      → Stuck Out sy FY ry whole stop
+  stuck_behind before whole is can stops low = record {
+    front = before ++ s.front;
+    parts = is ∙ ap (λ (u : List T). before ++ u) s.parts ∙ sym (append_assoc before s.front (place stop));
+    viable = viable_of sy FY (before ++ s.front) (can s.front s.viable);
+    cause = cause_on IsLow Out rx ry s.front (before ++ s.front) stop (λ t tail other at e.
+        ap ry (append_assoc before s.front (t ∷ other)) ∙ stops t tail other (s.parts ∙ ap (λ (u : List T). s.front ++ u) at) e) low s.cause;
+  }
 
 -- ---- what the laws say of a reader
 

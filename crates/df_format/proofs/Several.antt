@@ -3,8 +3,8 @@ use Rattle.std.proofs.Common.{◌≡◌, ℕ, zero, suc, ◌<◌, ◌≤◌, Boo
 use Rattle.std.specs.List.{AllByRecursion, flat_map}
 use Rattle.df_format.specs.Reading.{Stop, Bad, Read, ◌>>=◌, starts, while_at, all_at}
 use Rattle.df_format.specs.Grammar.{CanGoOn}
-use Rattle.df_format.specs.Format.{Ends, Found, Stuck, place, Format}
-use Rattle.df_format.proofs.Laws.{ok_is, not_both, bind_ok, bind_err, bind_same, told, never, ends_never, viable_of, can_go_on, first_same, cause_on, cause_of}
+use Rattle.df_format.specs.Format.{Ends, Found, Stuck, Format}
+use Rattle.df_format.proofs.Laws.{ok_is, not_both, bind_ok, bind_err, bind_same, told, never, ends_never, can_within, can_behind, can_go_on, first_same, stuck_as, stuck_behind}
 use Rattle.df_format.proofs.Choices.{Begins}
 use Rattle.df_format.proofs.ItemSteps.{onto}
 use Rattle.df_format.proofs.Backs.{Back, all_back}
@@ -116,20 +116,10 @@ module _ {X : Type 0} {begins : ℕ → Bool} {spell : X → List ℕ} {Fits : X
       ]
 
   first_can : (front : List ℕ) → CanGoOn spell Fits front → CanGoOn (flat_map spell) AllFit front
-  first_can front v = record {
-    some = v.some ∷ [];
-    fits = (v.fits, tt);
-    more = v.more ++ [];
-    is = ap (λ (u : List ℕ). u ++ []) v.is ∙ append_assoc front v.more [];
-  }
+  first_can front v = can_within v (v.some ∷ []) (v.fits, tt) [] [] refl
 
   behind_can : (x : X) (front : List ℕ) → Fits x → CanGoOn (flat_map spell) AllFit front → CanGoOn (flat_map spell) AllFit (spell x ++ front)
-  behind_can x front fits v = record {
-    some = x ∷ v.some;
-    fits = (fits, v.fits);
-    more = v.more;
-    is = ap (λ (u : List ℕ). spell x ++ u) v.is ∙ sym (append_assoc (spell x) front v.more);
-  }
+  behind_can x front fits v = can_behind v (x ∷ v.some) (fits, v.fits) (spell x) refl
 
   each_stuck : (n : ℕ) (tokens : List ℕ) (stop : Stop ℕ) → length tokens ≤ n → all_at (starts begins) read tokens ≡ Err stop
       → Stuck nowhere (flat_map spell) AllFit (all_at (starts begins) read) tokens stop
@@ -142,34 +132,20 @@ module _ {X : Type 0} {begins : ℕ → Bool} {spell : X → List ℕ} {Fits : X
             elim (bind_err (read (c ∷ cs)) (λ x. all_at (starts begins) read x.1 >>= onto x.0) stop (sym (all_more each_several (c ∷ cs) h) ∙ e)) [
               | inl k ↦
                   let s = p.item.stuck (c ∷ cs) stop k in
-                  let y = p.some c h in
-                  record {
-                    front = s.front;
-                    parts = s.parts;
-                    viable = viable_of (flat_map spell) AllFit s.front (first_can s.front (can_go_on spell Fits y.some y.fits s.front s.viable));
-                    cause = cause_of nowhere read (all_at (starts begins) read) s.front stop (λ t tail other is e.
-                        let o = first_same s.front c t cs tail other (s.parts ∙ ap (λ (u : List ℕ). s.front ++ u) is) in
-                        all_stop each_several (s.front ++ t ∷ other) (Bad (t ∷ other)) (ap (starts begins) o.1 ∙ h) e) s.cause;
-                  }
+                  stuck_as s first_can (λ t tail other is e.
+                  let o = first_same s.front c t cs tail other (s.parts ∙ ap (λ (u : List ℕ). s.front ++ u) is) in
+                  all_stop each_several (s.front ++ t ∷ other) (Bad (t ∷ other)) (ap (starts begins) o.1 ∙ h) e) (λ front rest low. low)
               | inr k ↦ elim (bind_err (all_at (starts begins) read k.0.1) (onto k.0.0) stop k.2) [
                 | inr m ↦ not_both (k.0.0 ∷ m.0.0, m.0.1) stop m.2
                 | inl m ↦
                     let f = p.item.found (c ∷ cs) k.0.0 k.0.1 k.1 in
                     let shorter = each_several.some (c ∷ cs) k.0.0 k.0.1 k.1 in
                     let s = each_stuck n k.0.1 stop (omega arith) m in
-                    let x : List ℕ = spell k.0.0 in
-                    let on = can_go_on (flat_map spell) AllFit [] tt s.front s.viable in
-                    record {
-                      front = x ++ s.front;
-                      parts = f.parts ∙ ap (λ (u : List ℕ). x ++ u) s.parts ∙ sym (append_assoc x s.front (place stop));
-                      viable = viable_of (flat_map spell) AllFit (x ++ s.front) (behind_can k.0.0 s.front f.fits on);
-                      cause = cause_on nowhere nowhere (all_at (starts begins) read) (all_at (starts begins) read) s.front (x ++ s.front) stop
-                          (λ t tail other is e.
-                          let left : List ℕ = s.front ++ t ∷ other in
-                          let one : read (x ++ left) ≡ Ok (k.0.0, left) = p.item.again k.0.0 left f.fits (ends_never k.0.0 left) in
-                          ap (all_at (starts begins) read) (append_assoc x s.front (t ∷ other))
-                          ∙ all_step each_several (x ++ left) k.0.0 left (stands_some k.0.0 left f.fits) one ∙ rw e refl) (λ rest low. low) s.cause;
-                    }
+                    stuck_behind s (spell k.0.0) (c ∷ cs) f.parts
+                    (λ front v. behind_can k.0.0 front f.fits (can_go_on (flat_map spell) AllFit [] tt front v)) (λ t tail other is e.
+                    let left : List ℕ = s.front ++ t ∷ other in
+                    let one : read (spell k.0.0 ++ left) ≡ Ok (k.0.0, left) = p.item.again k.0.0 left f.fits (ends_never k.0.0 left) in
+                    all_step each_several (spell k.0.0 ++ left) k.0.0 left (stands_some k.0.0 left f.fits) one ∙ rw e refl) (λ rest low. low)
               ]
             ]
       ]

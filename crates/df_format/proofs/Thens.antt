@@ -3,8 +3,8 @@ use Rattle.std.proofs.Common.{◌≡◌, Bool, true, List, [], ◌∷◌, ◌++�
 use Rattle.df_format.specs.Reading.{Read, ◌>>=◌, then_at}
 use Rattle.df_format.specs.Spelling.{then_spell}
 use Rattle.df_format.specs.Grammar.{CanGoOn}
-use Rattle.df_format.specs.Format.{Ends, Found, place, IsLocal, Format}
-use Rattle.df_format.proofs.Laws.{ok_is, not_both, bind_ok, bind_err, stop_ends, viable_of, can_go_on, viable_map, cause_on}
+use Rattle.df_format.specs.Format.{Ends, Found, IsLocal, Format}
+use Rattle.df_format.proofs.Laws.{ok_is, not_both, bind_ok, bind_err, stop_ends, can_within, can_behind, can_go_on, stuck_as, stuck_behind}
 
 abbrev pub ThenFits : {X Y : Type 0} → (X → Type 0) → (Y → Type 0) → X × Y → Type 0
 ThenFits FX FY p = FX p.0 × FY p.1
@@ -15,21 +15,11 @@ module _ {T X Y : Type 0} (sx : X → List T) (FX : X → Type 0) (sy : Y → Li
 
   -- the first alone can go on so
   pub then_extend : (y0 : Y) → FY y0 → (front : List T) → CanGoOn sx FX front → BothCan front
-  then_extend y0 fits0 front v = record {
-    some = (v.some, y0);
-    fits = (v.fits, fits0);
-    more = v.more ++ sy y0;
-    is = ap (λ (t : List T). t ++ sy y0) v.is ∙ append_assoc front v.more (sy y0);
-  }
+  then_extend y0 fits0 front v = can_within v (v.some, y0) (v.fits, fits0) [] (sy y0) refl
 
   -- behind the first, the second can go on so
   pub then_behind : (x : X) → FX x → (front : List T) → CanGoOn sy FY front → BothCan (sx x ++ front)
-  then_behind x fits front v = record {
-    some = (x, v.some);
-    fits = (fits, v.fits);
-    more = v.more;
-    is = ap (λ (t : List T). sx x ++ t) v.is ∙ sym (append_assoc (sx x) front v.more);
-  }
+  then_behind x fits front v = can_behind v (x, v.some) (fits, v.fits) (sx x) refl
 
 -- both end where the two end, the first before the second, which may be spelled by no tokens
 pub record EndsOfBoth {T X Y : Type 0} (sx : X → List T) (FX : X → Type 0) (gx : X → T → Bool) (sy : Y → List T) (FY : Y → Type 0) (gy : Y → T → Bool)
@@ -65,32 +55,18 @@ module _ {T X Y : Type 0} (Near IsLow Out : List T → List T → Type 0) (sx : 
         ap (then_at rx ry) (append_assoc (sx p.0) (sy p.1) rest) ∙ rw (fx.again p.0 (sy p.1 ++ rest) fits.0 e.0, fy.again p.1 rest fits.1 e.1) refl;
     stuck = λ tokens stop e.
         elim (bind_err (rx tokens) (λ x. ry x.1 >>= λ y. Ok ((x.0, y.0), y.1)) stop e) [
-          | inl h ↦
-              let s = fx.stuck tokens stop h in
-              record {
-                front = s.front;
-                parts = s.parts;
-                viable = viable_map sx FX (then_spell sx sy) (ThenFits FX FY) s.front (then_extend sx FX sy FY y0 fits0 s.front) s.viable;
-                cause = cause_on Near Out rx (then_at rx ry) s.front s.front stop (λ t tail other is e. rw e refl) (low_first s.front) s.cause;
-              }
+          | inl h ↦ stuck_as (fx.stuck tokens stop h) (then_extend sx FX sy FY y0 fits0) (λ t tail other is e. rw e refl) low_first
           | inr h ↦
               elim (bind_err (ry h.0.1) (λ y. Ok ((h.0.0, y.0), y.1)) stop h.2) [
                 | inr k ↦ not_both ((h.0.0, k.0.0), k.0.1) stop k.2
                 | inl k ↦
                     let f = fx.found tokens h.0.0 h.0.1 h.1 in
                     let s = fy.stuck h.0.1 stop k in
-                    let x : List T = sx h.0.0 in
-                    let on = then_behind sx FX sy FY h.0.0 f.fits s.front (can_go_on sy FY y0 fits0 s.front s.viable) in
-                    record {
-                      front = x ++ s.front;
-                      parts = f.parts ∙ ap (λ (t : List T). x ++ t) s.parts ∙ sym (append_assoc x s.front (place stop));
-                      viable = viable_of (then_spell sx sy) (ThenFits FX FY) (x ++ s.front) on;
-                      cause = cause_on IsLow Out ry (then_at rx ry) s.front (x ++ s.front) stop (λ t tail other is e.
-                          let left : List T = s.front ++ t ∷ other in
-                          let ends = stop_ends gx h.0.0 h.0.1 s.front (place stop) t tail other s.parts is f.ends in
-                          ap (then_at rx ry) (append_assoc x s.front (t ∷ other)) ∙ rw (fx.again h.0.0 left f.fits ends, e) refl)
-                          (λ rest low. low_second h.0.0 s.front rest f.fits low) s.cause;
-                    }
+                    stuck_behind s (sx h.0.0) tokens f.parts
+                    (λ front v. then_behind sx FX sy FY h.0.0 f.fits front (can_go_on sy FY y0 fits0 front v)) (λ t tail other is e.
+                    let left : List T = s.front ++ t ∷ other in
+                    let ends = stop_ends gx h.0.0 h.0.1 s.front t tail other is f.ends in
+                    rw (fx.again h.0.0 left f.fits ends, e) refl) (λ rest low. low_second h.0.0 s.front rest f.fits low)
               ]
         ];
     on = λ p t fits g. both.on p.0 p.1 t fits.0 fits.1 g;

@@ -3,7 +3,7 @@ use Rattle.std.proofs.Common.{◌≡◌, ℕ, Bool, true, false, cond, List, [],
 use Rattle.df_format.specs.Reading.{Stop, Bad, Read, ◌>>=◌, as_at, either_at, text_at, behind_at, closed_at, one_at}
 use Rattle.df_format.specs.Grammar.{CanGoOn}
 use Rattle.df_format.specs.Format.{Ends, Found, IsViable, Stuck, IsLocal, Format}
-use Rattle.df_format.proofs.Laws.{ok_is, err_is, not_both, bind_ok, bind_err, chosen, never, ends_never, can_go_on, cause_on}
+use Rattle.df_format.proofs.Laws.{ok_is, err_is, not_both, bind_ok, bind_err, chosen, never, ends_never, can_behind, can_go_on, stuck_as, stuck_behind}
 use Rattle.df_format.proofs.Choices.{Begins, either_format}
 use Rattle.df_format.proofs.Joins.{Views, as_format, alike_format, same_read, behind_format, closed_format}
 use Rattle.df_format.proofs.Ones.{one_format}
@@ -20,13 +20,10 @@ nowhere_is_local before front rest low = low
 -- where one place is low, another is told
 pub low_as : {T X : Type 0} {IsLow Out : List T → List T → Type 0} {spell : X → List T} {Fits : X → Type 0} {goes : X → T → Bool} {read : List T → Read T X}
     → ((front rest : List T) → IsLow front rest → Out front rest) → Format IsLow spell Fits goes read → Format Out spell Fits goes read
-low_as {IsLow = IsLow} {Out = Out} {read = read} low f = record {
+low_as low f = record {
   found = f.found;
   again = f.again;
-  stuck = λ tokens stop e.
-      let s = f.stuck tokens stop e in
-      let cause = cause_on IsLow Out read read s.front s.front stop (λ t tail other is e. e) (low s.front) s.cause in
-      record { front = s.front; parts = s.parts; viable = s.viable; cause = cause };
+  stuck = λ tokens stop e. stuck_as (f.stuck tokens stop e) (λ front v. v) (λ t tail other is e. e) low;
   on = f.on;
 }
 
@@ -193,13 +190,7 @@ module _ {X Y : Type 0} {test : ℕ → Bool} {next : ℕ → List ℕ → Read 
       ]
 
   chain_can : (c : ℕ) (front : List ℕ) → test c ≡ true → CanGoOn sy (FY c) front → CanGoOn spell Fits (c ∷ front)
-  chain_can c front h v = record {
-    some = make c v.some;
-    fits = k.to c v.some h v.fits;
-    more = v.more;
-    is = k.spelled c v.some h v.fits
-        ∙ ap (λ (u : List ℕ). c ∷ u) v.is;
-  }
+  chain_can c front h v = can_behind v (make c v.some) (k.to c v.some h v.fits) (c ∷ []) (k.spelled c v.some h v.fits)
 
   chain_stuck : (bytes : List ℕ) (stop : Stop ℕ) → chain_at test next make bytes ≡ Err stop → Stuck nowhere spell Fits (chain_at test next make) bytes stop
   chain_stuck [] stop e = stuck_at spell Fits (chain_at test next make) [] [] [] stop (sym (err_is (Bad []) stop e)) refl tt
@@ -214,13 +205,8 @@ module _ {X Y : Type 0} {test : ℕ → Bool} {next : ℕ → List ℕ → Read 
           | inl u ↦
               let s = (k.item c h.0).stuck cs stop u in
               let y = k.some c h.0 in
-              record {
-                front = c ∷ s.front;
-                parts = ap (λ (u : List ℕ). c ∷ u) s.parts;
-                viable = chain_can c s.front h.0 (can_go_on sy (FY c) y.0 y.1 s.front s.viable);
-                cause = cause_on nowhere nowhere (next c) (chain_at test next make) s.front (c ∷ s.front) stop
-                    (λ t tail other is e. rw (h.0, e) refl) (λ rest low. low) s.cause;
-              }
+              stuck_behind s (c ∷ []) (c ∷ cs) refl (λ front v. chain_can c front h.0 (can_go_on sy (FY c) y.0 y.1 front v))
+              (λ t tail other is e. rw (h.0, e) refl) (λ rest low. low)
         ]
       ]
 
