@@ -25,11 +25,7 @@ test_goes t c = goes_last (last_of t) c
 -- what is asked of a field is asked of the value itself in the same words
 same_words : (t : FieldTest) → (test_text (test_of t) ≡ field_test_text t) × (last_of (test_of t) ≡ last_number t) × (IsFieldTest t → IsTest (test_of t))
 same_words (field.IntEq n) = (refl, refl, λ h. h)
-same_words (field.IntLess n) = (refl, refl, λ h. h)
-same_words (field.IntMore n) = (refl, refl, λ h. h)
-same_words (field.IntIn low high) = (refl, refl, λ h. h)
-same_words (field.TextEq text) = (refl, refl, λ h. h)
-same_words (field.TextPrefix text) = (refl, refl, λ h. h)
+same_words _ = (refl, refl, λ h. h)
 
 abbrev IsPresent : Test → Type 0
 IsPresent t = Of (λ sign. test.Present) (IsText (63 ∷ [])) t

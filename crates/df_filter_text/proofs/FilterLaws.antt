@@ -1,5 +1,5 @@
 -- Filters are read as they are spelled.
-use Rattle.df_filter_text.proofs.Names.{◌≡◌, ℕ, zero, suc, ◌≤◌, Bool, true, false, cond, eqb, List, [], ◌∷◌, ◌++◌, length, Option, Some, None, Ok, refl, sym, ap, subst, ◌∙◌, append_assoc, arith, inl, inr, nat_lt, nat_tests, eqb-true, append-nil, then_at, behind_at, maybe_spell, more_spell, CanGoOn, Ends, Found, Format, ok_is, not_both, told, ends_never, nowhere, nowhere_is_local, viewed, behind_format, MaybeFits, maybe_goes, maybe_format, listed, optional, Clause, then_spell, ThenFits, then_extend, then_behind, then_format, clause_text, filter_text, IsClause, AreClauses, IsFilter, clause_at, more_clauses_at, filter_at}
+use Rattle.df_filter_text.proofs.Names.{both_false, ◌≡◌, ℕ, zero, suc, ◌≤◌, Bool, true, false, cond, eqb, List, [], ◌∷◌, ◌++◌, length, Option, Some, None, Ok, refl, sym, ap, subst, ◌∙◌, append_assoc, arith, inl, inr, nat_lt, nat_tests, eqb-true, append-nil, then_at, behind_at, maybe_spell, more_spell, CanGoOn, Ends, Found, Format, ok_is, not_both, told, ends_never, nowhere, nowhere_is_local, viewed, behind_format, MaybeFits, maybe_goes, maybe_format, listed, optional, Clause, then_spell, ThenFits, then_extend, then_behind, then_format, clause_text, filter_text, IsClause, AreClauses, IsFilter, clause_at, more_clauses_at, filter_at}
 use Rattle.df_value_text.proofs.TagLaws.{joined_items}
 use Rattle.df_filter.specs.declared.clause.Test.TheVariants as test
 use Rattle.df_filter_text.proofs.ClauseLaws.{clause_goes, clause_ends, clause_format}
@@ -47,10 +47,6 @@ pub fewer_go_on : (clauses : List Clause) → IsFilter clauses → filter_goes c
 fewer_go_on clauses fits h =
     let all : nat_lt (length clauses) 4 ≡ false = sym (goes_at 4 clauses fits.2) ∙ h in
     grind (arith, nat_tests, fits.2)
-
-both_false : (b g : Bool) → cond b true g ≡ false → (b ≡ false) × (g ≡ false)
-both_false true g e = absurd cc
-both_false false g e = (refl, e)
 
 joined_ends : (most : ℕ) (x : Clause) (ys : List Clause) (rest : List ℕ) → Ends clause_goes x (more_text ys ++ rest) → Ends (more_goes most) ys rest
     → Ends (pair_goes most) (x, ys) rest

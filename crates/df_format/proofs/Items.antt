@@ -5,7 +5,7 @@ use Rattle.df_format.specs.Reading.{Stop, Read, ◌>>=◌, more_of, items_at}
 use Rattle.df_format.specs.Spelling.{more_spell, items_spell}
 use Rattle.df_format.specs.Grammar.{CanGoOn}
 use Rattle.df_format.specs.Format.{Ends, Stuck, Format}
-use Rattle.df_format.proofs.Laws.{ok_is, not_both, bind_ok, bind_err, told, stop_ends, can_within, can_behind, can_go_on, stuck_as, stuck_behind}
+use Rattle.df_format.proofs.Laws.{ok_is, not_both, bind_ok, bind_err, told, both_false, stop_ends, can_within, can_behind, can_go_on, stuck_as, stuck_behind}
 use Rattle.df_format.proofs.ItemSteps.{Shrinks, onto, more_step, more_stop}
 
 -- ---- what is owed of an item
@@ -152,10 +152,6 @@ last_goes leads goes prev (x ∷ xs) t = last_goes leads goes x xs t
 abbrev pub items_goes : {T X : Type 0} → (X → T → List T → Bool) → (X → T → Bool) → X × List X → T → Bool
 items_goes leads goes xs t = last_goes leads goes xs.0 xs.1 t
 
-ends_there : (b g : Bool) → cond b true g ≡ false → (b ≡ false) × (g ≡ false)
-ends_there true g e = absurd cc
-ends_there false g e = (refl, e)
-
 nothing_left : {T X : Type 0} (leads : X → T → List T → Bool) (goes : X → T → Bool) (prev : X) (xs : List X) → LastEnds leads goes prev xs []
 nothing_left leads goes prev [] = (tt, tt)
 nothing_left leads goes prev (x ∷ xs) = nothing_left leads goes x xs
@@ -172,7 +168,7 @@ module _ {T X : Type 0} {IsLow : List T → List T → Type 0} {Near : X → Lis
   last_ends xs (t ∷ rest) h = both_end xs.0 xs.1 t rest h
 
   ends_both : (prev : X) (xs : List X) (t : T) (rest : List T) → last_goes leads goes prev xs t ≡ false → LastEnds leads goes prev xs (t ∷ rest)
-  ends_both prev [] t rest h = let b = ends_there (leads prev t []) (goes prev t) h in (b.1, l.first prev t rest [] ∙ b.0)
+  ends_both prev [] t rest h = let b = both_false (leads prev t []) (goes prev t) h in (b.1, l.first prev t rest [] ∙ b.0)
   ends_both prev (x ∷ xs) t rest h = ends_both x xs t rest h
 
   ends_last : (xs : X × List X) (rest : List T) → Ends (items_goes leads goes) xs rest → LastEnds leads goes xs.0 xs.1 rest

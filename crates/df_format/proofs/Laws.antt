@@ -46,6 +46,11 @@ pub told : (b : Bool) → (b ≡ true) ⊎ (b ≡ false)
 told true = inl refl
 told false = inr refl
 
+-- of two tests neither is met
+pub both_false : (b g : Bool) → cond b true g ≡ false → (b ≡ false) × (g ≡ false)
+both_false true g e = absurd cc
+both_false false g e = (refl, e)
+
 -- ---- ends and fronts
 
 -- an end is seen from one token

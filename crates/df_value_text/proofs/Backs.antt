@@ -9,16 +9,13 @@ use Rattle.df_value_text.proofs.TagLaws.{LongEnds, behind_byte, long_again, nowh
 use Rattle.df_value_text.proofs.TagSetLaws.{tags_format, tags_goes}
 use Rattle.df_value_text.proofs.ValueAnswers.{level_fits}
 use Rattle.df_value_text.proofs.ValueLaws.{value_format, value_goes}
-use Rattle.df_value_text.proofs.WordEnds.{at_break, number_stops, privilege_stops, tag_stops, value_stops}
+use Rattle.df_value_text.proofs.WordEnds.{at_break, ends_word, number_stops, privilege_stops, tag_stops, value_stops}
 
 -- ---- words
 
-number_ends : (most n : ℕ) (rest : List ℕ) → EndsWord rest → Ends (number_goes most) n rest
-number_ends most n [] end = tt
-number_ends most n (c ∷ rest) end = number_stops most n c end
-
 pub number_back : (most n : ℕ) (rest : List ℕ) → most < 2 ^ 64 → n ≤ most → EndsWord rest → number_at most (decimal n ++ rest) ≡ Ok (n, rest)
-number_back most n rest range small end = (number_format nowhere most range).again n rest small (number_ends most n rest end)
+number_back most n rest range small end = (number_format nowhere most range).again n rest small
+    (ends_word (number_goes most) n rest (number_stops most n) end)
 
 pub short_back : (n : ℕ) (rest : List ℕ) → n < 2 ^ 32 → EndsWord rest → short_at (decimal n ++ rest) ≡ Ok (n, rest)
 short_back n rest small end = number_back top n rest (omega arith) (omega arith) end
@@ -32,12 +29,10 @@ label_back label rest fits = label_format.again label rest fits (ends_never labe
 pub privilege_back : (p : Privilege) (rest : List ℕ) → IsPrivilege p → EndsWord rest → privilege_at (privilege_text p ++ rest) ≡ Ok (p, rest)
 privilege_back p rest fits end = privilege_format.again p rest fits (privilege_stops p rest end)
 
-name_ends : (name rest : List ℕ) → EndsWord rest → Ends name_goes name rest
-name_ends name [] end = tt
-name_ends name (c ∷ rest) end = at_break (name_goes name) (grind (arith, nat_tests)) (grind (arith, nat_tests)) c end
-
 pub name_back : (name rest : List ℕ) → is_name name ≡ true → EndsWord rest → name_at (name ++ rest) ≡ Ok (name, rest)
-name_back name rest fits end = (name_format nowhere).again name rest fits (name_ends name rest end)
+name_back name rest fits end =
+    (name_format nowhere).again name rest fits (ends_word name_goes name rest
+    (at_break (name_goes name) (grind (arith, nat_tests)) (grind (arith, nat_tests))) end)
 
 -- ---- values
 
@@ -47,14 +42,11 @@ node_count-text p fits =
     let exact = counted_behind p fits [] in
     omega (arith, exact.nodes, (walked_few start (value_text p ++ [])).nodes, ap length (append-nil (value_text p)))
 
-value_ends_at : (p : Plain) (rest : List ℕ) → EndsWord rest → Ends value_goes p rest
-value_ends_at p [] end = tt
-value_ends_at p (c ∷ rest) end = value_stops p c end
-
 pub value_back : (p : Plain) (rest : List ℕ) → IsSpelled p → EndsWord rest → value_at (value_text p ++ rest) ≡ Ok (p, rest)
 value_back p rest fits end =
     let enough : node_count p ≤ length (value_text p ++ rest) = omega (arith, node_count-text p fits, length-append (value_text p) rest) in
-    (value_format (length (value_text p ++ rest))).again p rest (level_fits p (length (value_text p ++ rest)) enough fits) (value_ends_at p rest end)
+    (value_format (length (value_text p ++ rest))).again p rest (level_fits p (length (value_text p ++ rest)) enough fits)
+    (ends_word value_goes p rest (value_stops p) end)
 
 -- ---- parts of names
 

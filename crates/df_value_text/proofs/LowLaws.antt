@@ -5,6 +5,7 @@ use Rattle.df_value_text.proofs.EntryLaws.{Chain, LowInMap, NearEntry, entry_goe
 use Rattle.df_value_text.proofs.HigherLaws.{AfterName, name_whole, higher_format, not_greatest}
 use Rattle.df_value_text.proofs.NameLaws.{IsName, name_format}
 use Rattle.df_value_text.proofs.ValueLaws.{items_parts, value_format}
+use Rattle.df_value_text.proofs.ValueSteps.{within_empty}
 use Rattle.df_value_text.proofs.LowItems.{items_stopped, after_last, chain_front, last_same}
 
 abbrev values_at : ℕ → List ℕ → Read ℕ (Plain × List Plain)
@@ -36,11 +37,6 @@ within_map : (n : ℕ) (text : List ℕ) (stop : Stop ℕ) → map_at (value_wit
 unfolding value_within
 within_map n text stop e = e
 
-within_nothing : (n : ℕ) → value_within n [] ≡ Err (Bad [])
-unfolding value_within
-within_nothing zero = refl
-within_nothing (suc n) = refl
-
 within_bracket : (n : ℕ) (cs : List ℕ) → value_within n (93 ∷ cs) ≡ Err (Bad (93 ∷ cs))
 unfolding value_within
 within_bracket zero cs = refl
@@ -64,7 +60,7 @@ list_stops n ps text rest fits le e =
     let chain = list_chain n ps fits (omega (arith, le, items_nest_few (from_list ps))) in
     let inside : values_at n (values_led ps ++ text) ≡ Err (Low rest) = items_stopped (items_parts n (value_within n) (value_format n)) LowWithin
     (value_within n) (value_format n) ps text (Low rest) chain (λ none. e) (λ before last is h. (refl, e)) in
-    let ended = ended_stops 93 (values_at n) (values_led ps ++ text) rest (rw (within_nothing n) refl) (λ cs. rw (within_bracket n cs) refl) inside in
+    let ended = ended_stops 93 (values_at n) (values_led ps ++ text) rest (rw (within_empty n) refl) (λ cs. rw (within_bracket n cs) refl) inside in
     within_list n (values_led ps ++ text) (Low rest) (rw ended refl)
 
 map_stops : (n : ℕ) (es : List (List ℕ × Plain)) (text rest : List ℕ) → Chain (LevelEntry n) (LevelAfter n) es

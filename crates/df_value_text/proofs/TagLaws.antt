@@ -1,5 +1,5 @@
 -- Tags are read as they are spelled.
-use Rattle.df_value_text.proofs.Names.{◌≡◌, ℕ, ◌+◌, ◌-◌, ◌*◌, ◌<◌, Bool, true, false, cond, eqb, List, [], ◌∷◌, ◌++◌, Ok, Err, refl, sym, ap, subst, ◌∙◌, append_assoc, arith, inl, inr, nat_cmp_is, decimal, Less, eqb-true, nat_tests, Stop, Bad, Low, Read, ◌>>=◌, CanGoOn, IsLongest, Ends, Found, Stuck, IsLocal, Format, ok_is, err_is, not_both, bind_ok, bind_err, told, chosen, viable_of, LastEnds, last_goes, is_longest, low_as, fitting, tag_cmp, path_text, tag_text, IsTag, leads_number, longest_at, ended, tag_at}
+use Rattle.df_value_text.proofs.Names.{both_false, ◌≡◌, ℕ, ◌+◌, ◌-◌, ◌*◌, ◌<◌, Bool, true, false, cond, eqb, List, [], ◌∷◌, ◌++◌, Ok, Err, refl, sym, ap, subst, ◌∙◌, append_assoc, arith, inl, inr, nat_cmp_is, decimal, Less, eqb-true, nat_tests, Stop, Bad, Low, Read, ◌>>=◌, CanGoOn, IsLongest, Ends, Found, Stuck, IsLocal, Format, ok_is, err_is, not_both, bind_ok, bind_err, told, chosen, viable_of, LastEnds, last_goes, is_longest, low_as, fitting, tag_cmp, path_text, tag_text, IsTag, leads_number, longest_at, ended, tag_at}
 use Rattle.df_value_text.proofs.HigherLaws.{tied}
 use Rattle.df_value_text.proofs.NumberLaws.{number_goes, digit_fits, digit_true, decimal_push}
 pub use Rattle.df_format.proofs.Tokens.{nowhere, nowhere_is_local}
@@ -78,10 +78,6 @@ abbrev NoDot : List ℕ → Type 0
 NoDot [] = Unit {0}
 NoDot (c ∷ cs) = eqb c 46 ≡ false
 
-neither : (b g : Bool) → cond b true g ≡ false → (b ≡ false) × (g ≡ false)
-neither true g e = absurd cc
-neither false g e = (refl, e)
-
 ends_to : (tag rest : List ℕ) → LongEnds tag rest → NoDot rest → Ends tag_goes tag rest
 ends_to tag [] ends free = tt
 ends_to [] (c ∷ rest) ends free = refl
@@ -91,7 +87,7 @@ ends_to (n ∷ m ∷ ms) (c ∷ rest) ends free = ends_to (m ∷ ms) (c ∷ rest
 to_ends : (n : ℕ) (ns rest : List ℕ) → Ends tag_goes (n ∷ ns) rest → LongEnds (n ∷ ns) rest × NoDot rest
 to_ends n ns [] ends = (long_alone n ns, tt)
 to_ends n [] (c ∷ rest) ends =
-    let b = neither (eqb c 46) (number_goes top n c) ends in
+    let b = both_false (eqb c 46) (number_goes top n c) ends in
     ((b.1, rw (b.0) refl), b.0)
 to_ends n (m ∷ ms) (c ∷ rest) ends = to_ends m ms (c ∷ rest) ends
 

@@ -1,5 +1,5 @@
 -- What reading, with as many levels as a text may need, says of the values that stand in it.
-use Rattle.df_value_text.proofs.Names.{◌≡◌, ℕ, suc, ◌+◌, ◌<◌, ◌≤◌, true, false, List, [], ◌∷◌, ◌++◌, length, drop, Ok, Err, refl, sym, ap, subst, ◌∙◌, arith, inl, inr, pos, append_cancel_right, Stop, Bad, Low, CanGoOn, Stands, Ends, ok_is, err_is, not_both, told, can_go_on, IsWithinLimits, Plain, int, words, bytes, items, entries, node_count, Fails, refusal, IsFound, IsRead, IsSpelled, IsValue, LowInValue, value_text, Fault, FirstBad, IsViable, viable_map, no_longer, first_bad, FirstLow, LowWithin}
+use Rattle.df_value_text.proofs.Names.{◌≡◌, ℕ, suc, ◌+◌, ◌<◌, ◌≤◌, true, false, List, [], ◌∷◌, ◌++◌, length, drop, Ok, Err, refl, sym, ap, subst, ◌∙◌, arith, inl, inr, pos, append_cancel_right, Stop, Bad, Low, CanGoOn, Stands, Ends, ok_is, err_is, not_both, told, can_go_on, IsWithinLimits, Plain, int, node_count, Fails, refusal, IsFound, IsRead, IsSpelled, IsValue, LowInValue, value_text, Fault, FirstBad, IsViable, viable_map, no_longer, first_bad, FirstLow, LowWithin}
 use Rattle.df_value_text.specs.ReadValue.{value_within}
 use Rattle.df_value_text.proofs.Answering.{no_refusal}
 use Rattle.df_value_text.proofs.EntryLaws.{LevelFits, nest_few}
@@ -29,10 +29,7 @@ value_on : (p : Plain) (c : ℕ) → IsSpelled p → value_goes p c ≡ true →
 value_on (int z) c fits g =
     let v = (whole_format nowhere nowhere_is_local).on z c fits g in
     record { some = int v.some; fits = (v.fits, record { nodes = omega arith; bytes = omega arith; flat = omega arith }); more = v.more; is = v.is }
-value_on (words s) c fits g = absurd (let no_end : false ≡ true = g in cc)
-value_on (bytes s) c fits g = absurd (let no_end : false ≡ true = g in cc)
-value_on (items ps) c fits g = absurd (let no_end : false ≡ true = g in cc)
-value_on (entries es) c fits g = absurd (let no_end : false ≡ true = g in cc)
+value_on _ c fits g = absurd (let no_end : false ≡ true = g in cc)
 
 stands_ends : (p : Plain) (rest : List ℕ) → IsSpelled p
     → ((c : ℕ) (tail : List ℕ) → rest ≡ c ∷ tail → CanGoOn value_text IsValue (value_text p ++ c ∷ []) → ⊥) → Ends value_goes p rest

@@ -1,5 +1,5 @@
 -- A literal that is written stands there where a word ends.
-use Rattle.df_value_text.proofs.Names.{◌≡◌, ℕ, suc, Bool, true, false, cond, eqb, List, [], ◌∷◌, ◌++◌, ℤ, pos, negsuc, refl, sym, subst, inl, inr, Stands, Ends, never, ends_never, stands, Plain, int, words, bytes, items, entries, Label, Privilege, Right, Plus, Minus, PlusAuth, MinusAuth, IsLabel, IsPrivilege, IsTag, IsValue, label_text, privilege_text, tag_text, IsLowTag, label_at, privilege_at, tag_at, value_text, EndsWord, IsBreak}
+use Rattle.df_value_text.proofs.Names.{◌≡◌, ℕ, suc, Bool, true, false, cond, eqb, List, [], ◌∷◌, ◌++◌, ℤ, pos, negsuc, refl, sym, subst, inl, inr, Stands, Ends, never, ends_never, stands, Plain, int, Label, Privilege, Right, Plus, Minus, PlusAuth, MinusAuth, IsLabel, IsPrivilege, IsTag, IsValue, label_text, privilege_text, tag_text, IsLowTag, label_at, privilege_at, tag_at, value_text, EndsWord, IsBreak}
 use Rattle.df_value_text.proofs.LabelLaws.{label_format, privilege_format, privilege_goes, right_goes}
 use Rattle.df_value_text.proofs.NumberLaws.{number_goes}
 use Rattle.df_value_text.proofs.TagLaws.{nowhere, nowhere_is_local, tag_goes, tag_format}
@@ -17,6 +17,10 @@ pub at_break : (goes : ℕ → Bool) → goes 32 ≡ false → goes 10 ≡ false
 at_break goes space feed c (inl h) = subst (λ (b : ℕ). goes b ≡ false) (sym h) space
 at_break goes space feed c (inr h) = subst (λ (b : ℕ). goes b ≡ false) (sym h) feed
 
+pub ends_word : {X : Type 0} (goes : X → ℕ → Bool) (x : X) (rest : List ℕ) → ((c : ℕ) → IsBreak c → goes x c ≡ false) → EndsWord rest → Ends goes x rest
+ends_word goes x [] stops h = tt
+ends_word goes x (c ∷ rest) stops h = stops c h
+
 pub number_stops : (most n c : ℕ) → IsBreak c → number_goes most n c ≡ false
 number_stops most n c h = at_break (number_goes most n) (neither (eqb n 0)) (neither (eqb n 0)) c h
 
@@ -25,9 +29,8 @@ numbers_stop n [] c h = at_break (tag_goes (n ∷ [])) (neither (eqb n 0)) (neit
 numbers_stop n (k ∷ ks) c h = numbers_stop k ks c h
 
 pub tag_stops : (tag rest : List ℕ) → EndsWord rest → Ends tag_goes tag rest
-tag_stops tag [] h = tt
-tag_stops [] (c ∷ rest) h = refl
-tag_stops (n ∷ ns) (c ∷ rest) h = numbers_stop n ns c h
+tag_stops [] rest h = ends_word tag_goes [] rest (λ c k. refl) h
+tag_stops (n ∷ ns) rest h = ends_word tag_goes (n ∷ ns) rest (numbers_stop n ns) h
 
 right_stops : (r : Right) (c : ℕ) → IsBreak c → right_goes r c ≡ false
 right_stops Plus c h = at_break (right_goes Plus) refl refl c h
@@ -36,8 +39,7 @@ right_stops PlusAuth c h = refl
 right_stops MinusAuth c h = refl
 
 pub privilege_stops : (p : Privilege) (rest : List ℕ) → EndsWord rest → Ends privilege_goes p rest
-privilege_stops p [] h = tt
-privilege_stops p (c ∷ rest) h = right_stops p.right c h
+privilege_stops p rest h = ends_word privilege_goes p rest (right_stops p.right) h
 
 whole_stops : (z : ℤ) (c : ℕ) → IsBreak c → whole_goes z c ≡ false
 whole_stops (pos n) c h = number_stops _ n c h
@@ -45,10 +47,7 @@ whole_stops (negsuc n) c h = number_stops _ (suc n) c h
 
 pub value_stops : (p : Plain) (c : ℕ) → IsBreak c → value_goes p c ≡ false
 value_stops (int z) c h = whole_stops z c h
-value_stops (words s) c h = refl
-value_stops (bytes s) c h = refl
-value_stops (items ps) c h = refl
-value_stops (entries es) c h = refl
+value_stops _ c h = refl
 
 pub tag_stands : (tag rest : List ℕ) → IsTag tag → EndsWord rest → Stands tag_text IsTag (tag_text tag ++ rest) tag rest
 tag_stands tag rest fits end =
