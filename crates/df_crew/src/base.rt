@@ -18,7 +18,7 @@ pub struct Base<B: Brain> {
 }
 
 impl<B: Brain> Base<B> {
-    /// The turn. It costs a copy more of the unit.
+    /// The turn. Its first local call costs a copy more of the unit.
     pub fn begin(self, alloc: Global) -> Result<Turn<B>, NoMemory>
         ensures { IfOk result (λ t. t ≡ record {
           unit = self.unit;
@@ -32,7 +32,7 @@ impl<B: Brain> Base<B> {
     }
 }
 
-/// A turn of a unit with this brain. It costs two copies of the unit.
+/// A turn of a unit with this brain. It costs a copy of the unit, and its first local call another.
 pub(crate) fn turn_of<B: Brain>(
     alloc: Global,
     unit: &Local,

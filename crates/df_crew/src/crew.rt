@@ -162,8 +162,8 @@ impl<B: Brain> Crew<B> {
         Ok(mind.is_first(state))
     }
 
-    /// A turn of a unit. It costs two copies of the unit; its brain is shared, but for a copy in its
-    /// first turn.
+    /// A turn of a unit. It costs a copy of the unit, and its first local call another; its brain is
+    /// shared, but for a copy in its first turn.
     pub fn begin(&self, unit: &UnitName) -> Result<Turn<B>, BeginRefused>
         ensures begun { IfOk result (λ t. IsBegun (brain_of B.next B.instance) self.now.brains
             self.now.core unit.now t) }

@@ -1,2 +1,3 @@
 pub mod RunState
 pub mod Runs
+pub mod code

@@ -2,5 +2,7 @@
 #![tactic(auto)]
 
 mod local_run;
+mod parts;
 
-pub use local_run::{LocalRun, NotCalled, RunParts, is_local};
+pub use local_run::{LocalRun, is_local};
+pub use parts::{NotCalled, RunParts};

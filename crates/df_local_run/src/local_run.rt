@@ -1,100 +1,71 @@
 //! Runs of local calls of one unit, apart from all others.
 
-ghost use Rattle.std.specs.Prelude.{◌≡◌, ◌<◌, [], IfErr, IfOk, OnErr, OnOk, true, vec_capacity, vec_len};
-ghost use Rattle.df_unit.specs.declared.entry.Entry.{Entry};
+ghost use Rattle.std.specs.Prelude.{◌≡◌, [], IfErr, IfOk, OnErr, OnOk, true};
 
+use crate::parts::{NotCalled, RunParts};
 use df_label::NoMemory;
 use df_local::Local;
-use df_unit::{Call, Effect, Entry, UnitName};
+use df_unit::{Call, Entry};
 use std::alloc::Global;
 use std::marker::Model;
 
 /// A unit as it was, as it is after some local calls, and the entries between, the oldest first.
+/// The unit is copied by the first call.
 #[derive(Drop)]
 pub struct LocalRun {
-    base: Local,
-    present: Local,
-    entries: Vec<Entry>,
+    parts: Box<RunParts>,
 }
 
 impl Model for LocalRun {
-    ghost use Rattle.df_local_run.specs.Runs.{LeadTo};
+    ghost use Rattle.df_local_run.specs.code.Parts.{IsRun, state_of};
     ghost use Rattle.df_local_run.specs.RunState.{RunState, run_code};
 
     ghost Value = { RunState };
 
     ghost coded = { run_code };
 
-    ghost view = { λ r. record { base = r.base; present = r.present; entries = r.entries.items } };
+    ghost view = { λ r. state_of r.parts.value };
 
-    ghost invariant = { λ r. LeadTo r.entries.items r.base r.present };
-}
-
-/// What a run is made of.
-#[derive(Drop)]
-pub struct RunParts {
-    pub base: Local,
-    pub present: Local,
-    /// The oldest first.
-    pub entries: Vec<Entry>,
-}
-
-/// There is no memory for the call, which is given back.
-#[derive(Drop)]
-pub struct NotCalled {
-    pub call: Call,
+    ghost invariant = { λ r. IsRun r.parts.value };
 }
 
 impl LocalRun {
+    ghost use Rattle.df_local_run.specs.code.Parts.{IsRun, state_of};
     ghost use Rattle.df_local_run.specs.Runs.{LeadTo, called, is_local};
 
-    /// A run without calls of a unit as it is. It costs a copy of it.
+    /// A run without calls of a unit as it is.
     pub fn begin(alloc: Global, base: Local) -> Result<LocalRun, NoMemory>
         ensures { IfOk result (λ run. run ≡ record { base = base; present = base; entries = [] }) }
     {
-        let present = base.copy()?;
-        Ok(LocalRun {
+        let parts = RunParts {
             base,
-            present,
+            present: None,
             entries: Vec::new(alloc),
-        })
+        };
+        let parts = Box::new(alloc, parts)?;
+        Ok(LocalRun { parts })
     }
 
-    /// Makes one local call more.
+    /// Makes one local call more. The first costs a copy of the unit.
     pub fn call(&mut self, call: Call) -> Result<(), NotCalled>
         requires { is_local call ≡ true }
         ensures ok { OnOk result (self.new ≡ called self.old call) }
         ensures unchanged { OnErr result (self.new ≡ self.old) }
         ensures back { IfErr result (λ refused. refused.call ≡ call) }
     {
-        let Ok(actor) = prepare(&self.present, &mut self.entries) else {
-            return Err(NotCalled { call });
-        };
-        match self.present.make_alone(&call) {
-            Ok(Some(reply)) => {
-                let effect = Effect::Nothing;
-                self.entries.push_reserved(Entry::Done {
-                    actor,
-                    call,
-                    reply,
-                    effect,
-                });
-                Ok(())
-            }
-            _ => Err(NotCalled { call }),
-        }
+        self.parts.call(call)
     }
 
     pub fn base(&self) -> &Local
         ensures { result.now ≡ self.now.base }
     {
-        &self.base
+        &self.parts.base
     }
 
     pub fn present(&self) -> &Local
         ensures { result.now ≡ self.now.present }
     {
-        &self.present
+        self.parts.present()
     }
 
     /// The entries, the oldest first.
@@ -102,46 +73,29 @@ impl LocalRun {
         ensures entries { result.now ≡ self.now.entries }
         ensures in_turn { LeadTo self.now.entries self.now.base self.now.present }
     {
-        self.entries.as_slice()
+        self.parts.entries.as_slice()
     }
 
     /// The run's parts. Takes no memory.
-    pub fn into_parts(self) -> RunParts
-        ensures base { result.base ≡ self.base }
-        ensures present { result.present ≡ self.present }
-        ensures entries { result.entries.items ≡ self.entries }
-        ensures in_turn { LeadTo result.entries.items result.base result.present }
+    pub fn into_parts(self) -> Box<RunParts>
+        ensures state { state_of result.value ≡ self }
+        ensures run { IsRun result.value }
     {
-        RunParts {
-            base: self.base,
-            present: self.present,
-            entries: self.entries,
-        }
+        self.parts
     }
 
     /// The run of these parts. Takes no memory.
-    pub fn of_parts(parts: RunParts) -> LocalRun
-        requires { LeadTo parts.entries.items parts.base parts.present }
-        ensures base { result.base ≡ parts.base }
-        ensures present { result.present ≡ parts.present }
-        ensures entries { result.entries ≡ parts.entries.items }
+    pub fn of_parts(parts: Box<RunParts>) -> LocalRun
+        requires { IsRun parts.value }
+        ensures { result ≡ state_of parts.value }
     {
-        LocalRun {
-            base: parts.base,
-            present: parts.present,
-            entries: parts.entries,
-        }
+        LocalRun { parts }
     }
-}
 
-/// The unit's name, and room for its entry.
-fn prepare(unit: &Local, entries: &mut Vec<Entry>) -> Result<UnitName, NoMemory>
-    ensures actor { IfOk result (λ actor. actor ≡ unit.now.unit) }
-    ensures entries { entries.new.items ≡ entries.old.items }
-    ensures room { OnOk result (vec_len entries.new < vec_capacity entries.new) }
-{
-    entries.reserve(1)?;
-    unit.name().copy()
+    /// Lets the run go.
+    pub fn let_go(self) {
+        drop(self.parts);
+    }
 }
 
 ghost use Rattle.df_local_run.specs.Runs as runs;

@@ -3,7 +3,9 @@ use Rattle.std.proofs.Common.{◌≡◌, List, ◌++◌, Option, Some, None, map
 use Rattle.df_label.specs.declared.label.Label.{Label}
 use Rattle.df_label.specs.declared.privilege.Privilege.{Privilege}
 use Rattle.df_local.specs.code.LocalState.{LocalState}
+use Rattle.df_local_run.specs.code.Parts.{IsRun, present_of}
 use Rattle.df_local_run.specs.Runs.{LeadTo}
+use Rattle.df_local_run.specs.declared.parts.RunParts.{RunParts}
 use Rattle.df_rules.specs.Legal.{Legal}
 use Rattle.df_rules.specs.Own.{own}
 use Rattle.df_rules.specs.Start.{rows}
@@ -90,6 +92,16 @@ pub record IsBegun (start : List RootStart) (past : List Entry) (b : Board) (bas
   pub tells : TellsOf (map begun start) past b
   pub current : local_of (start, past) base.unit ≡ Some base
   pub run : LeadTo es base present
+
+pub begun_by : (start : List RootStart) (past : List Entry) (b : Board) (p : RunParts) (present : LocalState) → IsBoard b
+    → TellsOf (map begun start) past b → local_of (start, past) p.base.unit ≡ Some p.base → IsRun p → p.present ≡ Some present
+    → IsBegun start past b p.base present p.entries.items
+begun_by start past b p present board tells current run is = record {
+  board = board;
+  tells = tells;
+  current = current;
+  run = subst (λ (o : Option LocalState). LeadTo p.entries.items p.base (present_of p.base o)) is run.run;
+}
 
 module _ (start : List RootStart) (past : List Entry) (b : Board) (base present : LocalState) (es : List Entry) (begins : IsBegun start past b base present es) where
   abbrev starts : List (Label × List Privilege)

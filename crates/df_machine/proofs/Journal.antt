@@ -26,6 +26,12 @@ pub appended_ok : {A E : Type 0} (r : Result A E) (xs ys : List Entry) → IsOk 
 appended_ok (Ok a) xs ys h = refl
 appended_ok (Err e) xs ys h = absurd (let z : ⊥ = cc in z)
 
+-- and one more behind these
+pub journal_then : (j k l m es : List Entry) (n : UnitName) (c : Call) (r : Reply) (f : Effect) → k ≡ j → l ≡ k ++ es
+    → m ≡ l ++ Done n c r f ∷ [] → reverse m ≡ Done n c r f ∷ (reverse es ++ reverse j)
+journal_then j k l m es n c r f e g h =
+    journal_more l l m n n c r f refl h refl ∙ ap (λ (x : List Entry). Done n c r f ∷ x) (journal_on j k l es e g)
+
 -- what holds holds where nothing was done
 pub on_err : {A E : Type 0} {P : Type 0} (r : Result A E) → P → OnErr r P
 on_err (Ok a) p = tt

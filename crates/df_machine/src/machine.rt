@@ -1,6 +1,7 @@
 ghost use Rattle.std.specs.Prelude.{◌≡◌, ◌^◌, ◌<◌, ◌∷◌, [], length, false, IfErr, IfOk, IfSome, IsSome, List, MatchBool, None, OnErr, OnOk, map, option_copied, reverse, slice_get, vec_len, vec_capacity};
 ghost use Rattle.df_unit.specs.declared.entry.Entry.TheVariants.{Emitted};
 ghost use Rattle.df_unit.specs.declared.name.UnitName.{UnitName};
+ghost use Rattle.df_local_run.specs.code.Parts.{IsRun, state_of};
 ghost use Rattle.df_local_run.specs.Runs.{is_local};
 ghost use Rattle.df_machine.specs.Booking.{IsCurrent, IsRefused, booked, reply_booked, with_run};
 ghost use Rattle.df_machine.specs.Journal.{AreReceivers, IsLegal, IsRoll, answer_in, appended, has_delivery_in, left_in, local_of};
@@ -212,8 +213,34 @@ impl Core {
         ensures call_back { IfErr result (λ e. e.shared ≡ shared) }
     {
         match shared {
+            Some(call) if run.entries().is_empty() => self.book_alone(run, call),
             Some(call) => self.book_call(run, call),
             None => self.book_run(run),
+        }
+    }
+
+    /// Appends the entry of a call, behind a run that has none.
+    fn book_alone(&mut self, run: LocalRun, call: Call) -> Result<Option<Reply>, NotBooked>
+        requires { run.entries ≡ [] }
+        ensures entries { OnOk result (self.new
+            ≡ appended run.base.unit call (with_run run self.old)) }
+        ensures reply { IfOk result (λ r.
+            r ≡ Some (answer_in (with_run run self.old) run.base.unit call).0) }
+        ensures cause { IfErr result (λ e. e.cause ≡ BookCause.NoMemory) }
+        ensures unchanged { OnErr result (self.new ≡ self.old) }
+        ensures back { IfErr result (λ e. e.run ≡ run) }
+        ensures call_back { IfErr result (λ e. e.shared ≡ Some call) }
+    {
+        match self.step(run.base().name(), call) {
+            Ok(reply) => {
+                run.let_go();
+                Ok(Some(reply))
+            }
+            Err(refused) => Err(NotBooked {
+                run,
+                shared: Some(refused.call),
+                cause: BookCause::NoMemory,
+            }),
         }
     }
 
@@ -227,28 +254,41 @@ impl Core {
         ensures back { IfErr result (λ e. e.run ≡ run) }
         ensures call_back { IfErr result (λ e. e.shared ≡ None) }
     {
-        let Ok(()) = self.journal.reserve(run.entries().len()) else {
-            let cause = BookCause::NoMemory;
-            return Err(NotBooked {
-                run,
+        let mut parts = run.into_parts();
+        match self.append_run(&mut parts) {
+            Ok(()) => {
+                drop(parts);
+                Ok(None)
+            }
+            Err(NoMemory) => Err(NotBooked {
+                run: LocalRun::of_parts(parts),
                 shared: None,
-                cause,
-            });
-        };
-        let RunParts {
-            base,
-            present,
-            mut entries,
-        } = run.into_parts();
-        drop(base);
-        drop(self.tables.board.swap(present));
-        let _done = self.journal.append(&mut entries);
-        Ok(None)
+                cause: BookCause::NoMemory,
+            }),
+        }
     }
 
-    /// Appends the entries of a run, and then that of a call of its unit.
+    /// Appends the entries of a run.
+    fn append_run(&mut self, parts: &mut RunParts) -> Result<(), NoMemory>
+        requires run { IsRun parts.old }
+        requires current { IsCurrent (state_of parts.old) self.old }
+        ensures entries { OnOk result (self.new ≡ with_run (state_of parts.old) self.old) }
+        ensures unchanged { OnErr result (self.new ≡ self.old) }
+        ensures parts { OnErr result (parts.new ≡ parts.old) }
+    {
+        self.journal.reserve(parts.entries.len())?;
+        let Some(present) = parts.present.take() else {
+            return Ok(());
+        };
+        drop(self.tables.board.swap(present));
+        let _done = self.journal.append(&mut parts.entries);
+        Ok(())
+    }
+
+    /// Appends the entries of a run that has some, and then that of a call of its unit.
     fn book_call(&mut self, run: LocalRun, call: Call) -> Result<Option<Reply>, NotBooked>
-        requires { IsCurrent run self.old }
+        requires current { IsCurrent run self.old }
+        requires called { run.entries ≡ [] → ⊥ }
         ensures entries { OnOk result (self.new
             ≡ appended run.base.unit call (with_run run self.old)) }
         ensures reply { IfOk result (λ r.
@@ -258,43 +298,53 @@ impl Core {
         ensures back { IfErr result (λ e. e.run ≡ run) }
         ensures call_back { IfErr result (λ e. e.shared ≡ Some call) }
     {
-        let cause = BookCause::NoMemory;
-        let Ok(actor) = make_room(&mut self.journal, &run) else {
-            return Err(NotBooked {
-                run,
+        let mut parts = run.into_parts();
+        match self.book_parts(&mut parts, call) {
+            Ok(reply) => {
+                drop(parts);
+                Ok(Some(reply))
+            }
+            Err(call) => Err(NotBooked {
+                run: LocalRun::of_parts(parts),
                 shared: Some(call),
-                cause,
-            });
+                cause: BookCause::NoMemory,
+            }),
+        }
+    }
+
+    /// Appends the entries of a run, and then that of a call of its unit. Where there is no memory,
+    /// the parts are those of the same run.
+    fn book_parts(&mut self, parts: &mut RunParts, call: Call) -> Result<Reply, Call>
+        requires run { IsRun parts.old }
+        requires copied { IsSome parts.old.present }
+        requires current { IsCurrent (state_of parts.old) self.old }
+        ensures entries { OnOk result (self.new
+            ≡ appended parts.old.base.unit call (with_run (state_of parts.old) self.old)) }
+        ensures reply { IfOk result (λ r. r
+            ≡ (answer_in (with_run (state_of parts.old) self.old) parts.old.base.unit call).0) }
+        ensures unchanged { OnErr result (self.new ≡ self.old) }
+        ensures run { OnErr result (IsRun parts.new) }
+        ensures state { OnErr result (state_of parts.new ≡ state_of parts.old) }
+        ensures back { IfErr result (λ c. c ≡ call) }
+    {
+        let Ok(actor) = make_room(&mut self.journal, parts) else {
+            return Err(call);
         };
-        let RunParts {
-            base,
-            present,
-            mut entries,
-        } = run.into_parts();
+        let present = parts.present.take().unwrap();
         let before = self.tables.board.swap(present);
         let Ok(taken) = take_in(&mut self.tables.board, &actor, &call) else {
-            let present = self.tables.board.swap(before);
-            let run = LocalRun::of_parts(RunParts {
-                base,
-                present,
-                entries,
-            });
-            return Err(NotBooked {
-                run,
-                shared: Some(call),
-                cause,
-            });
+            parts.present = Some(self.tables.board.swap(before));
+            return Err(call);
         };
-        drop(base);
         drop(before);
-        let _done = self.journal.append(&mut entries);
+        let _done = self.journal.append(&mut parts.entries);
         self.journal.push_reserved(Entry::Done {
             actor,
             call,
             reply: taken.reply,
             effect: taken.effect,
         });
-        Ok(Some(taken.kept))
+        Ok(taken.kept)
     }
 
     /// Whether the unit's own state is the one from which the run began.

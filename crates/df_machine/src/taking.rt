@@ -1,11 +1,11 @@
 //! What is made ready, and what the tables take in, when a run is booked.
 
-ghost use Rattle.std.specs.Prelude.{◌≡◌, ◌+◌, ◌<◌, IfOk, OnErr, OnOk, length, vec_capacity, vec_len};
+ghost use Rattle.std.specs.Prelude.{◌≡◌, ◌+◌, ◌<◌, IfOk, OnErr, OnOk, vec_capacity, vec_len};
 ghost use Rattle.df_tables.specs.Board.{IsBoard, IsBooked, IsKept, answer_on};
 
 use df_label::NoMemory;
 use df_local::Answer;
-use df_local_run::LocalRun;
+use df_local_run::RunParts;
 use df_tables::Board;
 use df_unit::{Call, Effect, Entry, Reply, UnitName};
 
@@ -24,14 +24,14 @@ pub(crate) fn make_room_for(
 
 /// Makes room in the journal for the entries of a run and one more, and ready the name of its
 /// unit.
-pub(crate) fn make_room(journal: &mut Vec<Entry>, run: &LocalRun) -> Result<UnitName, NoMemory>
+pub(crate) fn make_room(journal: &mut Vec<Entry>, run: &RunParts) -> Result<UnitName, NoMemory>
     ensures name { IfOk result (λ name. name ≡ run.now.base.unit) }
-    ensures room { OnOk result (vec_len journal.new + length run.now.entries
+    ensures room { OnOk result (vec_len journal.new + vec_len run.now.entries
         < vec_capacity journal.new) }
     ensures journal { journal.new.items ≡ journal.old.items }
 {
-    journal.reserve(run.entries().len() + 1)?;
-    let name = run.base().name().copy()?;
+    journal.reserve(run.entries.len() + 1)?;
+    let name = run.base.name().copy()?;
     Ok(name)
 }
 

@@ -16,7 +16,7 @@ use crate::stage::{Stage, reply_to, take};
 use df_brain::{Brain, Last, Want};
 use df_label::NoMemory;
 use df_local::Local;
-use df_local_run::{LocalRun, RunParts};
+use df_local_run::LocalRun;
 use df_unit::Entry;
 use std::alloc::Global;
 use std::mem;
@@ -67,18 +67,6 @@ fn tell_all<B: Brain>(
     Ok(last)
 }
 
-/// Lets a run go, one part after the other.
-fn let_go_run(run: LocalRun) {
-    let RunParts {
-        base,
-        present,
-        entries,
-    } = run.into_parts();
-    drop(base);
-    drop(present);
-    drop(entries);
-}
-
 impl<B: Brain> Going<B> {
     /// A turn without calls. The brain's state is shared.
     pub(crate) fn begin(alloc: Global, unit: Local, mind: &Mind<B>) -> Result<Going<B>, NoMemory>
@@ -100,7 +88,7 @@ impl<B: Brain> Going<B> {
         let Going { run, state, stage } = self;
         drop(state);
         drop(stage);
-        let_go_run(run);
+        run.let_go();
     }
 
     /// Makes the local call that is wanted.

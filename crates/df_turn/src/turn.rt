@@ -56,7 +56,7 @@ pub struct TurnParts<B: Brain> {
 impl<B: Brain> Turn<B> {
     ghost use Rattle.df_turn.specs.Locally.{TurnState, ready_of};
 
-    /// A turn of a unit with this brain. It costs a copy of the unit; the brain is shared.
+    /// A turn of a unit with this brain, which is shared. The unit is copied by its first local call.
     pub fn begin(alloc: Global, unit: Local, mind: Mind<B>) -> Result<Turn<B>, NoMemory>
         ensures { IfOk result (λ t. t
             ≡ record { unit = unit; state = mind.0; last = mind.1; is_ready = false }) }
