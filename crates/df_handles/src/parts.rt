@@ -9,16 +9,25 @@ use df_part::{Part, PartRef, Parts, Spot};
 use std::alloc::Global;
 
 /// A label with the confidentiality of the output label added, and cut to its integrity.
+#[inline(always)]
 pub fn raised(output: &Label, label: &Label) -> Result<Label, NoMemory>
     ensures { IfOk result (λ l. l ≡ raised output.now label.now) }
 {
     if output.s.is_empty() && label.i.is_empty() {
         return label.copy();
     }
+    joined(output, label)
+}
+
+#[inline(never)]
+fn joined(output: &Label, label: &Label) -> Result<Label, NoMemory>
+    ensures { IfOk result (λ l. l ≡ raised output.now label.now) }
+{
     label.join(output)
 }
 
 /// A part as a unit with this output label drafts it, without privileges.
+#[inline(always)]
 pub fn new_part(
     alloc: Global,
     output: &Label,
