@@ -44,6 +44,7 @@ ghost use Rattle.df_part.specs.Part.{readable};
 
 impl Part {
     /// Whether the part has this name and exactly this label.
+    #[inline(always)]
     pub fn is_at(&self, name: &Name, label: &Label) -> bool
         ensures { result ≡ is_at self.now (record { name = name.now; label = label.now }) }
     {
