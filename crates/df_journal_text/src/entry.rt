@@ -75,6 +75,10 @@ fn append_noted_handle(h: u32, note: &Note, to: &mut Vec<u8>) -> Result<(), NoMe
     ensures { OnOk result (to.new.items ≡ to.old.items
         ++ (answer_text (Handle h) ++ note_text note.now)) }
 {
+    if h == 0 {
+        to.extend_from_slice(note.behind_first())?;
+        return Ok(());
+    }
     append_handle(h, to)?;
     to.extend_from_slice(note.as_bytes())?;
     Ok(())

@@ -1,6 +1,6 @@
 //! A contamination that is noted of entries, with its line.
 
-ghost use Rattle.std.specs.Prelude.{◌≡◌, ◌↔◌, ◌++◌, [], IsTrue, None, IfOk, OnErr, OnOk, option_copied};
+ghost use Rattle.std.specs.Prelude.{◌≡◌, ◌↔◌, ◌++◌, [], IsTrue, None, Some, IfOk, OnErr, OnOk, option_copied};
 ghost use Rattle.df_unit.specs.declared.reply.Reply.TheVariants as Reply;
 ghost use Rattle.df_journal_text.specs.Entry.{note_text};
 ghost use Rattle.df_journal_text.specs.code.Outcome.{answer_text};
@@ -13,14 +13,24 @@ use std::marker::Model;
 // The reply of a call, behind its words, where it is the commonest.
 const OK: &[u8] = b" -> ok\n";
 
+/// The first handle, behind the words of a call.
+fn first_handle() -> &'static [u8]
+    ensures { result.now ≡ answer_text (Reply.Handle 0) }
+{
+    b" -> handle 0\n"
+}
+
 /// A contamination that is noted, if there is one, and its line, which is spelled once for as long
 /// as the contamination stands. A contract sees the contamination.
 #[derive(Drop)]
 pub struct Note {
     contamination: Option<Label>,
-    /// The line, behind the commonest reply, with which it is mostly appended; no bytes where
-    /// nothing is noted.
+    /// The line, behind the reply `ok`, with which it is mostly appended; no bytes where nothing is
+    /// noted.
     outcome: Vec<u8>,
+    /// The line behind the handle that a unit without open events is told; no bytes where nothing
+    /// is noted.
+    handled: Vec<u8>,
 }
 
 impl Model for Note {
@@ -28,7 +38,8 @@ impl Model for Note {
     ghost use Rattle.std.specs.Coded.{coded_option};
     ghost use Rattle.df_label.specs.contracts.label.Label as label;
     ghost use Rattle.df_label.specs.declared.label.Label.{Label};
-    ghost use Rattle.df_journal_text.specs.code.Outcome.{ok_note};
+    ghost use Rattle.df_journal_text.specs.code.Outcome.{noted_answer};
+    ghost use Rattle.df_unit.specs.declared.reply.Reply.TheVariants.{Handle, Ok};
 
     ghost Value = { Option Label };
 
@@ -36,7 +47,8 @@ impl Model for Note {
 
     ghost view = { λ n. n.contamination };
 
-    ghost invariant = { λ n. n.outcome.items ≡ ok_note n.contamination };
+    ghost invariant = { λ n. (n.outcome.items ≡ noted_answer Ok n.contamination)
+        × (n.handled.items ≡ noted_answer (Handle 0) n.contamination) };
 }
 
 /// Whether the label has no tag, as most have none.
@@ -72,6 +84,15 @@ fn is_noted(noted: &Option<Label>, contamination: Option<&Label>) -> bool
     }
 }
 
+/// The line of a contamination behind a reply.
+fn answered(alloc: Global, reply: &[u8], label: &Label) -> Result<Vec<u8>, NoMemory>
+    ensures { IfOk result (λ text. text.items ≡ reply.now ++ note_text (Some label.now)) }
+{
+    let mut text = Vec::from_slice(alloc, reply)?;
+    append_contamination(label, &mut text)?;
+    Ok(text)
+}
+
 /// A contamination, with its line.
 fn spelled(alloc: Global, contamination: Option<&Label>) -> Result<Note, NoMemory>
     ensures { IfOk result (λ note. note ≡ option_copied contamination.entry) }
@@ -79,12 +100,13 @@ fn spelled(alloc: Global, contamination: Option<&Label>) -> Result<Note, NoMemor
     let Some(label) = contamination else {
         return Ok(Note::new(alloc));
     };
-    let mut outcome = Vec::from_slice(alloc, OK)?;
-    append_contamination(label, &mut outcome)?;
+    let outcome = answered(alloc, OK, label)?;
+    let handled = answered(alloc, first_handle(), label)?;
     let label = label.copy()?;
     Ok(Note {
         contamination: Some(label),
         outcome,
+        handled,
     })
 }
 
@@ -96,6 +118,7 @@ impl Note {
         Note {
             contamination: None,
             outcome: Vec::new(alloc),
+            handled: Vec::new(alloc),
         }
     }
 
@@ -117,6 +140,16 @@ impl Note {
             return OK;
         }
         self.outcome.as_slice()
+    }
+
+    /// The line behind the first handle.
+    pub(crate) fn behind_first(&self) -> &[u8]
+        ensures { result.now ≡ answer_text (Reply.Handle 0) ++ note_text self.now }
+    {
+        if self.handled.is_empty() {
+            return first_handle();
+        }
+        self.handled.as_slice()
     }
 
     /// Notes this contamination, or none. Its line is spelled only where it is another than what

@@ -12,10 +12,10 @@ use Rattle.df_journal_text.specs.Reply.{reply_words}
 abbrev pub answer_text : Reply → List ℕ
 answer_text reply = line [] (codes "->" ∷ reply_words reply)
 
--- the line of a contamination behind the reply `ok`, where one is noted
-abbrev pub ok_note : Option Label → List ℕ
-ok_note None = []
-ok_note (Some label) = answer_text reply.Ok ++ note_text (Some label)
+-- the line of a contamination behind a reply, where one is noted
+abbrev pub noted_answer : Reply → Option Label → List ℕ
+noted_answer told None = []
+noted_answer told (Some label) = answer_text told ++ note_text (Some label)
 
 -- the reply of a call and the lines of its entry that stand below
 abbrev pub outcome_text : Option Label → Reply → Effect → List ℕ

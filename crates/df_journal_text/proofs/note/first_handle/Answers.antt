@@ -1,0 +1,6 @@
+use Rattle.std.proofs.Common.{List, [], ℕ, ◌++◌, codes, sym, ap, arith}
+use Rattle.std.proofs.lemmas.Fmt.{decimal_digit}
+use Rattle.df_journal_text.proofs.note.first_handle.Goals as goal
+
+pub returns : goal.returns
+returns c = ap (λ (u : List ℕ). codes " -> handle " ++ ((u ++ []) ++ codes "\n")) (sym (decimal_digit 0 (omega arith)))
