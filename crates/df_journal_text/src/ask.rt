@@ -47,6 +47,7 @@ fn letter_at(bytes: &[u8], at: usize) -> u8
 
 /// The call at the place, where it is one of these, and the place behind it; none where its words
 /// are others.
+#[inline(always)]
 pub fn ask_at(bytes: &[u8], at: usize) -> Result<Option<(Ask, usize)>, Fault>
     requires { at ≤ length bytes.now }
     ensures { GivesAsk bytes.now at result }

@@ -84,6 +84,7 @@ pub fn append_reads(parts: &[PartRead], to: &mut Vec<u8>) -> Result<(), NoMemory
 }
 
 /// Appends an event's name behind a mark, and ends the line.
+#[inline(always)]
 pub fn append_event_line(event: &EventName, to: &mut Vec<u8>) -> Result<(), NoMemory>
     ensures { OnOk result (to.new.items ≡ to.old.items ++ line [] (event_text event.now ∷ [])) }
 {

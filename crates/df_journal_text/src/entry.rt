@@ -32,6 +32,7 @@ fn append_handle(h: u32, to: &mut Vec<u8>) -> Result<(), NoMemory>
 }
 
 /// Appends a view of an event behind the words of its call, and ends the line.
+#[inline(always)]
 fn append_event(h: u32, sub: u32, to: &mut Vec<u8>) -> Result<(), NoMemory>
     ensures { OnOk result (to.new.items ≡ to.old.items ++ answer_text (Event h sub)) }
 {
@@ -86,6 +87,7 @@ fn append_noted_handle(h: u32, note: &Note, to: &mut Vec<u8>) -> Result<(), NoMe
 
 /// Appends the reply of a call behind its words, and the line of a note. The commonest are written
 /// at once.
+#[inline(always)]
 fn append_noted(reply: &Reply, note: &Note, to: &mut Vec<u8>) -> Result<(), NoMemory>
     ensures { OnOk result (to.new.items ≡ to.old.items
         ++ (answer_text reply.now ++ note_text note.now)) }
@@ -125,6 +127,7 @@ fn append_note(note: &Option<Label>, to: &mut Vec<u8>) -> Result<(), NoMemory>
 }
 
 /// Appends the lines of what a read shows.
+#[inline(always)]
 fn append_reply_reads(reply: &Reply, to: &mut Vec<u8>) -> Result<(), NoMemory>
     ensures { OnOk result (to.new.items ≡ to.old.items ++ reads_text reply.now) }
 {

@@ -11,6 +11,7 @@ use df_label::{Label, NoMemory, Privilege, Tag};
 use df_value_text::{append_label, append_number, append_privilege, append_tag, append_value};
 
 /// Appends a word.
+#[inline(always)]
 pub fn append_word(text: &[u8], to: &mut Vec<u8>) -> Result<(), NoMemory>
     ensures { OnOk result (to.new.items ≡ to.old.items ++ word text.now) }
 {
@@ -20,6 +21,7 @@ pub fn append_word(text: &[u8], to: &mut Vec<u8>) -> Result<(), NoMemory>
 }
 
 /// Appends a number in decimal digits. The commonest have one.
+#[inline(always)]
 #[tactic(auto, using(std::proofs::lemmas::Fmt::decimal_digit))]
 pub fn append_short(number: u32, to: &mut Vec<u8>) -> Result<(), NoMemory>
     ensures { OnOk result (to.new.items ≡ to.old.items ++ decimal number) }
@@ -41,6 +43,7 @@ pub fn append_number_word(number: u64, to: &mut Vec<u8>) -> Result<(), NoMemory>
 }
 
 /// Appends a name as a word.
+#[inline(always)]
 pub fn append_name_word(name: &Name, to: &mut Vec<u8>) -> Result<(), NoMemory>
     ensures { OnOk result (to.new.items ≡ to.old.items ++ word name.now) }
 {
@@ -57,6 +60,7 @@ pub fn append_tag_word(tag: &Tag, to: &mut Vec<u8>) -> Result<(), NoMemory>
 }
 
 /// Appends a label as a word.
+#[inline(always)]
 pub fn append_label_word(label: &Label, to: &mut Vec<u8>) -> Result<(), NoMemory>
     ensures { OnOk result (to.new.items ≡ to.old.items ++ word (label_text label.now)) }
 {

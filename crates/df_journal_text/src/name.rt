@@ -9,6 +9,7 @@ use df_unit::{EventName, Path, UnitName};
 use df_value_text::{append_path, append_tags};
 
 /// Appends a path. Most have one number.
+#[inline(always)]
 fn append_owner(path: &Path, to: &mut Vec<u8>) -> Result<(), NoMemory>
     ensures { OnOk result (to.new.items ≡ to.old.items ++ path_text path.now) }
 {
@@ -19,6 +20,7 @@ fn append_owner(path: &Path, to: &mut Vec<u8>) -> Result<(), NoMemory>
 }
 
 /// Appends a unit's name.
+#[inline(always)]
 pub fn append_unit(unit: &UnitName, to: &mut Vec<u8>) -> Result<(), NoMemory>
     ensures { OnOk result (to.new.items ≡ to.old.items ++ unit_text unit.now) }
 {

@@ -15,6 +15,7 @@ use df_value_text::{byte_at, read_value};
 use std::alloc::Global;
 
 /// The value that is the next word, frozen, and the place behind it.
+#[inline(always)]
 pub fn read_value_word(alloc: Global, bytes: &[u8], at: usize) -> Result<(Frozen, usize), LineFault>
     requires { at ≤ length bytes.now }
     ensures { Tells (λ v. word (value_text v)) IsValue EndsWord IsLargeWord (word_at value_at)
