@@ -1,10 +1,10 @@
 -- What may be missing, and one of two kinds: the first token tells.
 use Rattle.std.proofs.Common.{◌≡◌, Bool, true, false, List, [], ◌∷◌, ◌++◌, Option, Some, None, Ok, Err, refl, ap, subst, ◌∙◌, ◌⊎◌, inl, inr}
-use Rattle.df_format.specs.Reading.{Stop, Bad, Low, Read, ◌>>=◌, maybe_at, either_at}
+use Rattle.df_format.specs.Reading.{Stop, Read, ◌>>=◌, maybe_at, either_at}
 use Rattle.df_format.specs.Spelling.{maybe_spell}
 use Rattle.df_format.specs.Grammar.{CanGoOn}
 use Rattle.df_format.specs.Format.{Ends, Found, Stuck, Format}
-use Rattle.df_format.proofs.Laws.{ok_is, not_both, bind_ok, bind_err, chosen, stuck_as, first_same}
+use Rattle.df_format.proofs.Laws.{ok_is, not_both, bind_ok, bind_err, chosen, no_first, stuck_first, stuck_as, first_same}
 
 -- a spelling begins with such a token
 pub record Begins {T : Type 0} (begins : T → Bool) (to : Bool) (text : List T) : Type 0 where
@@ -126,10 +126,7 @@ module _ {T X : Type 0} (IsLow : List T → List T → Type 0) (begins : T → B
 
   either_stuck : (tokens : List T) (stop : Stop T) → either_at begins read other tokens ≡ Err stop
       → Stuck IsLow spell Either (either_at begins read other) tokens stop
-  either_stuck [] (Bad rest) e =
-      let rest-is : [] ≡ rest = cc in
-      record { front = []; parts = rest-is; viable = tt; cause = λ t tail is more. absurd (let k : [] ≡ t ∷ tail = rest-is ∙ is in cc) }
-  either_stuck [] (Low rest) e = absurd cc
+  either_stuck [] stop e = stuck_first e (λ t tail other is. no_first t tail is)
   either_stuck (t ∷ ts) stop e =
       elim (chosen (begins t) (read (t ∷ ts)) (other (t ∷ ts)) (Err stop) e) [
         | inl h ↦

@@ -147,6 +147,25 @@ module _ {T X Y : Type 0} {IsLow Out : List T → List T → Type 0} {sx : X →
         ap ry (append_assoc before s.front (t ∷ other)) ∙ stops t tail other (s.parts ∙ ap (λ (u : List T). s.front ++ u) at) e) low s.cause;
   }
 
+-- it stops at a place, whatever stands behind the first token from there on
+pub stuck_at : {T X : Type 0} {Out : List T → List T → Type 0} (spell : X → List T) (Fits : X → Type 0) (read : List T → Read T X) (tokens front rest : List T)
+    (stop : Stop T) → stop ≡ Bad rest → tokens ≡ front ++ rest → IsViable spell Fits front
+    → ((t : T) (tail other : List T) → rest ≡ t ∷ tail → read (front ++ t ∷ other) ≡ Err (Bad (t ∷ other))) → Stuck Out spell Fits read tokens stop
+stuck_at {T} {X} {Out} spell Fits read tokens front rest stop is parts viable stays =
+    subst (λ (s : Stop T). Stuck Out spell Fits read tokens s) (sym is)
+    (record { front = front; parts = parts; viable = viable; cause = λ t tail same other. stays t tail other same })
+
+-- or where it begins
+pub stuck_first : {T X : Type 0} {Out : List T → List T → Type 0} {spell : X → List T} {Fits : X → Type 0} {read : List T → Read T X} {tokens : List T}
+    {stop : Stop T} → failed {A = X × List T} (Bad tokens) ≡ failed stop
+    → ((t : T) (tail other : List T) → tokens ≡ t ∷ tail → read (t ∷ other) ≡ Err (Bad (t ∷ other))) → Stuck Out spell Fits read tokens stop
+stuck_first {T} {X} {Out} {spell} {Fits} {read} {tokens} {stop} e stays =
+    stuck_at spell Fits read tokens [] tokens stop (sym (err_is (Bad tokens) stop e)) refl tt stays
+
+-- there is no first token where there is none
+pub no_first : {T A : Type 0} (t : T) (tail : List T) → [] ≡ t ∷ tail → A
+no_first t tail is = absurd cc
+
 -- ---- what the laws say of a reader
 
 ends_by : {T X : Type 0} (goes : X → T → Bool) (x : X) (rest : List T) → ((t : T) (tail : List T) → rest ≡ t ∷ tail → goes x t ≡ true → ⊥)

@@ -1,10 +1,10 @@
 -- One token.
-use Rattle.std.proofs.Common.{◌≡◌, true, false, List, [], ◌∷◌, Option, Some, None, Ok, Err, refl, ap, subst, ◌∙◌}
-use Rattle.df_format.specs.Reading.{Stop, Bad, Low, decoded, one_at}
+use Rattle.std.proofs.Common.{◌≡◌, true, false, List, [], ◌∷◌, Option, Some, None, Ok, Err, refl, ap, subst}
+use Rattle.df_format.specs.Reading.{Stop, decoded, one_at}
 use Rattle.df_format.specs.Spelling.{one_spell}
 use Rattle.df_format.specs.Grammar.{Decodes}
 use Rattle.df_format.specs.Format.{Found, Stuck, Format}
-use Rattle.df_format.proofs.Laws.{ok_is, not_both, never, ends_never}
+use Rattle.df_format.proofs.Laws.{ok_is, no_first, stuck_first, not_both, never, ends_never}
 
 module _ {T X : Type 0} (token : X → T) (Fits : X → Type 0) (decode : T → Option X) where
   one_found : Decodes token Fits decode → (t : T) (ts : List T) (o : Option X) → decode t ≡ o → (x : X) (rest : List T) → decoded o t ts ≡ Ok (x, rest)
@@ -24,24 +24,10 @@ module _ {T X : Type 0} (token : X → T) (Fits : X → Type 0) (decode : T → 
     one_stuck : (t : T) (ts : List T) (o : Option X) → decode t ≡ o → (stop : Stop T) → decoded o t ts ≡ Err stop
         → Stuck IsLow (one_spell token) Fits (one_at decode) (t ∷ ts) stop
     one_stuck t ts (Some y) is stop e = not_both (y, ts) stop e
-    one_stuck t ts None is (Low rest) e = absurd cc
-    one_stuck t ts None is (Bad rest) e =
-        let rest-is : t ∷ ts ≡ rest = cc in
-        record {
-          front = [];
-          parts = rest-is;
-          viable = tt;
-          cause = λ c tail same other.
-              let both : t ∷ ts ≡ c ∷ tail = rest-is ∙ same in
-              let first : t ≡ c = cc in
-              rw (← first, is) refl;
-        }
+    one_stuck t ts None is stop e = stuck_first e (λ c tail other same. let first : t ≡ c = cc in rw (← first, is) refl)
 
     one_stuck_at : (ts : List T) (stop : Stop T) → one_at decode ts ≡ Err stop → Stuck IsLow (one_spell token) Fits (one_at decode) ts stop
-    one_stuck_at [] (Low rest) e = absurd cc
-    one_stuck_at [] (Bad rest) e =
-        let rest-is : [] ≡ rest = cc in
-        record { front = []; parts = rest-is; viable = tt; cause = λ c tail is other. absurd (let k : [] ≡ c ∷ tail = rest-is ∙ is in cc) }
+    one_stuck_at [] stop e = stuck_first e (λ c tail other is. no_first c tail is)
     one_stuck_at (t ∷ ts) stop e = one_stuck t ts (decode t) refl stop e
 
 pub one_format : {T X : Type 0} (IsLow : List T → List T → Type 0) (token : X → T) (Fits : X → Type 0) (decode : T → Option X) → Decodes token Fits decode

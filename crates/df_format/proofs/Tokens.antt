@@ -2,8 +2,8 @@
 use Rattle.std.proofs.Common.{◌≡◌, ℕ, Bool, true, false, cond, List, [], ◌∷◌, ◌++◌, Option, Some, None, Ok, Err, refl, sym, ap, subst, ◌∙◌, ◌⊎◌, inl, inr}
 use Rattle.df_format.specs.Reading.{Stop, Bad, Read, ◌>>=◌, as_at, either_at, text_at, behind_at, closed_at, one_at}
 use Rattle.df_format.specs.Grammar.{CanGoOn}
-use Rattle.df_format.specs.Format.{Ends, Found, IsViable, Stuck, IsLocal, Format}
-use Rattle.df_format.proofs.Laws.{ok_is, err_is, not_both, bind_ok, bind_err, chosen, never, ends_never, can_behind, can_go_on, stuck_as, stuck_behind}
+use Rattle.df_format.specs.Format.{Ends, Found, Stuck, IsLocal, Format}
+use Rattle.df_format.proofs.Laws.{ok_is, err_is, not_both, bind_ok, bind_err, chosen, never, ends_never, can_behind, can_go_on, no_first, stuck_at, stuck_first, stuck_as, stuck_behind}
 use Rattle.df_format.proofs.Choices.{Begins, either_format}
 use Rattle.df_format.proofs.Joins.{Views, as_format, alike_format, same_read, behind_format, closed_format}
 use Rattle.df_format.proofs.Ones.{one_format}
@@ -97,16 +97,6 @@ enclosed {IsLow = IsLow} {spell = spell} {Fits = Fits} {goes = goes} {read = rea
     (behind_format IsLow IsLow ws (moved ws) (λ x. spell x ++ w ∷ []) Fits never (closed_at (w ∷ []) read) x fits
     (closed_format IsLow w [] spell Fits goes read apart f))
 
--- ---- where reading stops at a place
-
--- it stops there whatever stands behind the first byte from there on
-pub stuck_at : {X : Type 0} (spell : X → List ℕ) (Fits : X → Type 0) (read : List ℕ → Read ℕ X) (bytes front rest : List ℕ) (stop : Stop ℕ)
-    → stop ≡ Bad rest → bytes ≡ front ++ rest → IsViable spell Fits front
-    → ((c : ℕ) (tail other : List ℕ) → rest ≡ c ∷ tail → read (front ++ c ∷ other) ≡ Err (Bad (c ∷ other))) → Stuck nowhere spell Fits read bytes stop
-stuck_at spell Fits read bytes front rest stop is parts viable stays =
-    subst (λ (s : Stop ℕ). Stuck nowhere spell Fits read bytes s) (sym is)
-    (record { front = front; parts = parts; viable = viable; cause = λ c tail same other. stays c tail other same })
-
 -- ---- what its first byte decides
 
 -- all of it is read, or that byte is bad
@@ -193,13 +183,11 @@ module _ {X Y : Type 0} {test : ℕ → Bool} {next : ℕ → List ℕ → Read 
   chain_can c front h v = can_behind v (make c v.some) (k.to c v.some h v.fits) (c ∷ []) (k.spelled c v.some h v.fits)
 
   chain_stuck : (bytes : List ℕ) (stop : Stop ℕ) → chain_at test next make bytes ≡ Err stop → Stuck nowhere spell Fits (chain_at test next make) bytes stop
-  chain_stuck [] stop e = stuck_at spell Fits (chain_at test next make) [] [] [] stop (sym (err_is (Bad []) stop e)) refl tt
-      (λ c tail other is. absurd (let no : [] ≡ c ∷ tail = is in cc))
+  chain_stuck [] stop e = stuck_first e (λ c tail other is. no_first c tail is)
   chain_stuck (c ∷ cs) stop e =
       elim (chosen (test c) (next c cs >>= λ y. Ok (make c y.0, y.1)) (Err (Bad (c ∷ cs))) (Err stop) e) [
         | inr h ↦
-            stuck_at spell Fits (chain_at test next make) (c ∷ cs) [] (c ∷ cs) stop (sym (err_is (Bad (c ∷ cs)) stop h.1)) refl tt
-            (λ d tail other is. let first : c ≡ d = cc in rw (← first, h.0) refl)
+            stuck_first h.1 (λ d tail other is. let first : c ≡ d = cc in rw (← first, h.0) refl)
         | inl h ↦ elim (bind_err (next c cs) (λ y. Ok (make c y.0, y.1)) stop h.1) [
           | inr u ↦ not_both (make c u.0.0, u.0.1) stop u.2
           | inl u ↦

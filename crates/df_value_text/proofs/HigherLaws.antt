@@ -1,5 +1,5 @@
 -- A name above another is read as it is spelled, and above each but the greatest there is one.
-use Rattle.df_value_text.proofs.Names.{◌≡◌, ℕ, zero, suc, ◌<◌, ◌≤◌, Bool, true, false, eqb, List, [], ◌∷◌, ◌++◌, length, Ok, Err, refl, sym, ap, subst, ◌∙◌, append_assoc, arith, inl, inr, nat_le, list_all, nat_cmp_is, tied_itself, nat_cmp_total, nat_list_cmp_total, Ordering, Less, Equal, Greater, is_lt, nat_cmp, eqb-true, and_parts, nat_tests, Stop, Bad, Low, CanGoOn, Ends, Stuck, Format, ok_is, err_is, not_both, bind_ok, bind_err, told, chosen, Whole, is_longest, own, nowhere, first_stops, is_letter, is_name_byte, name_cmp, NameStandsLow, name_at, is_greatest, higher_at, whole_format, first_stays, higher}
+use Rattle.df_value_text.proofs.Names.{stuck_at, ◌≡◌, ℕ, zero, suc, ◌<◌, ◌≤◌, Bool, true, false, eqb, List, [], ◌∷◌, ◌++◌, length, Ok, Err, refl, sym, ap, subst, ◌∙◌, append_assoc, arith, inl, inr, nat_le, list_all, nat_cmp_is, tied_itself, nat_cmp_total, nat_list_cmp_total, Ordering, Less, Equal, Greater, is_lt, nat_cmp, eqb-true, and_parts, nat_tests, Stop, Bad, Low, CanGoOn, Ends, Stuck, Format, ok_is, err_is, not_both, bind_ok, bind_err, told, chosen, Whole, is_longest, own, nowhere, first_stops, is_letter, is_name_byte, name_cmp, NameStandsLow, name_at, is_greatest, higher_at, whole_format, first_stays, higher}
 use Rattle.df_value_text.proofs.NameLaws.{IsName, name_goes, name_of, name_first, name_format}
 
 abbrev pub AfterName : List ℕ → List ℕ → Type 0
@@ -54,8 +54,8 @@ higher_stuck : (prev bytes : List ℕ) (stop : Stop ℕ) → higher_at prev byte
 higher_stuck prev bytes stop e =
     elim (bind_err (name_at bytes) (higher prev bytes) stop e) [
       | inl h ↦
-          subst (λ (s : Stop ℕ). Stuck (NearName prev) own (AfterName prev) (higher_at prev) bytes s) (sym (name_stops bytes stop h))
-          (record { front = []; parts = refl; viable = tt; cause = λ c tail is other. rw (name_stays c tail other stop (ap name_at (sym is) ∙ h)) refl })
+          stuck_at own (AfterName prev) (higher_at prev) bytes [] bytes stop (name_stops bytes stop h) refl tt
+          (λ c tail other is. rw (name_stays c tail other stop (ap name_at (sym is) ∙ h)) refl)
       | inr h ↦
           elim (chosen (is_lt (name_cmp prev h.0.0)) (Ok h.0) (Err (Low bytes)) (Err stop) h.2) [
             | inl k ↦ not_both h.0 stop k.1

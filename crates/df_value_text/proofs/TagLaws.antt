@@ -1,5 +1,5 @@
 -- Tags are read as they are spelled.
-use Rattle.df_value_text.proofs.Names.{both_false, ◌≡◌, ℕ, ◌+◌, ◌-◌, ◌*◌, ◌<◌, Bool, true, false, cond, eqb, List, [], ◌∷◌, ◌++◌, Ok, Err, refl, sym, ap, subst, ◌∙◌, append_assoc, arith, inl, inr, nat_cmp_is, decimal, Less, eqb-true, nat_tests, Stop, Bad, Low, Read, ◌>>=◌, CanGoOn, IsLongest, Ends, Found, Stuck, IsLocal, Format, ok_is, err_is, not_both, bind_ok, bind_err, told, chosen, viable_of, LastEnds, last_goes, is_longest, low_as, fitting, tag_cmp, path_text, tag_text, IsTag, leads_number, longest_at, ended, tag_at}
+use Rattle.df_value_text.proofs.Names.{stuck_at, both_false, ◌≡◌, ℕ, ◌+◌, ◌-◌, ◌*◌, ◌<◌, Bool, true, false, cond, eqb, List, [], ◌∷◌, ◌++◌, Ok, Err, refl, sym, ap, subst, ◌∙◌, append_assoc, arith, inl, inr, nat_cmp_is, decimal, Less, eqb-true, nat_tests, Stop, Bad, Low, Read, ◌>>=◌, CanGoOn, IsLongest, Ends, Found, Stuck, IsLocal, Format, ok_is, err_is, not_both, bind_ok, bind_err, told, chosen, viable_of, LastEnds, last_goes, is_longest, low_as, fitting, tag_cmp, path_text, tag_text, IsTag, leads_number, longest_at, ended, tag_at}
 use Rattle.df_value_text.proofs.HigherLaws.{tied}
 use Rattle.df_value_text.proofs.NumberLaws.{number_goes, digit_fits, digit_true, decimal_push}
 pub use Rattle.df_format.proofs.Tokens.{nowhere, nowhere_is_local}
@@ -172,17 +172,14 @@ module _ (test : List ℕ → Bool) (L : List ℕ → Type 0) (j : Judges test L
   unread : (bytes : List ℕ) (stop : Stop ℕ) → LongStuck bytes stop → IsStuck bytes stop
   unread bytes stop s =
       let path : List ℕ = path_text (j.some.0 ∷ j.some.1) in
-      subst (λ (q : Stop ℕ). IsStuck bytes q) (sym s.bad) (record {
-        front = s.front;
-        parts = s.parts;
-        viable = viable_of tag_text (Passes test) s.front (record {
-          some = j.some.0 ∷ j.some.1;
-          fits = j.some.2;
-          more = s.more ++ path;
-          is = ap (λ (u : List ℕ). u ++ path) s.shape ∙ append_assoc s.front s.more path;
-        });
-        cause = λ c tail is other. rw (s.stays c tail is other) refl;
-      })
+      let on : CanGoOn tag_text (Passes test) s.front = record {
+        some = j.some.0 ∷ j.some.1;
+        fits = j.some.2;
+        more = s.more ++ path;
+        is = ap (λ (u : List ℕ). u ++ path) s.shape ∙ append_assoc s.front s.more path;
+      } in
+      stuck_at tag_text (Passes test) (judged_at test) bytes s.front s.rest stop s.bad s.parts (viable_of tag_text (Passes test) s.front on)
+      (λ c tail other is. rw (s.stays c tail is other) refl)
 
   longer_can : (tag : List ℕ) (c : ℕ) → test tag ≡ true → Longer tag c → CanGoOn tag_text (Passes test) (tag_text tag ++ c ∷ [])
   longer_can tag c passes l = record {
@@ -197,16 +194,13 @@ module _ (test : List ℕ → Bool) (L : List ℕ → Type 0) (j : Judges test L
   dangling bytes stop x read passes s =
       let f = long_found bytes x.0 x.1 read in
       let l = with_dot x.0 f.fits in
-      subst (λ (q : Stop ℕ). IsStuck bytes q) (sym s.2) (record {
-        front = tag_text x.0 ++ 46 ∷ [];
-        parts = f.parts ∙ ap (λ (u : List ℕ). tag_text x.0 ++ u) s.1 ∙ sym (append_assoc (tag_text x.0) (46 ∷ []) s.0);
-        viable = viable_of tag_text (Passes test) (tag_text x.0 ++ 46 ∷ []) (longer_can x.0 46 passes l);
-        cause = λ c tail is other.
-            let ends : LongEnds x.0 (46 ∷ c ∷ other) = ends_same x.0 c tail other (subst (LongEnds x.0) (s.1 ∙ ap (λ (u : List ℕ). 46 ∷ u) is) f.ends) in
-            let again : longest_at (tag_text x.0 ++ (46 ∷ c ∷ other)) ≡ Ok (x.0, 46 ∷ c ∷ other) = long_again x.0 (46 ∷ c ∷ other) f.fits ends in
-            ap (judged_at test) (append_assoc (tag_text x.0) (46 ∷ []) (c ∷ other)) ∙ ap (λ r. r >>= judged test (tag_text x.0 ++ (46 ∷ c ∷ other))) again
-            ∙ ap (λ b. cond b (Err (Bad (c ∷ other))) (Err (Low (tag_text x.0 ++ (46 ∷ c ∷ other))))) passes;
-      })
+      stuck_at tag_text (Passes test) (judged_at test) bytes (tag_text x.0 ++ 46 ∷ []) s.0 stop s.2
+      (f.parts ∙ ap (λ (u : List ℕ). tag_text x.0 ++ u) s.1 ∙ sym (append_assoc (tag_text x.0) (46 ∷ []) s.0))
+      (viable_of tag_text (Passes test) (tag_text x.0 ++ 46 ∷ []) (longer_can x.0 46 passes l)) (λ c tail other is.
+      let ends : LongEnds x.0 (46 ∷ c ∷ other) = ends_same x.0 c tail other (subst (LongEnds x.0) (s.1 ∙ ap (λ (u : List ℕ). 46 ∷ u) is) f.ends) in
+      let again : longest_at (tag_text x.0 ++ (46 ∷ c ∷ other)) ≡ Ok (x.0, 46 ∷ c ∷ other) = long_again x.0 (46 ∷ c ∷ other) f.fits ends in
+      ap (judged_at test) (append_assoc (tag_text x.0) (46 ∷ []) (c ∷ other)) ∙ ap (λ r. r >>= judged test (tag_text x.0 ++ (46 ∷ c ∷ other))) again
+      ∙ ap (λ b. cond b (Err (Bad (c ∷ other))) (Err (Low (tag_text x.0 ++ (46 ∷ c ∷ other))))) passes)
 
   judged_stuck : (bytes : List ℕ) (stop : Stop ℕ) → judged_at test bytes ≡ Err stop → IsStuck bytes stop
   judged_stuck bytes stop e =
