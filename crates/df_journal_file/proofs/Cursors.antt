@@ -1,14 +1,10 @@
 -- A journal that is gone over, as far as it was read.
-use Rattle.df_journal_file.proofs.Names.{◌≡◌, ℕ, ◌+◌, ◌≤◌, Bool, true, List, [], ◌∷◌, ◌++◌, ◌-◌, IsTrue, take, drop, eqb, length, refl, sym, ap, ◌∙◌, append_assoc, arith, ◌↔◌, flat_map, starts_with, Decides-eqb, drop-drop, flat_map_more, length-drop, take_all, All-nil, All-push, starts_is, ended, RootStart, Noted, noted_text, start_text, AreRootsAt, roots_text-numbered, CursorState, HasPassed, front_text, IsJournalOf, journal_by, EndsFile, IsWholeBy, IsFirstAt, first_of, IsHere}
+use Rattle.df_journal_file.proofs.Names.{◌≡◌, ℕ, ◌+◌, ◌≤◌, Bool, true, List, [], ◌∷◌, ◌++◌, IsTrue, drop, eqb, length, refl, sym, ap, ◌∙◌, append_assoc, arith, ◌↔◌, flat_map, starts_with, Decides-eqb, drop-drop, flat_map_more, length-drop, All-nil, All-push, starts_is, ended, RootStart, Noted, noted_text, start_text, AreRootsAt, roots_text-numbered, CursorState, HasPassed, front_text, IsJournalOf, journal_by, EndsFile, IsWholeBy, IsFirstAt, first_of, IsHere}
 use Rattle.df_journal_file.proofs.Texts.{journal_is, regroup, run_line}
 
 -- the cursor at a place
 abbrev pub cursor_at : Bool → List ℕ → ℕ → CursorState
 cursor_at has bytes place = record { bytes = bytes; has_notes = has; place = place }
-
--- all that stands behind a place
-pub all_behind : (place : ℕ) (bytes : List ℕ) → take (length bytes - place) (drop place bytes) ≡ drop place bytes
-all_behind place bytes = take_all (length bytes - place) (drop place bytes) (omega (arith, length-drop place bytes))
 
 -- whether these lines stand at the place
 abbrev pub StandIf : Bool → List ℕ → CursorState → Type 0
