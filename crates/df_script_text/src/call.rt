@@ -12,6 +12,7 @@ use std::alloc::Global;
 
 /// A root's call at the place that names a handle at most, with its words, and the place behind
 /// them; none where another stands there.
+#[inline(always)]
 pub fn common_call_at(bytes: &[u8], at: usize) -> Option<(CommonLine<'_>, usize)>
     requires { at ≤ length bytes.now }
     ensures { IfSome result (λ read. IsCallAt bytes.now at
