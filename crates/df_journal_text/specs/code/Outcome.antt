@@ -3,7 +3,6 @@ use Rattle.std.specs.Prelude.{ℕ, List, [], ◌∷◌, ◌++◌, Option, None, 
 use Rattle.df_label.specs.declared.label.Label.{Label}
 use Rattle.df_unit.specs.declared.entry.Effect.{Effect}
 use Rattle.df_unit.specs.declared.reply.Reply.{Reply}
-use Rattle.df_unit.specs.declared.reply.Reply.TheVariants as reply
 use Rattle.df_journal_text.specs.Entry.{effect_text, note_text, reads_text}
 use Rattle.df_journal_text.specs.Line.{line}
 use Rattle.df_journal_text.specs.Reply.{reply_words}
