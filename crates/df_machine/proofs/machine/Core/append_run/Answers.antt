@@ -1,4 +1,4 @@
-use Rattle.std.proofs.Common.{◌≡◌, ◌+◌, ◌≤◌, List, ◌∷◌, ◌++◌, map, reverse, sym, subst, ◌∙◌, arith, vec_len, vec_capacity}
+use Rattle.std.proofs.Common.{◌≡◌, ◌+◌, ◌≤◌, List, ◌++◌, map, reverse, sym, subst, ◌∙◌, arith, vec_len, vec_capacity}
 use Rattle.df_start.specs.Begun.{begun}
 use Rattle.df_tables.specs.Board.{TellsOf}
 use Rattle.df_unit.specs.declared.entry.Entry.{Entry}

@@ -1,4 +1,4 @@
-use Rattle.std.proofs.Common.{◌≡◌, ◌+◌, ◌≤◌, List, ◌∷◌, ◌++◌, Some, map, reverse, ap, sym, subst, ◌∙◌, arith, vec_len, vec_capacity}
+use Rattle.std.proofs.Common.{◌≡◌, ◌+◌, ◌≤◌, List, ◌∷◌, ◌++◌, map, reverse, ap, sym, subst, ◌∙◌, arith, vec_len, vec_capacity}
 use Rattle.df_local_run.specs.code.Parts.{present_of, state_of}
 use Rattle.df_start.specs.Begun.{begun}
 use Rattle.df_tables.specs.Board.{TellsOf}

@@ -1,4 +1,4 @@
-use Rattle.std.proofs.Common.{◌≡◌, None, Some, sym, ap, ◌∙◌}
+use Rattle.std.proofs.Common.{None, Some, sym, ap, ◌∙◌}
 use Rattle.df_tables.proofs.Booked.{row_is}
 use Rattle.df_machine.proofs.Units.{contamination_at}
 use Rattle.df_machine.proofs.tables.Tables.contamination.Goals as goal

@@ -1,4 +1,4 @@
-use Rattle.std.proofs.Common.{sym, ◌∙◌}
+use Rattle.std.proofs.Common.{sym}
 use Rattle.df_machine.proofs.tables.Tables.root.Goals as goal
 
 pub returns-in-Some : goal.returns-in-Some
