@@ -1,21 +1,17 @@
 -- A label that was read is known by its word.
-use Rattle.std.proofs.Common.{◌≡◌, ℕ, ◌-◌, ◌≤◌, List, ◌++◌, Some, Ok, length, take, drop, sym, ap, subst, ◌∙◌, codes}
+use Rattle.std.proofs.Common.{◌≡◌, ℕ, ◌-◌, ◌≤◌, List, ◌++◌, Some, Ok, length, take, drop, sym, ap, subst, ◌∙◌}
 use Rattle.df_label.specs.declared.label.Label.{Label}
 use Rattle.df_value_text.specs.Fits.{IsLabel}
 use Rattle.df_value_text.specs.Label.{label_text}
 use Rattle.df_value_text.specs.ReadLabel.{label_at}
 use Rattle.df_value_text.proofs.Backs.{label_back}
-use Rattle.df_journal_text.specs.code.KnownLabel.{IsKnown, bare_label}
+use Rattle.df_journal_text.specs.code.KnownLabel.{IsKnown}
 use Rattle.df_journal_text.proofs.Between.{between, onward}
 use Rattle.df_journal_text.proofs.Founds.{label_finds}
 
 -- where its word stands, it is read
 pub known_stands : (label : Label) (word bytes rest : List ℕ) → IsKnown (Some label) word → bytes ≡ word ++ rest → label_at bytes ≡ Ok (label, rest)
 known_stands label word bytes rest known stands = ap label_at stands ∙ known rest
-
--- so is the label without tags
-pub bare_stands : (bytes rest : List ℕ) → bytes ≡ codes "{|}" ++ rest → label_at bytes ≡ Ok (bare_label, rest)
-bare_stands bytes rest stands = ap label_at stands
 
 module _ (bytes : List ℕ) (at end : ℕ) (inside : at ≤ length bytes) (within : end ≤ length bytes) (label : Label)
     (read : label_at (drop at bytes) ≡ Ok (label, drop end bytes)) where
