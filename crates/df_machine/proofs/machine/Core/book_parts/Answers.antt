@@ -54,9 +54,9 @@ pub returns-in_default-take_in-clause-state : goal.returns-in_default-take_in-cl
 returns-in_default-take_in-clause-state c =
     let p = c.args.parts.now in
     let again = had_present _ _ _ _ _ _ (begins (goal.at.returns-in_default-take_in-clause-state c).After-unwrap-present)
-        c.swap-before.new.self c.swap-before.result c.swap-before.ensures.swapped c.swap-before.ensures.before
-        c.take_in.new.board c.take_in.ensures.board c.in_default-take_in.ensures.told
-        c.swap.new.self c.swap.result c.swap.ensures.swapped c.swap.ensures.before in
+    c.swap-before.new.self c.swap-before.result c.swap-before.ensures.swapped c.swap-before.ensures.before
+    c.take_in.new.board c.take_in.ensures.board c.in_default-take_in.ensures.told
+    c.swap.new.self c.swap.result c.swap.ensures.swapped c.swap.ensures.before in
     let same = again ∙ ap (present_of p.base) (sym c.unwrap-present.ensures ∙ c.take.ensures.value) in
     λ i. record { base = p.base; present = same i; entries = p.entries.items }
 
