@@ -5,7 +5,7 @@ ghost use Rattle.df_auction.specs.Stairs.{IsInRange, is_on};
 ghost use Rattle.df_auction.specs.Ranking.{lots, purchases, sales};
 
 use df_book::Order;
-use df_frozen::NoMemory;
+use df_memory::NoMemory;
 use std::alloc::Global;
 
 /// An order by its place in the list: its limit, and what is left of its quantity.

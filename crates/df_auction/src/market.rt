@@ -10,7 +10,7 @@ use crate::outcome::Auction;
 use crate::shown::{rest, trades};
 use crate::sweep::sweep;
 use df_book::{Order, Orders, Trades};
-use df_frozen::NoMemory;
+use df_memory::NoMemory;
 use std::alloc::Global;
 
 /// Finds the least of the prices at which the greatest quantity trades, and trades it.

@@ -7,7 +7,7 @@ ghost use Rattle.df_auction.specs.Stairs.{IsInRange};
 
 use crate::record::OrderForm;
 use df_book::Order;
-use df_frozen::NoMemory;
+use df_memory::NoMemory;
 use df_records::{RecordsRefused, read_records};
 use std::alloc::Global;
 use std::error::Error;

@@ -7,7 +7,7 @@ ghost use Rattle.df_auction.specs.Refusing.{HasSix, fields_of_six};
 
 use csv::ByteRecord;
 use df_book::Order;
-use df_frozen::NoMemory;
+use df_memory::NoMemory;
 use df_records::{Form, field, is_symbol, number, symbol};
 use std::alloc::Global;
 

@@ -7,7 +7,7 @@ ghost use Rattle.df_auction.specs.Auction.{trade_of, rest_of};
 
 use crate::lot::Fill;
 use df_book::{Order, Trade};
-use df_frozen::NoMemory;
+use df_memory::NoMemory;
 use std::alloc::Global;
 
 /// The fills as trades at a price.

@@ -7,7 +7,7 @@ ghost use Rattle.df_auction.specs.code.Clearing.{Clears, split_of};
 
 use crate::lot::{Fill, Lot, purchases, sales};
 use df_book::Order;
-use df_frozen::NoMemory;
+use df_memory::NoMemory;
 use std::alloc::Global;
 
 /// Who trades with whom, the price (0 where nobody does), and the split.

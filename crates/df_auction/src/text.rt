@@ -8,7 +8,7 @@ use crate::market::auction;
 use crate::orders::{OrdersRefused, read_orders};
 use crate::outcome::Auction;
 use df_book::{Order, Trade};
-use df_frozen::NoMemory;
+use df_memory::NoMemory;
 use std::alloc::Global;
 use std::fmt::Write;
 

@@ -4,7 +4,7 @@ use Rattle.std.specs.List.{flat_map}
 use Rattle.std.proofs.lemmas.Grind.{flat_map-append}
 use Rattle.std.proofs.lemmas.List.{length-map, map-append, reverse-append}
 use Rattle.df_label.specs.declared.label.Label.{Label}
-use Rattle.df_label.specs.declared.no_memory.NoMemory.{NoMemory}
+use Rattle.df_memory.specs.declared.NoMemory.{NoMemory}
 use Rattle.df_machine.specs.Journal.{State, firsts}
 use Rattle.df_machine.specs.Tables.{AgreesWith}
 use Rattle.df_machine.specs.declared.tables.Tables.{Tables}

@@ -12,8 +12,8 @@ ghost use Rattle.df_unit.specs.declared.entry.Entry.TheVariants.{Done};
 ghost use Rattle.df_unit.specs.declared.name.UnitName.{UnitName};
 
 use df_journal_text::{Ask, Note, append_done, append_handled};
-use df_label::NoMemory;
 use df_local::{Accepted, Brief};
+use df_memory::NoMemory;
 
 /// The call that creates an event or drops one, where the common call is such.
 pub fn brief_of(ask: Ask) -> Option<Brief>

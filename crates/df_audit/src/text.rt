@@ -6,7 +6,8 @@ ghost use Rattle.df_journal_text.specs.Start.{journal_text};
 ghost use Rattle.df_audit.specs.Audit.{valid_text, wrong_text};
 
 use df_journal_text::{write_head, write_noted, write_noting};
-use df_label::{Label, NoMemory};
+use df_label::Label;
+use df_memory::NoMemory;
 use df_start::Start;
 use df_unit::{Entry, Noted};
 use df_value_text::append_number;

@@ -5,7 +5,7 @@ ghost use Rattle.df_book.specs.code.Nodes.{entries_at};
 
 use crate::entry::Entry;
 use crate::tree::{Fork, Tree, joined_by};
-use df_frozen::NoMemory;
+use df_memory::NoMemory;
 use std::alloc::Global;
 
 /// The entries of two trees, with one between them. Nodes move where one side is higher by two.

@@ -9,7 +9,7 @@ use crate::place::Span;
 use crate::resting::{plan, rest, settle};
 use crate::trade::Trade;
 use crate::tree::Tree;
-use df_frozen::NoMemory;
+use df_memory::NoMemory;
 use std::alloc::Global;
 use std::marker::Model;
 

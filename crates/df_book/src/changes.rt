@@ -9,7 +9,7 @@ use crate::balance::balanced;
 use crate::entry::Entry;
 use crate::place::Place;
 use crate::tree::{Fork, Tree, joined_by};
-use df_frozen::NoMemory;
+use df_memory::NoMemory;
 use std::alloc::Global;
 use std::cmp::Ordering;
 

@@ -4,7 +4,7 @@ ghost use Rattle.std.specs.Prelude.{◌≡◌, IfOk};
 ghost use Rattle.df_book.specs.code.Trees.{with_left};
 
 use crate::place::{Place, Rest};
-use df_frozen::NoMemory;
+use df_memory::NoMemory;
 use std::alloc::Global;
 use std::marker::Model;
 use std::sync::Arc;

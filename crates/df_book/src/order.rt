@@ -1,6 +1,7 @@
 ghost use Rattle.std.specs.Prelude.{◌≡◌, ◌↔◌, IsTrue, IfOk};
 
-use df_frozen::{NoMemory, Words};
+use df_frozen::Words;
+use df_memory::NoMemory;
 use std::marker::Model;
 
 /// A purchase or a sale of a quantity of a symbol, by a trader, up to a limit or from one on.

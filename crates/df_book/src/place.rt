@@ -4,7 +4,7 @@ ghost use Rattle.std.specs.Prelude.{◌≡◌, ◌≤ℤ◌, ◌<ℤ◌, pos, st
 ghost use Rattle.df_book.specs.code.Places.{rank_of, limit_of};
 
 use crate::order::Order;
-use df_frozen::NoMemory;
+use df_memory::NoMemory;
 use std::alloc::Global;
 
 /// A place in a book. Of the places of a symbol and a side, the one that trades first comes first.

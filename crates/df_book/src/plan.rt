@@ -7,7 +7,7 @@ ghost use Rattle.df_book.specs.code.Places.{order_at, arrived, fill_of, MayRest}
 use crate::order::Order;
 use crate::place::{Place, Rest};
 use crate::trade::Trade;
-use df_frozen::NoMemory;
+use df_memory::NoMemory;
 use std::alloc::Global;
 
 /// What a trade leaves of a resting order.

@@ -12,7 +12,7 @@ use crate::place::{Place, Rest, Span};
 use crate::plan::{Fill, Plan};
 use crate::tree::Tree;
 use crate::walk::plan_in;
-use df_frozen::NoMemory;
+use df_memory::NoMemory;
 use std::alloc::Global;
 
 /// What an order does with those that it meets.

@@ -9,7 +9,7 @@ use crate::order::Order;
 use crate::place::Span;
 use crate::plan::Plan;
 use crate::tree::{Fork, Tree};
-use df_frozen::NoMemory;
+use df_memory::NoMemory;
 
 /// The order trades with what rests at an entry, if anything is left of it.
 fn trade_with(entry: &Entry, order: &Order, plan: &mut Plan) -> Result<(), NoMemory>

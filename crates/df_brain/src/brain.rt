@@ -3,7 +3,7 @@ ghost use Rattle.df_rules.specs.Follows.{Last};
 ghost use Rattle.df_brain.specs.Brain.{is_child_wanted, last_of, want_of};
 
 use crate::{Last, Want};
-use df_label::NoMemory;
+use df_memory::NoMemory;
 use df_rules::StepFunction;
 
 /// What a unit does by itself: a step function, in the state in which it is now.

@@ -1,6 +1,6 @@
 ghost use Rattle.std.specs.Prelude.{◌≡◌, ◌↔◌, IsTrue, IfOk};
 
-use df_label::NoMemory;
+use df_memory::NoMemory;
 use df_unit::Reply;
 
 /// What a brain is told: that its unit starts, or the reply to the unit's last call.

@@ -6,8 +6,9 @@ ghost use Rattle.df_replay.specs.Replay.{replayed};
 ghost use Rattle.df_check.specs.CheckNoted.{JudgesNoted, TellsOtherNoted, noted_for};
 ghost use Rattle.df_check.specs.declared.noted.NotedVerdict.TheVariants.{Valid};
 
-use df_label::{Label, NoMemory};
+use df_label::Label;
 use df_machine::Tables;
+use df_memory::NoMemory;
 use df_replay::{Compared, compare, copy_entry};
 use df_start::Start;
 use df_unit::Noted;

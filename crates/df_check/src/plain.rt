@@ -8,8 +8,8 @@ ghost use Rattle.df_replay.specs.Replay.{entry_for, replayed};
 ghost use Rattle.df_check.specs.Check.{Judges, TellsOther};
 ghost use Rattle.df_check.specs.declared.plain.Verdict.TheVariants.{Valid};
 
-use df_label::NoMemory;
 use df_machine::{Core, Tables};
+use df_memory::NoMemory;
 use df_replay::{Compared, compare, copy_entry, replay};
 use df_start::Start;
 use df_unit::Entry;

@@ -10,7 +10,7 @@ use crate::form::is_config;
 use crate::pair::PairRows;
 use crate::tables::{pairs_of, traders_of};
 use crate::trader::TraderRows;
-use df_frozen::NoMemory;
+use df_memory::NoMemory;
 use std::alloc::Global;
 use std::error::Error;
 use std::fmt;

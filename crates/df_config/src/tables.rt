@@ -8,7 +8,8 @@ use crate::fields::{array_at, flag_at, integer_at, natural, size, text_at};
 use crate::numbers::PairNumbers;
 use crate::pair::{PairRow, PairRows};
 use crate::trader::{TraderRow, TraderRows};
-use df_frozen::{NoMemory, Words};
+use df_frozen::Words;
+use df_memory::NoMemory;
 use std::alloc::Global;
 use toml::{Table, Value};
 

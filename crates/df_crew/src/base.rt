@@ -5,8 +5,8 @@ ghost use Rattle.df_crew.specs.declared.crew.BeginRefused.TheVariants.{NoSuchUni
 
 use crate::crew::BeginRefused;
 use df_brain::Brain;
-use df_label::NoMemory;
 use df_local::Local;
+use df_memory::NoMemory;
 use df_turn::{Mind, Turn};
 use std::alloc::Global;
 

@@ -3,8 +3,8 @@
 ghost use Rattle.std.specs.Prelude.{IfOk};
 ghost use Rattle.df_machine.specs.Journal.{IsRoll};
 
-use df_label::NoMemory;
 use df_machine::Core;
+use df_memory::NoMemory;
 use df_unit::UnitName;
 use std::alloc::Global;
 

@@ -1,12 +1,13 @@
 ghost use Rattle.std.specs.Prelude.{◌≡◌};
 
-use crate::error::{NoMemory, NotMade};
+use crate::error::NotMade;
 use crate::journaled::Journaled;
 use crate::pass::Pass;
 use crate::plays::{Both, Compare, Count, Free, Try, Twin};
 use crate::rule::DeskRule;
 use crate::view::View;
 use atomic_table::{Refused, Seat, Table};
+use df_memory::NoMemory;
 use std::alloc::Global;
 use std::marker::Model;
 use std::snapshot::Snapshot;

@@ -1,7 +1,3 @@
-/// There was no memory.
-#[derive(Clone, Copy, Debug, PartialEq, Eq)]
-pub struct NoMemory;
-
 /// There was no memory for a desk. The value comes back.
 #[derive(Debug, Drop)]
 pub struct NotMade<V> {

@@ -15,6 +15,6 @@ mod rule;
 mod view;
 
 pub use desk::Desk;
-pub use error::{NoMemory, NotMade};
+pub use error::NotMade;
 pub use journaled::Journaled;
 pub use pass::Pass;

@@ -4,7 +4,7 @@ ghost use Rattle.df_disk.specs.Disk.{overwritten};
 ghost use Rattle.df_disk.specs.MemoryDisk.{FailsCall, bytes_after, looked, made, refused, synced, wrote};
 
 use crate::{Disk, DiskFailed};
-use df_io::NoMemory;
+use df_memory::NoMemory;
 use std::alloc::Global;
 use std::marker::Model;
 

@@ -8,7 +8,7 @@ ghost use Rattle.df_disk.specs.Found.{IsBehind, IsFound};
 ghost use Rattle.df_disk.specs.Records.{IsAtRest, IsEmpty, KeepsOrOneMore, frame_text};
 
 use crate::{Disk, DiskFailed};
-use df_io::NoMemory;
+use df_memory::NoMemory;
 use std::alloc::Global;
 
 /// The byte of a gate that is open.

@@ -3,7 +3,7 @@ ghost use Rattle.std.specs.Prelude.{◌≡◌};
 ghost use Rattle.df_durable.specs.declared.cause.NotKept.TheVariants as kept;
 ghost use Rattle.df_durable.specs.declared.cause.OpenCause.TheVariants as open_cause;
 
-use df_label::NoMemory;
+use df_memory::NoMemory;
 use df_unit::Call;
 
 /// Why a disk was not opened.
@@ -44,14 +44,6 @@ pub struct StepRefused {
 pub enum NotKept {
     Fault,
     NoMemory,
-}
-
-impl From<df_io::NoMemory> for NotKept {
-    ghost from_gives = { λ _ e. e ≡ kept.NoMemory };
-
-    fn from(_error: df_io::NoMemory) -> NotKept {
-        NotKept::NoMemory
-    }
 }
 
 impl From<NoMemory> for NotKept {

@@ -12,8 +12,8 @@ use crate::{KeptCore, OpenCause};
 use df_check::other_than;
 use df_disk::{Disk, DiskFailed, Found, NotTaken, found_at, take_image};
 use df_image::{entry_of, start_of};
-use df_label::NoMemory;
 use df_machine::Core;
+use df_memory::NoMemory;
 use df_unit::Entry;
 use std::alloc::Global;
 

@@ -2,8 +2,9 @@ ghost use Rattle.std.specs.Prelude.{◌≡◌, ◌↔◌, IfOk, IsTrue};
 ghost use Rattle.df_filter.specs.Clause.{holds, test_holds};
 ghost use Rattle.df_frozen.specs.Value.{plain};
 
-use crate::{FieldTest, NoMemory, asked};
+use crate::{FieldTest, asked};
 use df_frozen::{Name, Value, Words};
+use df_memory::NoMemory;
 
 /// What is asked of the value of a part.
 #[derive(Drop)]

@@ -2,8 +2,9 @@ ghost use Rattle.std.specs.Prelude.{◌≡◌, ◌↔◌, IfOk, IsTrue};
 ghost use Rattle.df_filter.specs.FieldTest.{field_holds};
 ghost use Rattle.df_frozen.specs.Value.{plain};
 
-use crate::{NoMemory, asked};
+use crate::asked;
 use df_frozen::{Value, Words};
+use df_memory::NoMemory;
 
 /// What is asked of the value of a field.
 #[derive(Drop)]

@@ -2,7 +2,8 @@ ghost use Rattle.std.specs.Prelude.{IsTrue, ◌≡◌, ◌<◌, ◌≤◌, ◌�
 ghost use Rattle.df_filter.specs.Filter.{filter_of};
 ghost use Rattle.df_filter.specs.Limits.{most_clauses};
 
-use crate::{Clause, NoMemory};
+use crate::Clause;
+use df_memory::NoMemory;
 use std::alloc::Global;
 use std::marker::Model;
 

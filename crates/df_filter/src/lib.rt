@@ -5,9 +5,7 @@ mod asked;
 mod clause;
 mod field_test;
 mod filter;
-mod memory;
 
 pub use clause::{Clause, Test};
 pub use field_test::FieldTest;
 pub use filter::{Filter, FilterRefused, MOST_CLAUSES};
-pub use memory::NoMemory;

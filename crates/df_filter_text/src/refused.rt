@@ -3,7 +3,7 @@ ghost use Rattle.std.specs.Prelude.{◌≡◌};
 ghost use Rattle.df_filter_text.specs.code.Answer.{refusal};
 ghost use Rattle.df_filter_text.specs.declared.refused.FilterTextRefused.TheVariants as refused;
 
-use df_label::NoMemory;
+use df_memory::NoMemory;
 use df_value_text::Fault;
 
 /// Why a text isn't read as a filter.

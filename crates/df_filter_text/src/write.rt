@@ -6,7 +6,7 @@ ghost use Rattle.df_value_text.specs.Value.{words_text};
 
 use df_filter::{Clause, FieldTest, Filter, Test};
 use df_frozen::{Name, Words};
-use df_label::NoMemory;
+use df_memory::NoMemory;
 use df_value_text::{append_separator, append_whole, append_words};
 use std::alloc::Global;
 

@@ -10,7 +10,7 @@ ghost use Rattle.df_floor.specs.Brains.{floor_brains, monitor_brains, monitors_o
 
 use df_config::{Config, PairRow, TraderRow};
 use df_floor_units::{FloorBrain, Ticks};
-use df_label::NoMemory;
+use df_memory::NoMemory;
 use df_messages::Symbol;
 use std::alloc::Global;
 

@@ -5,7 +5,8 @@ ghost use Rattle.df_config.specs.ConfigForm.{IsConfig};
 ghost use Rattle.df_floor.specs.Starting.{floor_start, may_take_out, monitor_root, monitor_roots, monitors_of, plain_root, releasing_root, trader_root, trader_roots, watching};
 
 use df_config::{Config, TraderRow};
-use df_label::{Label, NoMemory, Privilege, Privileges, Right, Tag, TagSet};
+use df_label::{Label, Privilege, Privileges, Right, Tag, TagSet};
+use df_memory::NoMemory;
 use df_messages::{endorsed, public, secret};
 use df_start::{RootStart, Start};
 use std::alloc::Global;

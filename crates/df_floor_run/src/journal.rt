@@ -11,8 +11,8 @@ ghost use Rattle.df_replay.specs.Noted.{noted, noted_in};
 ghost use Rattle.df_replay.specs.Replay.{replayed};
 
 use df_journal_text::{write_head, write_noting};
-use df_label::NoMemory;
 use df_machine::{Core, Tables};
+use df_memory::NoMemory;
 use df_replay::repeat;
 use df_report::{summary, write_summary};
 use df_unit::Entry;
@@ -58,10 +58,7 @@ fn append_journal(alloc: Global, core: &Core, text: &mut Vec<u8>) -> Result<(), 
 fn append_report(core: &Core, text: &mut Vec<u8>) -> Result<(), NoMemory>
     ensures { OnOk result (text.new.items ≡ text.old.items ++ report_text core.now.1) }
 {
-    match write_summary(&summary(core.journal()), text) {
-        Ok(()) => Ok(()),
-        Err(_) => Err(NoMemory),
-    }
+    write_summary(&summary(core.journal()), text)
 }
 
 /// The summary of a machine's journal.

@@ -13,25 +13,16 @@ use df_crew::Crew;
 use df_floor_units::FloorBrain;
 use df_frozen::Words;
 use df_gen::gen_ticks;
-use df_label::NoMemory;
+use df_memory::NoMemory;
 use df_ticks::Tick;
 use std::alloc::Global;
-
-fn words(alloc: Global, text: &str) -> Result<Words, NoMemory>
-    ensures { IfOk result (λ w. w ≡ text.now) }
-{
-    match Words::new(alloc, text) {
-        Ok(words) => Ok(words),
-        Err(_) => Err(NoMemory),
-    }
-}
 
 fn load_pair(alloc: Global, first: &str, second: &str) -> Result<PairRow, NoMemory>
     ensures { IfOk result (λ row. row ≡ load_pair first.now second.now) }
 {
     Ok(PairRow {
-        first: words(alloc, first)?,
-        second: words(alloc, second)?,
+        first: Words::new(alloc, first)?,
+        second: Words::new(alloc, second)?,
         threshold: 60,
     })
 }
@@ -85,24 +76,13 @@ pub fn load_config(alloc: Global) -> Result<Config, NoMemory>
     })
 }
 
-fn load_ticks(alloc: Global, key: u64, n: u32) -> Result<Vec<Tick>, NoMemory>
-    ensures ticks { IfOk result (λ ticks. ticks.items ≡ generated key n) }
-    ensures in_form { IfOk result (λ ticks. All IsTick ticks.items) }
-    ensures count { IfOk result (λ ticks. length ticks.items ≡ n) }
-{
-    match gen_ticks(alloc, key, n) {
-        Ok(ticks) => Ok(ticks),
-        Err(_) => Err(NoMemory),
-    }
-}
-
 /// The summary of the load on the first n ticks of a key. It always comes to rest.
 pub fn run_load(alloc: Global, key: u64, n: u32) -> Result<Vec<u8>, NoMemory>
     requires { n ≤ 4_000 }
     ensures { IfOk result (λ text. IsLoadText key n text.items) }
 {
     let config = load_config(alloc)?;
-    let ticks = load_ticks(alloc, key, n)?;
+    let ticks = gen_ticks(alloc, key, n)?;
     let mut crew = fresh_crew(alloc, &config, ticks)?;
     told_report(alloc, &mut crew, config.max_steps)
 }

@@ -11,7 +11,7 @@ use crate::running::{fresh_crew, run_crew};
 use df_config::Config;
 use df_crew::Crew;
 use df_floor_units::FloorBrain;
-use df_label::NoMemory;
+use df_memory::NoMemory;
 use df_ticks::Tick;
 use std::alloc::Global;
 

@@ -13,7 +13,7 @@ use df_config::Config;
 use df_crew::Crew;
 use df_floor::{floor_brains, floor_start};
 use df_floor_units::{FloorBrain, Ticks};
-use df_label::NoMemory;
+use df_memory::NoMemory;
 use df_plain_floor::{Ended, run_turns};
 use df_ticks::Tick;
 use std::alloc::Global;

@@ -19,7 +19,7 @@ use df_crew::Crew;
 use df_desk::Pass;
 use df_floor_units::FloorBrain;
 use df_hub::Hub;
-use df_label::NoMemory;
+use df_memory::NoMemory;
 use df_plain_floor::{open_turns, run_passes};
 use df_ticks::Tick;
 use df_workers::{Gate, run};

@@ -6,7 +6,7 @@ ghost use Rattle.df_floor_units.specs.code.Trades.{IsFloorOrder};
 
 use crate::trades::FloorTrades;
 use df_book::{Book, Order};
-use df_label::NoMemory;
+use df_memory::NoMemory;
 use std::alloc::Global;
 use std::marker::Model;
 
@@ -46,10 +46,8 @@ impl FloorBook {
         ensures rests { OnOk result (self.new ≡ (submitted order self.old).resting) }
         ensures unchanged { OnErr result (self.new ≡ self.old) }
     {
-        match self.book.submit(order) {
-            Ok(trades) => Ok(FloorTrades::new(trades)),
-            Err(_) => Err(NoMemory),
-        }
+        let trades = self.book.submit(order)?;
+        Ok(FloorTrades::new(trades))
     }
 
     pub(crate) fn same(&self, other: &FloorBook) -> bool
@@ -61,9 +59,7 @@ impl FloorBook {
     pub(crate) fn copy(&self) -> Result<FloorBook, NoMemory>
         ensures { IfOk result (λ b. b ≡ self.now) }
     {
-        let Ok(book) = self.book.copy() else {
-            return Err(NoMemory);
-        };
+        let book = self.book.copy()?;
         Ok(FloorBook { book })
     }
 }

@@ -11,7 +11,7 @@ use crate::stage::Stage;
 use crate::ticks::Ticks;
 use crate::trader::Trader;
 use df_brain::{Brain, Last, Want};
-use df_label::NoMemory;
+use df_memory::NoMemory;
 use df_messages::Symbol;
 use df_pairs::Pair;
 use df_rules::StepFunction;
@@ -132,9 +132,7 @@ impl FloorBrain {
         ensures { IfOk result (λ b. b ≡ begins (kind.Monitor first second
             (fresh window threshold))) }
     {
-        let Ok(pair) = Pair::new(alloc, window, threshold) else {
-            return Err(NoMemory);
-        };
+        let pair = Pair::new(alloc, window, threshold)?;
         let kind = Kind::Monitor {
             first,
             second,

@@ -10,7 +10,7 @@ use crate::book::FloorBook;
 use crate::heard::Heard;
 use crate::trades::FloorTrades;
 use df_book::Order;
-use df_label::NoMemory;
+use df_memory::NoMemory;
 use df_messages::Offer;
 
 /// A broker: the orders that rest with it, how many traders there are, and the number of its next
@@ -38,9 +38,7 @@ fn order_of(offer: &Offer) -> Result<Order, NoMemory>
     ensures order { IfOk result (λ o. o ≡ order_of offer.now) }
     ensures of_floor { IfOk result IsFloorOrder }
 {
-    let Ok(symbol) = offer.symbol.as_words().copy() else {
-        return Err(NoMemory);
-    };
+    let symbol = offer.symbol.as_words().copy()?;
     Ok(Order {
         id: offer.id,
         limit: offer.limit,

@@ -3,7 +3,7 @@ ghost use Rattle.df_floor_units.specs.Telling.{passed_heard};
 
 use crate::offer::{copied_offer, same_offers};
 use crate::trades::FloorTrades;
-use df_label::NoMemory;
+use df_memory::NoMemory;
 use df_messages::{Match, Offer, Parties};
 use df_pairs::Signal;
 

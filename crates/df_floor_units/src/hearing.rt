@@ -9,7 +9,7 @@ use crate::heard::Heard;
 use crate::kind::Kind;
 use crate::opening::name;
 use df_frozen::{Frozen, Name};
-use df_label::NoMemory;
+use df_memory::NoMemory;
 use df_messages::{
     Match, Offer, Parties, Symbol, read_match, read_number, read_offer, read_parties, read_tick,
 };

@@ -3,7 +3,7 @@ ghost use Rattle.std.specs.Prelude.{◌≡◌, ◌↔◌, IsTrue, IfOk};
 use crate::broker::Broker;
 use crate::ticks::Ticks;
 use crate::trader::Trader;
-use df_label::NoMemory;
+use df_memory::NoMemory;
 use df_messages::Symbol;
 use df_pairs::Pair;
 
@@ -88,9 +88,7 @@ impl Kind {
 fn copied_monitor(first: &Symbol, second: &Symbol, pair: &Pair) -> Result<Kind, NoMemory>
     ensures { IfOk result (λ k. k ≡ Kind.Monitor first.now second.now pair.now) }
 {
-    let Ok(pair) = pair.copy() else {
-        return Err(NoMemory);
-    };
+    let pair = pair.copy()?;
     Ok(Kind::Monitor {
         first: first.copy()?,
         second: second.copy()?,

@@ -2,7 +2,7 @@
 
 ghost use Rattle.std.specs.Prelude.{◌≡◌, ◌↔◌, IsTrue, IfOk};
 
-use df_label::NoMemory;
+use df_memory::NoMemory;
 use df_messages::Offer;
 
 /// Whether the two are equal in every field.

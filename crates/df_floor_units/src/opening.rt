@@ -8,7 +8,8 @@ ghost use Rattle.df_floor_units.specs.Opening.{broker_opening, monitor_opening, 
 use crate::kind::Kind;
 use df_filter::{Clause, FieldTest, Filter, Test};
 use df_frozen::{Name, Words};
-use df_label::{NoMemory, Tag};
+use df_label::Tag;
+use df_memory::NoMemory;
 use df_messages::Symbol;
 use df_priv::{Act, Half};
 use df_unit::Call;
@@ -38,9 +39,7 @@ fn present(text: &str) -> Clause
 fn tick_of(symbol: &Words) -> Result<Clause, NoMemory>
     ensures { IfOk result (λ c. c ≡ tick_of symbol.now) }
 {
-    let Ok(symbol) = symbol.copy() else {
-        return Err(NoMemory);
-    };
+    let symbol = symbol.copy()?;
     Ok(Clause {
         name: name("tick"),
         test: Test::Key(name("symbol"), FieldTest::TextEq(symbol)),

@@ -13,7 +13,7 @@ use crate::kind::Kind;
 use crate::ticks::Ticks;
 use crate::trader::{Trader, counted};
 use df_book::Trade;
-use df_label::NoMemory;
+use df_memory::NoMemory;
 use df_messages::{
     Draft, Match, Symbol, fill_draft, match_draft, offer_draft, tick_draft, trade_draft,
     warning_draft, who_draft,

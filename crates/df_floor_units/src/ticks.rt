@@ -1,7 +1,7 @@
 ghost use Rattle.std.specs.Prelude.{◌≡◌, ◌↔◌, All, IsTrue, IfOk, IfSome, option_copied, slice_get};
 ghost use Rattle.df_ticks.specs.TickFile.{IsTick};
 
-use df_label::NoMemory;
+use df_memory::NoMemory;
 use df_ticks::Tick;
 use std::alloc::Global;
 use std::marker::Model;

@@ -3,7 +3,7 @@
 ghost use Rattle.std.specs.Prelude.{◌≡◌, ◌↔◌, IsTrue, IfOk};
 ghost use Rattle.df_floor_units.specs.Trading.{counted, limit_of, offer_of, sells};
 
-use df_label::NoMemory;
+use df_memory::NoMemory;
 use df_messages::{Match, Offer};
 
 /// A trader: its number, its terms, and the number of its next order.

@@ -4,7 +4,7 @@ ghost use Rattle.std.specs.Prelude.{◌≡◌, ◌↔◌, All, IsTrue, IfOk, IfS
 ghost use Rattle.df_floor_units.specs.code.Trades.{IsFloorTrade};
 
 use df_book::{Trade, Trades};
-use df_label::NoMemory;
+use df_memory::NoMemory;
 use std::marker::Model;
 
 /// Trades of traders of the floor, each of a symbol as in a tick file.
@@ -67,9 +67,7 @@ impl FloorTrades {
     pub(crate) fn copy(&self) -> Result<FloorTrades, NoMemory>
         ensures { IfOk result (λ t. t ≡ self.now) }
     {
-        let Ok(trades) = self.trades.copy() else {
-            return Err(NoMemory);
-        };
+        let trades = self.trades.copy()?;
         Ok(FloorTrades { trades })
     }
 }

@@ -11,9 +11,9 @@ ghost use Rattle.df_frozen.specs.Value.{plain, named};
 
 use crate::entries::Entries;
 use crate::items::Items;
-use crate::memory::NoMemory;
 use crate::name::Name;
 use crate::value::Value;
+use df_memory::NoMemory;
 use std::alloc::Global;
 use std::mem;
 

@@ -6,9 +6,9 @@ ghost use Rattle.df_frozen.specs.code.Counting.{own_byte_count, left, rows_of, p
 ghost use Rattle.df_frozen.specs.Limits.{counted};
 ghost use Rattle.df_frozen.specs.Value.{plain};
 
-use crate::memory::NoMemory;
 use crate::row::Row;
 use crate::value::Value;
+use df_memory::NoMemory;
 use std::alloc::Global;
 
 // Counts that stop at the greatest u64.

@@ -13,11 +13,11 @@ ghost use Rattle.df_frozen.specs.Value.{plain, named};
 
 use crate::change::Change;
 use crate::copy::{Layer, complete};
-use crate::memory::NoMemory;
 use crate::name::Name;
 use crate::put::{NotPut, PutCause};
 use crate::step::Step;
 use crate::value::Value;
+use df_memory::NoMemory;
 use std::alloc::Global;
 use std::marker::Model;
 use std::mem;

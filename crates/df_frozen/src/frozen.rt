@@ -6,9 +6,9 @@ ghost use Rattle.df_frozen.specs.Place.{node_at};
 ghost use Rattle.df_frozen.specs.Value.{plain};
 
 use crate::freeze::{FreezeCause, Unfrozen};
-use crate::memory::NoMemory;
 use crate::step::Step;
 use crate::value::Value;
+use df_memory::NoMemory;
 use std::alloc::Global;
 use std::marker::Model;
 use std::sync::Arc;

@@ -9,10 +9,10 @@ ghost use Rattle.df_frozen.specs.Value.{plain};
 
 use crate::change::Change;
 use crate::copy::{Layer, complete};
-use crate::memory::NoMemory;
 use crate::put::{NotPut, PutCause};
 use crate::step::Step;
 use crate::value::Value;
+use df_memory::NoMemory;
 use std::alloc::Global;
 use std::marker::Model;
 use std::mem;

@@ -2,7 +2,7 @@
 
 ghost use Rattle.std.specs.Prelude.{◌≡◌, IfOk};
 
-use crate::memory::NoMemory;
+use df_memory::NoMemory;
 use std::alloc::Global;
 use std::marker::Model;
 

@@ -3,7 +3,8 @@ ghost use Rattle.rand_pcg.specs.Pcg.{pcg32};
 ghost use Rattle.df_ticks.specs.TickFile.{IsTick};
 ghost use Rattle.df_gen.specs.Generated.{generated, tick_at, prices_after, moved, symbol_at};
 
-use df_frozen::{NoMemory, Words};
+use df_frozen::Words;
+use df_memory::NoMemory;
 use df_ticks::Tick;
 use rand_core::SeedableRng;
 use rand_core::utils::NextWord;

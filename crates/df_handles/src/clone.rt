@@ -6,7 +6,8 @@ ghost use Rattle.df_handles.specs.code.Views.{visible_in};
 
 use crate::parts::{new_part, raised};
 use crate::visible::is_visible;
-use df_label::{Label, NoMemory};
+use df_label::Label;
+use df_memory::NoMemory;
 use df_part::{Part, PartRef, Spot};
 use df_unit::Handle;
 use std::alloc::Global;

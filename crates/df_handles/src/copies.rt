@@ -5,7 +5,7 @@ ghost use Rattle.df_handles.specs.code.Slot.{all_shown, shown};
 
 use crate::parts::copies_of;
 use crate::slot::Slot;
-use df_label::NoMemory;
+use df_memory::NoMemory;
 use df_part::Part;
 use df_unit::{Drafts, Handle, Spots};
 use std::alloc::Global;

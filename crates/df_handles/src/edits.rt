@@ -8,7 +8,8 @@ ghost use Rattle.df_handles.specs.code.Views.{has_seen};
 
 use crate::visible::is_visible;
 use df_frozen::Name;
-use df_label::{Label, NoMemory, Privilege};
+use df_label::{Label, Privilege};
+use df_memory::NoMemory;
 use df_part::{Part, PartRef, Spot};
 use df_unit::{Drafts, Handle};
 use std::alloc::Global;

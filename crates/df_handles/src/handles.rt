@@ -6,7 +6,8 @@ use crate::places::{attach, begin, close, delete, draft, handle_at, least_free, 
 use crate::same::same;
 use crate::slot::Slot;
 use df_frozen::Name;
-use df_label::{Label, NoMemory, Privilege};
+use df_label::{Label, Privilege};
+use df_memory::NoMemory;
 use df_part::{Part, Parts, Spot};
 use df_unit::{EventName, Handle};
 use std::alloc::Global;

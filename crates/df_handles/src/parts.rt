@@ -4,7 +4,8 @@ ghost use Rattle.std.specs.Prelude.{◌≡◌, IfOk};
 ghost use Rattle.df_unit.specs.Drafts.{new_part, raised, relabel, relabelled};
 
 use df_frozen::{Frozen, Name};
-use df_label::{Label, NoMemory, Privileges};
+use df_label::{Label, Privileges};
+use df_memory::NoMemory;
 use df_part::{Part, PartRef, Parts, Spot};
 use std::alloc::Global;
 
@@ -38,9 +39,7 @@ pub fn new_part(
     ensures { IfOk result (λ p. p ≡ new_part (raised output.now label.now) name.now value.now) }
 {
     let label = raised(output, label)?;
-    let Ok(value) = value.share() else {
-        return Err(NoMemory);
-    };
+    let value = value.share()?;
     Ok(Part {
         name: *name,
         label,
@@ -53,9 +52,7 @@ fn relabel(output: &Label, part: &Part) -> Result<Part, NoMemory>
     ensures { IfOk result (λ p. p ≡ relabel output.now part.now) }
 {
     let label = raised(output, &part.label)?;
-    let Ok(value) = part.value.share() else {
-        return Err(NoMemory);
-    };
+    let value = part.value.share()?;
     Ok(Part {
         name: part.name,
         label,

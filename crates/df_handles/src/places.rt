@@ -7,7 +7,8 @@ ghost use Rattle.df_handles.specs.code.Slot.{all_shown, begun};
 
 use crate::slot::{Slot, begun};
 use df_frozen::Name;
-use df_label::{Label, NoMemory, Privilege};
+use df_label::{Label, Privilege};
+use df_memory::NoMemory;
 use df_part::{Part, Parts, Spot};
 use df_unit::{EventName, Handle};
 

@@ -6,7 +6,8 @@ ghost use Rattle.df_handles.specs.code.Views.{shown_in};
 
 use crate::visible::is_named;
 use df_frozen::Name;
-use df_label::{Label, NoMemory};
+use df_label::Label;
+use df_memory::NoMemory;
 use df_part::{Part, PartRef, Spot};
 use df_unit::{Handle, PartRead};
 use std::alloc::Global;
@@ -51,9 +52,7 @@ fn shown_in(
 fn show(part: &Part) -> Result<PartRead, NoMemory>
     ensures { IfOk result (λ p. p ≡ show part.now) }
 {
-    let Ok(value) = part.value.share() else {
-        return Err(NoMemory);
-    };
+    let value = part.value.share()?;
     Ok(PartRead {
         label: part.label.copy()?,
         value,

@@ -6,7 +6,8 @@ ghost use Rattle.df_handles.specs.code.Slot.{begun, drafted_in, shown};
 
 use crate::edits::{attach_in, delete_in};
 use df_frozen::Name;
-use df_label::{Label, NoMemory, Privilege};
+use df_label::{Label, Privilege};
+use df_memory::NoMemory;
 use df_part::{Part, Parts, Spot};
 use df_unit::{Drafts, EventName, Handle, Spots};
 use std::alloc::Global;

@@ -19,7 +19,7 @@ ghost use Rattle.df_unit.specs.declared.name.UnitName.{UnitName};
 use df_brain::Brain;
 use df_crew::{Base, BeginRefused, Crew, NotTurned, units};
 use df_desk::{Desk, Journaled, NotMade, Pass};
-use df_label::NoMemory;
+use df_memory::NoMemory;
 use df_turn::Turn;
 use df_unit::UnitName;
 use std::alloc::Global;
@@ -353,10 +353,7 @@ impl<B: Brain> Hub<B> {
         ensures takes { pass.new.takes ≡ pass.old.takes }
         ensures splits { pass.new.splits ≡ one_more pass.old.splits }
     {
-        match self.desk.split(pass) {
-            Ok(new) => Ok(new),
-            Err(_) => Err(NoMemory),
-        }
+        self.desk.split(pass)
     }
 
     /// Joins the other pass into this one, which has then seen the longer of both journals.

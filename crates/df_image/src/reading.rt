@@ -6,8 +6,8 @@ ghost use Rattle.df_lines.specs.declared.refused.FileRefused.TheVariants as refu
 
 use df_journal_file::read_journal;
 use df_journal_text::{write_entry, write_start};
-use df_label::NoMemory;
 use df_lines::FileRefused;
+use df_memory::NoMemory;
 use df_start::Start;
 use df_unit::Entry;
 use std::alloc::Global;

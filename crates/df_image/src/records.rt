@@ -4,7 +4,7 @@ ghost use Rattle.df_image.specs.Reading.{IsEntryRecord, IsStartRecord};
 ghost use Rattle.df_spelled.specs.Spelled.{IsJoined};
 
 use crate::reading::{entry_text, start_text};
-use df_label::NoMemory;
+use df_memory::NoMemory;
 use df_spelled::{entry_is_spelled, start_is_spelled};
 use df_start::{RootStart, Start};
 use df_unit::Entry;

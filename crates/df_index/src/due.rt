@@ -8,7 +8,8 @@ ghost use Rattle.df_index.specs.Due.{has_pair, pair_cmp, pair_where, pairs_at};
 ghost use Rattle.df_index.specs.Occasion.{is_due_on};
 
 use crate::{Listed, Subscription, Tester};
-use df_label::{Label, NoMemory};
+use df_label::Label;
+use df_memory::NoMemory;
 use df_part::{Contents, Edit, PartRef, readable};
 use std::alloc::Global;
 

@@ -5,7 +5,7 @@ ghost use Rattle.std.specs.List.{Contains};
 
 use df_filter::Filter;
 use df_frozen::Name;
-use df_label::NoMemory;
+use df_memory::NoMemory;
 
 /// A filter with a first name, under which it is listed.
 pub trait Listed: Drop {
@@ -46,9 +46,6 @@ impl Listed for Filter {
     }
 
     fn copy(&self) -> Result<Filter, NoMemory> {
-        match Filter::copy(self) {
-            Ok(filter) => Ok(filter),
-            Err(_) => Err(NoMemory),
-        }
+        Filter::copy(self)
     }
 }

@@ -7,7 +7,7 @@ ghost use Rattle.df_index.specs.Listing.{places_at, places_of};
 
 use crate::{Listed, Subscription};
 use df_frozen::Name;
-use df_label::NoMemory;
+use df_memory::NoMemory;
 use std::alloc::Global;
 use std::collections::BTreeMap;
 use std::marker::Model;

@@ -6,7 +6,7 @@ ghost use Rattle.df_index.specs.Due.{Pair, has_pair, pair_cmp};
 ghost use Rattle.df_index.specs.IndexState.{handed_at, was_handed};
 
 use crate::Receivers;
-use df_label::NoMemory;
+use df_memory::NoMemory;
 use std::alloc::Global;
 use std::marker::Model;
 use std::mem;

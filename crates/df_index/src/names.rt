@@ -7,7 +7,7 @@ ghost use Rattle.df_frozen.specs.Name.{name_cmp};
 ghost use Rattle.df_index.specs.Listing.{names_of};
 
 use df_frozen::Name;
-use df_label::NoMemory;
+use df_memory::NoMemory;
 use df_part::PartRef;
 
 fn put_names(parts: &[PartRef], names: &mut Vec<Name>) -> Result<(), NoMemory>

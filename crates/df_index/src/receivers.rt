@@ -1,6 +1,6 @@
 ghost use Rattle.std.specs.Prelude.{◌≡◌, IfOk};
 
-use df_label::NoMemory;
+use df_memory::NoMemory;
 use std::marker::Model;
 
 /// Subscriptions: the place of a unit, and the number that it gave the subscription.

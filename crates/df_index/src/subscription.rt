@@ -1,7 +1,7 @@
 ghost use Rattle.std.specs.Prelude.{◌≡◌, IfOk};
 
 use crate::Listed;
-use df_label::NoMemory;
+use df_memory::NoMemory;
 
 /// A subscription of a unit that is named by its place in a list.
 #[derive(Drop)]

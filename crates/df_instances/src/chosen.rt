@@ -12,8 +12,8 @@ ghost use Rattle.df_instances.specs.Marks.{has_place};
 
 use crate::instances::put_instances;
 use crate::{Instance, ManagedSubscription};
-use df_label::NoMemory;
 use df_managed::{TagSets, contaminations};
+use df_memory::NoMemory;
 use df_part::{Contents, Edit};
 use std::alloc::Global;
 

@@ -3,7 +3,8 @@
 ghost use Rattle.std.specs.Prelude.{◌≡◌, ◌++◌, map, OnOk};
 ghost use Rattle.df_instances.specs.code.Chosen.{instance_at};
 
-use df_label::{NoMemory, TagSet};
+use df_label::TagSet;
+use df_memory::NoMemory;
 use std::marker::Model;
 
 /// An instance: the place of its managed subscription, and its contamination.

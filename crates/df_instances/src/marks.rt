@@ -6,7 +6,7 @@ ghost use Rattle.std.specs.Ordering.{nat_cmp};
 ghost use Rattle.df_instances.specs.Marks.{handed_at, has_place, is_ready, was_handed};
 
 use crate::places::Places;
-use df_label::NoMemory;
+use df_memory::NoMemory;
 use std::alloc::Global;
 use std::marker::Model;
 use std::mem;

@@ -9,7 +9,7 @@ ghost use Rattle.df_index.specs.Listing.{names_of};
 
 use df_filter::Filter;
 use df_frozen::Name;
-use df_label::NoMemory;
+use df_memory::NoMemory;
 use df_part::PartRef;
 use std::alloc::Global;
 

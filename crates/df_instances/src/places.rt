@@ -5,7 +5,7 @@ ghost use Rattle.std.specs.Str.{bytes_eq};
 ghost use Rattle.df_index.specs.Listing.{places_at};
 
 use df_frozen::Name;
-use df_label::NoMemory;
+use df_memory::NoMemory;
 use std::alloc::Global;
 use std::collections::BTreeMap;
 use std::marker::Model;

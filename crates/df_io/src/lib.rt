@@ -14,7 +14,7 @@ pub use disk::{FileShelf, OutSink};
 pub use memory_shelf::MemoryShelf;
 pub use memory_sink::MemorySink;
 pub use read::{LONGEST_FILE, NotRead, read_file};
-pub use shelf::{NoMemory, Shelf, ShelfFailed};
+pub use shelf::{Shelf, ShelfFailed};
 pub use sink::{Sink, SinkFailed};
 pub use sure::{SureShelf, SureSink};
 pub use write::write_all;

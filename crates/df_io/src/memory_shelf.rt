@@ -6,7 +6,8 @@ ghost use Rattle.df_io.specs.Files.{bytes_of, PutsFile};
 ghost use Rattle.df_io.specs.Pieces.{Reads};
 ghost use Rattle.df_io.specs.MemoryShelf.{FailsRead};
 
-use crate::{NoMemory, Shelf, ShelfFailed};
+use crate::{Shelf, ShelfFailed};
+use df_memory::NoMemory;
 use std::alloc::Global;
 use std::marker::Model;
 

@@ -3,7 +3,8 @@ ghost use Rattle.df_io.specs.Faults.{Counts, CountsEach, count_more};
 ghost use Rattle.df_io.specs.Pieces.{Takes, Appends};
 ghost use Rattle.df_io.specs.MemorySink.{FailsWrite};
 
-use crate::{NoMemory, Sink, SinkFailed};
+use crate::{Sink, SinkFailed};
+use df_memory::NoMemory;
 use std::alloc::Global;
 use std::marker::Model;
 

@@ -2,23 +2,7 @@ ghost use Rattle.std.specs.Prelude.{◌≡◌, ℕ, ◌≤◌, List, length, Opt
 ghost use Rattle.df_io.specs.Faults.{Counts};
 ghost use Rattle.df_io.specs.Pieces.{Reads};
 
-use std::alloc::{AllocError, AllocFailed};
-
-/// Memory ran out.
-#[derive(Clone, Copy, Debug, PartialEq, Eq)]
-pub struct NoMemory;
-
-impl From<AllocError> for NoMemory {
-    fn from(_error: AllocError) -> NoMemory {
-        NoMemory
-    }
-}
-
-impl<T: Drop> From<AllocFailed<T>> for NoMemory {
-    fn from(_error: AllocFailed<T>) -> NoMemory {
-        NoMemory
-    }
-}
+use df_memory::NoMemory;
 
 /// A read failed. The shelf has counted the fault.
 #[derive(Clone, Copy, Debug, PartialEq, Eq)]

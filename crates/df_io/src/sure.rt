@@ -4,7 +4,8 @@ ghost use Rattle.df_io.specs.Files.{bytes_of, PutsFile};
 ghost use Rattle.df_io.specs.Pieces.{Reads, Takes, Appends};
 
 use crate::memory_shelf::{Files, copy_piece};
-use crate::{NoMemory, Shelf, ShelfFailed, Sink, SinkFailed};
+use crate::{Shelf, ShelfFailed, Sink, SinkFailed};
+use df_memory::NoMemory;
 use std::alloc::Global;
 use std::marker::Model;
 

@@ -11,7 +11,8 @@ use crate::line::{
 use df_filter::Filter;
 use df_filter_text::append_filter;
 use df_frozen::Name;
-use df_label::{Label, NoMemory, Tag, TagSet};
+use df_label::{Label, Tag, TagSet};
+use df_memory::NoMemory;
 use df_priv::{Act, Half};
 use df_unit::Call;
 use df_value_text::append_tags;

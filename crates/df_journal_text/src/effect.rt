@@ -4,7 +4,7 @@ ghost use Rattle.df_journal_text.specs.Entry.{edit_text, effect_text, given_text
 
 use crate::line::{append_label_word, append_name_word, append_privilege_words, append_value_word};
 use crate::name::append_event_word;
-use df_label::NoMemory;
+use df_memory::NoMemory;
 use df_part::{Edit, Part, PartRef, Spot};
 use df_unit::{Commit, Effect, Given, PartRead};
 

@@ -17,7 +17,8 @@ use crate::line::{append_label_word, append_short, append_word};
 use crate::name::append_unit;
 use crate::note::Note;
 use crate::reply::append_reply;
-use df_label::{Label, NoMemory};
+use df_label::Label;
+use df_memory::NoMemory;
 use df_unit::{Commit, Effect, Entry, Reply};
 
 /// Appends a handle behind the words of its call, and ends the line.

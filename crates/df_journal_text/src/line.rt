@@ -7,7 +7,8 @@ ghost use Rattle.df_value_text.specs.Value.{value_text};
 ghost use Rattle.df_journal_text.specs.Line.{spaced, word};
 
 use df_frozen::{Frozen, Name};
-use df_label::{Label, NoMemory, Privilege, Tag};
+use df_label::{Label, Privilege, Tag};
+use df_memory::NoMemory;
 use df_value_text::{append_label, append_number, append_privilege, append_tag, append_value};
 
 /// Appends a word.

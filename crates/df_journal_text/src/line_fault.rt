@@ -3,7 +3,7 @@ ghost use Rattle.std.specs.Prelude.{◌≡◌};
 ghost use Rattle.df_journal_text.specs.code.Judging.{line_fault, value_fault};
 ghost use Rattle.df_journal_text.specs.declared.line_fault.LineFault.TheVariants as fault;
 
-use df_label::NoMemory;
+use df_memory::NoMemory;
 use df_value_text::{Fault, TextRefused};
 use std::alloc::{AllocError, AllocFailed};
 

@@ -4,7 +4,8 @@ ghost use Rattle.df_value_text.specs.Label.{path_text};
 ghost use Rattle.df_journal_text.specs.Line.{word};
 
 use crate::line::append_short;
-use df_label::{NoMemory, TagSet};
+use df_label::TagSet;
+use df_memory::NoMemory;
 use df_unit::{EventName, Path, UnitName};
 use df_value_text::{append_path, append_tags};
 

@@ -6,7 +6,8 @@ ghost use Rattle.df_journal_text.specs.Entry.{note_text};
 ghost use Rattle.df_journal_text.specs.code.Outcome.{answer_text};
 
 use crate::entry::append_contamination;
-use df_label::{Label, NoMemory};
+use df_label::Label;
+use df_memory::NoMemory;
 use std::alloc::Global;
 use std::marker::Model;
 

@@ -3,7 +3,8 @@
 ghost use Rattle.std.specs.Prelude.{◌≡◌, ◌<◌, IfOk, OnOk, option_copied, vec_len};
 
 use crate::note::Note;
-use df_label::{Label, NoMemory};
+use df_label::Label;
+use df_memory::NoMemory;
 use std::alloc::Global;
 
 /// The note that was written last of each unit, so that a contamination is spelled once for as

@@ -6,7 +6,8 @@ ghost use Rattle.df_journal_text.specs.Reply.{reply_words};
 use crate::line::{
     append_label_word, append_number_word, append_privilege_word, append_tag_word, append_word,
 };
-use df_label::{Label, NoMemory};
+use df_label::Label;
+use df_memory::NoMemory;
 use df_unit::Reply;
 
 /// Appends the words of a reply.

@@ -2,7 +2,7 @@ ghost use Rattle.std.specs.Prelude.{◌≡◌, ◌++◌, OnOk};
 ghost use Rattle.df_journal_text.specs.Start.{head_text, root_line, start_text};
 
 use crate::line::{append_label_word, append_number_word, append_privilege_words};
-use df_label::NoMemory;
+use df_memory::NoMemory;
 use df_start::{RootStart, Start};
 
 /// Appends the line of a root.

@@ -8,7 +8,8 @@ ghost use Rattle.df_journal_text.specs.Start.{head_text, start_text};
 use crate::entry::append_entry;
 use crate::name::{append_event, append_unit};
 use crate::start::{append_head, append_start};
-use df_label::{Label, NoMemory};
+use df_label::Label;
+use df_memory::NoMemory;
 use df_start::Start;
 use df_unit::{Entry, EventName, Noted, UnitName};
 

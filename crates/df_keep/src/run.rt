@@ -11,7 +11,7 @@ use crate::script::script_of;
 use crate::store::keep_script;
 use df_disk::Disk;
 use df_io::{Shelf, Sink, write_all};
-use df_label::NoMemory;
+use df_memory::NoMemory;
 use df_value_text::append_number;
 use std::alloc::Global;
 

@@ -6,7 +6,7 @@ ghost use Rattle.df_unit.specs.Name.{same};
 ghost use Rattle.df_unit.specs.declared.name.UnitName.{UnitName};
 ghost use Rattle.df_kept.specs.Kept.{IsPlace, kept_at};
 
-use df_label::NoMemory;
+use df_memory::NoMemory;
 use df_roll::Roll;
 use df_unit::UnitName;
 use std::alloc::Global;

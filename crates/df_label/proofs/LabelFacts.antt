@@ -47,14 +47,6 @@ join-flows_to a b c h k =
 pub canonical-join : (a b : Label) → IsCanonical a → IsCanonical (join a b)
 canonical-join a b p = (ascending-union a.s b.s p.0, ascending-meet a.i b.i p.1)
 
--- a label that flows to another adds nothing to it
-pub join-flowing : (a b : Label) → IsCanonical a → flows_to b a ≡ true → join a b ≡ a
-join-flowing a b p h =
-    let both : (is_subset b.s a.s ≡ true) × (is_subset a.i b.i ≡ true) = flows_to-parts b a h in
-    let s : union a.s b.s ≡ a.s = union-included_right a.s b.s p.0 both.0 in
-    let i : meet a.i b.i ≡ a.i = meet-included_left a.i b.i both.1 in
-    λ j. record { s = s j; i = i j }
-
 pub label_eq-Decides : (a b : Label) → Decides (label_eq a b) (a ≡ b)
 label_eq-Decides a b = (tells, told)
   where

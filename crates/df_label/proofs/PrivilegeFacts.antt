@@ -58,8 +58,5 @@ contains-add = contains-insert privilege_cmp privilege_cmp_exact
 pub ascending-add : (ps : List Privilege) (p : Privilege) → IsAscending privilege_cmp ps → IsAscending privilege_cmp (add ps p)
 ascending-add = ascending_insert privilege_cmp privilege_cmp_exact
 
-pub add-present : (ps : List Privilege) (p : Privilege) → IsAscending privilege_cmp ps → contains ps p ≡ true → add ps p ≡ ps
-add-present = insert_present privilege_cmp privilege_cmp_exact
-
 pub privilege_eq-Decides : (p q : Privilege) → Decides (privilege_eq p q) (p ≡ q)
 privilege_eq-Decides = eq_by_cmp-Decides privilege_cmp privilege_cmp_exact

@@ -214,14 +214,6 @@ pub is_subset-with : (ts : List (List ℕ)) (t : List ℕ) → is_subset ts (wit
 is_subset-with ts t = is_subset-union_left ts (t ∷ [])
 
 -- the set with a tag is the least that includes the set and has the tag
-pub with-is_subset : (ts us : List (List ℕ)) (t : List ℕ) → is_subset ts us ≡ true → contains us t ≡ true → is_subset (with ts t) us ≡ true
-with-is_subset ts us t h k = union-is_subset ts (t ∷ []) us h (and_from (contains us t) true k refl)
-
--- what a set loses leaves it included
-pub without-is_subset : (ts : List (List ℕ)) (t : List ℕ) → is_subset (without ts t) ts ≡ true
-without-is_subset ts t =
-    is_subset-from_tags (without ts t) ts (λ u m. (and_parts (contains ts u) (not (tag_eq u t)) (sym (contains-without ts t u) ∙ m)).0)
-
 -- ---- operations that add or take nothing
 
 pub with-present : (ts : List (List ℕ)) (t : List ℕ) → IsAscending tag_cmp ts → contains ts t ≡ true → with ts t ≡ ts

@@ -2,7 +2,8 @@
 ghost use Rattle.std.specs.Prelude.{◌≡◌, IsTrue, ◌↔◌, IfOk};
 ghost use Rattle.df_label.specs.Label.{flows_to, join, IsCanonical};
 
-use crate::{NoMemory, TagSet};
+use crate::TagSet;
+use df_memory::NoMemory;
 
 /// A label: the secrets that a reader must be cleared for, and the origins that vouch.
 #[derive(Debug, Drop, PartialEq, Eq, Hash)]

@@ -2,7 +2,6 @@
 
 mod label;
 pub mod laws;
-mod no_memory;
 mod numbers;
 mod privilege;
 mod privileges;
@@ -13,7 +12,6 @@ mod tag_set;
 mod tags;
 
 pub use label::Label;
-pub use no_memory::NoMemory;
 pub use numbers::compare_numbers;
 pub use privilege::{Privilege, Right};
 pub use privileges::Privileges;

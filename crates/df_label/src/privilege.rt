@@ -4,7 +4,8 @@ ghost use Rattle.std.specs.Ordering.{as_partial_cmp};
 ghost use Rattle.std.specs.Cmp.{partial_equiv_from_equiv, eq_by_cmp_equiv, partial_order_from_total};
 ghost use Rattle.df_label.specs.Privilege.{privilege_cmp, privilege_eq, privilege_cmp_total};
 
-use crate::{NoMemory, Tag};
+use crate::Tag;
+use df_memory::NoMemory;
 use std::cmp::Ordering;
 
 /// What a privilege lets its holder do with its tag.

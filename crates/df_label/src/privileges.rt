@@ -5,7 +5,8 @@ ghost use Rattle.df_label.specs.Ascending.{IsAscending};
 ghost use Rattle.df_label.specs.Privilege.{privilege_cmp};
 ghost use Rattle.df_label.specs.Privileges.{contains, add, add_all};
 
-use crate::{NoMemory, Privilege};
+use crate::Privilege;
+use df_memory::NoMemory;
 use std::alloc::Global;
 use std::marker::Model;
 use std::sync::Arc;

@@ -6,7 +6,8 @@ ghost use Rattle.df_label.specs.Tag.{tag_cmp};
 ghost use Rattle.df_label.specs.TagSet.{is_subset};
 
 use crate::spelling::append_each;
-use crate::{NoMemory, Tag, tags};
+use crate::{Tag, tags};
+use df_memory::NoMemory;
 use std::marker::Model;
 
 // From how many tags on the spelling is kept: fewer are spelled and compared as fast without it.

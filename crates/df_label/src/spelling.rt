@@ -2,7 +2,8 @@
 ghost use Rattle.std.specs.Prelude.{◌≡◌, ◌++◌, All, OnOk, decimal};
 ghost use Rattle.df_label.specs.Spelling.{AreShort, path_text, separator, tag_text, tags_text};
 
-use crate::{NoMemory, Tag};
+use crate::Tag;
+use df_memory::NoMemory;
 use itoa::Buffer;
 
 /// Appends a number in decimal digits.

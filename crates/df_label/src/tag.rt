@@ -8,7 +8,8 @@ ghost use Rattle.std.proofs.Common.{rules};
 ghost use Rattle.df_label.specs.Tag.{tag_cmp, maker_of, number_of};
 ghost use Rattle.df_label.specs.declared.tag.TheConstants.{INLINE};
 
-use crate::{NoMemory, compare_numbers};
+use crate::compare_numbers;
+use df_memory::NoMemory;
 use std::alloc::Global;
 use std::cmp::Ordering;
 use std::hash::{Hash, Hasher};

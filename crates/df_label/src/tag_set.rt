@@ -10,7 +10,8 @@ ghost use Rattle.df_label.specs.Tag.{tag_cmp};
 ghost use Rattle.df_label.specs.TagSet.{tag_set_cmp, tag_set_eq, contains, is_subset, first_missing, with, without, union, meet};
 
 use crate::spelled_tags::SpelledTags;
-use crate::{NoMemory, Tag, tags};
+use crate::{Tag, tags};
+use df_memory::NoMemory;
 use std::alloc::Global;
 use std::cmp::Ordering;
 use std::hash::{Hash, Hasher};

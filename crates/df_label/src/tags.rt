@@ -4,7 +4,8 @@ ghost use Rattle.df_label.specs.Ascending.{IsAscending};
 ghost use Rattle.df_label.specs.Tag.{tag_cmp};
 ghost use Rattle.df_label.specs.TagSet.{contains, first_missing, without, union, meet};
 
-use crate::{NoMemory, Tag};
+use crate::Tag;
+use df_memory::NoMemory;
 use std::alloc::Global;
 use std::cmp::Ordering;
 

@@ -1,7 +1,7 @@
 ghost use Rattle.std.specs.Prelude.{◌≡◌};
 ghost use Rattle.df_lines.specs.declared.fault.FileFault.TheVariants as fault;
 
-use df_label::NoMemory;
+use df_memory::NoMemory;
 use std::alloc::{AllocError, AllocFailed};
 
 /// Why reading a file stops, by a place in the bad line.

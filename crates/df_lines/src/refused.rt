@@ -1,7 +1,7 @@
 ghost use Rattle.std.specs.Prelude.{◌≡◌};
 ghost use Rattle.df_lines.specs.declared.refused.FileRefused.TheVariants as refused;
 
-use df_label::NoMemory;
+use df_memory::NoMemory;
 use std::error::Error;
 use std::fmt;
 

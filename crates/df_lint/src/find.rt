@@ -9,7 +9,7 @@ use crate::first::first_rows;
 use crate::spread::spread;
 use crate::table::Lint;
 use crate::tags::tags_of;
-use df_label::NoMemory;
+use df_memory::NoMemory;
 use df_start::{RootStart, Start};
 use std::alloc::Global;
 

@@ -8,7 +8,8 @@ ghost use Rattle.df_lint.specs.code.First.{first_cell, first_cells};
 
 use crate::cell::Cell;
 use crate::row::Row;
-use df_label::{NoMemory, Privilege, Right, Tag, TagSet};
+use df_label::{Privilege, Right, Tag, TagSet};
+use df_memory::NoMemory;
 use df_start::RootStart;
 use std::alloc::Global;
 

@@ -4,7 +4,7 @@ ghost use Rattle.std.specs.List.{list_any};
 ghost use Rattle.df_lint.specs.code.Cells.{Grows, attaches, cell_at, cells_at, no_bar, pass_row};
 
 use crate::cell::{Cell, pass_on, reaches};
-use df_label::NoMemory;
+use df_memory::NoMemory;
 use std::alloc::Global;
 use std::marker::Model;
 use std::mem;

@@ -6,7 +6,8 @@ ghost use Rattle.df_lint.specs.code.Rows.{IsGivenBy, IsTable, Settles, row_at, r
 ghost use Rattle.df_lint.specs.code.Spread.{Extends, IsSeenBy, IsSpread};
 
 use crate::row::{Row, attaches_at, pass_between, reaches_between};
-use df_label::{NoMemory, Tag};
+use df_label::Tag;
+use df_memory::NoMemory;
 use df_start::RootStart;
 use std::alloc::Global;
 

@@ -6,7 +6,8 @@ ghost use Rattle.df_label.specs.TagSet.{contains};
 ghost use Rattle.df_start.specs.Begun.{begun};
 ghost use Rattle.df_lint.specs.Tags.{AreTagsOf};
 
-use df_label::{NoMemory, Tag, TagSet};
+use df_label::{Tag, TagSet};
+use df_memory::NoMemory;
 use df_start::RootStart;
 use std::alloc::Global;
 

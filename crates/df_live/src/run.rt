@@ -14,8 +14,8 @@ use crate::lines::Lines;
 use crate::status::LiveStatus;
 use df_io::{Sink, write_all};
 use df_journal_text::{Notes, write_head};
-use df_label::NoMemory;
 use df_machine::Tables;
+use df_memory::NoMemory;
 use df_start::Start;
 use std::alloc::Global;
 

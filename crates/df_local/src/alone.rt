@@ -4,7 +4,7 @@ ghost use Rattle.std.specs.Prelude.{◌≡◌, IfOk, OnErr};
 ghost use Rattle.df_local.specs.Locally.{MakesAlone};
 
 use crate::Local;
-use df_label::NoMemory;
+use df_memory::NoMemory;
 use df_unit::{Call, Reply};
 
 impl Local {

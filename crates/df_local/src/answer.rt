@@ -9,7 +9,7 @@ ghost use Rattle.df_local.specs.Locally.{closing};
 
 use crate::Local;
 use crate::close::{Close, publish_answer, release_answer};
-use df_label::NoMemory;
+use df_memory::NoMemory;
 use df_unit::{Call, Effect, Given, Reply};
 
 /// What a call is answered, and what it does beyond the unit.

@@ -7,7 +7,7 @@ ghost use Rattle.df_local.specs.declared.brief.Brief.TheVariants.{Create, Drop};
 
 use crate::Local;
 use crate::limits::MOST_NUMBERS;
-use df_label::NoMemory;
+use df_memory::NoMemory;
 use df_unit::Call;
 
 /// A call that creates an event or drops one.

@@ -10,7 +10,8 @@ use crate::Local;
 use crate::limits::{MOST_NUMBERS, MOST_PARTS};
 use crate::take::is_accepted;
 use df_handles::{cloned, source_count};
-use df_label::{Label, NoMemory};
+use df_label::Label;
+use df_memory::NoMemory;
 use df_unit::{Drafts, Reply};
 
 impl Local {

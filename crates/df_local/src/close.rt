@@ -11,7 +11,8 @@ ghost use Rattle.df_local.specs.Locally.{edited, publish_effect, publish_reply, 
 use crate::Local;
 use crate::answer::{Answer, quiet};
 use df_handles::{copies_of, relabelled};
-use df_label::{Label, NoMemory};
+use df_label::Label;
+use df_memory::NoMemory;
 use df_part::{Edit, Spot};
 use df_unit::{Commit, Effect, Handle, Reply};
 use std::alloc::Global;

@@ -3,7 +3,7 @@
 ghost use Rattle.std.specs.Prelude.{◌≡◌, IfOk};
 
 use crate::Local;
-use df_label::NoMemory;
+use df_memory::NoMemory;
 
 impl Local {
     pub fn copy(&self) -> Result<Local, NoMemory>

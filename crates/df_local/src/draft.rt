@@ -11,7 +11,8 @@ use crate::limits::{MOST_NUMBERS, MOST_PARTS};
 use crate::take::is_accepted;
 use df_frozen::{Frozen, Name};
 use df_handles::new_part;
-use df_label::{Label, NoMemory};
+use df_label::Label;
+use df_memory::NoMemory;
 use df_part::Parts;
 use df_unit::{Drafts, EventName, Handle, Reply, Spots};
 

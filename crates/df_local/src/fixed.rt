@@ -11,7 +11,8 @@ use crate::laws::tags_are_accounted_for;
 use crate::local::begun;
 use crate::standing::{Reading, Writing};
 use df_filter::Filter;
-use df_label::{Label, NoMemory, TagSet};
+use df_label::{Label, TagSet};
+use df_memory::NoMemory;
 use df_priv::Held;
 use df_unit::{Path, UnitName};
 use std::alloc::Global;
@@ -62,9 +63,7 @@ impl Local {
     fn fixed_with(&self, filter: &Filter) -> Result<Fixed, NoMemory>
         ensures { IfOk result (λ f. record_of f ≡ fixed_of self.now.own filter.now) }
     {
-        let Ok(filter) = filter.copy() else {
-            return Err(NoMemory);
-        };
+        let filter = filter.copy()?;
         let readable = self.readable()?;
         let behind = self.behind()?;
         let held = self.held.copy()?;

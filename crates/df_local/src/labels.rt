@@ -12,7 +12,8 @@ ghost use Rattle.df_local.specs.Locally.{Answers, with_own};
 use crate::Local;
 use crate::standing::{Reading, Writing};
 use crate::take::is_accepted;
-use df_label::{Label, NoMemory, Privilege, Tag, TagSet};
+use df_label::{Label, Privilege, Tag, TagSet};
+use df_memory::NoMemory;
 use df_priv::{Act, Half, needed};
 use df_unit::Reply;
 

@@ -10,7 +10,8 @@ ghost use Rattle.df_local.specs.Locally.{root_at};
 
 use crate::standing::{Reading, Writing};
 use df_handles::Handles;
-use df_label::{Label, NoMemory, Privilege, Privileges, TagSet};
+use df_label::{Label, Privilege, Privileges, TagSet};
+use df_memory::NoMemory;
 use df_priv::Held;
 use df_unit::{Path, UnitName};
 use std::alloc::Global;

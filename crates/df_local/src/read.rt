@@ -10,7 +10,8 @@ use crate::Local;
 use crate::take::is_accepted;
 use df_frozen::Name;
 use df_handles::shown;
-use df_label::{NoMemory, Privilege};
+use df_label::Privilege;
+use df_memory::NoMemory;
 use df_unit::{PartRead, PartsRead, Reply};
 use std::alloc::Global;
 

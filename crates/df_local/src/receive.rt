@@ -8,7 +8,7 @@ ghost use Rattle.df_local.specs.Locally.{CountsSub, TakesIn, with_own};
 use crate::Local;
 use crate::limits::MOST_SUBS;
 use crate::take::is_accepted;
-use df_label::NoMemory;
+use df_memory::NoMemory;
 use df_part::Parts;
 use df_unit::{EventName, Given, Reply};
 

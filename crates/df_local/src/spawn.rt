@@ -7,7 +7,8 @@ ghost use Rattle.df_local.specs.Locally.{with_own};
 
 use crate::Local;
 use crate::limits::{MOST_PATH, MOST_UNITS};
-use df_label::{NoMemory, Privileges, TagSet};
+use df_label::{Privileges, TagSet};
+use df_memory::NoMemory;
 use df_spawn::lacking;
 use df_unit::{Reply, UnitName};
 

@@ -3,7 +3,8 @@
 ghost use Rattle.std.specs.Prelude.{◌≡◌, [], IfOk};
 ghost use Rattle.df_label.specs.Label.{join};
 
-use df_label::{Label, NoMemory, TagSet};
+use df_label::{Label, TagSet};
+use df_memory::NoMemory;
 use std::alloc::Global;
 
 /// The label at which a unit reads, and that of all that it may have read.

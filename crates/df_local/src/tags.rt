@@ -10,7 +10,8 @@ ghost use Rattle.df_local.specs.Locally.{Answers, with_own};
 use crate::Local;
 use crate::limits::MOST_NUMBERS;
 use crate::take::is_accepted;
-use df_label::{NoMemory, Privilege, Right, Tag};
+use df_label::{Privilege, Right, Tag};
+use df_memory::NoMemory;
 use df_unit::{Path, Reply, UnitName};
 
 impl Local {

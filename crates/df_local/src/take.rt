@@ -5,7 +5,7 @@ ghost use Rattle.df_unit.specs.Rows.{after, is_accepted, taken_in};
 ghost use Rattle.df_local.specs.Locally.{IsAnswer, with_own};
 
 use crate::Local;
-use df_label::NoMemory;
+use df_memory::NoMemory;
 use df_unit::{Call, Effect, Reply};
 
 impl Local {

@@ -3,8 +3,8 @@
 ghost use Rattle.std.specs.Prelude.{◌≡◌, [], IfErr, IfOk, OnErr, OnOk, true};
 
 use crate::parts::{NotCalled, RunParts};
-use df_label::NoMemory;
 use df_local::Local;
+use df_memory::NoMemory;
 use df_unit::{Call, Entry};
 use std::alloc::Global;
 use std::marker::Model;

@@ -4,8 +4,8 @@ ghost use Rattle.std.specs.Prelude.{◌≡◌, ◌<◌, IfErr, IfOk, OnErr, OnOk
 ghost use Rattle.df_local_run.specs.code.Parts.{IsCalled, IsRun, state_of};
 ghost use Rattle.df_local_run.specs.Runs.{called, is_local};
 
-use df_label::NoMemory;
 use df_local::Local;
+use df_memory::NoMemory;
 use df_unit::{Call, Effect, Entry, UnitName};
 
 /// What a run is made of.

@@ -8,9 +8,9 @@ ghost use Rattle.df_machine.specs.Journal.{AreReceivers, IsLegal, IsRoll, answer
 
 use crate::tables::Tables;
 use crate::taking::{make_room, make_room_for, take_in};
-use df_label::NoMemory;
 use df_local::Local;
 use df_local_run::{LocalRun, RunParts};
+use df_memory::NoMemory;
 use df_start::Start;
 use df_unit::{Call, Commit, Entry, Reply, UnitName};
 use std::alloc::Global;

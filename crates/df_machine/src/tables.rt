@@ -11,8 +11,9 @@ ghost use Rattle.df_unit.specs.declared.name.UnitName.TheVariants.{Root};
 ghost use Rattle.df_machine.specs.Journal.{State, answer_in, appended, contamination_in};
 ghost use Rattle.df_machine.specs.Tables.{AgreesWith, IsStep, StepsAlone, place_in};
 
-use df_label::{Label, NoMemory};
+use df_label::Label;
 use df_local::{Accepted, Answer, Brief};
+use df_memory::NoMemory;
 use df_start::{RootStart, Start};
 use df_tables::{Board, Unit, first_unit};
 use df_unit::{Call, Commit, Path, Reply, UnitName};

@@ -3,9 +3,9 @@
 ghost use Rattle.std.specs.Prelude.{◌≡◌, ◌+◌, ◌<◌, IfOk, OnErr, OnOk, vec_capacity, vec_len};
 ghost use Rattle.df_tables.specs.Board.{IsBoard, IsBooked, IsKept, answer_on};
 
-use df_label::NoMemory;
 use df_local::Answer;
 use df_local_run::RunParts;
+use df_memory::NoMemory;
 use df_tables::Board;
 use df_unit::{Call, Effect, Entry, Reply, UnitName};
 

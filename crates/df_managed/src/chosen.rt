@@ -10,7 +10,8 @@ ghost use Rattle.df_rules.specs.Choices.{gives};
 
 use crate::secrets::{put_in_order, secrets};
 use df_filter::Clause;
-use df_label::{NoMemory, TagSet};
+use df_label::TagSet;
+use df_memory::NoMemory;
 use df_part::PartRef;
 use std::alloc::Global;
 

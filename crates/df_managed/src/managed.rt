@@ -8,7 +8,8 @@ ghost use Rattle.df_rules.specs.Choices.{gives};
 use crate::TagSets;
 use crate::chosen::all_chosen;
 use df_filter::Filter;
-use df_label::{NoMemory, TagSet};
+use df_label::TagSet;
+use df_memory::NoMemory;
 use df_part::{Contents, Edit, PartRef};
 use std::alloc::Global;
 

@@ -7,7 +7,8 @@ ghost use Rattle.df_managed.specs.code.Chosen.{HaveSame, secrets_of};
 ghost use Rattle.df_rules.specs.Choices.{fits};
 
 use df_filter::Clause;
-use df_label::{NoMemory, TagSet};
+use df_label::TagSet;
+use df_memory::NoMemory;
 use df_part::{Part, PartRef};
 use std::alloc::Global;
 

@@ -1,7 +1,7 @@
 ghost use Rattle.std.specs.Prelude.{◌≡◌, ◌↔◌, IsTrue, IfOk};
 
 use crate::Symbol;
-use df_label::NoMemory;
+use df_memory::NoMemory;
 
 /// The prices of two symbols have parted: the side is 1 where the first is too dear, and -1 where
 /// the second is. Prices are in hundredths.

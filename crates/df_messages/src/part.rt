@@ -9,7 +9,8 @@ use crate::field::name;
 use crate::message::{Match, Offer};
 use crate::value::{Field, map_of};
 use df_book::Trade;
-use df_label::{Label, NoMemory, Tag, TagSet};
+use df_label::{Label, Tag, TagSet};
+use df_memory::NoMemory;
 use df_ticks::Tick;
 use std::alloc::Global;
 

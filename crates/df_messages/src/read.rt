@@ -8,7 +8,7 @@ use crate::field::{field_count, flag_field, int_field, symbol_field};
 use crate::message::{Match, Offer, Parties};
 use crate::symbol::Symbol;
 use df_frozen::{Frozen, Words};
-use df_label::NoMemory;
+use df_memory::NoMemory;
 
 /// A tick that a value is, with the words that are in it.
 #[derive(Clone, Copy)]

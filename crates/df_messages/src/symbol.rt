@@ -2,7 +2,7 @@ ghost use Rattle.std.specs.Prelude.{◌≡◌, ◌↔◌, true, IsTrue, IfOk};
 ghost use Rattle.df_records.specs.Fields.{is_symbol};
 
 use df_frozen::Words;
-use df_label::NoMemory;
+use df_memory::NoMemory;
 use std::marker::Model;
 
 /// A symbol: 1 to 8 letters `A` to `Z`.
@@ -28,9 +28,7 @@ impl Symbol {
         requires { is_symbol words.now ≡ true }
         ensures { IfOk result (λ s. s ≡ words.now) }
     {
-        let Ok(words) = words.copy() else {
-            return Err(NoMemory);
-        };
+        let words = words.copy()?;
         Ok(Symbol { words })
     }
 

@@ -9,7 +9,7 @@ ghost use Rattle.df_messages.specs.code.Putting.{built, content_of, is_good, is_
 
 use crate::field::name;
 use df_frozen::{Entries, FreezeCause, Frozen, Name, PutCause, Value, Words};
-use df_label::NoMemory;
+use df_memory::NoMemory;
 use std::alloc::Global;
 
 /// A field of a message: its name, and what it has.
@@ -23,10 +23,8 @@ pub(crate) enum Field<'a> {
 fn words(text: &Words) -> Result<Value, NoMemory>
     ensures { IfOk result (λ v. plain v ≡ words text.now) }
 {
-    match text.copy() {
-        Ok(text) => Ok(Value::Words(text)),
-        Err(_) => Err(NoMemory),
-    }
+    let text = text.copy()?;
+    Ok(Value::Words(text))
 }
 
 fn value_of(field: &Field<'_>) -> Result<Value, NoMemory>

@@ -2,9 +2,9 @@ ghost use Rattle.std.specs.Prelude.{◌≡◌, ◌≤◌, ◌≤ℤ◌, pos, IfO
 ghost use Rattle.df_pairs.specs.Divergence.{fresh, after, signal_of, with_spread, with_prices, priced};
 ghost use Rattle.df_pairs.specs.Spreads.{IsSpread};
 
-use crate::no_memory::NoMemory;
 use crate::recent::Recent;
 use crate::signal::Signal;
+use df_memory::NoMemory;
 use std::alloc::Global;
 use std::marker::Model;
 

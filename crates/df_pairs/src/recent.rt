@@ -4,7 +4,7 @@ ghost use Rattle.std.specs.Prelude.{◌≡◌, ◌<◌, ◌≤◌, ◌∷◌, []
 ghost use Rattle.df_pairs.specs.Divergence.{total};
 ghost use Rattle.df_pairs.specs.Spreads.{IsSpread};
 
-use crate::no_memory::NoMemory;
+use df_memory::NoMemory;
 use std::alloc::Global;
 use std::collections::VecDeque;
 use std::marker::Model;

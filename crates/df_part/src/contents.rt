@@ -5,7 +5,8 @@ ghost use Rattle.df_part.specs.Part.{cut, readable};
 
 use crate::parts::share_all;
 use crate::{Edit, Part, PartRef, Parts, ReadableParts, Spot, readable};
-use df_label::{Label, NoMemory};
+use df_label::Label;
+use df_memory::NoMemory;
 use std::alloc::Global;
 use std::marker::Model;
 

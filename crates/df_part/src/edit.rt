@@ -2,7 +2,8 @@ ghost use Rattle.std.specs.Prelude.{◌≡◌, ◌↔◌, IsTrue, IfOk};
 
 use crate::{PartRef, Parts};
 use df_frozen::Name;
-use df_label::{Label, NoMemory};
+use df_label::Label;
+use df_memory::NoMemory;
 use std::alloc::Global;
 use std::marker::Model;
 

@@ -1,7 +1,8 @@
 ghost use Rattle.std.specs.Prelude.{◌≡◌, ◌↔◌, IsTrue, IfOk};
 
 use df_frozen::{Frozen, Name};
-use df_label::{Label, NoMemory, Privileges};
+use df_label::{Label, Privileges};
+use df_memory::NoMemory;
 
 /// A part of an event: a name, a label, a value, and the privileges that its readers get.
 #[derive(Drop)]
@@ -27,9 +28,7 @@ impl Part {
     pub fn copy(&self) -> Result<Part, NoMemory>
         ensures { IfOk result (λ p. p ≡ self.now) }
     {
-        let Ok(value) = self.value.share() else {
-            return Err(NoMemory);
-        };
+        let value = self.value.share()?;
         Ok(Part {
             name: self.name,
             label: self.label.copy()?,

@@ -1,7 +1,7 @@
 ghost use Rattle.std.specs.Prelude.{◌≡◌, ◌↔◌, IsTrue, IfOk};
 
 use crate::part::Part;
-use df_label::NoMemory;
+use df_memory::NoMemory;
 use std::alloc::Global;
 use std::marker::Model;
 use std::sync::Arc;

@@ -10,7 +10,7 @@ ghost use Rattle.df_rules.specs.Follows.{brain_of};
 use crate::turns::{entries, pass, take_turn};
 use df_brain::Brain;
 use df_crew::Crew;
-use df_label::NoMemory;
+use df_memory::NoMemory;
 use df_unit::{Path, UnitName};
 use std::alloc::Global;
 

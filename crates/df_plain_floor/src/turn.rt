@@ -9,7 +9,7 @@ ghost use Rattle.df_rules.specs.Follows.{brain_of};
 
 use df_brain::Brain;
 use df_crew::{BeginRefused, Crew};
-use df_label::NoMemory;
+use df_memory::NoMemory;
 use df_turn::Turn;
 use df_unit::UnitName;
 

@@ -9,7 +9,7 @@ ghost use Rattle.df_unit.specs.declared.name.UnitName.{UnitName};
 use crate::turn::make_turn;
 use df_brain::Brain;
 use df_crew::{Crew, units};
-use df_label::NoMemory;
+use df_memory::NoMemory;
 use df_unit::UnitName;
 use std::alloc::Global;
 

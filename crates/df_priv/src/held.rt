@@ -4,7 +4,8 @@ ghost use Rattle.df_label.specs.Ascending.{IsAscending};
 ghost use Rattle.df_label.specs.Privilege.{privilege_cmp};
 ghost use Rattle.df_priv.specs.Held.{holds, grant, grant_all};
 
-use df_label::{NoMemory, Privilege, Privileges};
+use df_label::{Privilege, Privileges};
+use df_memory::NoMemory;
 use std::alloc::Global;
 use std::marker::Model;
 

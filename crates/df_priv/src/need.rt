@@ -2,7 +2,8 @@
 ghost use Rattle.std.specs.Prelude.{◌≡◌, IfOk};
 ghost use Rattle.df_priv.specs.Needed.{needed, needed_to_attach};
 
-use df_label::{NoMemory, Privilege, Right, Tag};
+use df_label::{Privilege, Right, Tag};
+use df_memory::NoMemory;
 
 /// A half of a label.
 #[derive(Clone, Copy, Debug, PartialEq, Eq, PartialOrd, Ord, Hash)]

@@ -3,7 +3,8 @@ ghost use Rattle.df_part.specs.Part.{cut};
 ghost use Rattle.df_rules.specs.Commits.{commit_of, cut_spots};
 ghost use Rattle.df_rules.specs.Purge.{echo};
 
-use df_label::{Label, NoMemory};
+use df_label::Label;
+use df_memory::NoMemory;
 use df_part::{Edit, PartRef, Spot, readable};
 use df_unit::{Commit, Effect, Entry};
 use std::alloc::Global;

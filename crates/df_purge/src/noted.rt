@@ -7,7 +7,8 @@ ghost use Rattle.df_replay.specs.Noted.{AreRight, noted, past_of};
 ghost use Rattle.df_purge.specs.code.Left.{is_noted_within, left_noted};
 
 use crate::echo::echo_of;
-use df_label::{Label, NoMemory};
+use df_label::Label;
+use df_memory::NoMemory;
 use df_replay::copy_entry;
 use df_unit::{Entry, Noted};
 use std::alloc::Global;

@@ -8,8 +8,9 @@ ghost use Rattle.df_purge.specs.code.Left.{is_noted_within};
 
 use crate::echo::echo_of;
 use crate::noted::is_noted_within;
-use df_label::{Label, NoMemory};
+use df_label::Label;
 use df_machine::Tables;
+use df_memory::NoMemory;
 use df_replay::{copy_entry, repeat};
 use df_start::Start;
 use df_unit::Entry;

@@ -4,7 +4,7 @@ ghost use Rattle.std.specs.Prelude.{◌≡◌, ◌↔◌, IfOk, IsTrue};
 ghost use Rattle.csv.specs.Records.{fields_of};
 
 use csv::ByteRecord;
-use df_frozen::NoMemory;
+use df_memory::NoMemory;
 use std::alloc::Global;
 
 /// A kind of file: its header, and what each further record tells.

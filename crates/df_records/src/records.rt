@@ -8,7 +8,7 @@ ghost use Rattle.df_records.specs.code.Taking.{TakesRecord};
 
 use crate::form::Form;
 use csv::{ByteRecord, ReaderBuilder};
-use df_frozen::NoMemory;
+use df_memory::NoMemory;
 use std::alloc::{AllocError, AllocFailed, Global};
 
 /// Why a file of records isn't read.

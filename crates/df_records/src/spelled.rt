@@ -5,7 +5,8 @@ ghost use Rattle.csv.specs.Records.{field_at, fields_of};
 ghost use Rattle.df_records.specs.Fields.{are_letters, is_symbol, number, number_from};
 
 use csv::ByteRecord;
-use df_frozen::{NoMemory, Words};
+use df_frozen::Words;
+use df_memory::NoMemory;
 use std::alloc::Global;
 
 /// A field of a record, by its place.

@@ -1,9 +1,9 @@
 ghost use Rattle.std.specs.Prelude.{◌≡◌, IfOk};
 ghost use Rattle.df_unit.specs.declared.call.Call.TheVariants.{AddPart, AttachPrivilege, Instantiate};
 
-use df_filter::Filter;
 use df_frozen::{Frozen, Name};
-use df_label::{Label, NoMemory, Privilege, Privileges, TagSet};
+use df_label::{Label, Privilege, Privileges, TagSet};
+use df_memory::NoMemory;
 use df_unit::Call;
 
 /// An equal call, which shares the value of a part.
@@ -37,10 +37,10 @@ pub fn copy_call(call: &Call) -> Result<Call, NoMemory>
         Call::CreateTag => Ok(Call::CreateTag),
         Call::DropEvent { h } => Ok(Call::DropEvent { h: *h }),
         Call::Subscribe { filter } => Ok(Call::Subscribe {
-            filter: copy_filter(filter)?,
+            filter: filter.copy()?,
         }),
         Call::SubscribeManaged { filter } => Ok(Call::SubscribeManaged {
-            filter: copy_filter(filter)?,
+            filter: filter.copy()?,
         }),
         Call::Get => Ok(Call::Get),
         Call::Publish { h } => Ok(Call::Publish { h: *h }),
@@ -58,15 +58,13 @@ fn copy_add(h: u32, label: &Label, name: Name, value: &Frozen) -> Result<Call, N
     ensures { IfOk result (λ c. c ≡ AddPart h label.now name value.now) }
 {
     let label = label.copy()?;
-    match value.share() {
-        Ok(value) => Ok(Call::AddPart {
-            h,
-            label,
-            name,
-            value,
-        }),
-        Err(_) => Err(NoMemory),
-    }
+    let value = value.share()?;
+    Ok(Call::AddPart {
+        h,
+        label,
+        name,
+        value,
+    })
 }
 
 fn copy_attach(h: u32, label: &Label, name: Name, p: &Privilege) -> Result<Call, NoMemory>
@@ -75,15 +73,6 @@ fn copy_attach(h: u32, label: &Label, name: Name, p: &Privilege) -> Result<Call,
     let label = label.copy()?;
     let p = p.copy()?;
     Ok(Call::AttachPrivilege { h, label, name, p })
-}
-
-fn copy_filter(filter: &Filter) -> Result<Filter, NoMemory>
-    ensures { IfOk result (λ f. f ≡ filter.now) }
-{
-    match filter.copy() {
-        Ok(filter) => Ok(filter),
-        Err(_) => Err(NoMemory),
-    }
 }
 
 fn copy_making(s: &TagSet, privileges: &Privileges) -> Result<Call, NoMemory>

@@ -1,7 +1,7 @@
 ghost use Rattle.std.specs.Prelude.{◌≡◌, IfOk};
 
 use crate::copy_call;
-use df_label::NoMemory;
+use df_memory::NoMemory;
 use df_unit::{Commit, Effect, Entry};
 
 /// An equal commit, which shares the parts that it adds.

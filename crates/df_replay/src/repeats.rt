@@ -7,9 +7,10 @@ ghost use Rattle.df_unit.specs.declared.entry.Entry.TheVariants.{Done};
 ghost use Rattle.df_unit.specs.declared.name.UnitName.{UnitName};
 
 use crate::copy_call;
-use df_label::{Label, NoMemory};
+use df_label::Label;
 use df_local::Answer;
 use df_machine::Tables;
+use df_memory::NoMemory;
 use df_unit::{Call, Effect, Entry, Noted, Reply, UnitName};
 
 /// What a kept entry is, beside the one that the rules give there.

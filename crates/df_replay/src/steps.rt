@@ -4,8 +4,8 @@ ghost use Rattle.df_machine.specs.Journal.{appended};
 ghost use Rattle.df_replay.specs.Replay.{replayed};
 
 use crate::{copy_call, copy_commit};
-use df_label::NoMemory;
 use df_machine::Core;
+use df_memory::NoMemory;
 use df_start::{RootStart, Start};
 use df_unit::{Call, Commit, Entry, UnitName};
 use std::alloc::Global;

@@ -10,7 +10,7 @@ ghost use Rattle.df_roll.specs.declared.seat.Seat.{Seat};
 
 use crate::chunk::{Chunk, HALF};
 use crate::seat::{Seat, seat_at};
-use df_label::NoMemory;
+use df_memory::NoMemory;
 use df_unit::UnitName;
 use std::alloc::Global;
 use std::cmp::Ordering;

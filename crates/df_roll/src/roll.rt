@@ -11,7 +11,7 @@ ghost use Rattle.df_roll.specs.Roll.{names_in, seat_of};
 use crate::chunk::Chunk;
 use crate::chunks::{begin, gap_at, place_of, put, stock, unit_at};
 use crate::seat::Seat;
-use df_label::NoMemory;
+use df_memory::NoMemory;
 use df_unit::UnitName;
 use std::alloc::Global;
 use std::marker::Model;

@@ -16,7 +16,7 @@ use crate::tasks::{End, Output};
 use df_config::{Config, ConfigRefused, read_config};
 use df_floor_run::{FloorEnd, FloorRun, run_floor, run_floor_by};
 use df_io::Shelf;
-use df_label::NoMemory;
+use df_memory::NoMemory;
 use df_ticks::{Tick, TicksRefused, read_ticks};
 use df_workers::Gate;
 use std::alloc::Global;

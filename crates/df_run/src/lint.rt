@@ -4,9 +4,9 @@ ghost use Rattle.df_run.specs.Lint.{LintsScript};
 ghost use Rattle.df_script_text.specs.Script.{IsScriptText};
 ghost use Rattle.df_script_text.specs.TooLarge.{IsTooLargeIn};
 
-use df_label::NoMemory;
 use df_lines::FileRefused;
 use df_lint::lint_text;
+use df_memory::NoMemory;
 use df_script_text::read_script;
 use std::alloc::Global;
 

@@ -13,7 +13,7 @@ use crate::input::input_of;
 use crate::status::Status;
 use crate::tasks::{End, Output, Refused, output_of, output_of_key};
 use df_io::{Shelf, Sink, write_all};
-use df_label::NoMemory;
+use df_memory::NoMemory;
 use df_words::{Command, Files, WordsRefused, read_words};
 use df_workers::Gate;
 use std::alloc::Global;

@@ -12,9 +12,9 @@ ghost use Rattle.df_steps.specs.Steps.{AppendsStep, RecordsScript};
 ghost use Rattle.df_steps.specs.code.Written.{IsWritten, WritesOn};
 
 use df_journal_text::{Notes, write_head};
-use df_label::NoMemory;
 use df_lines::FileRefused;
 use df_machine::Tables;
+use df_memory::NoMemory;
 use df_script_text::{ReadLine, ScriptReader};
 use df_start::Start;
 use df_steps::{append_common, append_root, append_step};

@@ -16,8 +16,9 @@ use df_auction::{OrdersRefused, auction_text};
 use df_audit::{Audit, Finding, check_text, purge_text, upgrade_text, why_text};
 use df_floor_run::run_load;
 use df_gen::gen_ticks;
-use df_label::{Label, NoMemory};
+use df_label::Label;
 use df_lines::FileRefused;
+use df_memory::NoMemory;
 use df_ticks::write_ticks;
 use df_words::Command;
 use std::alloc::Global;
@@ -212,7 +213,7 @@ fn ticks_of_key(alloc: Global, key: u64, n: u32) -> Result<Output, NoMemory>
     }
 }
 
-fn ticks_text(alloc: Global, key: u64, n: u32) -> Result<Vec<u8>, df_frozen::NoMemory>
+fn ticks_text(alloc: Global, key: u64, n: u32) -> Result<Vec<u8>, df_memory::NoMemory>
     ensures { IfOk result (λ text. text.items ≡ ticks_text (generated key n)) }
 {
     let ticks = gen_ticks(alloc, key, n)?;

@@ -12,8 +12,8 @@ ghost use Rattle.df_script_text.specs.declared.line.ScriptLine.{ScriptLine};
 
 use crate::line::ScriptLine;
 use crate::reader::ScriptReader;
-use df_label::NoMemory;
 use df_lines::FileRefused;
+use df_memory::NoMemory;
 use df_start::Start;
 use std::alloc::Global;
 

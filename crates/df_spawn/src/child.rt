@@ -5,7 +5,8 @@ ghost use Rattle.df_label.specs.TagSet.{is_subset};
 ghost use Rattle.df_spawn.specs.declared.child.SpawnRefused.{SpawnRefused};
 ghost use Rattle.df_spawn.specs.Child.{Names, input_label, lacking, lacking_authority, lacking_tag, output_label};
 
-use df_label::{Label, NoMemory, Privilege, Privileges, TagSet};
+use df_label::{Label, Privilege, Privileges, TagSet};
+use df_memory::NoMemory;
 use df_priv::{Act, Held, needed, needed_to_attach};
 
 /// What a unit has as another makes it.

@@ -12,9 +12,9 @@ ghost use Rattle.df_steps.specs.code.Noting.{AppendsEntry};
 
 use df_audit::{append_accepted, brief_of};
 use df_journal_text::{Note, Notes, append_quiet, append_spelled};
-use df_label::NoMemory;
 use df_local::Brief;
 use df_machine::Tables;
+use df_memory::NoMemory;
 use df_script_text::{CommonLine, ReadLine, RootLine};
 use df_unit::Call;
 

@@ -15,7 +15,7 @@ use Rattle.df_unit.specs.declared.entry.Effect.{Effect}
 use Rattle.df_unit.specs.declared.name.UnitName.{UnitName}
 use Rattle.df_unit.specs.declared.reply.Reply.{Reply}
 use Rattle.df_label.specs.declared.label.Label.{Label}
-use Rattle.df_label.specs.declared.no_memory.NoMemory.{NoMemory}
+use Rattle.df_memory.specs.declared.NoMemory.{NoMemory}
 use Rattle.df_tables.specs.Agree.{FilterIndex, IsWhole}
 use Rattle.df_tables.specs.Board.{IsBoard, IsMade, IsMovedBoard, IsRenewed, MakesAlone, answer_from, place_on, row_by}
 use Rattle.df_tables.specs.Hand.{IsAnsweredAt, IsMadeAt, modify}

@@ -2,7 +2,7 @@
 use Rattle.std.proofs.Common.{◌≡◌, ℕ, ◌<◌, Bool, true, false, List, [], ◌∷◌, get_or, set, length, Option, None, Some, Result, Ok, Err, IfOk, OnErr, if◌then◌else◌, refl, ap, sym, subst, ◌∙◌}
 use Rattle.std.proofs.lemmas.List.{get_or_default}
 use Rattle.df_local.specs.Locally.{row_answer}
-use Rattle.df_label.specs.declared.no_memory.NoMemory.{NoMemory}
+use Rattle.df_memory.specs.declared.NoMemory.{NoMemory}
 use Rattle.df_local.specs.code.LocalState.{LocalState}
 use Rattle.df_local.specs.declared.answer.Answer.{Answer}
 use Rattle.df_rules.specs.Commits.{commit_in}

@@ -12,8 +12,9 @@ ghost use Rattle.df_tables.specs.Table.{moved_row};
 
 use crate::line::Line;
 use crate::units::Unit;
-use df_label::{Label, NoMemory, Privileges, TagSet};
+use df_label::{Label, Privileges, TagSet};
 use df_local::Local;
+use df_memory::NoMemory;
 use df_roll::Roll;
 use df_spawn::{ChildLabels, SpawnRefused, child_labels};
 use df_unit::UnitName;

@@ -6,7 +6,7 @@ ghost use Rattle.std.specs.Global.{Vec};
 ghost use Rattle.df_tables.specs.EventPlaces.{key_of, place_at, root_number, same_key, slot, slot_in};
 ghost use Rattle.df_tables.specs.declared.event_places.Key.{Key};
 
-use df_label::NoMemory;
+use df_memory::NoMemory;
 use df_unit::{EventName, UnitName};
 use std::alloc::Global;
 use std::collections::BTreeMap;

@@ -9,7 +9,7 @@ ghost use Rattle.df_tables.specs.Table.{parts_of};
 ghost use Rattle.df_tables.specs.declared.event_places.Key.{Key};
 
 use crate::event_places::{EventPlaces, Key, key_of, root_number};
-use df_label::NoMemory;
+use df_memory::NoMemory;
 use df_part::Contents;
 use df_unit::{EventName, Path, UnitName};
 use std::alloc::Global;

@@ -7,7 +7,8 @@ ghost use Rattle.df_tables.specs.Hand.{IsAnsweredAt, IsCalm, IsNews, each, given
 ghost use Rattle.df_tables.specs.declared.units.Unit.{Unit};
 
 use crate::units::Unit;
-use df_label::{Label, NoMemory};
+use df_label::Label;
+use df_memory::NoMemory;
 use df_part::Contents;
 use df_unit::{Call, Effect, EventName, Given, Reply};
 
@@ -45,13 +46,8 @@ fn stage_at(
     ensures ok { OnOk result (unit.new ≡ staged_row event.now after.now receiver unit.old) }
     ensures unchanged { OnErr result (unit.new ≡ unit.old) }
 {
-    let Ok(given) = given_to(event, after, unit.local.input(), receiver) else {
-        return Err(NoMemory);
-    };
-    let Ok(()) = unit.line.stage(given) else {
-        return Err(NoMemory);
-    };
-    Ok(())
+    let given = given_to(event, after, unit.local.input(), receiver)?;
+    unit.line.stage(given)
 }
 
 /// Stages the event at each receiver's row. Where memory is wanting, only what is staged there is
@@ -70,9 +66,7 @@ fn stage(
 {
     for receiver in receivers {
         let unit = &mut units[receiver.0];
-        let Ok(()) = stage_at(unit, event, after, *receiver) else {
-            return Err(NoMemory);
-        };
+        stage_at(unit, event, after, *receiver)?;
     }
     Ok(())
 }
@@ -114,10 +108,7 @@ fn take_commit(
     ensures unchanged { OnErr result (units.new ≡ units.old) }
 {
     let unit = &mut units[place];
-    let Ok(()) = unit.local.take(call, reply, effect) else {
-        return Err(NoMemory);
-    };
-    Ok(())
+    unit.local.take(call, reply, effect)
 }
 
 /// Hands an event to its receivers, and takes the commit's entry into the own state of the actor,

@@ -5,7 +5,7 @@ ghost use Rattle.std.specs.Prelude.{◌≡◌, [], OnOk, OnErr, length, slice_ge
 ghost use Rattle.df_unit.specs.Rows.{is_nil};
 ghost use Rattle.df_tables.specs.Line.{quiet, settled, staged_more};
 
-use df_label::NoMemory;
+use df_memory::NoMemory;
 use df_unit::Given;
 use std::alloc::Global;
 use std::collections::VecDeque;
@@ -87,9 +87,7 @@ impl Line {
         ensures ok { OnOk result (self.new ≡ staged_more given self.old) }
         ensures unchanged { OnErr result (self.new ≡ self.old) }
     {
-        let Ok(()) = self.deliveries.reserve(1) else {
-            return Err(NoMemory);
-        };
+        self.deliveries.reserve(1)?;
         self.deliveries.push_back_reserved(given);
         Ok(())
     }

@@ -14,8 +14,8 @@ ghost use Rattle.df_tables.specs.Table.{moved_row};
 use crate::units::Unit;
 use df_filter::Filter;
 use df_instances::Managed;
-use df_label::NoMemory;
 use df_local::Local;
+use df_memory::NoMemory;
 use df_unit::{Path, UnitName};
 
 /// The path of a plain unit.
@@ -49,16 +49,9 @@ fn enrol(local: &Local, managed: &mut Managed, filter: &Filter, number: u32) -> 
     ensures ok { OnOk result (IsEnrolledBy local.now filter.now number managed.old managed.new) }
     ensures unchanged { OnErr result (managed.new ≡ managed.old) }
 {
-    let Ok(owner) = path_of(local).copy() else {
-        return Err(NoMemory);
-    };
-    let Ok(fixed) = local.fixed(filter) else {
-        return Err(NoMemory);
-    };
-    let Ok(()) = managed.enrol(owner, number, fixed) else {
-        return Err(NoMemory);
-    };
-    Ok(())
+    let owner = path_of(local).copy()?;
+    let fixed = local.fixed(filter)?;
+    managed.enrol(owner, number, fixed)
 }
 
 /// Enrols the managed subscription that the unit at a place makes. Where memory is wanting, the
@@ -80,9 +73,7 @@ pub fn subscribe_managed(
     ensures unchanged { OnErr result (units.new ≡ units.old) }
     ensures as_before { OnErr result (managed.new ≡ managed.old) }
 {
-    let Ok(()) = enrol(&units[place].local, managed, filter, number) else {
-        return Err(NoMemory);
-    };
+    enrol(&units[place].local, managed, filter, number)?;
     count_at(units, place, filter, number);
     Ok(())
 }

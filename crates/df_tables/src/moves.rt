@@ -15,8 +15,8 @@ use crate::line::Line;
 use crate::units::Unit;
 use df_filter::Filter;
 use df_index::Index;
-use df_label::NoMemory;
 use df_local::{Accepted, Answer, Brief};
+use df_memory::NoMemory;
 use df_unit::{Call, Effect, Reply};
 
 /// The line without the delivery that is handed over.
@@ -34,9 +34,7 @@ fn move_row(unit: &mut Unit, call: &Call, reply: &Reply, effect: &Effect) -> Res
     ensures ok { OnOk result (unit.new ≡ moved_row rows call.now reply.now effect.now unit.old) }
     ensures unchanged { OnErr result (unit.new ≡ unit.old) }
 {
-    let Ok(()) = unit.local.take(call, reply, effect) else {
-        return Err(NoMemory);
-    };
+    unit.local.take(call, reply, effect)?;
     take_from(&mut unit.line, effect);
     Ok(())
 }
@@ -57,10 +55,7 @@ pub fn move_at(
     ensures unchanged { OnErr result (units.new ≡ units.old) }
 {
     let unit = &mut units[place];
-    let Ok(()) = move_row(unit, call, reply, effect) else {
-        return Err(NoMemory);
-    };
-    Ok(())
+    move_row(unit, call, reply, effect)
 }
 
 /// Makes a call that the unit at a place makes of its own state alone; None where it is another.
@@ -123,9 +118,7 @@ fn give(unit: &mut Unit) -> Result<Answer, NoMemory>
     let Some(given) = unit.line.first() else {
         return Ok(quiet(Reply::Nothing));
     };
-    let Ok(reply) = unit.local.take_in(given) else {
-        return Err(NoMemory);
-    };
+    let reply = unit.local.take_in(given)?;
     if !is_event(&reply) {
         return Ok(quiet(reply));
     }
@@ -181,12 +174,8 @@ pub fn subscribe(
     ensures unchanged { OnErr result (units.new ≡ units.old) }
     ensures as_before { OnErr result (index.new ≡ index.old) }
 {
-    let Ok(copy) = filter.copy() else {
-        return Err(NoMemory);
-    };
-    let Ok(()) = index.enrol(place, number, copy) else {
-        return Err(NoMemory);
-    };
+    let copy = filter.copy()?;
+    index.enrol(place, number, copy)?;
     count_at(units, place, filter, number);
     Ok(())
 }

@@ -10,7 +10,7 @@ use crate::births::Newborn;
 use crate::board::Board;
 use crate::commits::Ready;
 use crate::units::Unit;
-use df_label::NoMemory;
+use df_memory::NoMemory;
 use df_unit::{Commit, UnitName};
 use std::alloc::Global;
 

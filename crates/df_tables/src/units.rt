@@ -7,8 +7,9 @@ ghost use Rattle.df_tables.specs.Labels.{AreLabels, inputs};
 ghost use Rattle.df_tables.specs.Table.{first_row, place_of};
 
 use crate::line::Line;
-use df_label::{Label, NoMemory, Privileges};
+use df_label::{Label, Privileges};
 use df_local::Local;
+use df_memory::NoMemory;
 use df_roll::Roll;
 use df_unit::UnitName;
 use std::alloc::Global;
@@ -66,9 +67,7 @@ fn renew(units: &[Unit], place: usize, labels: &mut Vec<Label>) -> Result<(), No
     ensures ok { OnOk result (labels.new.items ≡ inputs units.now) }
     ensures unchanged { OnErr result (labels.new.items ≡ labels.old.items) }
 {
-    let Ok(label) = units[place].local.input().copy() else {
-        return Err(NoMemory);
-    };
+    let label = units[place].local.input().copy()?;
     labels[place] = label;
     Ok(())
 }

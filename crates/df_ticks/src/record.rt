@@ -7,7 +7,7 @@ ghost use Rattle.df_ticks.specs.TickFile.{header, tick_of, tick_of_two};
 
 use crate::tick::Tick;
 use csv::ByteRecord;
-use df_frozen::NoMemory;
+use df_memory::NoMemory;
 use df_records::{Form, field, is_symbol, number, symbol};
 use std::alloc::Global;
 

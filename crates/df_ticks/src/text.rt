@@ -4,7 +4,7 @@ ghost use Rattle.std.specs.Prelude.{◌≡◌, ◌++◌, IfOk, OnOk, string_byte
 ghost use Rattle.df_ticks.specs.TickText.{tick_line, ticks_text};
 
 use crate::tick::Tick;
-use df_frozen::NoMemory;
+use df_memory::NoMemory;
 use std::alloc::Global;
 use std::fmt::Write;
 

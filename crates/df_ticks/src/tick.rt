@@ -1,6 +1,7 @@
 ghost use Rattle.std.specs.Prelude.{◌≡◌, ◌↔◌, IsTrue, IfOk};
 
-use df_frozen::{NoMemory, Words};
+use df_frozen::Words;
+use df_memory::NoMemory;
 
 /// A price of a symbol, in hundredths.
 #[derive(Drop)]

@@ -6,7 +6,7 @@ ghost use Rattle.df_ticks.specs.Refusing.{IsRightRefusal};
 
 use crate::record::TickForm;
 use crate::tick::Tick;
-use df_frozen::NoMemory;
+use df_memory::NoMemory;
 use df_records::{RecordsRefused, read_records};
 use std::alloc::Global;
 use std::error::Error;

@@ -14,9 +14,9 @@ use crate::ready::Ready;
 use crate::shared::Shared;
 use crate::stage::{Stage, reply_to, take};
 use df_brain::{Brain, Last, Want};
-use df_label::NoMemory;
 use df_local::Local;
 use df_local_run::LocalRun;
+use df_memory::NoMemory;
 use df_unit::Entry;
 use std::alloc::Global;
 use std::mem;
@@ -99,9 +99,7 @@ impl<B: Brain> Going<B> {
         ensures state { self.new.state ≡ self.old.state }
         ensures unchanged { OnErr result (self.new ≡ self.old) }
     {
-        let Ok(reply) = reply_to(&self.run, &self.stage) else {
-            return Err(NoMemory);
-        };
+        let reply = reply_to(&self.run, &self.stage)?;
         let wanted = mem::replace(&mut self.stage, Stage::Told(Last::Reply(reply)));
         match take(&mut self.run, wanted) {
             Ok(()) => Ok(()),

@@ -6,7 +6,7 @@ ghost use Rattle.df_rules.specs.Follows.{Start, Wait};
 
 use crate::shared::Shared;
 use df_brain::{Brain, Last, Want};
-use df_label::NoMemory;
+use df_memory::NoMemory;
 use std::alloc::Global;
 use std::marker::Model;
 

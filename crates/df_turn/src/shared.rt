@@ -4,7 +4,7 @@ ghost use Rattle.std.specs.Prelude.{◌≡◌, ◌↔◌, IfOk, IsTrue, OnErr};
 ghost use Rattle.df_brain.specs.Brain.{last_of, want_of};
 
 use df_brain::{Brain, Last, Want};
-use df_label::NoMemory;
+use df_memory::NoMemory;
 use std::alloc::Global;
 use std::marker::Model;
 use std::sync::Arc;

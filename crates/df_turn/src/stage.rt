@@ -4,8 +4,8 @@ ghost use Rattle.std.specs.Prelude.{◌≡◌, IfErr, IfOk, OnErr, OnOk, true};
 ghost use Rattle.df_turn.specs.code.Going.{IsAnswered, IsTaken, goes_on};
 
 use df_brain::{Last, Want};
-use df_label::NoMemory;
 use df_local_run::{LocalRun, is_local};
+use df_memory::NoMemory;
 use df_unit::Reply;
 
 /// What a brain does next in a turn.

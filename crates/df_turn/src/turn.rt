@@ -8,8 +8,8 @@ use crate::going::Going;
 use crate::mind::Mind;
 use crate::ready::Ready;
 use df_brain::Brain;
-use df_label::NoMemory;
 use df_local::Local;
+use df_memory::NoMemory;
 use std::alloc::Global;
 use std::marker::Model;
 

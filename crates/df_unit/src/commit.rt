@@ -1,7 +1,7 @@
 ghost use Rattle.std.specs.Prelude.{◌≡◌, ◌↔◌, IsTrue, IfOk};
 
 use crate::EventName;
-use df_label::NoMemory;
+use df_memory::NoMemory;
 use df_part::{Edit, Parts};
 
 /// An edit of one event, made at once.

@@ -1,7 +1,7 @@
 ghost use Rattle.std.specs.Prelude.{◌≡◌};
 
 use crate::EventName;
-use df_label::NoMemory;
+use df_memory::NoMemory;
 use df_part::{Part, Parts, Spot};
 use std::marker::Model;
 

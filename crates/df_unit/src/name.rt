@@ -5,7 +5,8 @@ ghost use Rattle.df_unit.specs.UnitOrder.{unit_cmp};
 ghost use Rattle.df_unit.specs.UnitOrderLaws.{same_equiv, unit_cmp_po, unit_cmp_ties, unit_cmp_total};
 
 use crate::Path;
-use df_label::{NoMemory, TagSet};
+use df_label::TagSet;
+use df_memory::NoMemory;
 use std::cmp::Ordering;
 
 /// A unit's name. A plain unit is named by its path. The instance of a managed subscription is

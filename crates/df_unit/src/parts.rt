@@ -1,7 +1,8 @@
 ghost use Rattle.std.specs.Prelude.{◌≡◌, ◌↔◌, IsTrue, IfOk};
 
 use df_frozen::Frozen;
-use df_label::{Label, NoMemory, Privileges};
+use df_label::{Label, Privileges};
+use df_memory::NoMemory;
 use std::alloc::Global;
 use std::marker::Model;
 
@@ -101,9 +102,7 @@ impl PartRead {
         ensures { IfOk result (λ p. p ≡ self.now) }
     {
         let label = self.label.copy()?;
-        let Ok(value) = self.value.share() else {
-            return Err(NoMemory);
-        };
+        let value = self.value.share()?;
         let privileges = self.privileges.copy()?;
         Ok(PartRead {
             label,

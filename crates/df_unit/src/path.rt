@@ -7,7 +7,8 @@ ghost use Rattle.std.specs.Hash as fed;
 ghost use Rattle.std.proofs.Common.{rules};
 ghost use Rattle.df_unit.specs.declared.path.TheConstants.{INLINE};
 
-use df_label::{NoMemory, compare_numbers};
+use df_label::compare_numbers;
+use df_memory::NoMemory;
 use std::alloc::Global;
 use std::cmp::Ordering;
 use std::hash::{Hash, Hasher};

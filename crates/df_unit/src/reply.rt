@@ -1,7 +1,8 @@
 ghost use Rattle.std.specs.Prelude.{◌≡◌, ◌↔◌, IsTrue, IfOk};
 
 use crate::PartsRead;
-use df_label::{Label, NoMemory, Privilege, Tag};
+use df_label::{Label, Privilege, Tag};
+use df_memory::NoMemory;
 
 /// What a call answers. A refusal changes nothing but the journal.
 #[derive(Drop)]

@@ -6,8 +6,9 @@ ghost use Rattle.df_rules.specs.Start.{rows};
 ghost use Rattle.df_replay.specs.Noted.{noted};
 ghost use Rattle.df_upgrade.specs.Notes.{JudgesAndNotes, MovesFirst};
 
-use df_label::{Label, NoMemory};
+use df_label::Label;
 use df_machine::Tables;
+use df_memory::NoMemory;
 use df_replay::{Compared, compare, copy_entry};
 use df_start::Start;
 use df_unit::{Entry, Noted};

@@ -1,7 +1,8 @@
 ghost use Rattle.std.specs.Prelude.{◌≡◌, ◌++◌, OnOk};
 ghost use Rattle.df_value_text.specs.Label.{label_text, tags_text};
 
-use df_label::{Label, NoMemory, TagSet};
+use df_label::{Label, TagSet};
+use df_memory::NoMemory;
 
 /// Appends the tags of a set with `,` between them; of the empty set no bytes.
 pub fn append_tags(tags: &TagSet, to: &mut Vec<u8>) -> Result<(), NoMemory>

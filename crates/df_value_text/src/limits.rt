@@ -13,7 +13,8 @@ ghost use Rattle.df_value_text.specs.ValueFault.{IsWithinBefore, NamesTooLarge, 
 
 use crate::value_reader::value_at;
 use crate::{Fault, TextRefused};
-use df_frozen::{Frozen, LONGEST_NAME, NoMemory, Value};
+use df_frozen::{Frozen, LONGEST_NAME, Value};
+use df_memory::NoMemory;
 use std::alloc::Global;
 
 /// A value within the limits of freezing, frozen: only memory can be wanting.

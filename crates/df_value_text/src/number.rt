@@ -1,7 +1,7 @@
 ghost use Rattle.std.specs.Prelude.{◌≡◌, ◌++◌, OnOk};
 ghost use Rattle.std.specs.Fmt.{signed_decimal};
 
-use df_label::NoMemory;
+use df_memory::NoMemory;
 use itoa::Buffer;
 
 /// Appends a whole number: a number, or `-` and a number that isn't 0.

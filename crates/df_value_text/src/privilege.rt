@@ -2,7 +2,8 @@ ghost use Rattle.std.specs.Prelude.{◌≡◌, ◌++◌, OnOk};
 ghost use Rattle.df_value_text.specs.Label.{privilege_text};
 
 use crate::append_tag;
-use df_label::{NoMemory, Privilege, Right};
+use df_label::{Privilege, Right};
+use df_memory::NoMemory;
 
 /// Appends a privilege: its tag, and `+`, `-`, `+auth` or `-auth`.
 pub fn append_privilege(privilege: &Privilege, to: &mut Vec<u8>) -> Result<(), NoMemory>

@@ -3,7 +3,7 @@ ghost use Rattle.std.specs.Prelude.{◌≡◌};
 ghost use Rattle.df_value_text.specs.code.Answer.{refusal, told};
 ghost use Rattle.df_value_text.specs.declared.refused.Fault.TheVariants as fault;
 
-use df_label::NoMemory;
+use df_memory::NoMemory;
 use std::alloc::{AllocError, AllocFailed};
 
 /// Why a literal isn't read.
@@ -47,14 +47,6 @@ impl From<NoMemory> for Fault {
     ghost from_gives = { λ e f. f ≡ fault.NoMemory };
 
     fn from(_error: NoMemory) -> Fault {
-        Fault::NoMemory
-    }
-}
-
-impl From<df_frozen::NoMemory> for Fault {
-    ghost from_gives = { λ e f. f ≡ fault.NoMemory };
-
-    fn from(_error: df_frozen::NoMemory) -> Fault {
         Fault::NoMemory
     }
 }

@@ -6,7 +6,8 @@ ghost use Rattle.df_value_text.specs.ReadTag.{begins_digit, ended, leads_at, lon
 
 use crate::Fault;
 use crate::number_reader::{byte_at, byte_stands, short_at};
-use df_label::{NoMemory, Tag, TagSet};
+use df_label::{Tag, TagSet};
+use df_memory::NoMemory;
 use std::alloc::Global;
 
 /// Whether a digit stands at the place.

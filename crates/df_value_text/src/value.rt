@@ -6,7 +6,7 @@ ghost use Rattle.df_value_text.specs.Value.{entry_text, escaped, hex, hex_digit,
 
 use crate::{append_separator, append_whole};
 use df_frozen::{Name, Value};
-use df_label::NoMemory;
+use df_memory::NoMemory;
 
 /// Appends a value. It takes a stack as deep as the value.
 #[cycle(append)]

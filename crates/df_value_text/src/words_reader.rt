@@ -11,7 +11,7 @@ use crate::Fault;
 use crate::char_reader::{append_char, char_stands, is_plain};
 use crate::number_reader::byte_at;
 use df_frozen::Words;
-use df_label::NoMemory;
+use df_memory::NoMemory;
 use std::alloc::Global;
 
 /// How many bytes are looked at together.

@@ -7,7 +7,8 @@ ghost use Rattle.df_value_text.specs.Value.{value_text};
 
 use crate::{append_label, append_privilege, append_tag, append_value};
 use df_frozen::Value;
-use df_label::{Label, NoMemory, Privilege, Tag};
+use df_label::{Label, Privilege, Tag};
+use df_memory::NoMemory;
 
 /// Appends the spelling of a tag.
 pub fn write_tag(tag: &Tag, to: &mut Vec<u8>) -> Result<(), NoMemory>

@@ -6,7 +6,7 @@ ghost use Rattle.df_why.specs.code.Tracks.{makes_at};
 ghost use Rattle.df_why.specs.code.Walk.{points};
 
 use crate::tracks::Track;
-use df_label::NoMemory;
+use df_memory::NoMemory;
 use std::alloc::Global;
 
 /// The place of the first entry that makes what has a number, for each of so many numbers.

@@ -14,7 +14,7 @@ use crate::found::Found;
 use crate::queues::find;
 use crate::tracks::{Track, Tracked};
 use crate::walk::Link;
-use df_label::NoMemory;
+use df_memory::NoMemory;
 use df_start::Start;
 use df_unit::Entry;
 use std::alloc::Global;

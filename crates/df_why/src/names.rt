@@ -5,7 +5,8 @@ ghost use Rattle.df_rules.specs.Commits.{commit_of};
 ghost use Rattle.df_unit.specs.declared.name.UnitName.TheVariants.{Managed, Root};
 ghost use Rattle.df_why.specs.code.Names.{actor_of, event_of, key_of, made_of, origin_in, origin_of};
 
-use df_label::{NoMemory, TagSet};
+use df_label::TagSet;
+use df_memory::NoMemory;
 use df_unit::{Call, Commit, Effect, Entry, EventName, Path, Reply, UnitName};
 use std::alloc::Global;
 

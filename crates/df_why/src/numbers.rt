@@ -3,7 +3,7 @@
 ghost use Rattle.std.specs.Prelude.{IfOk, OnOk, Some};
 ghost use Rattle.df_why.specs.code.Numbers.{Finds, IsNumbering, KeepsNumbers};
 
-use df_label::NoMemory;
+use df_memory::NoMemory;
 use std::collections::BTreeMap;
 
 /// The number of a name, if there is a name: the one that it has, or the next.

@@ -3,7 +3,7 @@
 ghost use Rattle.std.specs.Prelude.{◌≡◌, ◌+◌, ◌<◌, [], OnOk, slice_get};
 ghost use Rattle.df_why.specs.code.Arising.{extended};
 
-use df_label::NoMemory;
+use df_memory::NoMemory;
 use std::alloc::Global;
 use std::marker::Model;
 

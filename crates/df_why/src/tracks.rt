@@ -6,7 +6,7 @@ ghost use Rattle.df_why.specs.code.Tracks.{AreNumbered, AreTracked, IsTrack, Kee
 
 use crate::names::{actor_of, event_of, made_of, origin_in};
 use crate::numbers::number;
-use df_label::NoMemory;
+use df_memory::NoMemory;
 use df_unit::{Call, Effect, Entry, Reply, UnitName};
 use std::alloc::Global;
 use std::collections::BTreeMap;

@@ -3,7 +3,7 @@
 ghost use Rattle.std.specs.Prelude.{◌≡◌, ◌-◌, ◌<◌, ◌||◌, [], ℕ, false, IfOk, IfSome, get_or, length};
 ghost use Rattle.df_why.specs.code.Walk.{AreWithin, HasSizes, IsWithin, SameSizes, StandsFor, add_places, add_units, blank, flag_at, link_at, points, walked, wants};
 
-use df_label::NoMemory;
+use df_memory::NoMemory;
 use std::alloc::Global;
 
 /// What an entry rests on: its unit and whether that exists, its commit's event, the place where

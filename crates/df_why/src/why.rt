@@ -8,7 +8,7 @@ ghost use Rattle.df_why.specs.Grounds.{IsGrounds, at_places};
 use crate::links::links_of;
 use crate::tracks::track_all;
 use crate::walk::walk_back;
-use df_label::NoMemory;
+use df_memory::NoMemory;
 use df_start::Start;
 use df_unit::Entry;
 use std::alloc::Global;

@@ -16,7 +16,7 @@ use Rattle.df_crew.specs.declared.origin.Origin.{Origin}
 use Rattle.df_hub.specs.Steps.{IsBooked, IsCounted}
 use Rattle.df_hub.specs.declared.hub.Stepped.{Stepped}
 use Rattle.df_local.specs.code.LocalState.{LocalState}
-use Rattle.df_label.specs.declared.no_memory.NoMemory as label
+use Rattle.df_memory.specs.declared.NoMemory as label
 use Rattle.df_rules.specs.Follows.{Brain}
 use Rattle.df_turn.specs.Locally.{TurnState}
 use Rattle.df_unit.specs.OwnState.{OwnState}

@@ -16,7 +16,7 @@ use df_brain::Brain;
 use df_crew::Crew;
 use df_desk::Pass;
 use df_hub::Hub;
-use df_label::NoMemory;
+use df_memory::NoMemory;
 use std::alloc::Global;
 use std::sync::Wait;
 use std::thread::{Threads, for_each_mut};

@@ -15,7 +15,7 @@ use df_brain::Brain;
 use df_crew::{BeginRefused, BookCause, Crew, NotTurned};
 use df_desk::Pass;
 use df_hub::{Hub, Stepped};
-use df_label::NoMemory;
+use df_memory::NoMemory;
 use df_turn::Turn;
 use df_unit::UnitName;
 use std::sync::Wait;

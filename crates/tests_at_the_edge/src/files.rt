@@ -1,9 +1,9 @@
 //! Files over the real shelf, texts over real outputs, and the shelf and the sink that never fail.
 
 use df_io::{
-    FileShelf, NoMemory, NotRead, OutSink, Shelf, Sink, SinkFailed, SureShelf, SureSink, read_file,
-    write_all,
+    FileShelf, NotRead, OutSink, Shelf, Sink, SinkFailed, SureShelf, SureSink, read_file, write_all,
 };
+use df_memory::NoMemory;
 use std::alloc::Global;
 use std::io::Write;
 use std::test::Fail;

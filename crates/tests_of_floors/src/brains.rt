@@ -3,7 +3,7 @@
 ghost use Rattle.std.specs.Prelude.{refl};
 
 use df_brain::{Brain, Last, Want};
-use df_label::NoMemory;
+use df_memory::NoMemory;
 use df_rules::StepFunction;
 use df_unit::{Call, Reply};
 

@@ -6,7 +6,8 @@ use df_book::Trade;
 use df_brain::{Brain, Last, Want};
 use df_floor_units::{FloorBrain, Ticks};
 use df_frozen::Words;
-use df_label::{Label, NoMemory, Privileges, TagSet};
+use df_label::{Label, Privileges, TagSet};
+use df_memory::NoMemory;
 use df_messages::{
     Draft, Match, Offer, Symbol, match_draft, offer_draft, tick_draft, trade_draft, who_draft,
 };

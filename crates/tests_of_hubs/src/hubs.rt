@@ -10,7 +10,8 @@ use df_desk::Pass;
 use df_filter::{Clause, Filter, Test};
 use df_frozen::Name;
 use df_hub::{Hub, Stepped};
-use df_label::{Label, NoMemory, Privileges, TagSet};
+use df_label::{Label, Privileges, TagSet};
+use df_memory::NoMemory;
 use df_start::{RootStart, Start};
 use df_turn::{Ready, Turn};
 use df_unit::{Path, UnitName};
@@ -67,9 +68,7 @@ fn teller_alone(alloc: Global) -> Result<(Hub<Player>, Pass<Crew<Player>>), NoMe
 
 /// The events that have a bed.
 fn with_a_bed(alloc: Global) -> Result<Filter, NoMemory> {
-    let Ok(name) = Name::new("bed") else {
-        return Err(NoMemory);
-    };
+    let name = Name::new("bed")?;
     let clause = Clause {
         name,
         test: Test::Present,
@@ -107,9 +106,7 @@ fn advanced<R: Wait>(
     requires { IsFree hub.now pass.old }
     ensures { IsFree hub.now pass.new }
 {
-    let Ok(mut turn) = hub.begin(rt, pass, unit) else {
-        return Err(NoMemory);
-    };
+    let mut turn = hub.begin(rt, pass, unit)?;
     match turn.advance() {
         Ok(ready) => Ok(ReadyTurn { turn, ready }),
         Err(NoMemory) => {

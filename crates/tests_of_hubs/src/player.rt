@@ -7,7 +7,7 @@ ghost use Rattle.tests_of_hubs.specs.Playing.{hosted};
 use crate::teller::Teller;
 use df_brain::{Brain, Last, Want};
 use df_filter::Filter;
-use df_label::NoMemory;
+use df_memory::NoMemory;
 use df_rules::StepFunction;
 use df_unit::Call;
 

@@ -8,7 +8,8 @@ ghost use Rattle.tests_of_hubs.specs.Playing.{after, told, wanted};
 
 use df_brain::Want;
 use df_frozen::{Frozen, Name, Value};
-use df_label::{Label, NoMemory, TagSet};
+use df_label::{Label, TagSet};
+use df_memory::NoMemory;
 use df_unit::Call;
 use std::alloc::Global;
 
@@ -44,12 +45,8 @@ pub struct Teller {
 
 impl Teller {
     pub fn new(alloc: Global, number: i64) -> Result<Teller, NoMemory> {
-        let Ok(name) = Name::new("bed") else {
-            return Err(NoMemory);
-        };
-        let Ok(value) = Value::Int(number).freeze(alloc) else {
-            return Err(NoMemory);
-        };
+        let name = Name::new("bed")?;
+        let value = Value::Int(number).freeze(alloc)?;
         let label = Label {
             s: TagSet::new(alloc),
             i: TagSet::new(alloc),

@@ -9,7 +9,7 @@ use crate::teller::Teller;
 use df_crew::Crew;
 use df_desk::Pass;
 use df_hub::Hub;
-use df_label::NoMemory;
+use df_memory::NoMemory;
 use df_start::Start;
 use df_unit::UnitName;
 use df_workers::{Gate, OpenGate, run};

@@ -1,8 +1,9 @@
 //! The calls of one unit, each by its own function, with its reply.
 
 use df_frozen::{Frozen, Name, Value};
-use df_label::{Label, NoMemory, Privilege, Privileges, Right, Tag, TagSet};
+use df_label::{Label, Privilege, Privileges, Right, Tag, TagSet};
 use df_local::Local;
+use df_memory::NoMemory;
 use df_part::{Part, PartRef, Parts};
 use df_priv::{Act, Half};
 use df_unit::{EventName, Given, Path, Reply, UnitName};

@@ -2,7 +2,7 @@
 
 use df_journal_file::{read_journal, read_noted};
 use df_journal_text::{write_entry, write_event, write_start, write_unit};
-use df_label::NoMemory;
+use df_memory::NoMemory;
 use df_start::Start;
 use df_unit::Entry;
 use std::alloc::Global;

@@ -1,7 +1,8 @@
 //! A book that grows, and its copy.
 
 use df_book::{Book, Order, Trade};
-use df_frozen::{NoMemory, Words};
+use df_frozen::Words;
+use df_memory::NoMemory;
 use std::alloc::Global;
 use std::test::Fail;
 

@@ -1,6 +1,7 @@
 //! Tags as keys of a map, and a privilege that is granted.
 
-use df_label::{NoMemory, Privilege, Right, Tag};
+use df_label::{Privilege, Right, Tag};
+use df_memory::NoMemory;
 use df_priv::Held;
 use std::alloc::{AllocError, Global};
 use std::collections::HashMap;

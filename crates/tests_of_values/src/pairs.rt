@@ -2,7 +2,8 @@
 
 ghost use Rattle.std.specs.Prelude.{◌≤◌, ◌≤ℤ◌, pos};
 
-use df_pairs::{NoMemory, Pair, Signal};
+use df_memory::NoMemory;
+use df_pairs::{Pair, Signal};
 use std::alloc::Global;
 use std::test::Fail;
 

@@ -6,7 +6,8 @@ ghost use Rattle.df_frozen.specs.Name.{is_name};
 use df_crew::Crew;
 use df_filter::{Clause, Filter, Test};
 use df_frozen::{Frozen, Name, Value, Words};
-use df_label::{Label, NoMemory, Privilege, Privileges, Right, Tag, TagSet};
+use df_label::{Label, Privilege, Privileges, Right, Tag, TagSet};
+use df_memory::NoMemory;
 use df_start::{RootStart, Start};
 use std::alloc::Global;
 use ward_units::{Doctor, NewPart, Office, Role, Ward};
@@ -44,10 +45,7 @@ fn name(text: &str) -> Name
 }
 
 fn words(alloc: Global, text: &str) -> Result<Value, NoMemory> {
-    match Words::new(alloc, text) {
-        Ok(words) => Ok(Value::Words(words)),
-        Err(_) => Err(NoMemory),
-    }
+    Ok(Value::Words(Words::new(alloc, text)?))
 }
 
 fn frozen(alloc: Global, value: Value) -> Result<Frozen, NoMemory> {

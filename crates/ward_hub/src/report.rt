@@ -3,8 +3,9 @@
 use crate::stop::Stop;
 use df_audit::{check_text, purge_text};
 use df_journal_text::{write_head, write_noted, write_unit};
-use df_label::{Label, NoMemory};
+use df_label::Label;
 use df_machine::Core;
+use df_memory::NoMemory;
 use df_unit::{Entry, Noted, UnitName};
 use df_upgrade::note;
 use std::alloc::Global;

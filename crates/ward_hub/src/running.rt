@@ -10,7 +10,7 @@ ghost use Rattle.ward_units.specs.Role.{instance, next};
 use df_crew::Crew;
 use df_desk::Pass;
 use df_hub::Hub;
-use df_label::NoMemory;
+use df_memory::NoMemory;
 use df_plain_floor::open_turns;
 use df_workers::{OpenGate, run};
 use std::alloc::Global;

@@ -1,7 +1,7 @@
 //! Why the program stops before its end.
 
-use df_label::NoMemory;
 use df_lines::FileRefused;
+use df_memory::NoMemory;
 use std::alloc::AllocError;
 use std::fmt;
 

@@ -7,7 +7,7 @@ use crate::new_part::NewPart;
 use crate::wishes::{reading, subscribing};
 use df_brain::{Last, Want};
 use df_filter::Filter;
-use df_label::NoMemory;
+use df_memory::NoMemory;
 use df_unit::{Call, Reply};
 
 /// Which call of the doctor is out.
@@ -94,9 +94,7 @@ impl Doctor {
     pub(crate) fn copy(&self) -> Result<Doctor, NoMemory>
         ensures { IfOk result (λ doctor. doctor ≡ self.now) }
     {
-        let Ok(filter) = self.filter.copy() else {
-            return Err(NoMemory);
-        };
+        let filter = self.filter.copy()?;
         Ok(Doctor {
             filter,
             mark: self.mark.copy()?,

@@ -4,7 +4,8 @@ ghost use Rattle.std.specs.Prelude.{◌≡◌, ◌↔◌, IfOk, IsTrue};
 
 use df_brain::Want;
 use df_frozen::{Frozen, Name};
-use df_label::{Label, NoMemory};
+use df_label::Label;
+use df_memory::NoMemory;
 use df_unit::Call;
 
 /// A part that a unit adds to an event.
@@ -23,9 +24,7 @@ impl NewPart {
     pub fn copy(&self) -> Result<NewPart, NoMemory>
         ensures { IfOk result (λ part. part ≡ self.now) }
     {
-        let Ok(value) = self.value.share() else {
-            return Err(NoMemory);
-        };
+        let value = self.value.share()?;
         Ok(NewPart {
             label: self.label.copy()?,
             name: self.name,

@@ -6,7 +6,7 @@ ghost use Rattle.df_brain.specs.Brain.{last_of, want_of};
 use crate::wishes::{reading, subscribing};
 use df_brain::{Last, Want};
 use df_filter::Filter;
-use df_label::NoMemory;
+use df_memory::NoMemory;
 use df_unit::{Call, Reply};
 
 /// Which call of the office is out.
@@ -81,9 +81,7 @@ impl Office {
     pub(crate) fn copy(&self) -> Result<Office, NoMemory>
         ensures { IfOk result (λ office. office ≡ self.now) }
     {
-        let Ok(filter) = self.filter.copy() else {
-            return Err(NoMemory);
-        };
+        let filter = self.filter.copy()?;
         Ok(Office {
             filter,
             stage: self.stage,

@@ -4,7 +4,7 @@ use crate::doctor::Doctor;
 use crate::office::Office;
 use crate::ward::Ward;
 use df_brain::{Brain, Last, Want};
-use df_label::NoMemory;
+use df_memory::NoMemory;
 use df_rules::StepFunction;
 
 /// The brain of a unit of the ward.

@@ -6,7 +6,8 @@ ghost use Rattle.df_brain.specs.Brain.{last_of, want_of};
 use crate::new_part::NewPart;
 use crate::wishes::letting_out;
 use df_brain::{Last, Want};
-use df_label::{NoMemory, Tag};
+use df_label::Tag;
+use df_memory::NoMemory;
 use df_unit::{Call, Reply};
 
 /// Which call of the ward is out.

@@ -8,7 +8,8 @@ ghost use Rattle.ward_units.specs.Wishes.{lets_out, reads, subscribes};
 use df_brain::Want;
 use df_filter::Filter;
 use df_frozen::Name;
-use df_label::{NoMemory, Tag};
+use df_label::Tag;
+use df_memory::NoMemory;
 use df_priv::{Act, Half};
 use df_unit::Call;
 
@@ -16,9 +17,7 @@ use df_unit::Call;
 pub(crate) fn subscribing(filter: &Filter) -> Result<Want, NoMemory>
     ensures { IfOk result (λ w. want_of w ≡ subscribes filter.now) }
 {
-    let Ok(filter) = filter.copy() else {
-        return Err(NoMemory);
-    };
+    let filter = filter.copy()?;
     Ok(Want::Call(Call::Subscribe { filter }))
 }
 

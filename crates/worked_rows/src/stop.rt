@@ -27,8 +27,8 @@ impl<T: Drop> From<AllocFailed<T>> for Stop {
     }
 }
 
-impl From<df_io::NoMemory> for Stop {
-    fn from(_error: df_io::NoMemory) -> Stop {
+impl From<df_memory::NoMemory> for Stop {
+    fn from(_error: df_memory::NoMemory) -> Stop {
         Stop::NoMemory
     }
 }

@@ -2,7 +2,7 @@
 use Rattle.std.specs.Prelude.{◌≡◌, ℕ, ◌<◌, ◌≤◌, ◌^◌, Bool, true, false, List, [], ◌∷◌, ◌++◌, length, Option, None, Some, Result, Ok, Err, ⊤}
 use Rattle.std.specs.List.{flat_map}
 use Rattle.df_label.specs.declared.label.Label.{Label}
-use Rattle.df_label.specs.declared.no_memory.NoMemory.{NoMemory}
+use Rattle.df_memory.specs.declared.NoMemory.{NoMemory}
 use Rattle.df_machine.specs.Journal.{State}
 use Rattle.df_machine.specs.Tables.{AgreesWith}
 use Rattle.df_machine.specs.declared.tables.Tables.{Tables}

@@ -1,4 +1,4 @@
-use Rattle.std.proofs.Common.{◌∙◌, ap, arith, get_or, set}
+use Rattle.std.proofs.Common.{◌∙◌, ap, arith, get_or, set, Result, Ok, Err, OnErr}
 use Rattle.std.proofs.lemmas.List.{set-get_or}
 use Rattle.df_tables.specs.Hand.{each, quiet_row, staged_row}
 use Rattle.df_tables.specs.declared.units.Unit.{Unit}
@@ -9,12 +9,17 @@ use Rattle.df_tables.proofs.handing.stage.Goals as goal
 pub loop-receiver-preserved : goal.loop-receiver-preserved
 loop-receiver-preserved c =
     each_step (staged_row c.args.event.now c.args.after.now) c.args.receivers.now c.loop-receiver.receiver-index (0, 0) c.index-units-receiver.result _ c.args.units.now c.loop-receiver.units (omega arith) c.loop-receiver.invariant
-    c.in-Ok.ensures.ok
+    c.in_ok-stage_at.ensures.ok
 
-pub returns-in_default-clause-quiet : goal.returns-in_default-clause-quiet
-returns-in_default-clause-quiet c =
+any_error : {T E P : Type 0} (r : Result T E) → P → OnErr r P
+any_error (Ok value) p = tt
+any_error (Err error) p = p
+
+pub returns-in_err-stage_at-clause-quiet : goal.returns-in_err-stage_at-clause-quiet
+returns-in_err-stage_at-clause-quiet c =
     let k = (get_or c.args.receivers.now c.loop-receiver.receiver-index (0, 0)).0 in
-    ap (λ (x : Unit). each quiet_row c.args.receivers.now (set c.loop-receiver.units k x)) c.in_default.ensures.unchanged
+    any_error c.from_residual.result
+    (ap (λ (x : Unit). each quiet_row c.args.receivers.now (set c.loop-receiver.units k x)) c.in_err-stage_at.ensures.unchanged
     ∙ ap (each quiet_row c.args.receivers.now) (set-get_or c.loop-receiver.units k c.index-units-receiver.result)
     ∙ ap (each quiet_row c.args.receivers.now) c.loop-receiver.invariant
-    ∙ half_way c.args.event.now c.args.after.now c.args.receivers.now c.loop-receiver.receiver-index c.args.units.now
+    ∙ half_way c.args.event.now c.args.after.now c.args.receivers.now c.loop-receiver.receiver-index c.args.units.now)

@@ -1,4 +1,5 @@
 use Rattle.std.proofs.Common.{◌∙◌, ap, set, get_or}
+use Rattle.std.proofs.lemmas.Result.{on_ok_weaker}
 use Rattle.df_local.specs.code.LocalState.{LocalState}
 use Rattle.df_tables.specs.Hand.{with_state}
 use Rattle.df_tables.specs.declared.units.Unit.{Unit}
@@ -9,8 +10,10 @@ pub returns-clause-ok : goal.returns-clause-ok
 returns-clause-ok c =
     let us = c.args.units.now in
     let u = get_or us c.args.place c.index-units-place.result in
-    ap (λ (l : LocalState). let x : Unit = record { local = l; line = u.line } in set us c.args.place x) c.in-Ok.ensures.ok
-    ∙ set_modify c.args.place (with_state c.args.call.now c.args.reply.now c.args.effect.now) c.index-units-place.result us
+    on_ok_weaker c.take.result
+    (λ took. ap (λ (l : LocalState). let x : Unit = record { local = l; line = u.line } in set us c.args.place x) took
+    ∙ set_modify c.args.place (with_state c.args.call.now c.args.reply.now c.args.effect.now) c.index-units-place.result us)
+    c.take.ensures.ok
 
 pub take-requires : goal.take-requires
 take-requires c =

@@ -1,4 +1,5 @@
 use Rattle.std.proofs.Common.{◌∙◌, ap, set}
+use Rattle.std.proofs.lemmas.Result.{on_ok_weaker}
 use Rattle.df_rules.specs.Start.{rows}
 use Rattle.df_tables.specs.Table.{moved_row}
 use Rattle.df_tables.specs.declared.units.Unit.{Unit}
@@ -7,5 +8,7 @@ use Rattle.df_tables.proofs.moves.move_at.Goals as goal
 
 pub returns-clause-ok : goal.returns-clause-ok
 returns-clause-ok c =
-    ap (λ (x : Unit). set c.args.units.now c.args.place x) c.in-Ok.ensures.ok
-    ∙ set_modify c.args.place (moved_row rows c.args.call.now c.args.reply.now c.args.effect.now) c.index-units-place.result c.args.units.now
+    on_ok_weaker c.move_row.result
+    (λ moved. ap (λ (x : Unit). set c.args.units.now c.args.place x) moved
+    ∙ set_modify c.args.place (moved_row rows c.args.call.now c.args.reply.now c.args.effect.now) c.index-units-place.result c.args.units.now)
+    c.move_row.ensures.ok

@@ -24,10 +24,10 @@ pub returns-clause-ok : goal.returns-clause-ok
 returns-clause-ok c =
     let us = c.args.units.now in
     let k = c.args.place in
-    let l = c.in-Ok.label in
+    let l = c.in_ok-label.label in
     let h = c.requires.0 in
     let n = length-map us (λ (u : Unit). u.local.own.input) in
     let inside : k < length us = omega (arith, h, n) in
     let is : l ≡ get_or (inputs us) k l =
-    c.in-Ok.ensures.value ∙ c.input.ensures ∙ sym (get_or-map (λ (u : Unit). u.local.own.input) us k c.index-units-place.result l inside) in
+    c.in_ok-label.ensures.value ∙ c.input.ensures ∙ sym (get_or-map (λ (u : Unit). u.local.own.input) us k c.index-units-place.result l inside) in
     ap (λ (x : Label). set c.args.labels.now.items k x) is ∙ c.requires.1 l

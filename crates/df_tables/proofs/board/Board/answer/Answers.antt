@@ -1,6 +1,6 @@
 use Rattle.std.proofs.Common.{◌≡◌, List, [], ◌∷◌, Option, slice_get, refl, ap, ◌∙◌}
 use Rattle.std.specs.Prelude.{Result, Ok, Err, IfOk, option_to_list}
-use Rattle.df_label.specs.declared.no_memory.NoMemory.{NoMemory}
+use Rattle.df_memory.specs.declared.NoMemory.{NoMemory}
 use Rattle.df_local.specs.Locally.{row_answer}
 use Rattle.df_local.specs.code.LocalState.{LocalState}
 use Rattle.df_local.specs.declared.answer.Answer.{Answer}

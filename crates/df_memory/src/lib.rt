@@ -1,8 +1,11 @@
 //! Want of memory.
+#![tactic(auto)]
 
 use std::alloc::{AllocError, AllocFailed};
+use std::error::Error;
+use std::fmt;
 
-/// Memory ran out.
+/// There was no memory. What it leaves of the object of a call is said at the call.
 #[derive(Clone, Copy, Debug, PartialEq, Eq)]
 pub struct NoMemory;
 
@@ -18,8 +21,10 @@ impl<T: Drop> From<AllocFailed<T>> for NoMemory {
     }
 }
 
-impl From<df_frozen::NoMemory> for NoMemory {
-    fn from(_error: df_frozen::NoMemory) -> NoMemory {
-        NoMemory
+impl fmt::Display for NoMemory {
+    fn fmt<W: fmt::Write>(&self, f: &mut fmt::Formatter<W>) -> fmt::Result {
+        f.write_str("there is no memory")
     }
 }
+
+impl Error for NoMemory {}
