@@ -1,9 +1,9 @@
 -- The search for the first byte by which a count is passed, and texts that pass none.
-use Rattle.df_value_text.proofs.Names.{◌≡◌, ℕ, suc, ◌+◌, ◌*◌, ◌<◌, ◌≤◌, max, Bool, true, false, cond, eqb, List, [], ◌∷◌, length, refl, arith, inl, inr, nat_tests, Place, Walk, character, nested, start, walk, walked, weight, NeverOver, is_hex, is_name_byte, ◌-◌, ◌||◌, ◌++◌, take, drop, get_or, sym, ap, subst, ◌∙◌, append_assoc, drop-drop, eqb-true, pos, is_ascii_digit, int, words, is_plain, begins_with, counts_of, AreWithin, drop_all, IsOver, FirstOver, open_count, plain_run, take-append-drop, most_bytes}
+use Rattle.df_value_text.proofs.Names.{◌≡◌, ℕ, suc, ◌+◌, ◌*◌, ◌<◌, ◌≤◌, max, Bool, true, false, cond, eqb, List, [], ◌∷◌, length, refl, arith, inl, inr, nat_tests, Place, Walk, character, nested, start, walk, walked, weight, NeverOver, is_hex, is_name_byte, ◌++◌, drop, get_or, sym, ap, subst, ◌∙◌, append_assoc, counts_of, AreWithin, drop_all, IsOver, FirstOver, open_count}
 use Rattle.df_value_text.proofs.CountingFronts.{is_step, brackets_on, nested_low, never_over}
-use Rattle.df_value_text.proofs.CountingEnds.{ended_still, within_still, Counts, done_still}
-use Rattle.df_value_text.proofs.CountingLaws.{Adds, at, joins, nothing, opens, passes, same, walked-append, told as counted}
-use Rattle.df_value_text.proofs.Loops.{behind_it, first_of}
+use Rattle.df_value_text.proofs.CountingEnds.{within_still, Counts, done_still}
+use Rattle.df_value_text.proofs.CountingLaws.{at, walked-append}
+use Rattle.df_value_text.proofs.Loops.{first_of}
 use Rattle.df_value_text.specs.declared.place.Place.TheVariants as place
 
 -- ---- a short text that opens few brackets
@@ -58,70 +58,6 @@ pub never_small : (bytes : List ℕ) → length bytes ≤ 4096 → open_count by
 never_small bytes short few =
     let all = walked_few start bytes in
     never_over bytes (record { nodes = omega (arith, all.nodes); bytes = omega (arith, all.bytes); flat = omega (arith, all.deep) })
-
--- ---- numbers, and words of few bytes that stand for themselves
-
--- a number begins with a digit or `-`
-pub never_number : (c : ℕ) (cs : List ℕ) → (is_ascii_digit c || eqb c 45) ≡ true → NeverOver (c ∷ cs)
-never_number c cs h =
-    let first : Adds place.Before [] (c ∷ []) place.Number [] 1 0 1 = opens (grind (arith, nat_tests)) (rw h refl) (grind (arith, nat_tests)) in
-    let still = ended_still (int (pos 0)) cs 1 0 1 in
-    never_over (c ∷ cs) (subst (λ (w : Walk). AreWithin (walked w cs)) (sym (first.run 0 0 0))
-    (within_still (walked (at place.Number [] 1 0 1) cs) 1 0 1 still (omega arith) (omega arith) (omega arith)))
-
-plain_adds : (c : ℕ) → is_plain c ≡ true → Adds place.Words [] (c ∷ []) place.Words [] 0 1 0
-plain_adds c h =
-    let quote : eqb c 34 ≡ false = grind (arith, nat_tests) in
-    let slash : eqb c 92 ≡ false = grind (arith, nat_tests) in
-    let one : character c ≡ 1 = grind (arith, nat_tests) in
-    passes refl (rw (quote, slash) refl) refl (rw quote one)
-
-run_adds : (bytes : List ℕ) → Adds place.Words [] (take (plain_run bytes) bytes) place.Words [] 0 (plain_run bytes) 0
-run_adds [] = nothing place.Words []
-run_adds (c ∷ cs) = by (is_plain c) refl (run_adds cs)
-  where
-    by : (t : Bool) → is_plain c ≡ t → Adds place.Words [] (take (plain_run cs) cs) place.Words [] 0 (plain_run cs) 0
-        → Adds place.Words [] (take (cond t (suc (plain_run cs)) 0) (c ∷ cs)) place.Words [] 0 (cond t (suc (plain_run cs)) 0) 0
-    by true e rest = counted (joins (plain_adds c e) rest) refl (omega arith) refl
-    by false e rest = nothing place.Words []
-
--- words whose bytes stand for themselves, up to the closing `"`
-words_add : (bytes : List ℕ) → Adds place.Before [] ((34 ∷ take (plain_run bytes) bytes) ++ 34 ∷ []) place.Behind [] 1 (plain_run bytes) 1
-words_add bytes =
-    let first : Adds place.Before [] (34 ∷ []) place.Words [] 1 0 1 = opens refl refl refl in
-    let last : Adds place.Words [] (34 ∷ []) place.Behind [] 0 0 0 = passes refl refl refl refl in
-    counted (joins (joins first (run_adds bytes)) last) refl (omega arith) refl
-
-never_words : (bytes more : List ℕ) → drop (plain_run bytes) bytes ≡ 34 ∷ more → plain_run bytes ≤ most_bytes → NeverOver (34 ∷ bytes)
-never_words bytes more ends few =
-    let run : List ℕ = take (plain_run bytes) bytes in
-    let whole : 34 ∷ bytes ≡ ((34 ∷ run) ++ 34 ∷ []) ++ more =
-    ap (λ (u : List ℕ). 34 ∷ u) (sym (take-append-drop (plain_run bytes) bytes) ∙ ap (λ (u : List ℕ). run ++ u) ends ∙ sym (append_assoc run (34 ∷ []) more)) in
-    let counts : counts_of ((34 ∷ run) ++ 34 ∷ []) ≡ at place.Behind [] 1 (plain_run bytes) 1 = (words_add bytes).run 0 0 0
-    ∙ same place.Behind [] 1 (0 + plain_run bytes) 1 1 (plain_run bytes) 1 refl (omega arith) refl in
-    let all : counts_of (34 ∷ bytes) ≡ walked (at place.Behind [] 1 (plain_run bytes) 1) more = ap counts_of whole
-    ∙ walked-append start ((34 ∷ run) ++ 34 ∷ []) more ∙ ap (λ (w : Walk). walked w more) counts in
-    let still = ended_still (words []) more 1 (plain_run bytes) 1 in
-    never_over (34 ∷ bytes) (subst AreWithin (sym all)
-    (within_still (walked (at place.Behind [] 1 (plain_run bytes) 1) more) 1 (plain_run bytes) 1 still (omega arith) few (omega arith)))
-
--- few words at a place, up to the `"` at another
-pub few_words : (bytes : List ℕ) (at quote : ℕ) → begins_with 34 (drop at bytes) ≡ true → quote ≡ (at + 1) + plain_run (drop (at + 1) bytes)
-    → begins_with 34 (drop quote bytes) ≡ true → quote - at ≤ most_bytes → NeverOver (drop at bytes)
-few_words bytes at quote opening is closing few =
-    let first = behind_it bytes at 34 opening in
-    let last = behind_it bytes quote 34 closing in
-    let rest : List ℕ = drop (at + 1) bytes in
-    let behind : drop (plain_run rest) rest ≡ drop quote bytes = drop-drop (plain_run rest) (at + 1) bytes ∙ ap (λ (n : ℕ). drop n bytes) (sym is) in
-    let ends : drop (plain_run rest) rest ≡ 34 ∷ drop (quote + 1) bytes = behind ∙ last.1
-    ∙ ap (λ (c : ℕ). c ∷ drop (quote + 1) bytes) (eqb-true last.0 34 last.2) in
-    let text : drop at bytes ≡ 34 ∷ rest = first.1 ∙ ap (λ (c : ℕ). c ∷ rest) (eqb-true first.0 34 first.2) in
-    subst NeverOver (sym text) (never_words rest (drop (quote + 1) bytes) ends (omega (arith, is, few)))
-
--- a number at a place
-pub number_begins : (bytes : List ℕ) (at : ℕ) → at < length bytes → (is_ascii_digit (get_or bytes at 0) || eqb (get_or bytes at 0) 45) ≡ true
-    → NeverOver (drop at bytes)
-number_begins bytes at lt h = subst NeverOver (sym (first_of bytes at lt)) (never_number (get_or bytes at 0) (drop (at + 1) bytes) h)
 
 -- ---- the search, step by step
 

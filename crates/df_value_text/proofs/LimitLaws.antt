@@ -1,12 +1,13 @@
 -- Reading up to the first byte by which a count of freezing is passed, and what it says of all bytes.
-use Rattle.df_value_text.proofs.Names.{◌≡◌, None, Some, ℕ, suc, ◌+◌, ◌<◌, ◌≤◌, List, [], ◌∷◌, ◌++◌, length, length-append, take, drop, Ok, Err, refl, sym, ap, subst, ◌∙◌, append_assoc, arith, ◌⊎◌, inl, inr, true, nat_le, nat_lt, nat_tests, append-nil, drop_all, length-take-le, CanGoOn, Stands, Bad, Low, told, IsWithinLimits, Plain, Fails, refusal, FirstOver, NeverOver, counts_of, IsSpelled, IsValue, NameStandsLow, LowInValue, value_text, FirstBadValue, FirstTooLarge, IsWithinBefore, Fault, Result, min, IsTooLargeAt, NamesTooLarge, NamesValueFault, NoLowBefore, TellsSyntaxAt, up_to, TextRefused}
-use Rattle.std.specs.Result.{result_err}
+use Rattle.df_value_text.proofs.Names.{◌≡◌, ℕ, suc, ◌+◌, ◌-◌, ◌<◌, ◌≤◌, List, [], ◌∷◌, ◌++◌, length, length-append, take, drop, Ok, Err, refl, sym, ap, subst, ◌∙◌, append_assoc, arith, ◌⊎◌, inl, inr, true, nat_le, nat_lt, nat_tests, append-nil, drop_all, length-take-le, CanGoOn, Stands, Bad, Low, told, IsWithinLimits, Plain, Fails, IsFound, refusal, FirstOver, NeverOver, IsSpelled, IsValue, NameStandsLow, LowInValue, value_text, FirstBadValue, FirstTooLarge, IsWithinBefore, Fault, min, IsTooLargeAt, NamesTooLarge, NamesValueFault, NoLowBefore, TellsSyntaxAt, up_to, TextRefused}
 use Rattle.std.proofs.lemmas.List.{length-drop}
 use Rattle.df_value_text.specs.ReadValue.{value_within}
-use Rattle.df_value_text.proofs.CountingEnds.{value_within as counted_within, front_whole, not_both, over_inside, value_over}
-use Rattle.df_value_text.proofs.Answering.{told_low}
+use Rattle.df_value_text.proofs.CountingEnds.{value_within as counted_within, front_whole, over_inside, value_over}
+use Rattle.df_value_text.specs.code.Answer.{TellsValue}
+use Rattle.df_value_text.proofs.Answering.{syntax_told, told_low}
+use Rattle.df_value_text.proofs.Loops.{between_places}
 use Rattle.df_value_text.proofs.LowLaws.{low_read}
-use Rattle.df_value_text.proofs.ValueAnswers.{Enough, first_bad_value, first_low_value, no_low_name, stops_low}
+use Rattle.df_value_text.proofs.ValueAnswers.{Enough, only_fault, stands_once, stands_low, first_bad_value, first_low_value, no_low_name, stops_low}
 use Rattle.df_value_text.proofs.ValueLaws.{value_format}
 use Rattle.df_value_text.proofs.LimitFronts.{viable_before, with_over, over_length, over_parts, within_in_front, over_behind, first_too_large, over_once, Faulty, faulty_front, faulty_longer, over_shorter, longer_parts, inside_of, low_shorter}
 use Rattle.df_value_text.specs.declared.refused.Fault.TheVariants as fault
@@ -174,14 +175,6 @@ module _ {text : List ℕ} {at over end : ℕ} (c : IsCut text at over end) wher
 
 -- ---- all answers
 
-pub ok_by : {X : Type 0} (r : Result X Fault) → result_err r ≡ None → (x : X) × (r ≡ Ok x)
-ok_by (Ok x) e = (x, refl)
-ok_by (Err f) e = absurd cc
-
-pub err_by : {X : Type 0} (r : Result X Fault) (f : Fault) → result_err r ≡ Some f → r ≡ Err f
-err_by (Ok x) f e = absurd cc
-err_by (Err g) f e = let same : g ≡ f = cc in ap (λ (h : Fault). Err h) same
-
 -- where no count is passed, the value that is read may be frozen
 pub read_within : (text : List ℕ) (at end : ℕ) (p : Plain) → NeverOver (drop at text)
     → Enough text at (λ n. (end ≤ length text) × (value_within n (drop at text) ≡ Ok (p, drop end text))) → IsWithinLimits p
@@ -189,6 +182,14 @@ read_within text at end p never h =
     let n : ℕ = suc (length text) in
     let f = (value_format n).found (drop at text) p (drop end text) (h n (omega arith)).1 in
     counted_within p f.fits.0 (drop end text) (subst NeverOver f.parts never)
+
+-- where none is passed in its spelling, too
+pub small_within : (n : ℕ) (text : List ℕ) (at end : ℕ) (p : Plain) → at ≤ length text
+    → (end ≤ length text) × (value_within n (drop at text) ≡ Ok (p, drop end text)) → NeverOver (take (end - at) (drop at text)) → IsWithinLimits p
+small_within n text at end p start h never =
+    let f = (value_format n).found (drop at text) p (drop end text) h.1 in
+    let spelled = (between_places text (value_text p) at end start h.0 f.parts).1 in
+    counted_within p f.fits.0 [] (subst NeverOver (spelled ∙ sym (append-nil (value_text p))) never)
 
 -- where no count is passed, a fault is told as it stands
 pub fault_within : (text : List ℕ) (at : ℕ) (e : Fault) → NeverOver (drop at text) → Enough text at (λ n. Fails text e (value_within n (drop at text)))
@@ -212,12 +213,6 @@ order_within text at e h rest low =
 -- a byte over stands in no value that may be frozen
 pub no_value : (text rest : List ℕ) → FirstOver text rest → (p : Plain) (behind : List ℕ) → Stands value_text IsValue text p behind → ⊥
 no_value text rest over p behind s = value_over p s.fits.0 behind rest (subst (λ (u : List ℕ). FirstOver u rest) s.parts over) s.fits.1
-
--- where no count is passed none is told
-pub never_large : (text rest : List ℕ) → NeverOver text → FirstTooLarge text rest → ⊥
-never_large text rest never large =
-    let over = large.over in
-    not_both (counts_of (over.front ++ over.first ∷ [])) (never (over.front ++ over.first ∷ []) over.more (sym (with_over text rest over))) over.over
 
 -- what is bad in front of a place with which a value can go on
 no_bad : (text rest here : List ℕ) → FirstTooLarge text rest → length rest ≤ length here → FirstBadValue text here → ⊥
@@ -248,3 +243,49 @@ pub large_told : (X : Type 0) (text : List ℕ) (at : ℕ) (e : TextRefused) →
 large_told X text at refused.NoMemory s t rest large high = tt
 large_told X text at (refused.Syntax place) s t rest large high = no_syntax (drop at text) rest (drop place text) large high s.1 s.2
 large_told X text at (refused.TooLarge place) s t rest large high = over_once (drop at text) rest (drop place text) large.over t.1.over
+
+-- ---- what is told of a value
+
+-- a value that is found
+pub tells_found : (text : List ℕ) (at : ℕ) (x : Plain × ℕ) → IsFound value_text IsValue text at x → TellsValue text at (Ok x)
+tells_found text at x found = record {
+  found = found;
+  only = stands_once (drop at text) x.0 (drop x.1 text) found.1;
+  syntax = tt;
+  order = λ rest low within. stands_low (drop at text) x.0 (drop x.1 text) found.1 rest low;
+  too_large = tt;
+  over = λ rest large high. no_value (drop at text) rest large.over x.0 (drop x.1 text) found.1;
+}
+
+-- a refusal that is as it says is TooLarge where it is to be
+tells_refusal : (text : List ℕ) (at : ℕ) (e : TextRefused)
+    → ((value : Plain) (rest : List ℕ) → Stands value_text IsValue (drop at text) value rest → e ≡ refused.NoMemory)
+    → NamesValueFault text at e × NamesTooLarge text at e
+    → ((rest : List ℕ) → LowInValue (drop at text) rest → IsWithinBefore (drop at text) rest → TellsSyntaxAt text rest e) → TellsValue text at (Err e)
+tells_refusal text at e only names order = record {
+  found = tt;
+  only = only;
+  syntax = names.0;
+  order = λ rest low within. syntax_told Plain text rest e (order rest low within);
+  too_large = names.1;
+  over = large_told Plain text at e names.0 names.1;
+}
+
+-- a fault where no count is passed
+pub tells_within : (text : List ℕ) (at : ℕ) (e : Fault) → NeverOver (drop at text) → Enough text at (λ n. Fails text e (value_within n (drop at text)))
+    → TellsValue text at (Err (refusal e))
+tells_within text at e never h = tells_refusal text at (refusal e) (only_fault text at e h) (fault_within text at e never h)
+    (λ rest low within. order_within text at e h rest low)
+
+module _ {text : List ℕ} {at over end : ℕ} (c : IsCut text at over end) where
+  only_cut : (e : TextRefused) (value : Plain) (rest : List ℕ) → Stands value_text IsValue (drop at text) value rest → e ≡ refused.NoMemory
+  only_cut e value rest stands = absurd (no_value (drop at text) (drop over text) c.first value rest stands)
+
+  -- a fault, and a value, in the cut
+  pub tells_fault : (e : Fault) → Enough (cut c) at (λ n. Fails (cut c) e (value_within n (drop at (cut c)))) → TellsValue text at (Err (up_to over e))
+  tells_fault e h = tells_refusal text at (up_to over e) (only_cut (up_to over e)) (fault_cut c e h) (order_cut c e h)
+
+  pub tells_value : (p : Plain) (stop : ℕ)
+      → Enough (cut c) at (λ n. (stop ≤ length (cut c)) × (value_within n (drop at (cut c)) ≡ Ok (p, drop stop (cut c))))
+      → TellsValue text at (Err (refused.TooLarge over))
+  tells_value p stop h = tells_refusal text at (refused.TooLarge over) (only_cut (refused.TooLarge over)) (tt, value_cut c p stop h) (no_low_cut c p stop h)

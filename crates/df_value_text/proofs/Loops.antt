@@ -1,5 +1,5 @@
 -- Items read one behind the other, as the code reads them.
-use Rattle.df_value_text.proofs.Names.{◌≡◌, ℕ, ◌+◌, ◌<◌, Bool, true, false, cond, List, [], ◌∷◌, ◌++◌, length, get_or, take, drop, Ok, Err, refl, sym, ap, ◌∙◌, arith, add-one, drop-cons, Stop, Bad, Low, Read, ◌>>=◌, as_at, either_at, behind_at, more_of, items_at, text_at, with_front, onto, regroup, take_more, append-nil, Shrinks, item_read, item_failed, no_more, Fails, begins_with, listed, Fault, ◌==◌, length-drop, drop_more}
+use Rattle.df_value_text.proofs.Names.{◌≡◌, ℕ, ◌+◌, ◌<◌, ◌-◌, ◌≤◌, length-append, take-append_seam, Bool, true, false, cond, List, [], ◌∷◌, ◌++◌, length, get_or, take, drop, Ok, Err, refl, sym, ap, ◌∙◌, arith, add-one, drop-cons, Stop, Bad, Low, Read, ◌>>=◌, as_at, either_at, behind_at, more_of, items_at, text_at, with_front, onto, regroup, take_more, append-nil, Shrinks, item_read, item_failed, no_more, Fails, begins_with, listed, Fault, ◌==◌, length-drop, drop_more}
 use Rattle.df_value_text.specs.declared.refused.Fault.TheVariants as fault
 
 -- a fault is one of another reader that stops there too
@@ -18,6 +18,16 @@ drop_first bytes place c cs e =
     let within : place < length bytes = omega (arith, ap length e, length-drop place bytes) in
     let both : get_or bytes place 0 ∷ drop (place + 1) bytes ≡ c ∷ cs = sym (first_of bytes place within) ∙ e in
     (within, sym (let tails : drop (place + 1) bytes ≡ cs = cc in tails))
+
+-- what is spelled in front of a place stands between it and where it begins
+pub between_places : (bytes text : List ℕ) (at place : ℕ) → at ≤ length bytes → place ≤ length bytes → drop at bytes ≡ text ++ drop place bytes
+    → (at ≤ place) × (take (place - at) (drop at bytes) ≡ text)
+between_places bytes text at place start end parts =
+    let whole = ap length parts ∙ length-append text (drop place bytes) in
+    let size : place - at ≡ length text = omega (arith, length-drop at bytes, length-drop place bytes, whole) in (
+      omega (arith, length-drop at bytes, length-drop place bytes, whole, start, end),
+      ap (λ (k : ℕ). take k (drop at bytes)) size ∙ ap (take (length text)) parts ∙ take-append_seam text (drop place bytes),
+    )
 
 -- what stands behind this byte
 pub behind_it : (bytes : List ℕ) (place byte : ℕ) → begins_with byte (drop place bytes) ≡ true

@@ -1,10 +1,10 @@
 -- The loops that read numbers and tags, step by step.
-use Rattle.df_value_text.proofs.Names.{◌≡◌, ℕ, ◌+◌, ◌-◌, ◌<◌, ◌≤◌, ◌^◌, true, false, List, [], ◌∷◌, ◌++◌, length, get_or, drop, take, Some, Ok, Err, Bool, None, cond, refl, sym, ap, ◌∙◌, arith, length-append, AllByRecursion, Read, as_at, items_at, begins_with, leads_number, tag_at, next_at, leads_tag, listed, optional, some_tags_at, tags_at, AreNumbers, AreTags, IsTag, tag_cmp, tags_text, All, get_or-append_seam, take-append_seam, IsAscending, leads_at}
-use Rattle.std.proofs.lemmas.List.{length-drop, length_push}
+use Rattle.df_value_text.proofs.Names.{◌≡◌, ℕ, ◌+◌, ◌-◌, ◌<◌, ◌≤◌, ◌^◌, true, false, List, [], ◌∷◌, ◌++◌, length, get_or, drop, take, Some, Ok, Err, Bool, None, cond, refl, sym, ap, ◌∙◌, arith, AllByRecursion, Read, as_at, items_at, begins_with, leads_number, tag_at, next_at, leads_tag, listed, optional, some_tags_at, tags_at, AreNumbers, AreTags, IsTag, tag_cmp, tags_text, All, get_or-append_seam, IsAscending, leads_at}
+use Rattle.std.proofs.lemmas.List.{length_push}
 use Rattle.std.proofs.lemmas.List.Elements.{All-from_recursion}
 use Rattle.df_label.specs.Spelling.{AreShort}
 use Rattle.df_value_text.proofs.TagSetLaws.{tags_format}
-use Rattle.df_value_text.proofs.Loops.{LedTo, drop_first}
+use Rattle.df_value_text.proofs.Loops.{LedTo, between_places, drop_first}
 pub use Rattle.df_value_text.proofs.Loops.{behind_it}
 
 -- a dot and a digit lead to a number
@@ -63,14 +63,10 @@ pub set_read : (bytes : List ℕ) (at place : ℕ) (tags : List (List ℕ)) → 
     → some_tags_at (drop at bytes) ≡ Ok (tags, drop place bytes) → SetRead bytes at place tags
 set_read bytes at place tags start end h e =
     let found = tags_format.found (drop at bytes) tags (drop place bytes) (some_tags (drop at bytes) h ∙ e) in
-    let front = length-drop at bytes in
-    let rest = length-drop place bytes in
-    let whole = ap length found.parts ∙ length-append (tags_text tags) (drop place bytes) in
-    let size : place - at ≡ length (tags_text tags) = omega (arith, front, rest, whole) in
+    let between = between_places bytes (tags_text tags) at place start end found.parts in
     record {
-      onward = omega (arith, front, rest, whole);
-      spelled = ap (λ (k : ℕ). take k (drop at bytes)) size ∙ ap (take (length (tags_text tags))) found.parts
-          ∙ take-append_seam (tags_text tags) (drop place bytes);
+      onward = between.0;
+      spelled = between.1;
       ascending = found.fits.1;
       short = All-from_recursion AreShort tags (tags_short tags found.fits.0);
     }

@@ -1,7 +1,8 @@
 -- What reading, with as many levels as a text may need, says of the values that stand in it.
-use Rattle.df_value_text.proofs.Names.{◌≡◌, ℕ, suc, ◌+◌, ◌<◌, ◌≤◌, true, false, List, [], ◌∷◌, ◌++◌, length, drop, Ok, Err, refl, sym, ap, subst, ◌∙◌, arith, inl, inr, pos, append_cancel_right, Stop, Bad, Low, CanGoOn, Stands, Ends, ok_is, err_is, not_both, told, can_go_on, IsWithinLimits, Plain, int, node_count, Fails, refusal, IsFound, IsRead, IsSpelled, IsValue, LowInValue, value_text, Fault, FirstBad, IsViable, viable_map, no_longer, first_bad, FirstLow, LowWithin}
+use Rattle.df_value_text.proofs.Names.{◌≡◌, ℕ, suc, ◌+◌, ◌<◌, ◌≤◌, true, false, take, List, [], ◌∷◌, ◌++◌, length, drop, Ok, Err, refl, sym, ap, subst, ◌∙◌, arith, ◌⊎◌, inl, inr, append_assoc, length-drop, length-take-le, drop_all, pos, append_cancel_right, Stop, Bad, Low, CanGoOn, Stands, Ends, ok_is, err_is, not_both, told, can_go_on, IsWithinLimits, Plain, int, node_count, Fails, refusal, IsFound, IsSpelled, IsValue, LowInValue, value_text, Fault, FirstBad, IsViable, viable_map, no_longer, first_bad, FirstLow, LowWithin}
 use Rattle.df_value_text.specs.ReadValue.{value_within}
 use Rattle.df_value_text.proofs.Answering.{no_refusal}
+use Rattle.df_value_text.proofs.CountingEnds.{front_whole}
 use Rattle.df_value_text.proofs.EntryLaws.{LevelFits, nest_few}
 use Rattle.df_value_text.proofs.LowLaws.{low_read}
 use Rattle.df_value_text.proofs.TagLaws.{nowhere, nowhere_is_local}
@@ -58,25 +59,53 @@ found_value n text at end p q is limits h =
 abbrev pub Enough : (text : List ℕ) → ℕ → (ℕ → Type 0) → Type 0
 Enough text at P = (n : ℕ) → length text < at + n → P n
 
-same_value : (text : List ℕ) (at end : ℕ) (p : Plain) → Enough text at (λ n. (end ≤ length text) × (value_within n (drop at text) ≡ Ok (p, drop end text)))
-    → (y : Plain) (rest : List ℕ) → Stands value_text IsValue (drop at text) y rest → (p ≡ y) × (drop end text ≡ rest)
-same_value text at end p h y rest s =
-    let n : ℕ = suc (length text) + node_count y in
-    let read = (h n (omega arith)).1 in
-    let here : Plain × List ℕ = (p, drop end text) in
-    let both = ok_is here (y, rest) (sym read ∙ value_read n (drop at text) y rest (omega arith) s) in
+-- one value stands there
+pub stands_once : (text : List ℕ) (p : Plain) (behind : List ℕ) → Stands value_text IsValue text p behind → (y : Plain) (rest : List ℕ)
+    → Stands value_text IsValue text y rest → (p ≡ y) × (behind ≡ rest)
+stands_once text p behind s y rest other =
+    let n : ℕ = node_count p + node_count y in
+    let both = ok_is (p, behind) (y, rest) (sym (value_read n text p behind (omega arith) s) ∙ value_read n text y rest (omega arith) other) in
     (ap (λ (q : Plain × List ℕ). q.0) both, ap (λ (q : Plain × List ℕ). q.1) both)
 
-pub only_value : (text : List ℕ) (at end : ℕ) (p q : Plain) → q ≡ p
-    → Enough text at (λ n. (end ≤ length text) × (value_within n (drop at text) ≡ Ok (p, drop end text))) → (y : Plain) (rest : List ℕ)
-    → Stands value_text IsValue (drop at text) y rest → IsRead text y rest (Ok (q, end))
-only_value text at end p q is h y rest s = let same = same_value text at end p h y rest s in (is ∙ same.0, same.1)
+-- and no low name
+pub stands_low : (text : List ℕ) (p : Plain) (behind : List ℕ) → Stands value_text IsValue text p behind → (rest : List ℕ) → LowInValue text rest → ⊥
+stands_low text p behind s rest low =
+    let l = low_read text rest low in
+    let n : ℕ = node_count p + l.0 in
+    not_both (p, behind) (Low rest) (sym (value_read n text p behind (omega arith) s) ∙ l.1 n (omega arith))
 
 pub only_fault : (text : List ℕ) (at : ℕ) (e : Fault) → Enough text at (λ n. Fails text e (value_within n (drop at text))) → (y : Plain) (rest : List ℕ)
     → Stands value_text IsValue (drop at text) y rest → refusal e ≡ refused.NoMemory
 only_fault text at e h y rest s =
     let n : ℕ = suc (length text) + node_count y in
     no_refusal text e (value_within n (drop at text)) (y, rest) (h n (omega arith)) (value_read n (drop at text) y rest (omega arith) s)
+
+ends_longer : (p : Plain) (here behind : List ℕ) → (0 < length here) ⊎ (behind ≡ []) → Ends value_goes p here → Ends value_goes p (here ++ behind)
+ends_longer p [] behind (inl some) ends = absurd (omega (arith, some))
+ends_longer p [] behind (inr none) ends = rw none tt
+ends_longer p (c ∷ here) behind room ends = ends
+
+-- a value that is read in front of a place is so in the whole, if that is the end, or if it ends before
+pub near_read : (text : List ℕ) (at stop end : ℕ) (p : Plain) → stop ≤ length text → at ≤ stop → (end < stop) ⊎ (stop ≡ length text)
+    → Enough (take stop text) at (λ n. (end ≤ length (take stop text)) × (value_within n (drop at (take stop text)) ≡ Ok (p, drop end (take stop text))))
+    → (end ≤ length text) × (value_within (suc (length (take stop text))) (drop at text) ≡ Ok (p, drop end text))
+near_read text at stop end p within start room h =
+    let n : ℕ = suc (length (take stop text)) in
+    let read = h n (omega arith) in
+    let f = (value_format n).found (drop at (take stop text)) p (drop end (take stop text)) read.1 in
+    let size = length-take-le stop text within in
+    let here : List ℕ = drop end (take stop text) in
+    let behind : List ℕ = drop stop text in
+    let parts : drop at text ≡ value_text p ++ (here ++ behind) = sym (front_whole text stop at within start)
+    ∙ ap (λ (u : List ℕ). u ++ behind) f.parts ∙ append_assoc (value_text p) here behind in
+    let more : (0 < length here) ⊎ (behind ≡ []) = elim room [
+      | inl k ↦ inl (omega (arith, k, size, length-drop end (take stop text)))
+      | inr k ↦ inr (drop_all stop text (omega (arith, k)))
+    ] in
+    let again = (value_format n).again p (here ++ behind) f.fits (ends_longer p here behind more f.ends) in (
+      omega (arith, read.0, size, within),
+      ap (value_within n) parts ∙ again ∙ ap (λ (u : List ℕ). Ok (p, u)) (front_whole text stop end within (omega (arith, read.0, size))),
+    )
 
 -- ---- a place that is refused
 

@@ -5,9 +5,7 @@ ghost use Rattle.df_value_text.specs.code.Short.{open_count};
 ghost use Rattle.df_value_text.specs.declared.place.Place.TheVariants as place;
 
 use crate::brackets::Brackets;
-use crate::number_reader::byte_stands;
 use crate::place::{Place, begins, closes, next, weight};
-use crate::words_reader::plain_end;
 use df_frozen::{MOST_BYTES, MOST_DEPTH, MOST_NODES};
 
 /// A walk over bytes, and what it has counted.
@@ -103,31 +101,10 @@ fn open_count(text: &[u8]) -> usize
 
 /// Whether the text is so short, and opens so few brackets, that no count is passed in it.
 #[tactic(auto, using(crate::proofs::CountingSteps::never_small))]
-fn is_small(text: &[u8]) -> bool
+pub(crate) fn is_small(text: &[u8]) -> bool
     ensures { result ≡ true → NeverOver text.now }
 {
     text.len() as u64 <= MOST_NODES && (open_count(text) as u64) < MOST_DEPTH
-}
-
-/// Whether a number stands at the place: no count is passed in it.
-fn is_number(bytes: &[u8], at: usize) -> bool
-    requires { at ≤ length bytes.now }
-    ensures { result ≡ true → NeverOver (drop at bytes.now) }
-{
-    at < bytes.len() && (bytes[at].is_ascii_digit() || bytes[at] == b'-')
-}
-
-/// Whether words stand at the place whose bytes stand for themselves, and are so few that no count
-/// is passed.
-fn are_few_words(bytes: &[u8], at: usize) -> bool
-    requires { at ≤ length bytes.now }
-    ensures { result ≡ true → NeverOver (drop at bytes.now) }
-{
-    if !byte_stands(bytes, at, b'"') {
-        return false;
-    }
-    let quote = plain_end(bytes, at + 1);
-    byte_stands(bytes, quote, b'"') && (quote - at) as u64 <= MOST_BYTES
 }
 
 /// The place of the first byte, from the place on, by which a count of freezing is passed; none
@@ -136,9 +113,6 @@ pub(crate) fn over_at(bytes: &[u8], at: usize) -> Option<usize>
     requires { at ≤ length bytes.now }
     ensures { TellsOver bytes.now at result }
 {
-    if is_number(bytes, at) || are_few_words(bytes, at) || is_small(&bytes[at..]) {
-        return None;
-    }
     let mut walk = Walk::start();
     let mut place = at;
     while place < bytes.len() && !walk.is_done() {

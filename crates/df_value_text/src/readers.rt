@@ -13,9 +13,8 @@ ghost use Rattle.df_value_text.specs.Value.{value_text};
 ghost use Rattle.df_value_text.specs.ValueFault.{FirstTooLarge, IsTooLargeAt, IsWithinBefore, NamesTooLarge, NamesValueFault, NoLowBefore};
 
 use crate::TextRefused;
-use crate::counting::over_at;
 use crate::label_reader::{label_at, privilege_at};
-use crate::limits::{over_fault, within_at};
+use crate::limits::frozen_at;
 use crate::refused::told;
 use crate::tag_reader::tag_at;
 use df_frozen::Frozen;
@@ -77,8 +76,5 @@ pub fn read_value(alloc: Global, bytes: &[u8], at: usize) -> Result<(Frozen, usi
     ensures over { (rest : List ℕ) → FirstTooLarge (drop at bytes.now) rest →
         NoLowBefore (drop at bytes.now) rest → IsTooLargeAt bytes.now rest result }
 {
-    match over_at(bytes, at) {
-        None => within_at(alloc, bytes, at),
-        Some(over) => Err(over_fault(alloc, bytes, at, over)),
-    }
+    frozen_at(alloc, bytes, at)
 }

@@ -1,9 +1,13 @@
 -- What a reader of bytes answers.
-use Rattle.std.specs.Prelude.{◌≡◌, ℕ, ◌≤◌, List, length, drop, Result, Ok, Err, ⊤, ◌⊎◌}
+use Rattle.std.specs.Prelude.{◌≡◌, ℕ, ◌≤◌, List, length, drop, Result, Ok, Err, IfOk, IfErr, ⊤, ◌⊎◌}
 use Rattle.df_format.specs.Reading.{Bad, Low, Read}
 use Rattle.df_format.specs.Grammar.{Stands, FirstBad}
+use Rattle.df_frozen.specs.Plain.{Plain}
+use Rattle.df_value_text.specs.Fits.{IsValue}
+use Rattle.df_value_text.specs.OrderNames.{LowInValue}
 use Rattle.df_value_text.specs.ReadTag.{ended}
-use Rattle.df_value_text.specs.ValueFault.{FirstLow}
+use Rattle.df_value_text.specs.Value.{value_text}
+use Rattle.df_value_text.specs.ValueFault.{FirstLow, FirstTooLarge, IsTooLargeAt, IsWithinBefore, NamesTooLarge, NamesValueFault, NoLowBefore}
 use Rattle.df_value_text.specs.declared.refused.Fault.{Fault}
 use Rattle.df_value_text.specs.declared.refused.Fault.TheVariants as fault
 use Rattle.df_value_text.specs.declared.refused.TextRefused.{TextRefused}
@@ -71,3 +75,15 @@ IsSyntaxAt bytes rest (Ok read) = ⊥
 IsSyntaxAt bytes rest (Err refused.NoMemory) = ⊤
 IsSyntaxAt bytes rest (Err (refused.Syntax place)) = drop place bytes ≡ rest
 IsSyntaxAt bytes rest (Err (refused.TooLarge place)) = ⊥
+
+-- what is told of a value: as the public reader says
+pub record TellsValue (bytes : List ℕ) (at : ℕ) (result : Result (Plain × ℕ) TextRefused) : Type 0 where
+  pub found : IfOk result (IsFound value_text IsValue bytes at)
+  pub only : (value : Plain) (rest : List ℕ) →
+      Stands value_text IsValue (drop at bytes) value rest → IsRead bytes value rest result
+  pub syntax : IfErr result (NamesValueFault bytes at)
+  pub order : (rest : List ℕ) → LowInValue (drop at bytes) rest →
+      IsWithinBefore (drop at bytes) rest → IsSyntaxAt bytes rest result
+  pub too_large : IfErr result (NamesTooLarge bytes at)
+  pub over : (rest : List ℕ) → FirstTooLarge (drop at bytes) rest →
+      NoLowBefore (drop at bytes) rest → IsTooLargeAt bytes rest result
