@@ -35,4 +35,3 @@ pub mod LimitFronts
 pub mod LimitLaws
 pub mod WordEnds
 pub mod Backs
-pub mod Examples
