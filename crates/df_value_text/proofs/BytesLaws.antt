@@ -1,5 +1,5 @@
 -- Bytes are read as they are spelled.
-use Rattle.df_value_text.proofs.Names.{◌≡◌, ℕ, ◌+◌, ◌*◌, ◌/◌, ◌%◌, ◌<◌, Bool, true, false, cond, List, [], ◌∷◌, ◌++◌, Some, None, Ok, Err, refl, append_assoc, arith, codes, AllByRecursion, flat_map, nat_tests, Bad, Read, ◌>>=◌, decoded, one_at, CanGoOn, IsLocal, Format, never, same_read, nowhere, nowhere_is_local, any_low, fitting, enclosed, itself, passing, passing_format, chain_at, chain_format, Links, each_format, hex, hex_digit, is_hex, hex_byte, pairs_at, bytes_at, AreBytes, Each, two_at, hex_value}
+use Rattle.df_value_text.proofs.Names.{◌≡◌, ℕ, ◌+◌, ◌*◌, ◌/◌, ◌%◌, ◌<◌, Bool, true, false, cond, List, [], ◌∷◌, ◌++◌, Some, None, Ok, Err, refl, append_assoc, arith, codes, flat_map, nat_tests, Bad, Read, ◌>>=◌, decoded, one_at, CanGoOn, IsLocal, Format, never, same_read, nowhere, nowhere_is_local, any_low, enclosed, itself, passing, passing_format, chain_at, chain_format, Links, each_format, hex, hex_digit, is_hex, hex_byte, pairs_at, bytes_at, AreBytes, Each, two_at, hex_value}
 
 abbrev pub pairs_text : List ℕ → List ℕ
 pairs_text bytes = flat_map hex bytes
@@ -85,16 +85,8 @@ pairs_each = record {
   some = digit_on;
 }
 
-are_bytes : (bs : List ℕ) → AllByRecursion IsByte bs → AreBytes bs
-are_bytes [] h = tt
-are_bytes (b ∷ bs) h = (h.0, are_bytes bs h.1)
-
-bytes_are : (bs : List ℕ) → AreBytes bs → AllByRecursion IsByte bs
-bytes_are [] h = tt
-bytes_are (b ∷ bs) h = (h.0, bytes_are bs h.1)
-
 pairs_format : Format nowhere pairs_text AreBytes pairs_go pairs_at
-pairs_format = fitting are_bytes bytes_are (each_format pairs_each)
+pairs_format = each_format pairs_each
 
 -- ---- in quotes
 

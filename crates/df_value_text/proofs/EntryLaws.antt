@@ -1,8 +1,8 @@
 -- Items in front of a closing byte, how deep values nest, and entries, read as they are spelled.
-use Rattle.df_value_text.proofs.Names.{◌≡◌, ℕ, Bool, true, false, eqb, List, [], ◌∷◌, ◌++◌, refl, sym, ap, subst, ◌∙◌, ◌⊎◌, inl, inr, eq-eqb, Read, as_at, more_spell, items_spell, Format, never, closed_format, Begins, Follow, ItemsFit, IsText, text_format, Of, made, fitting, either_of, joined, listed, none_listed, ended_at, suc, ◌≤◌, max, arith, is_lt, name_cmp, Plain, Plains, Pairs, items, entries, no_items, item, no_entries, entry, from_list, from_pairs, node_count, items_node_count, entries_node_count, IsSpelled, AreSpelled, AreEntries, AreBehind, Ok, append_assoc, ℤ, pos, negsuc, not, eqb-true, and_parts, nat_tests, ◌>>=◌, items_at, ok_is, bind_ok, then_at, in_map, low_as, nowhere, append-nil, flat_map, then_goes, Parts, Leads, items_goes, items_format, format_shrinks, behind_format, own, Less, int, is_greatest, leads_entry, higher_at, given_at, entry_at, next_entry_at, value_text, entry_text, last_of, last_split, LowWithin, MayFollow, IsOpen, Open, open_text, entries_led, then_format, ends_of_second}
+use Rattle.df_value_text.proofs.Names.{◌≡◌, ℕ, Bool, true, false, eqb, List, [], ◌∷◌, ◌++◌, refl, sym, ap, subst, ◌∙◌, ◌⊎◌, inl, inr, eq-eqb, Read, as_at, more_spell, items_spell, Format, never, closed_format, Begins, Follow, ItemsFit, IsText, text_format, Of, made, fitting, either_of, joined, listed, none_listed, ended_at, suc, ◌≤◌, max, arith, is_lt, name_cmp, Plain, Plains, Pairs, items, entries, no_items, item, no_entries, entry, from_list, from_pairs, node_count, items_node_count, entries_node_count, IsSpelled, AreSpelled, AreEntries, AreBehind, Ok, append_assoc, ℤ, pos, negsuc, eqb-true, and_parts, nat_tests, ◌>>=◌, items_at, ok_is, bind_ok, then_at, in_map, low_as, nowhere, append-nil, flat_map, then_goes, Parts, Leads, items_goes, items_format, format_shrinks, behind_format, own, Less, int, greatest, leads_entry, higher_at, given_at, entry_at, next_entry_at, value_text, entry_text, last_of, last_split, LowWithin, MayFollow, IsOpen, Open, open_text, entries_led, then_format, ends_of_second}
 use Rattle.df_value_text.proofs.PathLaws.{joined_items}
 use Rattle.df_value_text.proofs.NameLaws.{IsName, name_goes, name_format}
-use Rattle.df_value_text.proofs.HigherLaws.{AfterName, is_less, NearName, higher_format, greatest, above_fits, not_greatest}
+use Rattle.df_value_text.proofs.HigherLaws.{AfterName, is_less, NearName, higher_format, greatest_fits, below_greatest}
 use Rattle.df_value_text.proofs.WholeLaws.{whole_goes}
 
 -- ---- items in front of a closing byte, of which there may be none
@@ -191,10 +191,6 @@ given_text p = 61 ∷ value_text p
 abbrev pub entry_goes : List ℕ × Plain → ℕ → Bool
 entry_goes e c = value_goes e.1 c
 
-pub not_true : (b : Bool) → not b ≡ true → b ≡ false
-not_true false h = refl
-not_true true h = absurd cc
-
 -- ---- what is low in a list or a map is so in the value
 
 -- items, each with a comma behind it
@@ -304,15 +300,15 @@ module _ (n : ℕ) (inner : List ℕ → Read ℕ Plain) (f : Format LowWithin v
     item = λ prev fits. next_format prev;
     shrinks = λ prev. format_shrinks (NearEntry prev) entry_text (LevelAfter n prev) entry_goes (next_entry_at inner prev.0) (next_format prev);
     fits = λ prev e fits after. (after.0.0, after.1);
-    only = λ prev c cs h. eqb-true c 44 (and_parts (eqb c 44) (not (is_greatest prev.0)) h).0;
-    led = λ prev e more fits after. ap not (not_greatest prev.0 e.0 after.0);
+    only = λ prev c cs h. eqb-true c 44 (and_parts (eqb c 44) (is_lt (name_cmp prev.0 greatest)) h).0;
+    led = λ prev e more fits after. below_greatest prev.0 e.0 after.0;
     at_sep = λ e fits. value_apart e.1 44 (inl refl);
   }
 
   entries_lead : Leads LowInMap NearEntry leads_entry 44 entry_text (LevelEntry n) (LevelAfter n)
   entries_lead = record {
     first = λ prev c cs ds. refl;
-    some = λ prev cs fits h. ((greatest, prev.1), (above_fits prev.0 fits.0 (not_true (is_greatest prev.0) h), fits.1));
+    some = λ prev cs fits h. ((greatest, prev.1), ((greatest_fits, h), fits.1));
     near = near_entry n;
   }
 

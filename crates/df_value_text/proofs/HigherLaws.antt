@@ -1,5 +1,6 @@
 -- A name above another is read as it is spelled, and above each but the greatest there is one.
-use Rattle.df_value_text.proofs.Names.{stuck_at, ◌≡◌, ℕ, zero, suc, ◌<◌, ◌≤◌, Bool, true, false, eqb, List, [], ◌∷◌, ◌++◌, length, Ok, Err, refl, sym, ap, subst, ◌∙◌, append_assoc, arith, inl, inr, nat_le, list_all, nat_cmp_is, tied_itself, nat_cmp_total, nat_list_cmp_total, Ordering, Less, Equal, Greater, is_lt, nat_cmp, eqb-true, and_parts, nat_tests, Stop, Bad, Low, CanGoOn, Ends, Stuck, Format, ok_is, err_is, not_both, bind_ok, bind_err, told, chosen, Whole, is_longest, own, nowhere, first_stops, is_letter, is_name_byte, name_cmp, NameStandsLow, name_at, is_greatest, higher_at, whole_format, first_stays, higher}
+use Rattle.df_value_text.proofs.Names.{stuck_at, ◌≡◌, ℕ, zero, suc, ◌<◌, ◌≤◌, Bool, true, false, eqb, List, [], ◌∷◌, ◌++◌, length, Ok, Err, refl, sym, ap, subst, ◌∙◌, append_assoc, arith, ◌⊎◌, inl, inr, list_all, nat_cmp_is, tied_itself, nat_cmp_total, nat_list_cmp_total, Ordering, Less, Equal, Greater, is_lt, nat_cmp, eqb-true, and_parts, nat_tests, Stop, Bad, Low, CanGoOn, Ends, Stuck, Format, ok_is, err_is, not_both, bind_ok, bind_err, told, chosen, Whole, is_longest, own, nowhere, first_stops, is_letter, is_name_byte, name_cmp, NameStandsLow, name_at, higher_at, whole_format, first_stays, higher}
+use Rattle.df_value_text.specs.ReadValue.{greatest}
 use Rattle.df_value_text.proofs.NameLaws.{IsName, name_goes, name_of, name_first, name_format}
 
 abbrev pub AfterName : List ℕ → List ℕ → Type 0
@@ -101,34 +102,26 @@ abbrev zs : ℕ → List ℕ
 zs zero = []
 zs (suc n) = 122 ∷ zs n
 
-abbrev pub greatest : List ℕ
-greatest = zs 32
-
 name_byte_most : (c : ℕ) → is_name_byte c ≡ true → c ≤ 122
 name_byte_most c h = grind (arith, nat_tests)
 
 -- so many `z` are above any no longer name but themselves
-below_z : (n : ℕ) (cs : List ℕ) → list_all is_name_byte cs ≡ true → length cs ≤ n → (n ≤ length cs → list_all is_z cs ≡ true → ⊥) → name_cmp cs (zs n) ≡ Less
-below_z zero [] h le other = absurd (other (omega arith) refl)
-below_z (suc n) [] h le other = refl
-below_z zero (c ∷ cs) h le other = absurd (omega (arith, le))
-below_z (suc n) (c ∷ cs) h le other =
+up_to_z : (n : ℕ) (cs : List ℕ) → list_all is_name_byte cs ≡ true → length cs ≤ n → (name_cmp cs (zs n) ≡ Less) ⊎ (cs ≡ zs n)
+up_to_z zero [] h le = inr refl
+up_to_z (suc n) [] h le = inl refl
+up_to_z zero (c ∷ cs) h le = absurd (omega (arith, le))
+up_to_z (suc n) (c ∷ cs) h le =
     let b = and_parts (is_name_byte c) (list_all is_name_byte cs) h in
     elim (told (is_z c)) [
-      | inl k ↦ let is : c ≡ 122 = eqb-true c 122 k in rw is (below_z n cs b.1 (omega (arith, le)) (λ long z. other (omega (arith, long)) (rw (k, z) refl)))
+      | inl k ↦ let is : c ≡ 122 = eqb-true c 122 k in elim (up_to_z n cs b.1 (omega (arith, le))) [
+        | inl less ↦ inl (rw is less)
+        | inr same ↦ inr (rw (is, same) refl)
+      ]
       | inr k ↦
           let less : c < 122 = grind (arith, nat_tests, name_byte_most c b.0) in
           let order = nat_cmp_is c 122 Less less in
-          rw (← order) refl
+          inl (rw (← order) refl)
     ]
-
-all_z : (n : ℕ) (cs : List ℕ) → length cs ≡ n → list_all is_z cs ≡ true → cs ≡ zs n
-all_z zero [] e h = refl
-all_z (suc n) [] e h = absurd (omega (arith, e))
-all_z zero (c ∷ cs) e h = absurd (omega (arith, e))
-all_z (suc n) (c ∷ cs) e h =
-    let a = and_parts (is_z c) (list_all is_z cs) h in
-    rw (eqb-true c 122 a.0) (ap (λ (u : List ℕ). 122 ∷ u) (all_z n cs (omega (arith, e)) a.1))
 
 pub name_size : (name : List ℕ) → IsName name → (list_all is_name_byte name ≡ true) × (length name ≤ 32)
 name_size [] fits = absurd (let no : false ≡ true = fits in cc)
@@ -139,38 +132,16 @@ name_size (c ∷ cs) fits =
     let byte : is_name_byte c ≡ true = rw letter refl in
     (rw (byte, all) refl, omega (arith, few))
 
--- it is above any other name
-pub above_fits : (name : List ℕ) → IsName name → is_greatest name ≡ false → AfterName name greatest
-above_fits name fits g =
-    let w = name_size name fits in
-    (refl, ap is_lt (below_z 32 name w.0 w.1 (λ long z. other long z)))
-  where
-    other : 32 ≤ length name → list_all is_z name ≡ true → ⊥
-    other long z =
-        let size : nat_le 32 (length name) ≡ true = grind (arith, nat_tests) in
-        let yes : is_greatest name ≡ true = rw (size, z) refl in
-        absurd (let no : true ≡ false = sym yes ∙ g in cc)
+pub greatest_fits : IsName greatest
+unfolding greatest
+greatest_fits = refl
 
--- what has a name above it isn't the greatest
-pub not_greatest : (prev name : List ℕ) → AfterName prev name → is_greatest prev ≡ false
-not_greatest prev name after =
-    elim (told (is_greatest prev)) [
-      | inr h ↦ h
-      | inl h ↦
-          let a = and_parts (nat_le 32 (length prev)) (list_all is_z prev) h in
-          let long : 32 ≤ length prev = grind (arith, nat_tests) in
-          absurd (no_higher long (all_z (length prev) prev refl a.1))
+-- what has a name above it has the greatest above it
+pub below_greatest : (prev name : List ℕ) → AfterName prev name → is_lt (name_cmp prev greatest) ≡ true
+unfolding greatest
+below_greatest prev name after =
+    let w = name_size name after.0 in
+    elim (up_to_z 32 name w.0 w.1) [
+      | inl less ↦ ap is_lt (nat_list_cmp_total.trans prev name (zs 32) (is_less (name_cmp prev name) after.1) less)
+      | inr same ↦ subst (λ (u : List ℕ). is_lt (name_cmp prev u) ≡ true) same after.1
     ]
-  where
-    less : name_cmp prev name ≡ Less
-    less = is_less (name_cmp prev name) after.1
-
-    itself : name_cmp prev prev ≡ Less → ⊥
-    itself e = absurd (let no : Equal ≡ Less = sym (tied_itself nat_list_cmp_total prev) ∙ e in cc)
-
-    no_higher : 32 ≤ length prev → prev ≡ zs (length prev) → ⊥
-    no_higher long is =
-        let w = name_size name after.0 in
-        let below = below_z (length prev) name w.0 (omega (arith, long, w.1)) (λ more z.
-        itself (ap (name_cmp prev) (is ∙ sym (all_z (length prev) name (omega (arith, long, w.1, more)) z)) ∙ less)) in
-        itself (ap (name_cmp prev) is ∙ nat_list_cmp_total.trans prev name (zs (length prev)) less below)

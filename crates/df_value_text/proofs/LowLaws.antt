@@ -2,7 +2,7 @@
 use Rattle.df_value_text.proofs.Names.{◌≡◌, ℕ, zero, suc, ◌+◌, ◌≤◌, true, eqb, List, [], ◌∷◌, ◌++◌, length, Err, refl, sym, ap, subst, ◌∙◌, append_assoc, length-append, arith, inl, inr, flat_map, eqb-true, Stop, Bad, Low, Read, items_at, err_is, told, Parts, longest_read, Plain, from_list, from_pairs, items_node_count, entries_node_count, NameStandsLow, in_list, in_map, LowInValue, ended_at, leads_value, list_at, leads_entry, entry_at, next_entry_at, map_at, entry_text, nowhere, Open, values_led, entries_led, open_text, LowWithin, MayFollow, IsOpen, AreOpen}
 use Rattle.df_value_text.specs.ReadValue.{value_within}
 use Rattle.df_value_text.proofs.EntryLaws.{Chain, LowInMap, NearEntry, entry_goes, entry_format, entries_parts, name_apart, LevelEntry, LevelAfter, items_nest_few, entries_nest_few, list_chain, entries_chain}
-use Rattle.df_value_text.proofs.HigherLaws.{AfterName, name_whole, higher_format, not_greatest}
+use Rattle.df_value_text.proofs.HigherLaws.{AfterName, name_whole, higher_format, below_greatest}
 use Rattle.df_value_text.proofs.NameLaws.{IsName, name_format}
 use Rattle.df_value_text.proofs.ValueLaws.{items_parts, value_format}
 use Rattle.df_value_text.proofs.ValueSteps.{within_empty}
@@ -77,7 +77,7 @@ map_stops n es text rest chain none some =
 
 -- behind a comma an entry of a name above stops where its value does, and a low name at once
 leads_on : (last : List ℕ × Plain) (name inner : List ℕ) → AfterName last.0 name → leads_entry last 44 inner ≡ true
-leads_on last name inner after = rw (not_greatest last.0 name after) refl
+leads_on last name inner after = below_greatest last.0 name after
 
 entry_stops : (read : List ℕ → Read ℕ Plain) (name text : List ℕ) (stop : Stop ℕ) → IsName name → read text ≡ Err stop
     → entry_at read (name ++ (61 ∷ text)) ≡ Err stop

@@ -36,7 +36,7 @@ pub use Rattle.df_value_text.specs.ReadEscape.{ascii_at, control_at, escape_at, 
 pub use Rattle.df_value_text.specs.ReadLabel.{auth_at, label_at, label_of, minus_of, plus_of, privilege_at, privilege_of, right_at}
 pub use Rattle.df_value_text.specs.ReadName.{name_at, name_bytes}
 pub use Rattle.df_value_text.specs.ReadTag.{begins_digit, ended, leads_at, leads_number, leads_tag, listed, longest_at, next_at, numbers_at, optional, short_at, some_tags_at, tag_at, tags_at}
-pub use Rattle.df_value_text.specs.ReadValue.{ended_at, entry_at, given_at, higher, higher_at, is_greatest, leads_entry, leads_value, leaf_at, list_at, list_of, map_at, map_of, next_entry_at, node_at, none_listed, value_at}
+pub use Rattle.df_value_text.specs.ReadValue.{ended_at, entry_at, given_at, greatest, higher, higher_at, leads_entry, leads_value, leaf_at, list_at, list_of, map_at, map_of, next_entry_at, node_at, none_listed, value_at}
 pub use Rattle.df_value_text.specs.ReadWhole.{IsWhole, minus, positive_at, whole_at}
 pub use Rattle.df_value_text.specs.ReadWide.{is_between, is_lead, least_second, led_at, most_second, trail_at, trail_length, wide_at}
 pub use Rattle.df_value_text.specs.ReadWords.{alone, begins_char, char_at, chars_at, words_at}

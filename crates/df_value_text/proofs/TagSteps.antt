@@ -1,5 +1,5 @@
 -- The loops that read numbers and tags, step by step.
-use Rattle.df_value_text.proofs.Names.{◌≡◌, ℕ, ◌+◌, ◌-◌, ◌<◌, ◌≤◌, ◌^◌, true, false, List, [], ◌∷◌, ◌++◌, length, get_or, drop, take, Some, Ok, Err, Bool, None, cond, refl, sym, ap, ◌∙◌, arith, AllByRecursion, Read, as_at, items_at, begins_with, leads_number, tag_at, next_at, leads_tag, listed, optional, some_tags_at, tags_at, AreNumbers, AreTags, IsTag, tag_cmp, tags_text, All, get_or-append_seam, IsAscending, leads_at}
+use Rattle.df_value_text.proofs.Names.{◌≡◌, ℕ, ◌+◌, ◌-◌, ◌<◌, ◌≤◌, ◌^◌, true, false, List, [], ◌∷◌, ◌++◌, length, get_or, drop, take, Some, Ok, Err, Bool, None, cond, refl, sym, ap, ◌∙◌, arith, AllByRecursion, Read, as_at, items_at, begins_with, leads_number, tag_at, next_at, leads_tag, listed, optional, some_tags_at, tags_at, AreTags, IsTag, tag_cmp, tags_text, All, get_or-append_seam, IsAscending, leads_at}
 use Rattle.std.proofs.lemmas.List.{length_push}
 use Rattle.std.proofs.lemmas.List.Elements.{All-from_recursion}
 use Rattle.df_label.specs.Spelling.{AreShort}
@@ -40,13 +40,9 @@ some_tags (c ∷ cs) h =
 
 -- ---- a set's bytes
 
-numbers_short : (ns : List ℕ) → AreNumbers ns → AllByRecursion (λ n. n < 2 ^ 32) ns
-numbers_short [] fits = tt
-numbers_short (n ∷ ns) fits = (fits.0, numbers_short ns fits.1)
-
 tag_short : (tag : List ℕ) → IsTag tag → AreShort tag
 tag_short [] fits = absurd fits
-tag_short (n ∷ ns) fits = All-from_recursion (λ n. n < 2 ^ 32) (n ∷ ns) (fits.0, numbers_short ns fits.1)
+tag_short (n ∷ ns) fits = All-from_recursion (λ n. n < 2 ^ 32) (n ∷ ns) fits
 
 tags_short : (tags : List (List ℕ)) → AreTags tags → AllByRecursion AreShort tags
 tags_short [] fits = tt

@@ -1,5 +1,5 @@
 -- The reader of values, step by step.
-use Rattle.df_value_text.proofs.Names.{◌≡◌, ℕ, List, [], ◌∷◌, ◌++◌, Some, refl, sym, ap, ◌∙◌, nat_list_cmp_total, Less, Greater, name_cmp, Plain, items, entries, item, entry, from_list, from_pairs, zero, suc, ◌+◌, ◌<◌, ◌≤◌, Bool, true, false, ◌&&◌, length, drop, Ok, Err, arith, not, and_parts, Stop, Bad, Read, then_at, as_at, text_at, closed_at, items_at, begins_with, listed, either_at, behind_at, ended_at, entry_at, next_entry_at, leads_value, list_at, list_of, is_greatest, leads_entry, map_at, map_of, leaf_at, ordering_reverse, ◌==◌}
+use Rattle.df_value_text.proofs.Names.{◌≡◌, ℕ, List, [], ◌∷◌, ◌++◌, Some, refl, sym, ap, ◌∙◌, nat_list_cmp_total, Less, Greater, name_cmp, Plain, items, entries, item, entry, from_list, from_pairs, zero, suc, ◌+◌, ◌<◌, ◌≤◌, Bool, true, false, ◌&&◌, length, drop, Ok, Err, arith, and_parts, Stop, Bad, Read, then_at, as_at, text_at, closed_at, items_at, begins_with, listed, either_at, behind_at, ended_at, entry_at, next_entry_at, leads_value, list_at, list_of, greatest, is_lt, leads_entry, map_at, map_of, leaf_at, ordering_reverse, ◌==◌}
 use Rattle.df_frozen.specs.Place.{push_item, put_entry, push_at, put_at}
 use Rattle.df_value_text.specs.ReadValue.{value_within}
 use Rattle.df_value_text.proofs.Loops.{LedTo, drop_first, behind_it, either_behind}
@@ -155,16 +155,16 @@ module _ {X : Type 0} (k : Kind X) where
 
 -- ---- commas
 
-pub entry_led : (name : List ℕ) (p : Plain) (text : List ℕ) (place : ℕ) → (begins_with 44 (drop place text) && not (is_greatest name)) ≡ true
+pub entry_led : (name : List ℕ) (p : Plain) (text : List ℕ) (place : ℕ) → (begins_with 44 (drop place text) && is_lt (name_cmp name greatest)) ≡ true
     → LedTo leads_entry (name, p) text place
 entry_led name p text place h =
-    let a = and_parts (begins_with 44 (drop place text)) (not (is_greatest name)) h in
+    let a = and_parts (begins_with 44 (drop place text)) (is_lt (name_cmp name greatest)) h in
     let b = behind_it text place 44 (a.0) in
     record { first = b.0; is = b.1; leads_on = rw (b.2, a.1) refl }
 
-pub entry_last : (name : List ℕ) (p : Plain) (text : List ℕ) → (begins_with 44 text && not (is_greatest name)) ≡ false
+pub entry_last : (name : List ℕ) (p : Plain) (text : List ℕ) → (begins_with 44 text && is_lt (name_cmp name greatest)) ≡ false
     → (c : ℕ) (cs : List ℕ) → text ≡ c ∷ cs → leads_entry (name, p) c cs ≡ false
-entry_last name p text h c cs is = ap (λ (u : List ℕ). begins_with 44 u && not (is_greatest name)) (sym is) ∙ h
+entry_last name p text h c cs is = ap (λ (u : List ℕ). begins_with 44 u && is_lt (name_cmp name greatest)) (sym is) ∙ h
 
 -- a byte that stands at a place takes some place
 pub begins_within : (text : List ℕ) (place byte : ℕ) → begins_with byte (drop place text) ≡ true → place + 1 ≤ length text

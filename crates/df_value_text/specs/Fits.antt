@@ -1,5 +1,6 @@
 -- Which tags, sets of tags, labels, privileges and values have a spelling.
 use Rattle.std.specs.Prelude.{◌≡◌, true, ℕ, ◌<◌, ◌^◌, List, [], ◌∷◌, IsUtf8, ⊤}
+use Rattle.std.specs.List.{AllByRecursion}
 use Rattle.std.specs.declared.cmp.Ordering.TheVariants.{Less}
 use Rattle.df_frozen.specs.Limits.{IsWithinLimits}
 use Rattle.df_frozen.specs.Name.{is_name, name_cmp}
@@ -13,8 +14,7 @@ use Rattle.df_value_text.specs.ReadWhole.{IsWhole}
 
 -- numbers of 32 bits
 abbrev pub AreNumbers : List ℕ → Type 0
-AreNumbers [] = ⊤
-AreNumbers (n ∷ ns) = (n < 2 ^ 32) × AreNumbers ns
+AreNumbers ns = AllByRecursion (λ n. n < 2 ^ 32) ns
 
 -- a tag: at least one such number
 abbrev pub IsTag : List ℕ → Type 0
@@ -22,8 +22,7 @@ IsTag [] = ⊥
 IsTag (n ∷ ns) = (n < 2 ^ 32) × AreNumbers ns
 
 abbrev pub AreTags : List (List ℕ) → Type 0
-AreTags [] = ⊤
-AreTags (tag ∷ tags) = IsTag tag × AreTags tags
+AreTags tags = AllByRecursion IsTag tags
 
 -- a set of tags: they ascend
 abbrev pub IsTagSet : List (List ℕ) → Type 0

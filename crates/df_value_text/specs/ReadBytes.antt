@@ -1,5 +1,6 @@
 -- Reading bytes, in pairs of hexadecimal digits.
-use Rattle.std.specs.Prelude.{ℕ, ◌+◌, ◌-◌, ◌*◌, ◌<◌, Bool, ◌&&◌, ◌||◌, List, [], ◌∷◌, Ok, Err, nat_le, nat_lt, if◌then◌else◌, ⊤}
+use Rattle.std.specs.Prelude.{ℕ, ◌+◌, ◌-◌, ◌*◌, ◌<◌, Bool, ◌&&◌, ◌||◌, List, [], ◌∷◌, Ok, Err, nat_le, nat_lt, if◌then◌else◌}
+use Rattle.std.specs.List.{AllByRecursion}
 use Rattle.df_format.specs.Reading.{Bad, Read, all_at, starts, behind_at, closed_at}
 
 -- 0 to 9 or a to f
@@ -33,5 +34,4 @@ bytes_at bytes = behind_at (120 ∷ 34 ∷ []) (closed_at (34 ∷ []) pairs_at) 
 
 -- bytes of 8 bits
 abbrev pub AreBytes : List ℕ → Type 0
-AreBytes [] = ⊤
-AreBytes (b ∷ bs) = (b < 256) × AreBytes bs
+AreBytes bs = AllByRecursion (λ b. b < 256) bs

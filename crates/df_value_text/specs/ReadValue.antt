@@ -1,9 +1,7 @@
 -- Reading a value.
-use Rattle.std.specs.Prelude.{ℕ, zero, suc, Bool, ◌&&◌, not, List, [], ◌∷◌, length, Ok, Err, ◌==◌, nat_le, if◌then◌else◌}
-use Rattle.std.specs.List.{list_all}
+use Rattle.std.specs.Prelude.{ℕ, zero, suc, Bool, ◌&&◌, List, [], ◌∷◌, length, codes, Ok, Err, ◌==◌, if◌then◌else◌}
 use Rattle.std.specs.Ordering.{is_lt}
 use Rattle.df_format.specs.Reading.{Low, Read, ◌>>=◌, as_at, then_at, either_at, text_at, behind_at, closed_at, items_at}
-use Rattle.df_frozen.specs.Limits.{longest_name}
 use Rattle.df_frozen.specs.Name.{name_cmp}
 use Rattle.df_frozen.specs.Plain.{Plain, int, words, bytes, items, entries, from_list, from_pairs}
 use Rattle.df_value_text.specs.ReadBytes.{bytes_at}
@@ -39,13 +37,13 @@ list_at inner text = as_at list_of (ended_at 93 (items_at leads_value inner (λ 
 
 -- ---- maps
 
--- `z` as often as a name has bytes: no name is above it
-abbrev pub is_greatest : List ℕ → Bool
-is_greatest name = nat_le longest_name (length name) && list_all (λ c. c == 122) name
+-- `z` as often as a name has bytes
+unfoldable pub greatest : List ℕ
+greatest = codes "zzzzzzzzzzzzzzzzzzzzzzzzzzzzzzzz"
 
 -- a comma leads on to another entry, unless no name is above the one before it
 abbrev pub leads_entry : List ℕ × Plain → ℕ → List ℕ → Bool
-leads_entry prev c cs = (c == 44) && not (is_greatest prev.0)
+leads_entry prev c cs = (c == 44) && is_lt (name_cmp prev.0 greatest)
 
 -- the name at these bytes, if it is above this one
 abbrev pub higher : List ℕ → List ℕ → List ℕ × List ℕ → Read ℕ (List ℕ)

@@ -1,11 +1,12 @@
 //! Reading values that nest.
-ghost use Rattle.std.specs.Prelude.{◌≡◌, ◌≤◌, ◌<◌, ◌+◌, ◌&&◌, not, ◌==◌, [], ℕ, Some, length, drop, IfOk, IfErr, OnOk};
-ghost use Rattle.std.specs.List.{list_all};
+ghost use Rattle.std.specs.Prelude.{◌≡◌, ◌≤◌, ◌<◌, ◌+◌, ◌&&◌, [], ℕ, Some, length, drop, IfOk, IfErr, OnOk};
+ghost use Rattle.std.specs.Ordering.{is_lt};
+ghost use Rattle.df_frozen.specs.Name.{name_cmp};
 ghost use Rattle.df_frozen.specs.Place.{push_at, put_at};
 ghost use Rattle.df_frozen.specs.Value.{named, plain};
 ghost use Rattle.df_value_text.specs.code.Answer.{Gives};
 ghost use Rattle.df_value_text.specs.Number.{begins_with};
-ghost use Rattle.df_value_text.specs.ReadValue.{entry_at, given_at, higher_at, is_greatest, leaf_at, list_at, map_at, next_entry_at, value_within};
+ghost use Rattle.df_value_text.specs.ReadValue.{entry_at, given_at, greatest, higher_at, leaf_at, list_at, map_at, next_entry_at, value_within};
 ghost use Rattle.df_value_text.specs.declared.refused.Fault.TheVariants as fault;
 
 use crate::Fault;
@@ -15,6 +16,9 @@ use crate::number_reader::{byte_at, byte_stands, whole_at};
 use crate::words_reader::words_at;
 use df_frozen::{Entries, Items, LONGEST_NAME, Name, Value};
 use std::alloc::Global;
+
+/// No name is above it.
+const GREATEST: [u8; LONGEST_NAME] = [b'z'; LONGEST_NAME];
 
 /// The longest value at the place, and the place behind it. It takes a stack as deep as the value.
 #[cycle(read)]
@@ -157,27 +161,20 @@ fn higher_at(bytes: &[u8], at: usize, last: &Name) -> Result<(Name, usize), Faul
     Ok((name, end))
 }
 
-/// Whether each of these bytes is `z`.
-fn are_z(text: &[u8]) -> bool
-    ensures { result ≡ list_all (λ c. c == 122) text.now }
+/// Whether some name is above this one.
+#[tactic(auto, unfolding(crate::specs::ReadValue::greatest))]
+fn is_below_greatest(name: &Name) -> bool
+    ensures { result ≡ is_lt (name_cmp name.now greatest) }
 {
-    text.iter().all(|byte| *byte == b'z')
-}
-
-/// Whether this is the greatest name, 32 times `z`.
-fn is_greatest(name: &Name) -> bool
-    ensures { result ≡ is_greatest name.now }
-{
-    let text = name.as_bytes();
-    LONGEST_NAME <= text.len() && are_z(text)
+    name.as_bytes().cmp(&GREATEST.as_slice()).is_lt()
 }
 
 /// Whether a comma stands at the place, behind which an entry may stand.
 fn leads_entry(bytes: &[u8], place: usize, last: &Name) -> bool
     requires { place ≤ length bytes.now }
-    ensures { result ≡ (begins_with 44 (drop place bytes.now) && not (is_greatest last.now)) }
+    ensures { result ≡ (begins_with 44 (drop place bytes.now) && is_lt (name_cmp last.now greatest)) }
 {
-    byte_stands(bytes, place, b',') && !is_greatest(last)
+    byte_stands(bytes, place, b',') && is_below_greatest(last)
 }
 
 /// Appends the value to the list.
