@@ -1,7 +1,6 @@
 -- Behind the whole value nothing counts.
 use Rattle.df_value_text.proofs.Names.{◌≡◌, ℕ, ◌+◌, ◌<◌, ◌≤◌, max, Bool, true, false, cond, List, [], ◌∷◌, ◌++◌, length, take, drop, refl, sym, ap, subst, ◌∙◌, append_assoc, arith, inl, inr, ltb-true, append-nil, length-take-le, is_ascii_digit, goes_on, IsWithinLimits, Plain, int, node_count, byte_count, depth, value_text, IsSpelled, Place, Walk, closed, closes, walked, start, counts_of, AreWithin, IsOver, FirstOver, NeverOver, ltb, ◌↔◌, ltb-false, drop-append-le, take-append-drop, most_nodes, most_bytes, most_depth, AreCountsOf}
-use Rattle.df_value_text.proofs.CountingLaws.{at, Adds, same, passes, walked-append}
-use Rattle.df_value_text.proofs.CountingValues.{ended}
+use Rattle.df_value_text.proofs.CountingLaws.{at, Adds, same, passes, walked-append, ended}
 use Rattle.df_value_text.proofs.CountingFronts.{counted_value, never_over}
 use Rattle.df_value_text.specs.declared.place.Place.TheVariants as place
 

@@ -1,7 +1,6 @@
 -- Walking on never lowers a count.
 use Rattle.df_value_text.proofs.Names.{◌≡◌, ℕ, ◌+◌, ◌≤◌, max, Bool, true, false, cond, ◌||◌, eqb, List, [], ◌∷◌, length, drop, refl, sym, ap, subst, ◌∙◌, arith, ◌⊎◌, inl, inr, nat_tests, told, Plain, node_count, byte_count, depth, value_text, IsSpelled, Place, Walk, begins, nested, closed, closes, walk, walked, start, counts_of, AreWithin, NeverOver, IsCounted}
-use Rattle.df_value_text.proofs.CountingLaws.{at, same, walked-append}
-use Rattle.df_value_text.proofs.CountingValues.{ended, walked_value}
+use Rattle.df_value_text.proofs.CountingLaws.{at, same, walked-append, ended, walked_value}
 use Rattle.df_value_text.specs.declared.place.Place.TheVariants as place
 
 -- what one byte adds

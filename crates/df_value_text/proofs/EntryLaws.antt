@@ -1,8 +1,7 @@
 -- Items in front of a closing byte, how deep values nest, and entries, read as they are spelled.
 use Rattle.df_value_text.proofs.Names.{◌≡◌, ℕ, Bool, true, false, eqb, List, [], ◌∷◌, ◌++◌, refl, sym, ap, subst, ◌∙◌, ◌⊎◌, inl, inr, eq-eqb, Read, as_at, more_spell, items_spell, Format, never, closed_format, Begins, Follow, ItemsFit, IsText, text_format, Of, made, fitting, either_of, joined, listed, none_listed, ended_at, suc, ◌≤◌, max, arith, is_lt, name_cmp, Plain, Plains, Pairs, items, entries, no_items, item, no_entries, entry, from_list, from_pairs, node_count, items_node_count, entries_node_count, IsSpelled, AreSpelled, AreEntries, AreBehind, Ok, append_assoc, ℤ, pos, negsuc, eqb-true, and_parts, nat_tests, ◌>>=◌, items_at, ok_is, bind_ok, then_at, in_map, low_as, nowhere, append-nil, flat_map, then_goes, Parts, Leads, items_goes, items_format, format_shrinks, behind_format, own, Less, int, greatest, leads_entry, higher_at, given_at, entry_at, next_entry_at, value_text, entry_text, last_of, last_split, LowWithin, MayFollow, IsOpen, Open, open_text, entries_led, then_format, ends_of_second}
 use Rattle.df_value_text.proofs.PathLaws.{joined_items}
-use Rattle.df_value_text.proofs.NameLaws.{IsName, name_goes, name_format}
-use Rattle.df_value_text.proofs.HigherLaws.{AfterName, is_less, NearName, higher_format, greatest_fits, below_greatest}
+use Rattle.df_value_text.proofs.NameLaws.{IsName, name_goes, name_format, AfterName, is_less, NearName, higher_format, greatest_fits, below_greatest}
 use Rattle.df_value_text.proofs.WholeLaws.{whole_goes}
 
 -- ---- items in front of a closing byte, of which there may be none

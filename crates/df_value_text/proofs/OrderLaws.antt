@@ -5,7 +5,7 @@ use Rattle.df_value_text.proofs.TagLaws.{nowhere, nowhere_is_local, joined_items
 use Rattle.df_value_text.proofs.TagSetLaws.{tags_parts, follow_tags, tags_format}
 use Rattle.df_value_text.proofs.LabelLaws.{tags_end_at}
 use Rattle.df_value_text.proofs.EntryLaws.{led, items_led}
-use Rattle.df_value_text.proofs.LowItems.{last_same, items_stopped}
+use Rattle.df_value_text.proofs.LowLaws.{last_same, items_stopped}
 
 next_low : (prev rest : List ℕ) → StandsLow prev rest → next_at prev rest ≡ Err (Low rest)
 next_low prev rest s = rw (longest_read long_whole rest s.tag s.more s.longest, s.low) refl

@@ -1,6 +1,6 @@
 -- Tags are read as they are spelled.
 use Rattle.df_value_text.proofs.Names.{stuck_at, both_false, ◌≡◌, ℕ, ◌+◌, ◌-◌, ◌*◌, ◌<◌, Bool, true, false, cond, eqb, List, [], ◌∷◌, ◌++◌, Ok, Err, refl, sym, ap, subst, ◌∙◌, append_assoc, arith, inl, inr, nat_cmp_is, decimal, Less, eqb-true, nat_tests, Stop, Bad, Low, Read, ◌>>=◌, CanGoOn, IsLongest, Ends, Found, Stuck, IsLocal, Format, ok_is, err_is, not_both, bind_ok, bind_err, told, chosen, viable_of, LastEnds, last_goes, is_longest, low_as, fitting, tag_cmp, path_text, tag_text, IsTag, leads_number, longest_at, ended, tag_at}
-use Rattle.df_value_text.proofs.HigherLaws.{tied}
+use Rattle.df_value_text.proofs.NameLaws.{tied}
 use Rattle.df_value_text.proofs.NumberLaws.{number_goes, digit_fits, digit_true, decimal_push}
 pub use Rattle.df_format.proofs.Tokens.{nowhere, nowhere_is_local}
 pub use Rattle.df_value_text.proofs.PathLaws.{top, IsShort, short_format, short_shrinks, digit_first, joined_items, behind_byte, LongFound, LongEnds, long_found, long_again}

@@ -2,7 +2,7 @@
 use Rattle.df_value_text.proofs.Names.{viewed, ◌≡◌, ℕ, Bool, true, false, eqb, List, [], ◌∷◌, ◌++◌, Option, Some, None, refl, sym, ap, ◌∙◌, append_assoc, length-append, length, arith, decimal, nat_list_cmp_total, is_lt, eqb-true, nat_tests, items_at, more_spell, items_spell, maybe_spell, CanGoOn, IsLocal, Format, Follow, Parts, ItemsFit, Leads, last_goes, items_goes, items_format, Shrinks, MaybeFits, maybe_goes, maybe_format, tag_cmp, path_text, tag_text, tags_text, IsTag, AreTags, IsTagSet, StandsLow, IsLowTag, tag_at, next_at, leads_tag, optional, tags_at, last_behind, last_of, IsAscending}
 use Rattle.df_label.proofs.SetFacts.{below_trans}
 use Rattle.df_label.proofs.TagSetFacts.{tag_cmp_exact}
-use Rattle.df_value_text.proofs.HigherLaws.{is_less}
+use Rattle.df_value_text.proofs.NameLaws.{is_less}
 use Rattle.df_value_text.proofs.TagLaws.{with_dot, joined_items, tag_goes, tag_format, Judges, judged_found, judged_format}
 
 -- ---- a tag above another

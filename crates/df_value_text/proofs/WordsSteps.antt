@@ -3,8 +3,7 @@ use Rattle.df_value_text.proofs.Names.{◌≡◌, ℕ, zero, suc, ◌+◌, ◌-�
 use Rattle.df_value_text.proofs.Loops.{first_of, front_on}
 use Rattle.df_value_text.proofs.NameLaws.{name_format}
 use Rattle.df_value_text.proofs.BytesLaws.{pairs_each}
-use Rattle.df_value_text.proofs.CharLaws.{plain_begins}
-use Rattle.df_value_text.proofs.WordsLaws.{chars_each}
+use Rattle.df_value_text.proofs.WordsLaws.{plain_begins, chars_each}
 
 -- ---- names
 

@@ -7,6 +7,7 @@ ghost use Rattle.df_value_text.specs.Fits.{IsSpelled};
 ghost use Rattle.df_value_text.specs.Value.{value_text};
 
 /// The counts taken while a value is parsed are those of the value, whatever stands behind it.
+#[tactic(auto, using(crate::proofs::CountingEnds::counted_behind))]
 pub fn counts_are_exact()
     ensures { (p : Plain) → IsSpelled p → (rest : List ℕ) →
         AreCountsOf p (counts_of (value_text p ++ rest)) }

@@ -57,6 +57,7 @@ pub(crate) fn plain_end(bytes: &[u8], at: usize) -> usize
 }
 
 /// Appends the bytes from the place on that stand for themselves, and gives the place behind them.
+#[tactic(auto, using(crate::proofs::WordsSteps::run_read))]
 fn append_plain(bytes: &[u8], at: usize, text: &mut Vec<u8>) -> Result<usize, NoMemory>
     requires { at ≤ length bytes.now }
     ensures onward { IfOk result (λ end. at ≤ end) }

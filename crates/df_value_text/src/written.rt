@@ -11,6 +11,7 @@ ghost use Rattle.df_value_text.specs.code.WordEnd.{EndsWord};
 
 /// A literal that was printed is parsed back, where nothing, a space or a line feed follows it: by
 /// this law, and the clause `only` of each reader, which gives the place behind it too.
+#[tactic(auto, using(crate::proofs::WordEnds::tag_stands, crate::proofs::WordEnds::label_stands, crate::proofs::WordEnds::privilege_stands, crate::proofs::WordEnds::value_stands))]
 pub fn what_is_written_stands()
     ensures tag { (tag rest : List ℕ) → IsTag tag → EndsWord rest →
         Stands tag_text IsTag (tag_text tag ++ rest) tag rest }
