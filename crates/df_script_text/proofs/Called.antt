@@ -1,7 +1,5 @@
 -- Calls where they stand, as their readers find them.
-use Rattle.df_script_text.proofs.Names.{◌≡◌, ℕ, ◌-◌, ◌≤◌, List, [], ◌∷◌, ◌++◌, length, take, drop, Ok, sym, refl, ap, subst, ◌∙◌, append_assoc}
-use Rattle.df_script_text.proofs.Names.{Call, UnitName, Root, short_at, IsCall, IsUnit, unit_text, plain_kinds}
-use Rattle.df_script_text.proofs.Names.{unit_at, kinds_at, call_text, kinds_found, short_finds, unit_finds, IsCallAt, call_line, ScriptLine}
+use Rattle.df_script_text.proofs.Names.{◌≡◌, ℕ, ◌-◌, ◌≤◌, List, [], ◌∷◌, ◌++◌, length, take, drop, Ok, sym, refl, ap, subst, ◌∙◌, append_assoc, Call, UnitName, Root, short_at, IsCall, IsUnit, unit_text, plain_kinds, unit_at, kinds_at, call_text, kinds_found, short_finds, unit_finds, IsCallAt, call_line, ScriptLine}
 use Rattle.df_journal_text.proofs.Between.{between, onward}
 use Rattle.df_journal_text.proofs.CallFounds.{plain_find}
 

@@ -1,12 +1,9 @@
 -- The lines of calls have no line feed.
-use Rattle.df_script_text.proofs.Names.{codes, decimal, refl, AllByRecursion, recursion_from_All, Call, IsPrivilege, label_text, call_words, IsCall, unit_text}
-use Rattle.df_script_text.proofs.Names.{IsScriptLine, call_line, ScriptLine}
-use Rattle.df_unit.specs.declared.call.Call.TheVariants.{CreateEvent, AddPart, DelPart, ReadPart, CloneEvent, AttachPrivilege, ChangeOutLabel, CreateTag}
-use Rattle.df_unit.specs.declared.call.Call.TheVariants.{DropEvent, Subscribe, SubscribeManaged, Get, Publish, Release, ChangeInOut, Instantiate}
+use Rattle.df_script_text.proofs.Names.{codes, decimal, refl, AllByRecursion, recursion_from_All, Call, IsPrivilege, label_text, call_words, IsCall, unit_text, IsScriptLine, call_line, ScriptLine}
+use Rattle.df_unit.specs.declared.call.Call.TheVariants.{CreateEvent, AddPart, DelPart, ReadPart, CloneEvent, AttachPrivilege, ChangeOutLabel, CreateTag, DropEvent, Subscribe, SubscribeManaged, Get, Publish, Release, ChangeInOut, Instantiate}
 use Rattle.df_script_text.proofs.Splits.{Avoids, Avoids-line, Avoids-words}
 use Rattle.df_script_text.proofs.Values.{IsLine-filter, IsLine-value, IsLine-word}
-use Rattle.df_script_text.proofs.Words.{AreWords, AreWords-privileges, is_word-act, is_word-actor, is_word-braced, is_word-half, is_word-label, is_word-name}
-use Rattle.df_script_text.proofs.Words.{is_word-privilege, is_word-tag, number_word}
+use Rattle.df_script_text.proofs.Words.{AreWords, AreWords-privileges, is_word-act, is_word-actor, is_word-braced, is_word-half, is_word-label, is_word-name, is_word-privilege, is_word-tag, number_word}
 
 -- words have no line feed
 abbrev HaveNoFeed : Call → Type 0

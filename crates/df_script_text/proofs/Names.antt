@@ -3,8 +3,7 @@ pub use Rattle.df_format.proofs.Laws.{ok_is, told}
 pub use Rattle.df_format.specs.Reading.{Read, as_at, behind_at, text_at, then_at}
 pub use Rattle.df_frozen.specs.Name.{is_letter, is_name, is_name_byte}
 pub use Rattle.df_journal_text.proofs.CallBacks.{call_back}
-pub use Rattle.df_journal_text.proofs.Founds.{Finds, finds_as, finds_behind, finds_then, finds_word, kinds_found, label_finds, privileges_finds, short_finds}
-pub use Rattle.df_journal_text.proofs.Founds.{unit_finds}
+pub use Rattle.df_journal_text.proofs.Founds.{Finds, finds_as, finds_behind, finds_then, finds_word, kinds_found, label_finds, privileges_finds, short_finds, unit_finds}
 pub use Rattle.df_journal_text.proofs.NameBacks.{unit_word}
 pub use Rattle.df_journal_text.proofs.StartBacks.{behind_back, start_back}
 pub use Rattle.df_journal_text.proofs.WordBacks.{braced, ends_spaced, label_word, line-rest, privileges_back, word_back}
@@ -24,8 +23,7 @@ pub use Rattle.df_script_text.specs.Called.{IsCallAt}
 pub use Rattle.df_script_text.specs.Reader.{HasReadUpTo}
 pub use Rattle.df_script_text.specs.Script.{IsScript, IsScriptLine, IsScriptText, script_line, script_text}
 pub use Rattle.df_script_text.specs.code.Lines.{call_line, head_lines, numbered, root_line_at, script_lines}
-pub use Rattle.df_script_text.specs.code.Stops.{ArePassed, AreRootsAt, IsCallLine, IsFirstAt, IsHeadLine, RootsStop, StopsAt, StopsCall, StopsFirst, TellsRoot}
-pub use Rattle.df_script_text.specs.code.Stops.{fault_of}
+pub use Rattle.df_script_text.specs.code.Stops.{ArePassed, AreRootsAt, IsCallLine, IsFirstAt, IsHeadLine, RootsStop, StopsAt, StopsCall, StopsFirst, TellsRoot, fault_of}
 pub use Rattle.df_script_text.specs.declared.line.ScriptLine.{ScriptLine}
 pub use Rattle.df_start.specs.declared.start.RootStart.{RootStart}
 pub use Rattle.df_unit.specs.declared.call.Call.{Call}
@@ -35,9 +33,7 @@ pub use Rattle.df_value_text.specs.Fits.{AreBehind, AreEntries, AreNumbers, AreS
 pub use Rattle.df_value_text.specs.Label.{label_text, path_text, privilege_text, right_text, tag_text, tags_text}
 pub use Rattle.df_value_text.specs.ReadTag.{begins_digit, short_at}
 pub use Rattle.df_value_text.specs.ReadWhole.{IsWhole}
-pub use Rattle.std.proofs.Common.{Bool, Err, List, None, Ok, Some, [], add-zero, ap, append-nil, append_assoc, arith, codes, cond, decimal, drop, eqb, false}
-pub use Rattle.std.proofs.Common.{get_or, inl, inr, length, length-append, length-drop, map, nat_eq, nat_lt, negsuc, pos, refl, subst, suc, sym, take, true}
-pub use Rattle.std.proofs.Common.{zero-add, ℕ, ℤ, ◌%◌, ◌++◌, ◌+◌, ◌-◌, ◌/◌, ◌<◌, ◌^◌, ◌||◌, ◌∙◌, ◌∷◌, ◌≡◌, ◌≤◌}
+pub use Rattle.std.proofs.Common.{Bool, Err, List, None, Ok, Some, [], add-zero, ap, append-nil, append_assoc, arith, codes, cond, decimal, drop, eqb, false, get_or, inl, inr, length, length-append, length-drop, map, nat_eq, nat_lt, negsuc, pos, refl, subst, suc, sym, take, true, zero-add, ℕ, ℤ, ◌%◌, ◌++◌, ◌+◌, ◌-◌, ◌/◌, ◌<◌, ◌^◌, ◌||◌, ◌∙◌, ◌∷◌, ◌≡◌, ◌≤◌}
 pub use Rattle.std.proofs.lemmas.Bool.Decides.{nat_tests}
 pub use Rattle.std.proofs.lemmas.List.{map-append, take-append-le, take_all, take_at}
 pub use Rattle.std.proofs.lemmas.List.Concat.{flat_map-append}

@@ -1,7 +1,5 @@
 -- Lines and their words.
-use Rattle.df_script_text.proofs.Names.{◌≡◌, ℕ, ◌<◌, ◌^◌, true, false, nat_lt, List, [], ◌∷◌, ◌++◌, map, codes, decimal, refl, arith, All, AllByRecursion}
-use Rattle.df_script_text.proofs.Names.{list_all, All-nil, All-cons, All-append, All-weaker, recursion_from_All, nat_tests, RootStart, IsPrivilege, label_text}
-use Rattle.df_script_text.proofs.Names.{privilege_text, IsRoot, spaced}
+use Rattle.df_script_text.proofs.Names.{◌≡◌, ℕ, ◌<◌, ◌^◌, true, false, nat_lt, List, [], ◌∷◌, ◌++◌, map, codes, decimal, refl, arith, All, AllByRecursion, list_all, All-nil, All-cons, All-append, All-weaker, recursion_from_All, nat_tests, RootStart, IsPrivilege, label_text, privilege_text, IsRoot, spaced}
 use lib.Dec.{eqb}
 use Rattle.std.specs.Prelude.{Bool}
 use Rattle.std.proofs.lemmas.List.Sums.{AllPass-from_list_all}

@@ -1,7 +1,5 @@
 -- Values and filters: they have no line feed.
-use Rattle.df_script_text.proofs.Names.{◌≡◌, ℕ, ◌+◌, ◌/◌, ◌%◌, true, false, cond, ◌||◌, nat_lt, nat_eq, List, [], ◌∷◌, map, ℤ, refl, arith, inl, inr, flat_map}
-use Rattle.df_script_text.proofs.Names.{join_with_byte, signed_decimal, nat_tests, list_all-append, told, is_name, AreBehind, AreEntries, AreSpelled, IsSpelled}
-use Rattle.df_script_text.proofs.Names.{IsValue, IsWhole}
+use Rattle.df_script_text.proofs.Names.{◌≡◌, ℕ, ◌+◌, ◌/◌, ◌%◌, true, false, cond, ◌||◌, nat_lt, nat_eq, List, [], ◌∷◌, map, ℤ, refl, arith, inl, inr, flat_map, join_with_byte, signed_decimal, nat_tests, list_all-append, told, is_name, AreBehind, AreEntries, AreSpelled, IsSpelled, IsValue, IsWhole}
 use Rattle.df_frozen.specs.Plain.{Plain, Plains, Pairs, int, words, bytes, items, entries, no_items, item, no_entries, entry}
 use Rattle.df_filter.specs.declared.clause.Clause.{Clause}
 use Rattle.df_filter.specs.declared.clause.Test.{Test}

@@ -1,8 +1,5 @@
 -- Words: each of their bytes is above a space.
-use Rattle.df_script_text.proofs.Names.{◌≡◌, ℕ, ◌<◌, ◌^◌, Bool, true, nat_lt, List, [], ◌∷◌, ◌++◌, map, codes, decimal, ℤ, pos, negsuc, suc, refl, arith}
-use Rattle.df_script_text.proofs.Names.{list_all, AllByRecursion, join_with_byte, signed_decimal, nat_tests, list_all-append, is_name, is_name_byte, is_letter}
-use Rattle.df_script_text.proofs.Names.{UnitName, Root, Managed, AreNumbers, AreTags, IsLabel, IsPrivilege, IsTag, IsTagSet, label_text, path_text}
-use Rattle.df_script_text.proofs.Names.{privilege_text, right_text, tag_text, tags_text, IsWhole, act_text, half_text, unit_text, IsUnit, braced}
+use Rattle.df_script_text.proofs.Names.{◌≡◌, ℕ, ◌<◌, ◌^◌, Bool, true, nat_lt, List, [], ◌∷◌, ◌++◌, map, codes, decimal, ℤ, pos, negsuc, suc, refl, arith, list_all, AllByRecursion, join_with_byte, signed_decimal, nat_tests, list_all-append, is_name, is_name_byte, is_letter, UnitName, Root, Managed, AreNumbers, AreTags, IsLabel, IsPrivilege, IsTag, IsTagSet, label_text, path_text, privilege_text, right_text, tag_text, tags_text, IsWhole, act_text, half_text, unit_text, IsUnit, braced}
 use Rattle.std.specs.Str.{all_ascii_digits}
 use Rattle.std.specs.Char.{is_ascii_digit}
 use Rattle.std.specs.Str.Parse.{digits_value}
