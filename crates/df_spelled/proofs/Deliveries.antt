@@ -13,11 +13,10 @@ use Rattle.df_part.specs.Part.{cut, readable}
 use Rattle.df_part.specs.declared.edit.Spot.{Spot}
 use Rattle.df_part.specs.declared.part.Part.{Part}
 use Rattle.df_rules.specs.Choices.{gives, matches}
-use Rattle.df_rules.specs.Commits.{commit_of, contents}
+use Rattle.df_rules.specs.Commits.{contents}
 use Rattle.df_rules.specs.Deliveries.{was_handed, offer, plain_news, instance_news, deliveries, deliveries_plain, deliveries_instance}
-use Rattle.df_rules.specs.Own.{own_plain, fixed, is_given}
+use Rattle.df_rules.specs.Own.{is_given}
 use Rattle.df_rules.specs.Rules.{Rules}
-use Rattle.df_rules.specs.Subscriptions.{subscriptions}
 use Rattle.df_rules.proofs.CutFacts.{gives_cut, gives_none}
 use Rattle.df_unit.specs.Beginnings.{readable_at}
 use Rattle.df_unit.specs.OwnState.{OwnState, Fixed}
@@ -37,6 +36,10 @@ AreShown (d ∷ ds) = (0 < length d.parts) × AreShown ds
 shown_append : (ds more : List Given) → AreShown ds → AreShown more → AreShown (ds ++ more)
 shown_append [] more h k = k
 shown_append (d ∷ ds) more h k = (h.0, shown_append ds more h.1 k)
+
+shown_if : (b : Bool) (ds : List Given) → AreShown ds → AreShown (cond b ds [])
+shown_if true ds h = h
+shown_if false ds h = tt
 
 pub shown_drop : (n : ℕ) (ds : List Given) → AreShown ds → AreShown (drop n ds)
 shown_drop zero ds h = h
@@ -58,18 +61,12 @@ some_seen l edit parts h =
 -- ordinary subscriptions
 
 offer_shown : (ds : List Given) (event : EventName) (parts : List Part) → 0 < length parts → (sub : ℕ × List Clause) → AreShown (offer ds event parts sub)
-offer_shown ds event parts h sub = go (matches sub.1 parts && not (was_handed ds event sub.0))
-  where
-    go : (b : Bool) → AreShown (cond b (record { event = event; sub = sub.0; parts = parts } ∷ []) [])
-    go true = (h, tt)
-    go false = tt
+offer_shown ds event parts h sub = shown_if (matches sub.1 parts && not (was_handed ds event sub.0)) _ (h, tt)
 
 offers_shown : (ds : List Given) (event : EventName) (parts : List Part) → 0 < length parts → (subs : List (ℕ × List Clause))
     → AreShown (flat_map (λ sub. offer ds event parts sub) subs)
 offers_shown ds event parts h [] = tt
-offers_shown ds event parts h (sub ∷ subs) =
-    shown_append (offer ds event parts sub) (flat_map (λ sub. offer ds event parts sub) subs) (offer_shown ds event parts h sub)
-    (offers_shown ds event parts h subs)
+offers_shown ds event parts h (sub ∷ subs) = search (shown_append, offer_shown, offers_shown ds event parts h subs)
 
 -- the parts of the event that a label shows after the commit
 abbrev seen_after : Label → List Entry → Commit → List Part
@@ -125,19 +122,12 @@ instance_shown (Some f) n t ds past (Some c) = go (is_given (Some f) t past (Som
 
 plain_deliveries_shown : (R : Rules) (s : List OwnState) (past : List Entry) (path : List ℕ) → AreShown (deliveries_plain R s past path)
 plain_deliveries_shown R s [] path = tt
-plain_deliveries_shown R s (e ∷ past) path =
-    shown_append (deliveries_plain R s past path)
-    (plain_news (own_plain R s past path) (subscriptions R s past (Root path)) (deliveries_plain R s past path) past (commit_of e))
-    (plain_deliveries_shown R s past path)
-    (plain_shown (own_plain R s past path) (subscriptions R s past (Root path)) (deliveries_plain R s past path) past (commit_of e))
+plain_deliveries_shown R s (e ∷ past) path = search (shown_append, plain_shown, plain_deliveries_shown R s past path)
 
 instance_deliveries_shown : (R : Rules) (s : List OwnState) (past : List Entry) (o : List ℕ) (n : ℕ) (t : List (List ℕ))
     → AreShown (deliveries_instance R s past o n t)
 instance_deliveries_shown R s [] o n t = tt
-instance_deliveries_shown R s (e ∷ past) o n t =
-    shown_append (deliveries_instance R s past o n t) (instance_news (fixed R s past o n) n t (deliveries_instance R s past o n t) past (commit_of e))
-    (instance_deliveries_shown R s past o n t)
-    (instance_shown (fixed R s past o n) n t (deliveries_instance R s past o n t) past (commit_of e))
+instance_deliveries_shown R s (e ∷ past) o n t = search (shown_append, instance_shown, instance_deliveries_shown R s past o n t)
 
 pub deliveries_shown : (R : Rules) (s : List OwnState) (past : List Entry) (u : UnitName) → AreShown (deliveries R s past u)
 deliveries_shown R s past (Root path) = plain_deliveries_shown R s past path

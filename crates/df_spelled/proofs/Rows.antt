@@ -17,9 +17,9 @@ use Rattle.df_spelled.proofs.Deliveries.{AreShown, deliveries_shown, shown_drop}
 use Rattle.df_unit.specs.Drafts.{relabelled, shown, visible_named}
 use Rattle.df_unit.specs.Handles.{handle_at, is_full, least_free}
 use Rattle.df_unit.specs.OwnState.{OwnState}
-use Rattle.df_unit.specs.Rows.{at_handle, effect, first_given, handed, is_accepted, is_nil, published, refused_write, released, reply, subscribed, unless_lacking, unwritable, where_held}
+use Rattle.df_unit.specs.Rows.{at_handle, effect, first_given, handed, is_accepted, is_nil, published, refused_write, released, reply, unless_lacking}
 use Rattle.df_unit.specs.declared.call.Call.{Call}
-use Rattle.df_unit.specs.declared.call.Call.TheVariants.{CreateEvent, AddPart, DelPart, ReadPart, CloneEvent, AttachPrivilege, ChangeOutLabel, CreateTag, DropEvent, Subscribe, SubscribeManaged, Get, Publish, Release, ChangeInOut, Instantiate}
+use Rattle.df_unit.specs.declared.call.Call.TheVariants.{ReadPart, Get, Publish, Release}
 use Rattle.df_unit.specs.declared.commit.Given.{Given}
 use Rattle.df_unit.specs.declared.entry.Effect.{Effect}
 use Rattle.df_unit.specs.declared.entry.Entry.{Entry}
@@ -51,111 +51,38 @@ record Shows (r : Reply) : Type 0 where
   it : ShowsSome r
   exists : Exists r
 
+-- what needs no part is shown as it is
+said : {r : Reply} → ShowsSome r → Exists r → Shows r
+said it exists = record { it = it; exists = exists }
+
 shows_if : (b : Bool) (p q : Reply) → Shows p → Shows q → Shows (cond b p q)
 shows_if true p q h k = h
 shows_if false p q h k = k
 
 shows_at : (o : Option Handle) (f : Handle → Reply) → ((d : Handle) → Shows (f d)) → Shows (at_handle o f)
-shows_at None f h = record { it = tt; exists = tt }
+shows_at None f h = said tt tt
 shows_at (Some d) f h = h d
 
--- what needs no part is shown as it is
-ok : Shows Reply.Ok
-ok = record { it = tt; exists = tt }
-
-no_part : Shows Reply.NoSuchPart
-no_part = record { it = tt; exists = tt }
-
-not_managed : Shows Reply.NotInManaged
-not_managed = record { it = tt; exists = tt }
-
-full : Shows Reply.TooManyHandles
-full = record { it = tt; exists = tt }
-
-exhausted : Shows Reply.Exhausted
-exhausted = record { it = tt; exists = tt }
-
-handle : (h : ℕ) → Shows (Reply.Handle h)
-handle h = record { it = tt; exists = tt }
-
-many : (n : ℕ) → Shows (Reply.TooManyParts n)
-many n = record { it = tt; exists = tt }
-
-lacks : (q : Privilege) → Shows (Reply.Lacks q)
-lacks q = record { it = tt; exists = tt }
-
-unwritten : (out part : Label) → Shows (Reply.CannotWrite out part)
-unwritten out part = record { it = tt; exists = tt }
-
-shows_held : (st : OwnState) (q : Privilege) → Shows (where_held st q Reply.Ok)
-shows_held st q = shows_if _ _ _ ok (lacks q)
-
 shows_unless : (o : Option Privilege) (n : ℕ) → Shows (unless_lacking o (Reply.Unit n))
-shows_unless None n = record { it = tt; exists = tt }
-shows_unless (Some q) n = lacks q
+shows_unless None n = said tt tt
+shows_unless (Some q) n = said tt tt
 
 shows_write : (out : Label) (o : Option Spot) → Shows (refused_write out o)
-shows_write out None = ok
-shows_write out (Some d) = unwritten out d.label
-
-shows_sub : (n : ℕ) (b : Bool) → Shows (cond b Reply.TooManySubs (Reply.Sub n))
-shows_sub n true = record { it = tt; exists = tt }
-shows_sub n false = record { it = tt; exists = tt }
-
-shows_subscribed : (u : UnitName) (st : OwnState) → Shows (subscribed u st)
-shows_subscribed u st = shows_if _ _ _ not_managed (shows_sub st.subs _)
+shows_write out None = said tt tt
+shows_write out (Some d) = said tt tt
 
 -- a read shows what it finds
 shows_read : (parts : List Part) → Shows (cond (is_nil parts) Reply.NoSuchPart (Reply.Parts (shown parts)))
-shows_read [] = no_part
-shows_read (p ∷ ps) = record { it = omega arith; exists = tt }
-
-shows_event : (h sub : ℕ) (b : Bool) → Shows (cond b Reply.TooManyHandles (Reply.Event h sub))
-shows_event h sub true = full
-shows_event h sub false = record { it = tt; exists = tt }
+shows_read [] = said tt tt
+shows_read (p ∷ ps) = said (omega arith) tt
 
 shows_handed : (st : OwnState) (ds : List Given) → Shows (handed st ds)
-shows_handed st [] = record { it = tt; exists = tt }
-shows_handed st (d ∷ ds) = shows_event (least_free st.handles) d.sub (is_full st.handles)
-
-shows_tag : (t : List ℕ) (b : Bool) → Shows (cond b Reply.Exhausted (Reply.Tag t))
-shows_tag t true = exhausted
-shows_tag t false = record { it = tt; exists = tt }
-
-shows_published : (view none : Bool) → Shows (cond view Reply.NotDraft (cond none Reply.EmptyEvent Reply.Ok))
-shows_published true none = record { it = tt; exists = tt }
-shows_published false true = record { it = tt; exists = tt }
-shows_published false false = ok
-
-shows_released : (b : Bool) (out : Label) (o : Option Spot) → Shows (cond b Reply.NotReceived (refused_write out o))
-shows_released true out o = record { it = tt; exists = tt }
-shows_released false out o = shows_write out o
-
-shows_made : (deep many : Bool) (o : Option Privilege) (n : ℕ)
-    → Shows (cond deep Reply.TooDeep (cond many Reply.TooManyUnits (unless_lacking o (Reply.Unit n))))
-shows_made true many o n = record { it = tt; exists = tt }
-shows_made false true o n = record { it = tt; exists = tt }
-shows_made false false o n = shows_unless o n
+shows_handed st [] = said tt tt
+shows_handed st (d ∷ ds) = shows_if (is_full st.handles) Reply.TooManyHandles (Reply.Event (least_free st.handles) d.sub) (said tt tt) (said tt tt)
 
 shows : (u : UnitName) (st : OwnState) (ds : List Given) (call : Call) → Shows (reply u st ds call)
-shows u st ds CreateEvent = shows_if _ _ _ full (shows_if _ _ _ exhausted (handle (least_free st.handles)))
-shows u st ds (AddPart h label name value) = shows_at (handle_at st.handles h) _ (λ d. shows_if _ _ _ (many _) ok)
-shows u st ds (DelPart h label name) = shows_at (handle_at st.handles h) _
-    (λ d. shows_if _ _ _ ok (shows_if _ _ _ no_part (shows_if _ _ _ (unwritten st.output label) ok)))
 shows u st ds (ReadPart h name) = shows_at (handle_at st.handles h) _ (λ d. shows_read (visible_named st.input name d))
-shows u st ds (CloneEvent h label) = shows_at (handle_at st.handles h) _
-    (λ d. shows_if _ _ _ full (shows_if _ _ _ (many _) (shows_if _ _ _ exhausted (handle (least_free st.handles)))))
-shows u st ds (AttachPrivilege h label name p) = shows_at (handle_at st.handles h) _ (λ d. shows_if _ _ _ no_part (shows_held st _))
-shows u st ds (ChangeOutLabel half act tag) = shows_held st _
-shows u st ds CreateTag = shows_if _ _ _ not_managed (shows_tag _ _)
-shows u st ds (DropEvent h) = shows_at (handle_at st.handles h) _ (λ d. ok)
-shows u st ds (Subscribe filter) = shows_subscribed u st
-shows u st ds (SubscribeManaged filter) = shows_subscribed u st
-shows u st ds Get = shows_handed st ds
-shows u st ds (Publish h) = shows_at (handle_at st.handles h) _ (λ d. shows_published d.is_view (is_nil d.drafted))
-shows u st ds (Release h) = shows_at (handle_at st.handles h) _ (λ d. shows_released _ st.output (unwritable st.output d.named))
-shows u st ds (ChangeInOut half act tag) = shows_if _ _ _ not_managed (shows_held st _)
-shows u st ds (Instantiate s privileges) = shows_if _ _ _ not_managed (shows_made _ _ _ st.units)
+shows u st ds _ = search (shows_at, shows_if, shows_unless, shows_write, shows_handed, said) depth 9
 
 -- which effects belong to their reply and change something
 
@@ -166,17 +93,14 @@ Belongs f r = TellsGiven f r × ChangesSome f
 abbrev told : OwnState → Given → Bool → Reply
 told st d b = cond b Reply.TooManyHandles (Reply.Event (least_free st.handles) d.sub)
 
+belongs_told : (st : OwnState) (d : Given) → 0 < length d.parts → (b : Bool)
+    → Belongs (cond (is_accepted (told st d b)) (Effect.Given d) Effect.Nothing) (told st d b)
+belongs_told st d some true = (tt, tt)
+belongs_told st d some false = (refl, some)
+
 belongs_get : (st : OwnState) (ds : List Given) → AreShown ds → Belongs (cond (is_accepted (handed st ds)) (first_given ds) Effect.Nothing) (handed st ds)
 belongs_get st [] h = (tt, tt)
-belongs_get st (d ∷ ds) h = go (is_full st.handles)
-  where
-    r : Bool → Reply
-    r b = cond b Reply.TooManyHandles (Reply.Event (least_free st.handles) d.sub)
-
-    go : (b : Bool) → Belongs (cond (is_accepted (cond b Reply.TooManyHandles (Reply.Event (least_free st.handles) d.sub))) (Effect.Given d) Effect.Nothing)
-        (cond b Reply.TooManyHandles (Reply.Event (least_free st.handles) d.sub))
-    go true = (tt, tt)
-    go false = (refl, h.0)
+belongs_get st (d ∷ ds) h = belongs_told st d h.0 (is_full st.handles)
 
 -- whether an effect is a commit with an edit, or nothing
 abbrev Edits : Effect → Type 0
@@ -189,8 +113,8 @@ belongs_edit Effect.Nothing r h = (tt, tt)
 belongs_edit (Effect.Commit c) r h = (tt, h)
 belongs_edit (Effect.Given d) r h = absurd h
 
-some_relabelled : (out : Label) (p : Part) (ps : List Part) (n : ℕ) → 0 < n + length (relabelled out (p ∷ ps))
-some_relabelled out p ps n = omega arith
+some_relabelled : (out : Label) (p : Part) (ps : List Part) → 0 < 0 + length (relabelled out (p ∷ ps))
+some_relabelled out p ps = omega arith
 
 edits_publish : (st : OwnState) (o : Option Handle)
     → Edits (cond (is_accepted (at_handle o (λ d. cond d.is_view Reply.NotDraft (cond (is_nil d.drafted) Reply.EmptyEvent Reply.Ok)))) (published st o)
@@ -202,43 +126,28 @@ edits_publish st (Some d) = go d.is_view d.drafted
         (Effect.Commit (record { event = d.event; edit = ([], relabelled st.output drafted) })) Effect.Nothing)
     go true drafted = tt
     go false [] = tt
-    go false (p ∷ ps) = some_relabelled st.output p ps 0
+    go false (p ∷ ps) = some_relabelled st.output p ps
 
-edits_released : (st : OwnState) (d : Handle) → Edits (released st (Some d))
-edits_released st d = go d.named d.drafted
+edits_released : (st : OwnState) (o : Option Handle) → Edits (released st o)
+edits_released st None = tt
+edits_released st (Some d) = go d.named d.drafted
   where
     go : (named : List Spot) (drafted : List Part) → Edits (cond (is_nil named && is_nil drafted) Effect.Nothing
         (Effect.Commit (record { event = d.event; edit = (named, relabelled st.output drafted) })))
     go [] [] = tt
-    go [] (p ∷ ps) = some_relabelled st.output p ps 0
+    go [] (p ∷ ps) = some_relabelled st.output p ps
     go (spot ∷ spots) drafted = omega arith
 
 edits_if : (b : Bool) (f : Effect) → Edits f → Edits (cond b f Effect.Nothing)
 edits_if true f h = h
 edits_if false f h = tt
 
-edits_release : (st : OwnState) (b : Bool) (o : Option Handle) → Edits (cond b (released st o) Effect.Nothing)
-edits_release st b None = edits_if b Effect.Nothing tt
-edits_release st b (Some d) = edits_if b (released st (Some d)) (edits_released st d)
-
 belongs : (u : UnitName) (st : OwnState) (ds : List Given) (call : Call) → AreShown ds → Belongs (effect u st ds call) (reply u st ds call)
-belongs u st ds CreateEvent h = (tt, tt)
-belongs u st ds (AddPart n label name value) h = (tt, tt)
-belongs u st ds (DelPart n label name) h = (tt, tt)
-belongs u st ds (ReadPart n name) h = (tt, tt)
-belongs u st ds (CloneEvent n label) h = (tt, tt)
-belongs u st ds (AttachPrivilege n label name p) h = (tt, tt)
-belongs u st ds (ChangeOutLabel half act tag) h = (tt, tt)
-belongs u st ds CreateTag h = (tt, tt)
-belongs u st ds (DropEvent n) h = (tt, tt)
-belongs u st ds (Subscribe filter) h = (tt, tt)
-belongs u st ds (SubscribeManaged filter) h = (tt, tt)
 belongs u st ds Get h = belongs_get st ds h
 belongs u st ds (Publish n) h = belongs_edit (effect u st ds (Publish n)) (reply u st ds (Publish n)) (edits_publish st (handle_at st.handles n))
 belongs u st ds (Release n) h = belongs_edit (effect u st ds (Release n)) (reply u st ds (Release n))
-    (edits_release st (is_accepted (reply u st ds (Release n))) (handle_at st.handles n))
-belongs u st ds (ChangeInOut half act tag) h = (tt, tt)
-belongs u st ds (Instantiate s privileges) h = (tt, tt)
+    (edits_if (is_accepted (reply u st ds (Release n))) (released st (handle_at st.handles n)) (edits_released st (handle_at st.handles n)))
+belongs u st ds _ h = (tt, tt)
 
 -- an entry with the answer of the rows
 

@@ -14,34 +14,33 @@ use Rattle.df_spelled.specs.Spelled.{IsNamed}
 use Rattle.df_value_text.specs.Fits.{AreEntries, AreBehind, AreNumbers, AreSpelled, AreTags, IsSpelled, IsTag}
 use Rattle.df_value_text.specs.ReadBytes.{AreBytes}
 
-numbers_go : (ns : List ℕ) → AllByRecursion (λ n. n < 2 ^ 32) ns → AreNumbers ns
-numbers_go [] h = tt
-numbers_go (n ∷ ns) h = (h.0, numbers_go ns h.1)
+-- what each element has is known of the list, where this goes from the rest to one more
+each_of : {X : Type 0} (P : X → Type 0) (Q : List X → Type 0) → Q [] → ((x : X) (xs : List X) → P x → Q xs → Q (x ∷ xs)) → (xs : List X)
+    → All P xs → Q xs
+each_of {X} P Q none more xs h = go xs (recursion_from_All P xs h)
+  where
+    go : (xs : List X) → AllByRecursion P xs → Q xs
+    go [] h = none
+    go (x ∷ xs) h = more x xs h.0 (go xs h.1)
+
+numbers_of_all : (ns : List ℕ) → All (λ n. n < 2 ^ 32) ns → AreNumbers ns
+numbers_of_all = each_of (λ n. n < 2 ^ 32) AreNumbers tt (λ n ns here rest. (here, rest))
 
 pub tag_of_all : (ns : List ℕ) → 0 < length ns → All (λ n. n < 2 ^ 32) ns → IsTag ns
 tag_of_all [] some h = absurd (omega (arith, some))
-tag_of_all (n ∷ ns) some h = let each = recursion_from_All (λ n. n < 2 ^ 32) (n ∷ ns) h in (each.0, numbers_go ns each.1)
-
-tags_go : (ts : List (List ℕ)) → AllByRecursion IsTag ts → AreTags ts
-tags_go [] h = tt
-tags_go (t ∷ ts) h = (h.0, tags_go ts h.1)
+tag_of_all (n ∷ ns) some h = numbers_of_all (n ∷ ns) h
 
 pub tags_of_all : (ts : List (List ℕ)) → All IsTag ts → AreTags ts
-tags_of_all ts h = tags_go ts (recursion_from_All IsTag ts h)
-
-bytes_go : (bs : List ℕ) → AllByRecursion (λ b. b < 256) bs → AreBytes bs
-bytes_go [] h = tt
-bytes_go (b ∷ bs) h = (h.0, bytes_go bs h.1)
+tags_of_all = each_of IsTag AreTags tt (λ t ts here rest. (here, rest))
 
 pub bytes_of_all : (bs : List ℕ) → All (λ b. b < 256) bs → AreBytes bs
-bytes_of_all bs h = bytes_go bs (recursion_from_All (λ b. b < 256) bs h)
-
-items_go : (vs : List Value) → AllByRecursion (λ v. IsSpelled (plain v)) vs → AreSpelled (from_list (map plain vs))
-items_go [] h = tt
-items_go (v ∷ vs) h = (h.0, items_go vs h.1)
+bytes_of_all = each_of (λ b. b < 256) AreBytes tt (λ b bs here rest. (here, rest))
 
 pub items_of_all : (vs : List Value) → All (λ v. IsSpelled (plain v)) vs → AreSpelled (from_list (map plain vs))
-items_of_all vs h = items_go vs (recursion_from_All (λ v. IsSpelled (plain v)) vs h)
+items_of_all = each_of (λ v. IsSpelled (plain v)) (λ vs. AreSpelled (from_list (map plain vs))) tt (λ v vs here rest. (here, rest))
+
+pub clauses_of_all : (cs : List Clause) → All IsClause cs → AreClauses cs
+clauses_of_all = each_of IsClause AreClauses tt (λ c cs here rest. (here, rest))
 
 -- names that ascend, each below those behind it
 behind_go : (name : List ℕ) (es : List (List ℕ × Value)) → IsBelow name (names (map named es)) → IsAscending (names (map named es)) → AllByRecursion IsNamed es
@@ -55,13 +54,6 @@ entries_go (e ∷ es) up h = (h.0.0, h.0.1, behind_go e.0 es up.0 up.1 h.1)
 
 pub entries_of_all : (es : List (List ℕ × Value)) → IsAscending (names (map named es)) → All IsNamed es → AreEntries (from_pairs (map named es))
 entries_of_all es up h = entries_go es up (recursion_from_All IsNamed es h)
-
-clauses_go : (cs : List Clause) → AllByRecursion IsClause cs → AreClauses cs
-clauses_go [] h = tt
-clauses_go (c ∷ cs) h = (h.0, clauses_go cs h.1)
-
-pub clauses_of_all : (cs : List Clause) → All IsClause cs → AreClauses cs
-clauses_of_all cs h = clauses_go cs (recursion_from_All IsClause cs h)
 
 -- lists element by element
 
