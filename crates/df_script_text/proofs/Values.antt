@@ -1,5 +1,5 @@
 -- Values and filters: they have no line feed.
-use Rattle.df_script_text.proofs.Names.{◌≡◌, ℕ, ◌+◌, ◌/◌, ◌%◌, true, false, cond, ◌||◌, nat_lt, nat_eq, List, [], ◌∷◌, map, ℤ, refl, arith, inl, inr, flat_map, join_with_byte, signed_decimal, nat_tests, list_all-append, told, is_name, AreBehind, AreEntries, AreSpelled, IsSpelled, IsValue, IsWhole}
+use Rattle.df_script_text.proofs.Names.{◌≡◌, ℕ, ◌+◌, ◌/◌, ◌%◌, true, false, cond, ◌||◌, nat_lt, nat_eq, List, [], ◌∷◌, ◌++◌, map, ℤ, refl, arith, inl, inr, flat_map, join_with_byte, signed_decimal, nat_tests, list_all-append, told, is_name, AreBehind, AreEntries, AreSpelled, IsSpelled, IsValue, IsWhole}
 use Rattle.df_frozen.specs.Plain.{Plain, Plains, Pairs, int, words, bytes, items, entries, no_items, item, no_entries, entry}
 use Rattle.df_filter.specs.declared.clause.Clause.{Clause}
 use Rattle.df_filter.specs.declared.clause.Test.{Test}
@@ -38,6 +38,9 @@ escaped_line b = elim (told (nat_eq b 34 || nat_eq b 92)) [
 each_line : (f : ℕ → List ℕ) → ((b : ℕ) → is_line (f b) ≡ true) → (bs : List ℕ) → is_line (flat_map f bs) ≡ true
 each_line f each [] = refl
 each_line f each (b ∷ bs) = simp (list_all-append, each b, each_line f each bs)
+
+line_both : (a b : List ℕ) → is_line a ≡ true → is_line b ≡ true → is_line (a ++ b) ≡ true
+line_both a b h k = rw (list_all-append (λ b. nat_lt 31 b) a b, h, k) refl
 
 -- ---- values
 
@@ -81,21 +84,11 @@ IsLine-value p h = Avoids-text (value_text p) (plain_line p h.0)
 
 field_line : (t : FieldTest) → IsFieldTest t → is_line (field_test_text t) ≡ true
 field_line (field.IntEq n) h = number_line n h
-field_line (field.IntLess n) h = number_line n h
-field_line (field.IntMore n) h = number_line n h
-field_line (field.IntIn low high) h = simp (list_all-append, number_line low h.0, number_line high h.1)
-field_line (field.TextEq text) h = words_line text
-field_line (field.TextPrefix text) h = words_line text
+field_line _ h = search (line_both, number_line, words_line, h)
 
 test_line : (t : Test) → IsTest t → is_line (test_text t) ≡ true
 test_line test.Present h = refl
-test_line (test.IntEq n) h = number_line n h
-test_line (test.IntLess n) h = number_line n h
-test_line (test.IntMore n) h = number_line n h
-test_line (test.IntIn low high) h = simp (list_all-append, number_line low h.0, number_line high h.1)
-test_line (test.TextEq text) h = words_line text
-test_line (test.TextPrefix text) h = words_line text
-test_line (test.Key name asked) h = simp (list_all-append, name_line name h.0, field_line asked h.1)
+test_line _ h = search (line_both, number_line, words_line, name_line, field_line, h)
 
 clause_line : (c : Clause) → IsClause c → is_line (clause_text c) ≡ true
 clause_line c h = simp (list_all-append, name_line c.name h.0, test_line c.test h.1)

@@ -9,7 +9,7 @@ use Rattle.std.proofs.lemmas.Bool.{and_parts}
 use Rattle.df_label.specs.declared.label.Label.{Label}
 use Rattle.df_label.specs.declared.privilege.Privilege.{Privilege}
 use Rattle.df_label.specs.declared.privilege.Right.{Right}
-use Rattle.df_label.specs.declared.privilege.Right.TheVariants.{Plus, Minus, PlusAuth, MinusAuth}
+use Rattle.df_label.specs.declared.privilege.Right.TheVariants.{Plus}
 use Rattle.df_priv.specs.declared.need.Half.{Half}
 use Rattle.df_priv.specs.declared.need.Half.TheVariants.{S, I}
 use Rattle.df_priv.specs.declared.need.Act.{Act}
@@ -109,9 +109,7 @@ is_word-label l h = simp (list_all-append, is_word-tags l.s h.0, is_word-tags l.
 -- a right is a word
 is_word-right : (right : Right) → is_word (right_text right) ≡ true
 is_word-right Plus = refl
-is_word-right Minus = refl
-is_word-right PlusAuth = refl
-is_word-right MinusAuth = refl
+is_word-right _ = refl
 
 -- a privilege is a word
 pub is_word-privilege : (p : Privilege) → IsPrivilege p → is_word (privilege_text p) ≡ true

@@ -1,6 +1,3 @@
-use Rattle.std.proofs.Common.{subst, sym}
-use Rattle.df_lines.specs.Refused.{NamesBadLine}
-use Rattle.df_lines.specs.declared.refused.FileRefused.{FileRefused}
 use Rattle.df_lines.proofs.FirstBad.{names_line}
 use Rattle.df_script_text.specs.Script.{IsScriptText}
 use Rattle.df_script_text.specs.TooLarge.{IsTooLargeIn}
@@ -8,4 +5,4 @@ use Rattle.df_script_text.proofs.reader.ScriptReader.begin.Goals as goal
 
 pub returns-in-Err-clause-refused : goal.returns-in-Err-clause-refused
 returns-in-Err-clause-refused c =
-    subst (λ (r : FileRefused). NamesBadLine IsScriptText IsTooLargeIn c.args.bytes.now r) (sym c.file_refused.ensures) (names_line IsScriptText IsTooLargeIn c.args.bytes.now c.in-Err.fault c.in-Err.ensures.names)
+    rw c.file_refused.ensures (names_line IsScriptText IsTooLargeIn c.args.bytes.now c.in-Err.fault c.in-Err.ensures.names)
