@@ -1,19 +1,34 @@
 ghost use Rattle.std.specs.Prelude.{◌≡◌, ◌∷◌, ◌++◌, [], OnOk};
 ghost use Rattle.std.specs.List.{flat_map};
+ghost use Rattle.df_value_text.specs.Label.{label_text};
+ghost use Rattle.df_journal_text.specs.Line.{word};
 ghost use Rattle.df_journal_text.specs.Entry.{edit_text, effect_text, given_text, part_line, read_line, spot_line};
 
 use crate::line::{append_label_word, append_name_word, append_privilege_words, append_value_word};
 use crate::name::append_event_word;
+use crate::note::is_empty;
+use df_label::Label;
 use df_memory::NoMemory;
 use df_part::{Edit, Part, PartRef, Spot};
 use df_unit::{Commit, Effect, Given, PartRead};
+
+/// Appends a label behind a mark. Most have no tag.
+fn append_marked(mark: u8, label: &Label, to: &mut Vec<u8>) -> Result<(), NoMemory>
+    ensures { OnOk result (to.new.items ≡ to.old.items ++ (mark ∷ word (label_text label.now))) }
+{
+    if is_empty(label) {
+        to.extend_from_slice(&[mark, b' ', b'{', b'|', b'}'])?;
+        return Ok(());
+    }
+    to.push(mark)?;
+    append_label_word(label, to)
+}
 
 /// Appends a part behind a mark.
 fn append_part(mark: u8, part: &Part, to: &mut Vec<u8>) -> Result<(), NoMemory>
     ensures { OnOk result (to.new.items ≡ to.old.items ++ part_line (mark ∷ []) part.now) }
 {
-    to.push(mark)?;
-    append_label_word(&part.label, to)?;
+    append_marked(mark, &part.label, to)?;
     append_name_word(&part.name, to)?;
     append_value_word(&part.value, to)?;
     append_privilege_words(part.privileges.as_slice(), to)?;
@@ -35,8 +50,7 @@ fn append_parts(mark: u8, parts: &[PartRef], to: &mut Vec<u8>) -> Result<(), NoM
 fn append_spot(spot: &Spot, to: &mut Vec<u8>) -> Result<(), NoMemory>
     ensures { OnOk result (to.new.items ≡ to.old.items ++ spot_line spot.now) }
 {
-    to.push(b'-')?;
-    append_label_word(&spot.label, to)?;
+    append_marked(b'-', &spot.label, to)?;
     append_name_word(&spot.name, to)?;
     to.push(b'\n')?;
     Ok(())
@@ -64,8 +78,7 @@ pub fn append_edit(edit: &Edit, to: &mut Vec<u8>) -> Result<(), NoMemory>
 fn append_read(part: &PartRead, to: &mut Vec<u8>) -> Result<(), NoMemory>
     ensures { OnOk result (to.new.items ≡ to.old.items ++ read_line part.now) }
 {
-    to.push(b':')?;
-    append_label_word(&part.label, to)?;
+    append_marked(b':', &part.label, to)?;
     append_value_word(&part.value, to)?;
     append_privilege_words(part.privileges.as_slice(), to)?;
     to.push(b'\n')?;

@@ -1,4 +1,4 @@
-ghost use Rattle.std.specs.Prelude.{◌≡◌, ◌++◌, ◌∷◌, [], OnOk, Some, codes};
+ghost use Rattle.std.specs.Prelude.{◌≡◌, ◌<◌, ◌++◌, ◌∷◌, [], OnOk, Some, codes};
 ghost use Rattle.df_unit.specs.declared.call.Call.{Call};
 ghost use Rattle.df_unit.specs.declared.entry.Effect.{Effect};
 ghost use Rattle.df_unit.specs.declared.entry.Entry.TheVariants.{Done};
@@ -32,11 +32,28 @@ fn append_handle(h: u32, to: &mut Vec<u8>) -> Result<(), NoMemory>
     Ok(())
 }
 
+/// Appends a view of an event as `append_event` does, where both numbers have one digit.
+#[inline(always)]
+fn append_low_event(h: u8, sub: u8, to: &mut Vec<u8>) -> Result<(), NoMemory>
+    requires h { h < 10 }
+    requires sub { sub < 10 }
+    ensures { OnOk result (to.new.items ≡ to.old.items ++ answer_text (Event h sub)) }
+{
+    let mut told = *b" -> event 0 0\n";
+    told[10] += h;
+    told[12] += sub;
+    to.extend_from_slice(&told)?;
+    Ok(())
+}
+
 /// Appends a view of an event behind the words of its call, and ends the line.
 #[inline(always)]
 fn append_event(h: u32, sub: u32, to: &mut Vec<u8>) -> Result<(), NoMemory>
     ensures { OnOk result (to.new.items ≡ to.old.items ++ answer_text (Event h sub)) }
 {
+    if h < 10 && sub < 10 {
+        return append_low_event(h as u8, sub as u8, to);
+    }
     to.extend_from_slice(b" -> event ")?;
     append_short(h, to)?;
     to.push(b' ')?;

@@ -1,5 +1,5 @@
 //! The label that was read last, which is known by its bytes where it stands again.
-ghost use Rattle.std.specs.Prelude.{◌≡◌, ◌≤◌, IfOk, IfSome, None, Some, Ok, length, drop};
+ghost use Rattle.std.specs.Prelude.{◌≡◌, ◌≤◌, ◌++◌, IfOk, IfSome, None, Some, Ok, codes, length, drop};
 ghost use Rattle.df_value_text.specs.code.Answer.{Gives};
 ghost use Rattle.df_value_text.specs.ReadLabel.{label_at};
 ghost use Rattle.df_journal_text.specs.code.KnownLabel.{IsKnown, bare_label};
@@ -45,6 +45,19 @@ fn bare_label(alloc: Global) -> Label
     Label {
         s: TagSet::new(alloc),
         i: TagSet::new(alloc),
+    }
+}
+
+/// The place behind the word of the label without tags, where it stands at the place.
+#[inline(always)]
+fn bare_end(bytes: &[u8], at: usize) -> Option<usize>
+    requires { at ≤ length bytes.now }
+    ensures { IfSome result (λ end. (end ≤ length bytes.now)
+        × (drop at bytes.now ≡ codes "{|}" ++ drop end bytes.now)) }
+{
+    match &bytes[at..] {
+        [b'{', b'|', b'}', ..] => Some(at + 3),
+        _ => None,
     }
 }
 
@@ -114,7 +127,7 @@ impl KnownLabel {
         requires { at ≤ length bytes.now }
         ensures { Gives (λ l. l) bytes.now result (label_at (drop at bytes.now)) }
     {
-        if let Some(end) = behind(bytes, at, b"{|}") {
+        if let Some(end) = bare_end(bytes, at) {
             return Ok((bare_label(alloc), end));
         }
         match self.standing(bytes, at) {

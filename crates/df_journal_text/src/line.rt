@@ -1,15 +1,18 @@
 //! A line is words with one space between them, and a line feed. A word is appended with the space
 //! in front of it.
 
-ghost use Rattle.std.specs.Prelude.{◌≡◌, ◌++◌, OnOk, decimal, map};
+ghost use Rattle.std.specs.Fmt.{signed_decimal};
+ghost use Rattle.std.specs.Prelude.{◌≡◌, ◌<◌, ◌++◌, OnOk, decimal, map};
 ghost use Rattle.df_value_text.specs.Label.{label_text, privilege_text, tag_text};
 ghost use Rattle.df_value_text.specs.Value.{value_text};
 ghost use Rattle.df_journal_text.specs.Line.{spaced, word};
 
-use df_frozen::{Frozen, Name};
+use df_frozen::{Frozen, Name, Value};
 use df_label::{Label, Privilege, Tag};
 use df_memory::NoMemory;
-use df_value_text::{append_label, append_number, append_privilege, append_tag, append_value};
+use df_value_text::{
+    append_label, append_number, append_privilege, append_tag, append_value, append_whole,
+};
 
 /// Appends a word.
 #[inline(always)]
@@ -21,6 +24,40 @@ pub fn append_word(text: &[u8], to: &mut Vec<u8>) -> Result<(), NoMemory>
     Ok(())
 }
 
+/// Appends a number below 100.
+#[inline(always)]
+#[tactic(auto, using(std::proofs::lemmas::Fmt::decimal_digit, crate::proofs::Digits::two_digits))]
+fn append_two(number: u32, to: &mut Vec<u8>) -> Result<(), NoMemory>
+    requires { number < 100 }
+    ensures { OnOk result (to.new.items ≡ to.old.items ++ decimal number) }
+{
+    if number < 10 {
+        to.push(b'0' + number as u8)?;
+        return Ok(());
+    }
+    to.push(b'0' + (number / 10) as u8)?;
+    to.push(b'0' + (number % 10) as u8)?;
+    Ok(())
+}
+
+/// Appends a number of several digits. Most have four at most.
+#[inline(never)]
+#[tactic(auto, using(crate::proofs::Digits::last_two))]
+fn append_several(number: u32, to: &mut Vec<u8>) -> Result<(), NoMemory>
+    ensures { OnOk result (to.new.items ≡ to.old.items ++ decimal number) }
+{
+    if number < 100 {
+        return append_two(number, to);
+    }
+    if number >= 10_000 {
+        return append_number(u64::from(number), to);
+    }
+    append_two(number / 10 / 10, to)?;
+    to.push(b'0' + (number / 10 % 10) as u8)?;
+    to.push(b'0' + (number % 10) as u8)?;
+    Ok(())
+}
+
 /// Appends a number in decimal digits. The commonest have one.
 #[inline(always)]
 #[tactic(auto, using(std::proofs::lemmas::Fmt::decimal_digit))]
@@ -28,7 +65,7 @@ pub fn append_short(number: u32, to: &mut Vec<u8>) -> Result<(), NoMemory>
     ensures { OnOk result (to.new.items ≡ to.old.items ++ decimal number) }
 {
     if number >= 10 {
-        return append_number(u64::from(number), to);
+        return append_several(number, to);
     }
     to.push(b'0' + number as u8)?;
     Ok(())
@@ -79,13 +116,25 @@ pub fn append_privilege_word(privilege: &Privilege, to: &mut Vec<u8>) -> Result<
     Ok(())
 }
 
+/// Appends a whole number. The commonest have few digits.
+fn append_integer(number: i64, to: &mut Vec<u8>) -> Result<(), NoMemory>
+    ensures { OnOk result (to.new.items ≡ to.old.items ++ signed_decimal number) }
+{
+    if number >= 0 && number < 10_000 {
+        return append_short(number as u32, to);
+    }
+    append_whole(number, to)
+}
+
 /// Appends a value as a word.
 pub fn append_value_word(value: &Frozen, to: &mut Vec<u8>) -> Result<(), NoMemory>
     ensures { OnOk result (to.new.items ≡ to.old.items ++ word (value_text value.now)) }
 {
     to.push(b' ')?;
-    append_value(value.value(), to)?;
-    Ok(())
+    match value.value() {
+        Value::Int(number) => append_integer(*number, to),
+        value => append_value(value, to),
+    }
 }
 
 /// Appends privileges, each as a word.
