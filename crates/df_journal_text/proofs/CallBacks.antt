@@ -1,10 +1,6 @@
 -- Calls that are spelled are read back.
-use Rattle.df_journal_text.proofs.Names.{◌≡◌, ℕ, false, List, [], ◌∷◌, ◌++◌, map, Ok, refl, recursion_from_All, Half, S, I, Act, Add, Del, Call, AddPart}
-use Rattle.df_journal_text.proofs.Names.{DelPart, ReadPart, CloneEvent, AttachPrivilege, ChangeOutLabel, DropEvent, Subscribe, SubscribeManaged, Publish}
-use Rattle.df_journal_text.proofs.Names.{Release, ChangeInOut, Instantiate, IsPrivilege, label_text, privilege_text, tag_text, value_text, EndsWord, act_text}
-use Rattle.df_journal_text.proofs.Names.{half_text, call_words, IsCall, spaced, act_at, half_at, call_at, begins_pair}
-use Rattle.df_journal_text.proofs.WordBacks.{word_back, short_word, label_word, name_word, value_word, privilege_word, tag_word, filter_word, braced_word}
-use Rattle.df_journal_text.proofs.WordBacks.{privileges_back}
+use Rattle.df_journal_text.proofs.Names.{◌≡◌, ℕ, false, List, [], ◌∷◌, ◌++◌, map, Ok, refl, recursion_from_All, Half, S, I, Act, Add, Del, Call, AddPart, DelPart, ReadPart, CloneEvent, AttachPrivilege, ChangeOutLabel, DropEvent, Subscribe, SubscribeManaged, Publish, Release, ChangeInOut, Instantiate, IsPrivilege, label_text, privilege_text, tag_text, value_text, EndsWord, act_text, half_text, call_words, IsCall, spaced, act_at, half_at, call_at, begins_pair}
+use Rattle.df_journal_text.proofs.WordBacks.{word_back, short_word, label_word, name_word, value_word, privilege_word, tag_word, filter_word, braced_word, privileges_back}
 
 half_back : (half : Half) (words : List (List ℕ)) (rest : List ℕ) → half_at (spaced (half_text half ∷ words) ++ rest) ≡ Ok (half, spaced words ++ rest)
 half_back S words rest = refl

@@ -1,12 +1,7 @@
 -- Calls that are read are spelled so.
-use Rattle.df_journal_text.proofs.Names.{append-nil, ◌≡◌, ℕ, ◌<◌, ◌^◌, true, List, [], ◌∷◌, ◌++◌, codes, decimal, refl, Half, S, I, Act, Add, Del, Read}
-use Rattle.df_journal_text.proofs.Names.{is_name, Label, CreateEvent, DelPart, ReadPart, CloneEvent, AttachPrivilege, ChangeOutLabel, CreateTag, DropEvent}
-use Rattle.df_journal_text.proofs.Names.{Subscribe, SubscribeManaged, Get, Publish, Release, ChangeInOut, Instantiate, IsLabel, IsTag, label_text}
-use Rattle.df_journal_text.proofs.Names.{privilege_text, tag_text, act_text, half_text, IsCall, word, act_at, change_at, half_at, named_kinds, plain_kinds}
-use Rattle.df_journal_text.proofs.Names.{last_kinds, spot_at, bare_at, named_at, call_text}
+use Rattle.df_journal_text.proofs.Names.{append-nil, ◌≡◌, ℕ, ◌<◌, ◌^◌, true, List, [], ◌∷◌, ◌++◌, codes, decimal, refl, Half, S, I, Act, Add, Del, Read, is_name, Label, CreateEvent, DelPart, ReadPart, CloneEvent, AttachPrivilege, ChangeOutLabel, CreateTag, DropEvent, Subscribe, SubscribeManaged, Get, Publish, Release, ChangeInOut, Instantiate, IsLabel, IsTag, label_text, privilege_text, tag_text, act_text, half_text, IsCall, word, act_at, change_at, half_at, named_kinds, plain_kinds, last_kinds, spot_at, bare_at, named_at, call_text}
 use Rattle.df_journal_text.proofs.Appends.{four_end}
-use Rattle.df_journal_text.proofs.Founds.{◌⊕◌, AllFind, Finds, bare_finds, braced_finds, filter_finds, finds_then, finds_word, kind_finds, kinds_found}
-use Rattle.df_journal_text.proofs.Founds.{label_finds, name_finds, privilege_finds, privileges_finds, short_finds, tag_finds}
+use Rattle.df_journal_text.proofs.Founds.{◌⊕◌, AllFind, Finds, bare_finds, braced_finds, filter_finds, finds_then, finds_word, kind_finds, kinds_found, label_finds, name_finds, privilege_finds, privileges_finds, short_finds, tag_finds}
 
 pub named_finds : Finds (λ (n : Label × List ℕ). word (label_text n.0) ++ word n.1) (λ (n : Label × List ℕ). IsLabel n.0 × (is_name n.1 ≡ true)) named_at
 named_finds = finds_then (finds_word label_finds) (finds_word name_finds)

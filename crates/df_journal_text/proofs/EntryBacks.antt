@@ -1,12 +1,5 @@
 -- Entries that are spelled are read back.
-use Rattle.df_journal_text.proofs.Names.{◌≡◌, ℕ, ◌<◌, true, false, eqb, eq-eqb, List, [], ◌∷◌, ◌++◌, length, map, Option, Some, None, Ok, codes, refl, sym, ap}
-use Rattle.df_journal_text.proofs.Names.{◌∙◌, append_assoc, arith, inl, inr, AllByRecursion, flat_map, recursion_from_All, flat_map-append, Read, Back}
-use Rattle.df_journal_text.proofs.Names.{all_back, Label, Part, UnitName, Commit, PartRead, Call, Reply, Effect, Done, IsLabel, IsPrivilege, label_text}
-use Rattle.df_journal_text.proofs.Names.{privilege_text, label_at, value_text, call_words, part_line, spot_line, edit_text, given_text, effect_text, reads_text}
-use Rattle.df_journal_text.proofs.Names.{call_line, note_text, entry_text, IsCall, IsCommit, IsEdit, IsEffectOf, IsEvent, IsPart, IsPartRead, IsReply, IsSpot}
-use Rattle.df_journal_text.proofs.Names.{IsUnit, line, spaced, word, event_text, unit_text, IsUnmarked, all_marked_at, call_line_at, commit_at, deleted_at}
-use Rattle.df_journal_text.proofs.Names.{done_at, done_of, edit_at, effect_at, marked_at, note_at, part_at, part_read_at, shown_at, event_at, begins_pair}
-use Rattle.df_journal_text.proofs.Names.{line_at, word_at, reply_words}
+use Rattle.df_journal_text.proofs.Names.{◌≡◌, ℕ, ◌<◌, true, false, eqb, eq-eqb, List, [], ◌∷◌, ◌++◌, length, map, Option, Some, None, Ok, codes, refl, sym, ap, ◌∙◌, append_assoc, arith, inl, inr, AllByRecursion, flat_map, recursion_from_All, flat_map-append, Read, Back, all_back, Label, Part, UnitName, Commit, PartRead, Call, Reply, Effect, Done, IsLabel, IsPrivilege, label_text, privilege_text, label_at, value_text, call_words, part_line, spot_line, edit_text, given_text, effect_text, reads_text, call_line, note_text, entry_text, IsCall, IsCommit, IsEdit, IsEffectOf, IsEvent, IsPart, IsPartRead, IsReply, IsSpot, IsUnit, line, spaced, word, event_text, unit_text, IsUnmarked, all_marked_at, call_line_at, commit_at, deleted_at, done_at, done_of, edit_at, effect_at, marked_at, note_at, part_at, part_read_at, shown_at, event_at, begins_pair, line_at, word_at, reply_words}
 use Rattle.df_part.specs.declared.edit.Spot.{Spot}
 use Rattle.df_unit.specs.declared.commit.Given.{Given}
 use Rattle.df_unit.specs.declared.reply.Reply.TheVariants as reply

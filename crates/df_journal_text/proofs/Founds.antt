@@ -1,12 +1,5 @@
 -- What reading gives is spelled so, and fits.
-use Rattle.df_journal_text.proofs.Names.{◌≡◌, ℕ, suc, zero, ◌<◌, ◌^◌, true, eqb, Bool, Option, Some, None, List, [], ◌∷◌, ◌++◌, length, map, Ok, Err, decimal}
-use Rattle.df_journal_text.proofs.Names.{refl, sym, ap, subst, ◌∙◌, arith, append_assoc, append-nil, inl, inr, AllByRecursion, flat_map, All-from_recursion}
-use Rattle.df_journal_text.proofs.Names.{Bad, Low, Read, ◌>>=◌, as_at, then_at, maybe_at, text_at, behind_at, closed_at, while_at, Format, maybe_spell, bind_ok}
-use Rattle.df_journal_text.proofs.Names.{chosen, ok_is, not_both, text_found, is_name, Privilege, IsLabel, IsPrivilege, IsTag, IsTagSet, label_text, path_text}
-use Rattle.df_journal_text.proofs.Names.{privilege_text, tag_text, label_at, privilege_at, name_at, numbers_at, short_at, tag_at, label_format}
-use Rattle.df_journal_text.proofs.Names.{privilege_format, nowhere, nowhere_is_local, behind_byte, long_found, short_format, tag_format, filter_text, IsFilter}
-use Rattle.df_journal_text.proofs.Names.{filter_at, ArePrivileges, IsUnit, spaced, word, unit_text, braced_at, instance_at, unit_at, unit_of, ascend, ascending}
-use Rattle.df_journal_text.proofs.Names.{bare_at, begins_pair, each_privilege_at, keyed, kinds_at, privileges_at, word_at}
+use Rattle.df_journal_text.proofs.Names.{◌≡◌, ℕ, suc, zero, ◌<◌, ◌^◌, true, eqb, Bool, Option, Some, None, List, [], ◌∷◌, ◌++◌, length, map, Ok, Err, decimal, refl, sym, ap, subst, ◌∙◌, arith, append_assoc, append-nil, inl, inr, AllByRecursion, flat_map, All-from_recursion, Bad, Low, Read, ◌>>=◌, as_at, then_at, maybe_at, text_at, behind_at, closed_at, while_at, Format, maybe_spell, bind_ok, chosen, ok_is, not_both, text_found, is_name, Privilege, IsLabel, IsPrivilege, IsTag, IsTagSet, label_text, path_text, privilege_text, tag_text, label_at, privilege_at, name_at, numbers_at, short_at, tag_at, label_format, privilege_format, nowhere, nowhere_is_local, behind_byte, long_found, short_format, tag_format, filter_text, IsFilter, filter_at, ArePrivileges, IsUnit, spaced, word, unit_text, braced_at, instance_at, unit_at, unit_of, ascend, ascending, bare_at, begins_pair, each_privilege_at, keyed, kinds_at, privileges_at, word_at}
 use Rattle.df_format.proofs.Choices.{MaybeFits}
 use Rattle.df_value_text.proofs.NameLaws.{name_format}
 use Rattle.df_value_text.proofs.TagSetLaws.{tags_format}

@@ -1,7 +1,5 @@
 -- Whole lines: something in front, what may be too large, and something behind it.
-use Rattle.df_journal_text.proofs.Names.{◌≡◌, ◌≢◌, ℕ, ◌≤◌, List, [], ◌∷◌, ◌++◌, length, drop, length-drop, Result, Ok, Err, sym, ap, subst, ◌∙◌, arith}
-use Rattle.df_journal_text.proofs.Names.{append-nil, append_cancel_right, drop_all, Stop, Read, not_both, ok_is, Fails, Gives, Fault, IsNoLine, IsUnspelled}
-use Rattle.df_journal_text.proofs.Names.{IsWhole, Tells, TellsLine, ended, line_fault, LineFault}
+use Rattle.df_journal_text.proofs.Names.{◌≡◌, ◌≢◌, ℕ, ◌≤◌, List, [], ◌∷◌, ◌++◌, length, drop, length-drop, Result, Ok, Err, sym, ap, subst, ◌∙◌, arith, append-nil, append_cancel_right, drop_all, Stop, Read, not_both, ok_is, Fails, Gives, Fault, IsNoLine, IsUnspelled, IsWhole, Tells, TellsLine, ended, line_fault, LineFault}
 use Rattle.df_journal_text.specs.declared.line_fault.LineFault.TheVariants as fault
 use Rattle.df_journal_text.proofs.Stopped.{on_fault}
 

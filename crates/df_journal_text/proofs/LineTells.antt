@@ -1,10 +1,5 @@
 -- What the readers of lines with a value answer.
-use Rattle.df_journal_text.proofs.Names.{◌≡◌, ℕ, true, List, [], ◌∷◌, ◌++◌, map, Ok, codes, refl, sym, ap, subst, ◌∙◌, append_assoc, append-nil, inl}
-use Rattle.df_journal_text.proofs.Names.{flat_map-append, recursion_from_All, Read, behind_at, is_name, Label, Privilege, Part, Call, UnitName, PartRead, Reply}
-use Rattle.df_journal_text.proofs.Names.{IsLabel, IsPrivilege, IsValue, label_text, privilege_text, label_at, name_at, value_at, EndsWord, value_back}
-use Rattle.df_journal_text.proofs.Names.{call_words, call_line, part_line, read_line, ArePrivileges, IsAnswer, IsBare, IsCall, IsCalled, IsPart, IsPartRead}
-use Rattle.df_journal_text.proofs.Names.{IsUnit, IsLargeCall, IsLargeWord, spaced, word, unit_text, call_at, unit_at, reply_at, named_at, privileges_at}
-use Rattle.df_journal_text.proofs.Names.{word_at, reply_words, EndsCall, answer_at, call_text, ended, reply_text}
+use Rattle.df_journal_text.proofs.Names.{◌≡◌, ℕ, true, List, [], ◌∷◌, ◌++◌, map, Ok, codes, refl, sym, ap, subst, ◌∙◌, append_assoc, append-nil, inl, flat_map-append, recursion_from_All, Read, behind_at, is_name, Label, Privilege, Part, Call, UnitName, PartRead, Reply, IsLabel, IsPrivilege, IsValue, label_text, privilege_text, label_at, name_at, value_at, EndsWord, value_back, call_words, call_line, part_line, read_line, ArePrivileges, IsAnswer, IsBare, IsCall, IsCalled, IsPart, IsPartRead, IsUnit, IsLargeCall, IsLargeWord, spaced, word, unit_text, call_at, unit_at, reply_at, named_at, privileges_at, word_at, reply_words, EndsCall, answer_at, call_text, ended, reply_text}
 use Rattle.df_unit.specs.declared.reply.Reply.TheVariants as reply
 use Rattle.df_journal_text.proofs.Appends.{part_apart, shown_apart}
 use Rattle.df_journal_text.proofs.CallBacks.{call_back}

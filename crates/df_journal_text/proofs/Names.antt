@@ -3,8 +3,8 @@ pub use Rattle.df_filter_text.specs.Filter.{filter_text}
 pub use Rattle.df_filter_text.specs.Fits.{IsFilter}
 pub use Rattle.df_filter_text.specs.ReadFilter.{filter_at}
 pub use Rattle.df_format.proofs.Backs.{Back, all_back}
-pub use Rattle.df_format.proofs.ItemSteps.{format_shrinks, onto, regroup}
-pub use Rattle.df_format.proofs.Laws.{bind_ok, bind_same, chosen, not_both, ok_is, told}
+pub use Rattle.df_format.proofs.ItemSteps.{format_shrinks, regroup}
+pub use Rattle.df_format.proofs.Laws.{bind_ok, chosen, not_both, ok_is, told}
 pub use Rattle.df_format.proofs.Texts.{text_again, text_found}
 pub use Rattle.df_format.proofs.Tokens.{nowhere, nowhere_is_local}
 pub use Rattle.df_format.specs.Format.{Ends, Format}
@@ -12,24 +12,19 @@ pub use Rattle.df_format.specs.Reading.{Bad, Low, Read, Stop, all_at, as_at, beh
 pub use Rattle.df_format.specs.Spelling.{maybe_spell, more_spell}
 pub use Rattle.df_frozen.specs.Name.{is_name}
 pub use Rattle.df_journal_text.specs.Call.{act_text, call_words, half_text}
-pub use Rattle.df_journal_text.specs.Entry.{call_line, edit_text, effect_text, entry_text, given_text, note_text, noted_text, part_line, read_line, reads_text}
-pub use Rattle.df_journal_text.specs.Entry.{spot_line}
-pub use Rattle.df_journal_text.specs.Fits.{ArePrivileges, IsAnswer, IsBare, IsCall, IsCalled, IsCommit, IsEdit, IsEffectOf, IsEntry, IsEvent, IsJournal}
-pub use Rattle.df_journal_text.specs.Fits.{IsNoteOf, IsNoted, IsPart, IsPartRead, IsReply, IsRoot, IsSpot, IsUnit}
+pub use Rattle.df_journal_text.specs.Entry.{call_line, edit_text, effect_text, entry_text, given_text, note_text, noted_text, part_line, read_line, reads_text, spot_line}
+pub use Rattle.df_journal_text.specs.Fits.{ArePrivileges, IsAnswer, IsBare, IsCall, IsCalled, IsCommit, IsEdit, IsEffectOf, IsEntry, IsEvent, IsJournal, IsNoteOf, IsNoted, IsPart, IsPartRead, IsReply, IsRoot, IsSpot, IsUnit}
 pub use Rattle.df_journal_text.specs.Large.{IsLargeCall, IsLargeWord, IsTooLarge}
 pub use Rattle.df_journal_text.specs.Line.{line, spaced, word}
 pub use Rattle.df_journal_text.specs.Name.{event_text, unit_text}
 pub use Rattle.df_journal_text.specs.ReadCall.{act_at, add_of, added_at, braced_at, call_at, change_at, half_at, last_kinds, named_kinds, plain_kinds, spot_at}
-pub use Rattle.df_journal_text.specs.ReadEntry.{EndsJournal, IsUnmarked, all_marked_at, begins_entry, call_line_at, commit_at, deleted_at, done_at, done_of}
-pub use Rattle.df_journal_text.specs.ReadEntry.{edit_at, effect_at, journal_at, marked_at, note_at, noted_at, part_at, part_read_at, shown_at}
+pub use Rattle.df_journal_text.specs.ReadEntry.{EndsJournal, IsUnmarked, all_marked_at, begins_entry, call_line_at, commit_at, deleted_at, done_at, done_of, edit_at, effect_at, journal_at, marked_at, note_at, noted_at, part_at, part_read_at, shown_at}
 pub use Rattle.df_journal_text.specs.ReadName.{event_at, instance_at, unit_at, unit_of}
 pub use Rattle.df_journal_text.specs.ReadReply.{last_replies, long_at, refusing_replies, reply_at, reply_kinds}
-pub use Rattle.df_journal_text.specs.ReadWords.{ascend, ascending, bare_at, begins_pair, each_privilege_at, keyed, kinds_at, line_at, named_at, privileges_at}
-pub use Rattle.df_journal_text.specs.ReadWords.{word_at}
+pub use Rattle.df_journal_text.specs.ReadWords.{ascend, ascending, bare_at, begins_pair, each_privilege_at, keyed, kinds_at, line_at, named_at, privileges_at, word_at}
 pub use Rattle.df_journal_text.specs.Reply.{reply_words}
 pub use Rattle.df_journal_text.specs.Start.{journal_text, root_line, roots_text, start_text}
-pub use Rattle.df_journal_text.specs.code.Judging.{EndsCall, IsNoLine, IsStopped, IsUnspelled, IsWhole, Tells, TellsLine, answer_at, behind_add, call_text}
-pub use Rattle.df_journal_text.specs.code.Judging.{ended, line_fault, reply_text, value_fault}
+pub use Rattle.df_journal_text.specs.code.Judging.{EndsCall, IsNoLine, IsStopped, IsUnspelled, IsWhole, Tells, TellsLine, answer_at, behind_add, call_text, ended, line_fault, reply_text, value_fault}
 pub use Rattle.df_journal_text.specs.declared.line_fault.LineFault.{LineFault}
 pub use Rattle.df_label.proofs.PrivilegeFacts.{privilege_cmp_exact}
 pub use Rattle.df_label.proofs.SetFacts.{ascending-push, below_trans}
@@ -44,8 +39,7 @@ pub use Rattle.df_priv.specs.declared.need.Half.{Half}
 pub use Rattle.df_priv.specs.declared.need.Half.TheVariants.{I, S}
 pub use Rattle.df_start.specs.declared.start.RootStart.{RootStart}
 pub use Rattle.df_unit.specs.declared.call.Call.{Call}
-pub use Rattle.df_unit.specs.declared.call.Call.TheVariants.{AddPart, AttachPrivilege, ChangeInOut, ChangeOutLabel, CloneEvent, CreateEvent, CreateTag, DelPart}
-pub use Rattle.df_unit.specs.declared.call.Call.TheVariants.{DropEvent, Get, Instantiate, Publish, ReadPart, Release, Subscribe, SubscribeManaged}
+pub use Rattle.df_unit.specs.declared.call.Call.TheVariants.{AddPart, AttachPrivilege, ChangeInOut, ChangeOutLabel, CloneEvent, CreateEvent, CreateTag, DelPart, DropEvent, Get, Instantiate, Publish, ReadPart, Release, Subscribe, SubscribeManaged}
 pub use Rattle.df_unit.specs.declared.commit.Commit.{Commit}
 pub use Rattle.df_unit.specs.declared.entry.Effect.{Effect}
 pub use Rattle.df_unit.specs.declared.entry.Entry.TheVariants.{Done, Emitted}
@@ -53,8 +47,7 @@ pub use Rattle.df_unit.specs.declared.name.UnitName.{UnitName}
 pub use Rattle.df_unit.specs.declared.name.UnitName.TheVariants.{Managed, Root}
 pub use Rattle.df_unit.specs.declared.parts.PartRead.{PartRead}
 pub use Rattle.df_unit.specs.declared.reply.Reply.{Reply}
-pub use Rattle.df_value_text.proofs.Backs.{EndsPath, braced_back, digits_back, label_back, name_back, number_back, path_back, privilege_back, short_back}
-pub use Rattle.df_value_text.proofs.Backs.{tag_back, value_back}
+pub use Rattle.df_value_text.proofs.Backs.{EndsPath, braced_back, digits_back, label_back, name_back, number_back, path_back, privilege_back, short_back, tag_back, value_back}
 pub use Rattle.df_value_text.proofs.LabelLaws.{label_format, privilege_format, privilege_goes}
 pub use Rattle.df_value_text.proofs.TagLaws.{behind_byte, digit_first, joined_items, long_found, short_format, tag_format}
 pub use Rattle.df_value_text.proofs.ValueLaws.{value_format, value_goes}
@@ -70,9 +63,7 @@ pub use Rattle.df_value_text.specs.Value.{value_text}
 pub use Rattle.df_value_text.specs.code.Answer.{Fails, Gives, IsFound, IsRead, IsSyntaxAt}
 pub use Rattle.df_value_text.specs.code.WordEnd.{EndsWord}
 pub use Rattle.df_value_text.specs.declared.refused.Fault.{Fault}
-pub use Rattle.std.proofs.Common.{Bool, Err, List, None, Ok, Option, Result, Some, [], ap, append-nil, append_assoc, arith, codes, cond, decimal, drop, eq-eqb}
-pub use Rattle.std.proofs.Common.{eqb, false, get_or, inl, inr, length, length-append, length-drop, map, refl, subst, suc, sym, take, true, zero, ℕ, ◌++◌, ◌+◌}
-pub use Rattle.std.proofs.Common.{◌<◌, ◌^◌, ◌||◌, ◌∙◌, ◌∷◌, ◌≡◌, ◌≢◌, ◌≤◌}
+pub use Rattle.std.proofs.Common.{Bool, Err, List, None, Ok, Option, Result, Some, [], ap, append-nil, append_assoc, arith, codes, decimal, drop, eq-eqb, eqb, false, get_or, inl, inr, length, length-append, length-drop, map, refl, subst, suc, sym, take, true, zero, ℕ, ◌++◌, ◌+◌, ◌<◌, ◌^◌, ◌||◌, ◌∙◌, ◌∷◌, ◌≡◌, ◌≢◌, ◌≤◌}
 pub use Rattle.std.proofs.lemmas.Bool.{and_parts, eqb-true, true≢false}
 pub use Rattle.std.proofs.lemmas.List.{append_cancel_right, drop_all, take_more}
 pub use Rattle.std.proofs.lemmas.List.Concat.{flat_map-append}

@@ -1,7 +1,5 @@
 -- Whether privileges ascend, as a loop finds it.
-use Rattle.df_journal_text.proofs.Names.{◌≡◌, ℕ, ◌+◌, ◌<◌, zero, suc, Bool, true, false, List, [], ◌∷◌, ◌++◌, length, take, get_or, refl, sym, ap, subst, ◌∙◌}
-use Rattle.df_journal_text.proofs.Names.{arith, is_lt, Less, Equal, Greater, true≢false, take_more, IsAscending, IsBelow, privilege_cmp, Privilege}
-use Rattle.df_journal_text.proofs.Names.{privilege_cmp_exact, ascending-push}
+use Rattle.df_journal_text.proofs.Names.{◌≡◌, ℕ, ◌+◌, ◌<◌, zero, suc, Bool, true, false, List, [], ◌∷◌, ◌++◌, length, take, get_or, refl, sym, ap, subst, ◌∙◌, arith, is_lt, Less, Equal, Greater, true≢false, take_more, IsAscending, IsBelow, privilege_cmp, Privilege, privilege_cmp_exact, ascending-push}
 use Rattle.std.specs.declared.cmp.Ordering.{Ordering}
 
 -- what comes before all comes before the one at a place

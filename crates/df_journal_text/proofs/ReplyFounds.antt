@@ -1,10 +1,8 @@
 -- Replies that are read are spelled so.
-use Rattle.df_journal_text.proofs.Names.{append-nil, ℕ, ◌<◌, ◌^◌, [], decimal, refl, arith, All, All-from_recursion, nowhere, IsAnswer, IsPartRead}
-use Rattle.df_journal_text.proofs.Names.{last_replies, long_at, refusing_replies, reply_at, reply_kinds, reply_text}
+use Rattle.df_journal_text.proofs.Names.{append-nil, ℕ, ◌<◌, ◌^◌, [], decimal, refl, arith, All, All-from_recursion, nowhere, IsAnswer, IsPartRead, last_replies, long_at, refusing_replies, reply_at, reply_kinds, reply_text}
 use Rattle.df_value_text.proofs.NumberLaws.{number_format}
 use Rattle.df_unit.specs.declared.reply.Reply.TheVariants as reply
-use Rattle.df_journal_text.proofs.Founds.{◌⊕◌, AllFind, Finds, bare_finds, finds_then, finds_word, kind_finds, kinds_found, label_finds, privilege_finds}
-use Rattle.df_journal_text.proofs.Founds.{short_finds, tag_finds}
+use Rattle.df_journal_text.proofs.Founds.{◌⊕◌, AllFind, Finds, bare_finds, finds_then, finds_word, kind_finds, kinds_found, label_finds, privilege_finds, short_finds, tag_finds}
 
 long_finds : Finds decimal (λ (n : ℕ). n < 2 ^ 64) long_at
 long_finds = record {

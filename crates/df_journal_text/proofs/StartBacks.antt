@@ -1,7 +1,5 @@
 -- Starts that are spelled are read back.
-use Rattle.df_journal_text.proofs.Names.{◌≡◌, ℕ, zero, suc, ◌+◌, ◌≤◌, false, List, [], ◌∷◌, ◌++◌, length, map, Ok, codes, decimal, refl, ap, ◌∙◌, append_assoc}
-use Rattle.df_journal_text.proofs.Names.{arith, length-append, inr, AllByRecursion, recursion_from_All, Read, behind_at, text_again, RootStart, IsPrivilege}
-use Rattle.df_journal_text.proofs.Names.{label_text, privilege_text, begins_with, IsRoot, spaced, root_line, roots_text, start_text}
+use Rattle.df_journal_text.proofs.Names.{◌≡◌, ℕ, zero, suc, ◌+◌, ◌≤◌, false, List, [], ◌∷◌, ◌++◌, length, map, Ok, codes, decimal, refl, ap, ◌∙◌, append_assoc, arith, length-append, inr, AllByRecursion, recursion_from_All, Read, behind_at, text_again, RootStart, IsPrivilege, label_text, privilege_text, begins_with, IsRoot, spaced, root_line, roots_text, start_text}
 use Rattle.df_journal_text.specs.ReadStart.{root_at, roots_within, start_at}
 use Rattle.df_journal_text.proofs.WordBacks.{line-rest, word_back, label_word, privileges_back}
 

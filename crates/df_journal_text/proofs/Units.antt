@@ -1,6 +1,5 @@
 -- Units, as the code reads them.
-use Rattle.df_journal_text.proofs.Names.{◌≡◌, ℕ, true, false, eqb, List, Some, Ok, Err, refl, ◌∙◌, Stop, maybe_at, Root, Managed, begins_with, numbers_at}
-use Rattle.df_journal_text.proofs.Names.{instance_at, unit_at}
+use Rattle.df_journal_text.proofs.Names.{◌≡◌, ℕ, true, false, eqb, List, Some, Ok, Err, refl, ◌∙◌, Stop, maybe_at, Root, Managed, begins_with, numbers_at, instance_at, unit_at}
 use Rattle.df_journal_text.proofs.Words.{maybe_not, maybe_so}
 
 pub root_read : (bytes path rest : List ℕ) → numbers_at bytes ≡ Ok (path, rest) → begins_with 47 rest ≡ false → unit_at bytes ≡ Ok (Root path, rest)

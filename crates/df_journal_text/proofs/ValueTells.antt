@@ -1,8 +1,5 @@
 -- What the reader of values answers, as a word of a line.
-use Rattle.df_journal_text.proofs.Names.{◌≡◌, ℕ, ◌≤◌, true, false, List, [], ◌∷◌, ◌++◌, length, drop, Ok, Err, refl, sym, ap, subst, ◌∙◌, arith}
-use Rattle.df_journal_text.proofs.Names.{append-nil, length-append, inl, inr, text_at, Ends, not_both, told, text_found, IsSpelled, IsValue, value_at}
-use Rattle.df_journal_text.proofs.Names.{value_within, value_text, Fails, IsFound, IsRead, IsSyntaxAt, EndsWord, Fault, nowhere, nowhere_is_local, value_format}
-use Rattle.df_journal_text.proofs.Names.{value_goes, value_stands, IsLargeWord, IsTooLarge, word, word_at, Tells, line_fault, value_fault}
+use Rattle.df_journal_text.proofs.Names.{◌≡◌, ℕ, ◌≤◌, true, false, List, [], ◌∷◌, ◌++◌, length, drop, Ok, Err, refl, sym, ap, subst, ◌∙◌, arith, append-nil, length-append, inl, inr, text_at, Ends, not_both, told, text_found, IsSpelled, IsValue, value_at, value_within, value_text, Fails, IsFound, IsRead, IsSyntaxAt, EndsWord, Fault, nowhere, nowhere_is_local, value_format, value_goes, value_stands, IsLargeWord, IsTooLarge, word, word_at, Tells, line_fault, value_fault}
 use Rattle.std.specs.Prelude.{nat_lt}
 use Rattle.std.proofs.lemmas.Bool.Decides.{nat_tests}
 use Rattle.df_format.specs.Grammar.{CanGoOn, Stands}

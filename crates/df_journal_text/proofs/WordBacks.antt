@@ -1,10 +1,5 @@
 -- Words and lines that are spelled are read back.
-use Rattle.df_journal_text.proofs.Names.{◌≡◌, ℕ, ◌<◌, ◌^◌, true, false, List, [], ◌∷◌, ◌++◌, map, Ok, decimal, refl, ap, ◌∙◌, append_assoc, arith, inl}
-use Rattle.df_journal_text.proofs.Names.{AllByRecursion, flat_map, Read, Back, all_back, is_name, IsAscending, privilege_cmp, Privilege, IsLabel, IsPrivilege}
-use Rattle.df_journal_text.proofs.Names.{IsTag, IsTagSet, IsValue, label_text, privilege_text, tag_text, tags_text, label_at, privilege_at, name_at, short_at}
-use Rattle.df_journal_text.proofs.Names.{tag_at, value_at, value_text, EndsWord, short_back, number_back, tag_back, label_back, privilege_back, name_back}
-use Rattle.df_journal_text.proofs.Names.{value_back, braced_back, filter_text, IsFilter, filter_at, word, spaced, line, braced_at, long_at, word_at, line_at}
-use Rattle.df_journal_text.proofs.Names.{begins_pair, each_privilege_at, privileges_at}
+use Rattle.df_journal_text.proofs.Names.{◌≡◌, ℕ, ◌<◌, ◌^◌, true, false, List, [], ◌∷◌, ◌++◌, map, Ok, decimal, refl, ap, ◌∙◌, append_assoc, arith, inl, AllByRecursion, flat_map, Read, Back, all_back, is_name, IsAscending, privilege_cmp, Privilege, IsLabel, IsPrivilege, IsTag, IsTagSet, IsValue, label_text, privilege_text, tag_text, tags_text, label_at, privilege_at, name_at, short_at, tag_at, value_at, value_text, EndsWord, short_back, number_back, tag_back, label_back, privilege_back, name_back, value_back, braced_back, filter_text, IsFilter, filter_at, word, spaced, line, braced_at, long_at, word_at, line_at, begins_pair, each_privilege_at, privileges_at}
 use Rattle.df_filter_text.proofs.Backs.{filter_back}
 use Rattle.df_journal_text.proofs.Words.{ascend_of}
 
