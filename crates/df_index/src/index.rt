@@ -38,6 +38,9 @@ fn found<F: Listed, T: Tester<F>>(
         + listed_under F.first_of (names_of occasion.now.contents.now) listing.now }
 {
     let alloc = *names.allocator();
+    if listing.is_empty() {
+        return Ok(Vec::new(alloc));
+    }
     list_names(occasion.contents.parts(), names)?;
     listing.look_up(names.as_slice(), places)?;
     let mut found = due(

@@ -1,6 +1,6 @@
 //! Subscriptions, each listed under the first name of its filter.
 
-ghost use Rattle.std.specs.Prelude.{◌≡◌, [], ◌∷◌, ◌++◌, cond, List, ℕ, IsSome, IfOk, OnOk, OnErr};
+ghost use Rattle.std.specs.Prelude.{◌≡◌, ◌↔◌, IsTrue, [], ◌∷◌, ◌++◌, cond, List, ℕ, IsSome, IfOk, OnOk, OnErr};
 ghost use Rattle.std.specs.List.{All, flat_map};
 ghost use Rattle.std.specs.Str.{bytes_eq};
 ghost use Rattle.df_index.specs.Listing.{places_at, places_of};
@@ -121,6 +121,12 @@ impl<F: Listed> Listing<F> {
         ensures named { All (λ s. IsSome (F.first_of s.filter)) self.now }
     {
         self.subscriptions.as_slice()
+    }
+
+    pub(crate) fn is_empty(&self) -> bool
+        ensures { IsTrue result ↔ (self.now ≡ []) }
+    {
+        self.subscriptions.is_empty()
     }
 
     pub(crate) fn copy(&self) -> Result<Listing<F>, NoMemory>

@@ -1,5 +1,6 @@
 use Rattle.std.proofs.Common.{Bool, List, ℕ, length, ◌<◌, All, ap, sym, subst, ◌∙◌, arith}
 use Rattle.std.specs.List.{Contains}
+use Rattle.std.specs.List.Sorted.{IsStrictlySortedBy}
 use Rattle.std.proofs.lemmas.List.Filters.{dedup_is}
 use Rattle.std.proofs.lemmas.List.Kept.{Contains-dedup, Contains-from_dedup, IsStrictlySortedBy-dedup}
 use Rattle.std.proofs.lemmas.List.Sorted.{Contains-permutation, IsPermutation-sym}
@@ -20,6 +21,10 @@ due-requires-clause-within g c =
     subst (λ (l : List (Subscription g.row.F.Denot)). All (λ (k : ℕ). k < length l) c.as_slice-3.result.now) (sym c.as_slice-2.ensures.list)
     (subst (λ (l : List ℕ). All (λ (k : ℕ). k < length c.args.listing.now) l) (sym places)
     (places_within g.F.Listed.first_of c.args.listing.now c.list_names.new.names.items))
+
+pub returns-then-is_empty-clause-ascending : goal.returns-then-is_empty-clause-ascending
+unfolding IsStrictlySortedBy
+returns-then-is_empty-clause-ascending g c = rw c.new.ensures.items tt
 
 pub returns-clause-ascending : goal.returns-clause-ascending
 returns-clause-ascending g c = rw (dedup_is _ _ _ c.dedup.ensures.filtered) (IsStrictlySortedBy-dedup pair_total pair_ties _ c.sort_unstable.ensures.sorted)
