@@ -67,6 +67,7 @@ pub fn open(slots: &mut Vec<Slot>, handle: Handle) -> Result<(), NoMemory>
 
 /// Opens a handle with nothing named and nothing drafted at the least number that isn't open, in
 /// the room of the one before.
+#[inline(always)]
 pub fn begin(
     slots: &mut Vec<Slot>,
     is_view: bool,
