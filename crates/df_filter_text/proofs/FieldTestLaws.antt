@@ -74,8 +74,7 @@ equal_signed t (inr m) = subst (λ (u : FieldTest). field_test_text u ≡ 61 ∷
 equal_kind : Kind field_test_text field_test_goes (61 ∷ []) IsEqual equal_at
 equal_kind = record {
   law = told_as equal_signed (λ t c h. refl)
-      (behind_format nowhere nowhere (61 ∷ []) (nowhere_is_local (61 ∷ [])) behind_sign IsEqual field_test_goes _ (IntEq (pos 0))
-      (inr (pos 0, zero_fits, refl)) equal_law);
+      (behind_format (61 ∷ []) (nowhere_is_local (61 ∷ [])) (IntEq (pos 0)) (inr (pos 0, zero_fits, refl)) equal_law);
   first = λ t h. (61, behind_sign t, inl refl, equal_signed t h);
 }
 
@@ -91,9 +90,8 @@ low_text low = signed_decimal low ++ 46 ∷ 46 ∷ []
 ends_law : Format nowhere (then_spell low_text signed_decimal) (ThenFits IsWhole IsWhole) (then_goes whole_goes)
     (then_at (closed_at (46 ∷ 46 ∷ []) whole_at) whole_at)
 ends_law =
-    then_second_format nowhere nowhere_is_local low_text IsWhole never (closed_at (46 ∷ 46 ∷ []) whole_at) signed_decimal IsWhole whole_goes whole_at
-    (closed_format nowhere 46 (46 ∷ []) signed_decimal IsWhole whole_goes whole_at (λ z fits. ends_last (Some z) 46 refl) whole_law) whole_law
-    (pos 0) zero_fits (λ x y rest fx fy ends. ends_never x (signed_decimal y ++ rest))
+    then_second_format nowhere_is_local (closed_format 46 (46 ∷ []) (λ z fits. ends_last (Some z) 46 refl) whole_law) whole_law (pos 0) zero_fits
+    (λ x y rest fx fy ends. ends_never x (signed_decimal y ++ rest))
 
 range_kind : Kind field_test_text field_test_goes (58 ∷ []) (Of range_of (ThenFits IsWhole IsWhole)) range_at
 range_kind = signed 58 range_of (pos 0, pos 0) (zero_fits, zero_fits) ends_law (λ ends h. refl) (λ ends c h. refl)

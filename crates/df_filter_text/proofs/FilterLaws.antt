@@ -1,5 +1,5 @@
 -- Filters are read as they are spelled.
-use Rattle.df_filter_text.proofs.Names.{both_false, ◌≡◌, ℕ, zero, suc, ◌≤◌, Bool, true, false, cond, eqb, List, [], ◌∷◌, ◌++◌, length, Option, Some, None, Ok, refl, sym, ap, subst, ◌∙◌, append_assoc, arith, inl, inr, nat_lt, nat_tests, eqb-true, append-nil, then_at, behind_at, maybe_spell, more_spell, CanGoOn, Ends, Found, Format, ok_is, not_both, told, ends_never, nowhere, nowhere_is_local, viewed, behind_format, MaybeFits, maybe_goes, maybe_format, listed, optional, Clause, then_spell, ThenFits, then_extend, then_behind, then_format, clause_text, filter_text, IsClause, AreClauses, IsFilter, clause_at, more_clauses_at, filter_at}
+use Rattle.df_filter_text.proofs.Names.{both_false, ◌≡◌, ℕ, zero, suc, ◌≤◌, Bool, true, false, cond, eqb, List, [], ◌∷◌, ◌++◌, length, Option, Some, None, Ok, refl, sym, ap, subst, ◌∙◌, append_assoc, arith, inl, inr, nat_lt, nat_tests, eqb-true, append-nil, then_at, maybe_spell, more_spell, CanGoOn, Ends, Found, Format, ok_is, not_both, told, ends_never, nowhere, nowhere_is_local, viewed, behind_format, MaybeFits, maybe_goes, maybe_format, listed, optional, Clause, then_spell, ThenFits, then_extend, then_behind, then_format, clause_text, filter_text, IsClause, AreClauses, IsFilter, clause_at, more_clauses_at, filter_at}
 use Rattle.df_value_text.proofs.TagLaws.{joined_items}
 use Rattle.df_filter.specs.declared.clause.Test.TheVariants as test
 use Rattle.df_filter_text.proofs.ClauseLaws.{clause_goes, clause_ends, clause_format}
@@ -122,9 +122,7 @@ pair_on most f x ys c fx fy g = by ys fy g
 
 pair_format : (most : ℕ) → MoreLaw most → Format nowhere pair_text (PairFits most) (pair_goes most) (then_at clause_at (more_clauses_at most))
 pair_format most f =
-    then_format nowhere nowhere nowhere clause_text IsClause clause_goes clause_at more_text (AreMore most) (more_goes most) (more_clauses_at most)
-    (pair_goes most)
-    (λ front rest low. low) (λ x front rest fits low. low) clause_format f [] (tt, omega arith)
+    then_format (λ front rest low. low) (λ x front rest fits low. low) clause_format f [] (tt, omega arith)
     (record { joined = λ x ys rest fx fy. joined_ends most x ys rest; apart = λ x ys rest fx fy. ends_apart most x ys rest; on = pair_on most f })
 
 more_format : (most : ℕ) → MoreLaw most
@@ -141,12 +139,9 @@ more_format zero = record {
     again (x ∷ xs) rest fits ends = absurd (omega (arith, fits.1))
 more_format (suc most) =
     viewed optional
-    (maybe_format nowhere (λ c. eqb c 38) (λ p. (38 ∷ []) ++ pair_text p) (PairFits most) (pair_goes most)
-    (behind_at (38 ∷ []) (then_at clause_at (more_clauses_at most)))
-    (λ p fits. record { first = 38; others = pair_text p; is = refl; test = refl }) (some_can most)
-    (behind_format nowhere nowhere (38 ∷ []) (nowhere_is_local (38 ∷ [])) pair_text (PairFits most) (pair_goes most)
-    (then_at clause_at (more_clauses_at most)) (short_clause, [])
-    (short_fits, (tt, omega arith)) (pair_format most (more_format most))))
+    (maybe_format (λ c. eqb c 38)
+    (behind_format (38 ∷ []) (nowhere_is_local (38 ∷ [])) (short_clause, []) (short_fits, (tt, omega arith)) (pair_format most (more_format most)))
+    (λ p fits. record { first = 38; others = pair_text p; is = refl; test = refl }) (some_can most))
     (record { to = some_to most; from = some_from most; spelled = λ x fits. some_spelled x; alike = λ x c fits. some_alike most x c })
 
 pub filter_format : Format nowhere filter_text IsFilter filter_goes filter_at

@@ -32,7 +32,7 @@ module _ {X Y : Type 0} {sx : X → List ℕ} {FX : X → Type 0} {gx : X → �
   pub signed : (w : ℕ) (make : X → Y) (x : X) → FX x → Format nowhere sx FX gx rx → ((x : X) → FX x → text (make x) ≡ w ∷ sx x)
       → ((x : X) (c : ℕ) → FX x → goes (make x) c ≡ gx x c) → Kind text goes (w ∷ []) (Of make FX) (as_at make (behind_at (w ∷ []) rx))
   signed w make x fits f spelled alike = record {
-    law = made make (behind_format nowhere nowhere (w ∷ []) (nowhere_is_local (w ∷ [])) sx FX gx rx x fits f) spelled alike;
+    law = made make (behind_format (w ∷ []) (nowhere_is_local (w ∷ [])) x fits f) spelled alike;
     first = λ y h. (w, sx h.0, inl refl, ap text (sym h.2) ∙ spelled h.0 h.1);
   }
 
@@ -66,7 +66,7 @@ pub named : {Y : Type 0} {text : Y → List ℕ} {goes : Y → ℕ → Bool} {Fi
     → Kind text goes signs Fits read → AllByRecursion (λ c. is_name_byte c ≡ false) signs → (y : Y) → Fits y
     → Format nowhere (then_spell own text) (ThenFits IsName Fits) (then_goes goes) (then_at name_at read)
 named {text = text} {goes = goes} {Fits = Fits} {read = read} {signs = signs} k stops y fits =
-    then_second_format nowhere nowhere_is_local own IsName name_goes name_at text Fits goes read (name_format nowhere) k.law y fits
+    then_second_format nowhere_is_local (name_format nowhere) k.law y fits
     (λ name z rest fx fz ends.
     let s = k.first z fz in
     subst (λ (u : List ℕ). Ends name_goes name (u ++ rest)) (sym s.3) (name_ends name s.0 (of_each (λ c. is_name_byte c ≡ false) signs s.0 stops s.2)))

@@ -23,8 +23,8 @@ abbrev pub maybe_goes : {T X : Type 0} → (T → Bool) → (X → T → Bool) �
 maybe_goes begins goes None t = begins t
 maybe_goes begins goes (Some x) t = goes x t
 
-module _ {T X : Type 0} (IsLow : List T → List T → Type 0) (begins : T → Bool) (spell : X → List T) (Fits : X → Type 0) (goes : X → T → Bool)
-    (read : List T → Read T X) where
+module _ {T X : Type 0} {IsLow : List T → List T → Type 0} (begins : T → Bool) {spell : X → List T} {Fits : X → Type 0} {goes : X → T → Bool}
+    {read : List T → Read T X} (fx : Format IsLow spell Fits goes read) where
   abbrev MaybeFound : List T → Option X × List T → Type 0
   MaybeFound tokens q = Found (maybe_spell spell) (MaybeFits Fits) (maybe_goes begins goes) tokens q.0 q.1
 
@@ -50,10 +50,10 @@ module _ {T X : Type 0} (IsLow : List T → List T → Type 0) (begins : T → B
   some_can : (front : List T) → CanGoOn spell Fits front → SomeCan front
   some_can front v = record { some = Some v.some; fits = v.fits; more = v.more; is = v.is }
 
-  maybe_found : Format IsLow spell Fits goes read → (tokens : List T) (x : Option X) (rest : List T) → maybe_at begins read tokens ≡ Ok (x, rest)
+  maybe_found : (tokens : List T) (x : Option X) (rest : List T) → maybe_at begins read tokens ≡ Ok (x, rest)
       → MaybeFound tokens (x, rest)
-  maybe_found fx [] x rest e = subst (MaybeFound []) (ok_is (None, []) (x, rest) e) (record { parts = refl; fits = tt; ends = tt })
-  maybe_found fx (t ∷ ts) x rest e =
+  maybe_found [] x rest e = subst (MaybeFound []) (ok_is (None, []) (x, rest) e) (record { parts = refl; fits = tt; ends = tt })
+  maybe_found (t ∷ ts) x rest e =
       elim (chosen (begins t) (read (t ∷ ts) >>= λ x. Ok (Some x.0, x.1)) (Ok (None, t ∷ ts)) (Ok (x, rest)) e) [
         | inl h ↦
             let a = bind_ok (read (t ∷ ts)) (λ x. Ok (Some x.0, x.1)) (x, rest) h.1 in
@@ -63,18 +63,17 @@ module _ {T X : Type 0} (IsLow : List T → List T → Type 0) (begins : T → B
         | inr h ↦ subst (MaybeFound (t ∷ ts)) (ok_is (None, t ∷ ts) (x, rest) h.1) (record { parts = refl; fits = tt; ends = h.0 })
       ]
 
-  maybe_again : ((x : X) → Fits x → Begins begins true (spell x)) → Format IsLow spell Fits goes read → (x : Option X) (rest : List T)
-      → MaybeFits Fits x → Ends (maybe_goes begins goes) x rest → maybe_at begins read (maybe_spell spell x ++ rest) ≡ Ok (x, rest)
-  maybe_again starts fx None rest fits ends = maybe_none rest ends
-  maybe_again starts fx (Some x) rest fits ends =
+  maybe_again : ((x : X) → Fits x → Begins begins true (spell x)) → (x : Option X) (rest : List T) → MaybeFits Fits x → Ends (maybe_goes begins goes) x rest → maybe_at begins read (maybe_spell spell x ++ rest) ≡ Ok (x, rest)
+  maybe_again starts None rest fits ends = maybe_none rest ends
+  maybe_again starts (Some x) rest fits ends =
       let s = starts x fits in
       maybe_some (spell x ++ rest) s.first (s.others ++ rest) (ap (λ (u : List T). u ++ rest) s.is) s.test
       ∙ rw (fx.again x rest fits (some_ends x rest ends)) refl
 
-  maybe_stuck : Format IsLow spell Fits goes read → (tokens : List T) (stop : Stop T) → maybe_at begins read tokens ≡ Err stop
+  maybe_stuck : (tokens : List T) (stop : Stop T) → maybe_at begins read tokens ≡ Err stop
       → Stuck IsLow (maybe_spell spell) (MaybeFits Fits) (maybe_at begins read) tokens stop
-  maybe_stuck fx [] stop e = not_both (None, []) stop e
-  maybe_stuck fx (t ∷ ts) stop e =
+  maybe_stuck [] stop e = not_both (None, []) stop e
+  maybe_stuck (t ∷ ts) stop e =
       elim (chosen (begins t) (read (t ∷ ts) >>= λ x. Ok (Some x.0, x.1)) (Ok (None, t ∷ ts)) (Err stop) e) [
         | inr h ↦ not_both (None, t ∷ ts) stop h.1
         | inl h ↦
@@ -88,19 +87,18 @@ module _ {T X : Type 0} (IsLow : List T → List T → Type 0) (begins : T → B
             ]
       ]
 
-  maybe_on : ((t : T) → begins t ≡ true → CanGoOn spell Fits (t ∷ [])) → Format IsLow spell Fits goes read → (x : Option X) (t : T)
-      → MaybeFits Fits x → maybe_goes begins goes x t ≡ true → SomeCan (maybe_spell spell x ++ t ∷ [])
-  maybe_on some fx None t fits g = some_can (t ∷ []) (some t g)
-  maybe_on some fx (Some x) t fits g = some_can (spell x ++ t ∷ []) (fx.on x t fits g)
+  maybe_on : ((t : T) → begins t ≡ true → CanGoOn spell Fits (t ∷ [])) → (x : Option X) (t : T) → MaybeFits Fits x → maybe_goes begins goes x t ≡ true → SomeCan (maybe_spell spell x ++ t ∷ [])
+  maybe_on some None t fits g = some_can (t ∷ []) (some t g)
+  maybe_on some (Some x) t fits g = some_can (spell x ++ t ∷ []) (fx.on x t fits g)
 
   pub maybe_format : ((x : X) → Fits x → Begins begins true (spell x)) → ((t : T) → begins t ≡ true → CanGoOn spell Fits (t ∷ []))
-      → Format IsLow spell Fits goes read → Format IsLow (maybe_spell spell) (MaybeFits Fits) (maybe_goes begins goes) (maybe_at begins read)
-  maybe_format starts some fx = record { found = maybe_found fx; again = maybe_again starts fx; stuck = maybe_stuck fx; on = maybe_on some fx }
+      → Format IsLow (maybe_spell spell) (MaybeFits Fits) (maybe_goes begins goes) (maybe_at begins read)
+  maybe_format starts some = record { found = maybe_found; again = maybe_again starts; stuck = maybe_stuck; on = maybe_on some }
 
 -- ---- one of two kinds
 
-module _ {T X : Type 0} (IsLow : List T → List T → Type 0) (begins : T → Bool) (spell : X → List T) (F G : X → Type 0) (goes : X → T → Bool)
-    (read other : List T → Read T X) (f : Format IsLow spell F goes read) (g : Format IsLow spell G goes other) where
+module _ {T X : Type 0} {IsLow : List T → List T → Type 0} (begins : T → Bool) {spell : X → List T} {F G : X → Type 0} {goes : X → T → Bool}
+    {read other : List T → Read T X} (f : Format IsLow spell F goes read) (g : Format IsLow spell G goes other) where
   abbrev Either : X → Type 0
   Either x = F x ⊎ G x
 
@@ -154,5 +152,5 @@ module _ {T X : Type 0} (IsLow : List T → List T → Type 0) (begins : T → B
         let b = seconds x a in
         either_no (spell x ++ rest) b.first (b.others ++ rest) (ap (λ (u : List T). u ++ rest) b.is) b.test ∙ g.again x rest a ends
 
-    pub either_format : Format IsLow spell Either goes (either_at begins read other)
-    either_format = record { found = either_found; again = either_again; stuck = either_stuck; on = either_on }
+    pub either_of : Format IsLow spell Either goes (either_at begins read other)
+    either_of = record { found = either_found; again = either_again; stuck = either_stuck; on = either_on }

@@ -1,12 +1,11 @@
 -- Another view of what is read, the same reader in another form, and fixed bytes before and behind.
 use Rattle.std.proofs.Common.{◌≡◌, ℕ, Bool, false, List, [], ◌∷◌, ◌++◌, Ok, Err, refl, sym, ap, subst, ◌∙◌, inl, inr}
-use Rattle.df_format.specs.Reading.{Read, ◌>>=◌, then_at, as_at, text_at, behind_at, closed_at}
-use Rattle.df_format.specs.Spelling.{then_spell}
+use Rattle.df_format.specs.Reading.{Read, ◌>>=◌, as_at, text_at, behind_at, closed_at}
 use Rattle.df_format.specs.Grammar.{CanGoOn}
 use Rattle.df_format.specs.Format.{Ends, Found, Format}
 use Rattle.df_format.proofs.Laws.{ok_is, not_both, bind_ok, bind_err, never, ends_never, stuck_as}
-use Rattle.df_format.proofs.Thens.{then_format, ends_of_second, ThenFits, then_goes}
-use Rattle.df_format.proofs.Texts.{text_format, own, IsText}
+use Rattle.df_format.proofs.Thens.{then_format, ends_of_second}
+use Rattle.df_format.proofs.Texts.{text_format}
 
 -- ---- another view
 
@@ -18,8 +17,8 @@ pub record Views {T X Y : Type 0} (make : X → Y) (sx : X → List T) (FX : X �
   pub spelled : (x : X) → FX x → sy (make x) ≡ sx x
   pub alike : (x : X) (t : T) → FX x → gy (make x) t ≡ gx x t
 
-module _ {T X Y : Type 0} (IsLow : List T → List T → Type 0) (make : X → Y) (sx : X → List T) (FX : X → Type 0) (gx : X → T → Bool) (rx : List T → Read T X)
-    (sy : Y → List T) (FY : Y → Type 0) (gy : Y → T → Bool) (v : Views make sx FX gx sy FY gy) where
+module _ {T X Y : Type 0} {IsLow : List T → List T → Type 0} (make : X → Y) {sx : X → List T} {FX : X → Type 0} {gx : X → T → Bool} {rx : List T → Read T X}
+    {sy : Y → List T} {FY : Y → Type 0} {gy : Y → T → Bool} (fx : Format IsLow sx FX gx rx) (v : Views make sx FX gx sy FY gy) where
   ends_to : (x : X) (rest : List T) → FX x → Ends gx x rest → Ends gy (make x) rest
   ends_to x [] fits h = tt
   ends_to x (t ∷ rest) fits h = v.alike x t fits ∙ h
@@ -31,8 +30,8 @@ module _ {T X Y : Type 0} (IsLow : List T → List T → Type 0) (make : X → Y
   as_can : (front : List T) → CanGoOn sx FX front → CanGoOn sy FY front
   as_can front c = record { some = make c.some; fits = v.to c.some c.fits; more = c.more; is = v.spelled c.some c.fits ∙ c.is }
 
-  pub as_format : Format IsLow sx FX gx rx → Format IsLow sy FY gy (as_at make rx)
-  as_format fx = record {
+  pub viewed : Format IsLow sy FY gy (as_at make rx)
+  viewed = record {
     found = λ tokens y rest e.
         let a = bind_ok (rx tokens) (λ x. Ok (make x.0, x.1)) (y, rest) e in
         let f = fx.found tokens a.0.0 a.0.1 a.1 in
@@ -60,11 +59,11 @@ module _ {T X Y : Type 0} (IsLow : List T → List T → Type 0) (make : X → Y
 
 -- ---- the same reader in another form
 
-pub same_read : {T X : Type 0} (IsLow : List T → List T → Type 0) (spell : X → List T) (Fits : X → Type 0) (goes : X → T → Bool) (r s : List T → Read T X)
+pub same_read : {T X : Type 0} {IsLow : List T → List T → Type 0} {spell : X → List T} {Fits : X → Type 0} {goes : X → T → Bool} {r s : List T → Read T X}
     → ((tokens : List T) → r tokens ≡ s tokens) → Format IsLow spell Fits goes r → Format IsLow spell Fits goes s
-same_read IsLow spell Fits goes r s same f = record {
+same_read same f = record {
   found = λ tokens x rest e. f.found tokens x rest (same tokens ∙ e);
-  again = λ x rest fits ends. sym (same (spell x ++ rest)) ∙ f.again x rest fits ends;
+  again = λ x rest fits ends. sym (same _) ∙ f.again x rest fits ends;
   stuck = λ tokens stop e.
       let k = f.stuck tokens stop (same tokens ∙ e) in
       stuck_as k (λ front v. v) (λ t tail other is e. sym (same (k.front ++ t ∷ other)) ∙ e) (λ front rest low. low);
@@ -76,12 +75,10 @@ same_as (Ok x) = refl
 same_as (Err s) = refl
 
 -- the same things, spelled, fitting and going on alike
-pub alike_format : {T X : Type 0} (IsLow : List T → List T → Type 0) (s1 : X → List T) (F1 : X → Type 0) (g1 : X → T → Bool) (s2 : X → List T)
-    (F2 : X → Type 0) (g2 : X → T → Bool) (read : List T → Read T X) → Views (λ (x : X). x) s1 F1 g1 s2 F2 g2 → Format IsLow s1 F1 g1 read
+pub alike_format : {T X : Type 0} {IsLow : List T → List T → Type 0} {s1 : X → List T} {F1 : X → Type 0} {g1 : X → T → Bool} {s2 : X → List T}
+    {F2 : X → Type 0} {g2 : X → T → Bool} {read : List T → Read T X} → Views (λ (x : X). x) s1 F1 g1 s2 F2 g2 → Format IsLow s1 F1 g1 read
     → Format IsLow s2 F2 g2 read
-alike_format {T} {X} IsLow s1 F1 g1 s2 F2 g2 read v f =
-    same_read IsLow s2 F2 g2 (as_at (λ (x : X). x) read) read (λ tokens. same_as (read tokens))
-    (as_format IsLow (λ (x : X). x) s1 F1 g1 read s2 F2 g2 v f)
+alike_format {X = X} {read = read} v f = same_read (λ tokens. same_as (read tokens)) (viewed (λ (x : X). x) f v)
 
 -- ---- fixed bytes before and behind
 
@@ -95,22 +92,19 @@ second_of (Err s) read = refl
 second_of {X} (Ok h) read = only_second h.0 (read h.1)
 
 -- what is low behind these bytes is another thing
-pub behind_format : {X : Type 0} (IsLow Out : List ℕ → List ℕ → Type 0) (ws : List ℕ) → ((front rest : List ℕ) → IsLow front rest → Out (ws ++ front) rest)
-    → (spell : X → List ℕ) (Fits : X → Type 0) (goes : X → ℕ → Bool) (read : List ℕ → Read ℕ X) → (x0 : X) → Fits x0 → Format IsLow spell Fits goes read
+pub behind_format : {X : Type 0} {IsLow Out : List ℕ → List ℕ → Type 0} (ws : List ℕ) → ((front rest : List ℕ) → IsLow front rest → Out (ws ++ front) rest)
+    → {spell : X → List ℕ} {Fits : X → Type 0} {goes : X → ℕ → Bool} {read : List ℕ → Read ℕ X} → (x0 : X) → Fits x0 → Format IsLow spell Fits goes read
     → Format Out (λ x. ws ++ spell x) Fits goes (behind_at ws read)
-behind_format {X} IsLow Out ws low spell Fits goes read x0 fits0 f =
-    same_read Out (λ x. ws ++ spell x) Fits goes (as_at (λ (p : List ℕ × X). p.1) (then_at (text_at ws) read)) (behind_at ws read)
-    (λ bytes. second_of (text_at ws bytes) read)
-    (as_format Out (λ (p : List ℕ × X). p.1) (then_spell own spell) (ThenFits (IsText ws) Fits) (then_goes goes) (then_at (text_at ws) read)
-    (λ x. ws ++ spell x) Fits goes (record {
+behind_format {X} {Out = Out} ws low {spell = spell} {read = read} x0 fits0 f =
+    same_read (λ bytes. second_of (text_at ws bytes) read) (viewed (λ (p : List ℕ × X). p.1)
+    (then_format (λ front rest here. here) (λ w front rest is here. subst (λ (u : List ℕ). Out (u ++ front) rest) (sym is) (low front rest here))
+    (text_format Out ws) f x0 fits0 (ends_of_second f (λ x y rest fx fy ends. ends_never x (spell y ++ rest))))
+    (record {
       to = λ p fits. fits.1;
       from = λ x fits. ((ws, x), (refl, fits), refl);
       spelled = λ p fits. ap (λ (w : List ℕ). w ++ spell p.1) (sym fits.0);
       alike = λ p t fits. refl;
-    })
-    (then_format Out IsLow Out own (IsText ws) never (text_at ws) spell Fits goes read (then_goes goes) (λ front rest here. here)
-    (λ w front rest is here. subst (λ (u : List ℕ). Out (u ++ front) rest) (sym is) (low front rest here)) (text_format Out ws) f x0 fits0
-    (ends_of_second IsLow own (IsText ws) never spell Fits goes read f (λ x y rest fx fy ends. ends_never x (spell y ++ rest)))))
+    }))
 
 abbrev paired : {X Y : Type 0} → X → Y × List ℕ → Read ℕ (X × Y)
 paired x y = Ok ((x, y.0), y.1)
@@ -127,20 +121,17 @@ first_of : {X : Type 0} (r : Read ℕ X) (ws : List ℕ)
 first_of (Err s) ws = refl
 first_of (Ok x) ws = only_first x.0 (text_at ws x.1)
 
-pub closed_format : {X : Type 0} (IsLow : List ℕ → List ℕ → Type 0) (w : ℕ) (ws : List ℕ) (spell : X → List ℕ) (Fits : X → Type 0) (goes : X → ℕ → Bool)
-    (read : List ℕ → Read ℕ X) → ((x : X) → Fits x → goes x w ≡ false) → Format IsLow spell Fits goes read
+pub closed_format : {X : Type 0} {IsLow : List ℕ → List ℕ → Type 0} (w : ℕ) (ws : List ℕ) {spell : X → List ℕ} {Fits : X → Type 0} {goes : X → ℕ → Bool}
+    {read : List ℕ → Read ℕ X} → ((x : X) → Fits x → goes x w ≡ false) → Format IsLow spell Fits goes read
     → Format IsLow (λ x. spell x ++ w ∷ ws) Fits never (closed_at (w ∷ ws) read)
-closed_format {X} IsLow w ws spell Fits goes read ends_at f =
-    same_read IsLow (λ x. spell x ++ w ∷ ws) Fits never (as_at (λ (p : X × List ℕ). p.0) (then_at read (text_at (w ∷ ws)))) (closed_at (w ∷ ws) read)
-    (λ bytes. first_of (read bytes) (w ∷ ws))
-    (as_format IsLow (λ (p : X × List ℕ). p.0) (then_spell spell own) (ThenFits Fits (IsText (w ∷ ws))) (then_goes never) (then_at read (text_at (w ∷ ws)))
-    (λ x. spell x ++ w ∷ ws) Fits never (record {
+closed_format {X} w ws {spell = spell} {goes = goes} {read = read} ends_at f =
+    let text = text_format (λ front rest. ⊥) (w ∷ ws) in
+    same_read (λ bytes. first_of (read bytes) (w ∷ ws)) (viewed (λ (p : X × List ℕ). p.0)
+    (then_format (λ front rest low. low) (λ x front rest fits low. absurd low) f text (w ∷ ws) refl
+    (ends_of_second text (λ x y rest fx fy ends. subst (λ (t : List ℕ). Ends goes x (t ++ rest)) (sym fy) (ends_at x fx))))
+    (record {
       to = λ p fits. fits.0;
       from = λ x fits. ((x, w ∷ ws), (fits, refl), refl);
       spelled = λ p fits. ap (λ (u : List ℕ). spell p.0 ++ u) (sym fits.1);
       alike = λ p t fits. refl;
-    })
-    (then_format IsLow (λ front rest. ⊥) IsLow spell Fits goes read own (IsText (w ∷ ws)) never (text_at (w ∷ ws)) (then_goes never) (λ front rest low. low)
-    (λ x front rest fits low. absurd low) f (text_format (λ front rest. ⊥) (w ∷ ws)) (w ∷ ws) refl
-    (ends_of_second (λ front rest. ⊥) spell Fits goes own (IsText (w ∷ ws)) never (text_at (w ∷ ws)) (text_format (λ front rest. ⊥) (w ∷ ws))
-    (λ x y rest fx fy ends. subst (λ (t : List ℕ). Ends goes x (t ++ rest)) (sym fy) (ends_at x fx)))))
+    }))

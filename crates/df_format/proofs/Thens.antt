@@ -28,11 +28,8 @@ pub record EndsOfBoth {T X Y : Type 0} (sx : X → List T) (FX : X → Type 0) (
   pub apart : (x : X) (y : Y) (rest : List T) → FX x → FY y → Ends goes (x, y) rest → Ends gx x (sy y ++ rest) × Ends gy y rest
   pub on : (x : X) (y : Y) (t : T) → FX x → FY y → goes (x, y) t ≡ true → CanGoOn (then_spell sx sy) (ThenFits FX FY) ((sx x ++ sy y) ++ t ∷ [])
 
-module _ {T X Y : Type 0} (Near IsLow Out : List T → List T → Type 0) (sx : X → List T) (FX : X → Type 0) (gx : X → T → Bool) (rx : List T → Read T X)
-    (sy : Y → List T) (FY : Y → Type 0) (gy : Y → T → Bool) (ry : List T → Read T Y) (goes : X × Y → T → Bool) where
-  abbrev BothFound : List T → (X × Y) × List T → Type 0
-  BothFound tokens q = Found (then_spell sx sy) (ThenFits FX FY) goes tokens q.0 q.1
-
+module _ {T X Y : Type 0} {Near IsLow Out : List T → List T → Type 0} {sx : X → List T} {FX : X → Type 0} {gx : X → T → Bool} {rx : List T → Read T X}
+    {sy : Y → List T} {FY : Y → Type 0} {gy : Y → T → Bool} {ry : List T → Read T Y} {goes : X × Y → T → Bool} where
   pub then_format : ((front rest : List T) → Near front rest → Out front rest)
       → ((x : X) (front rest : List T) → FX x → IsLow front rest → Out (sx x ++ front) rest)
       → Format Near sx FX gx rx → Format IsLow sy FY gy ry → (y0 : Y) → FY y0 → EndsOfBoth sx FX gx sy FY gy goes
@@ -45,7 +42,7 @@ module _ {T X Y : Type 0} (Near IsLow Out : List T → List T → Type 0) (sx : 
         let f2 = fy.found a.0.1 b.0.0 b.0.1 b.1 in
         let made : (X × Y) × List T = ((a.0.0, b.0.0), b.0.1) in
         let first : Ends gx a.0.0 (sy b.0.0 ++ b.0.1) = subst (λ (u : List T). Ends gx a.0.0 u) f2.parts f1.ends in
-        subst (BothFound tokens) (ok_is made (p, rest) b.2) (record {
+        subst (λ (q : (X × Y) × List T). Found (then_spell sx sy) (ThenFits FX FY) goes tokens q.0 q.1) (ok_is made (p, rest) b.2) (record {
           parts = f1.parts ∙ ap (λ (t : List T). sx a.0.0 ++ t) f2.parts ∙ sym (append_assoc (sx a.0.0) (sy b.0.0) b.0.1);
           fits = (f1.fits, f2.fits);
           ends = both.joined a.0.0 b.0.0 b.0.1 f1.fits f2.fits first f2.ends;
@@ -77,8 +74,8 @@ module _ {T X Y : Type 0} (Near IsLow Out : List T → List T → Type 0) (sx : 
 abbrev pub then_goes : {T X Y : Type 0} → (Y → T → Bool) → X × Y → T → Bool
 then_goes gy p t = gy p.1 t
 
-module _ {T X Y : Type 0} (IsLow : List T → List T → Type 0) (sx : X → List T) (FX : X → Type 0) (gx : X → T → Bool) (sy : Y → List T) (FY : Y → Type 0)
-    (gy : Y → T → Bool) (ry : List T → Read T Y) (fy : Format IsLow sy FY gy ry)
+module _ {T X Y : Type 0} {IsLow : List T → List T → Type 0} {sx : X → List T} {FX : X → Type 0} {gx : X → T → Bool} {sy : Y → List T} {FY : Y → Type 0}
+    {gy : Y → T → Bool} {ry : List T → Read T Y} (fy : Format IsLow sy FY gy ry)
     (after : (x : X) (y : Y) (rest : List T) → FX x → FY y → Ends gy y rest → Ends gx x (sy y ++ rest)) where
   -- the first ends before the second wherever that ends
   pub ends_of_second : EndsOfBoth sx FX gx sy FY gy (then_goes gy)
@@ -90,11 +87,10 @@ module _ {T X Y : Type 0} (IsLow : List T → List T → Type 0) (sx : X → Lis
   }
 
 -- both have the same low places
-pub then_second_format : {T X Y : Type 0} (IsLow : List T → List T → Type 0) (moved : IsLocal IsLow) (sx : X → List T) (FX : X → Type 0) (gx : X → T → Bool)
-    (rx : List T → Read T X) (sy : Y → List T) (FY : Y → Type 0) (gy : Y → T → Bool) (ry : List T → Read T Y)
+pub then_second_format : {T X Y : Type 0} {IsLow : List T → List T → Type 0} (moved : IsLocal IsLow) {sx : X → List T} {FX : X → Type 0} {gx : X → T → Bool}
+    {rx : List T → Read T X} {sy : Y → List T} {FY : Y → Type 0} {gy : Y → T → Bool} {ry : List T → Read T Y}
     → Format IsLow sx FX gx rx → Format IsLow sy FY gy ry → (y0 : Y) → FY y0
     → ((x : X) (y : Y) (rest : List T) → FX x → FY y → Ends gy y rest → Ends gx x (sy y ++ rest))
     → Format IsLow (then_spell sx sy) (ThenFits FX FY) (then_goes gy) (then_at rx ry)
-then_second_format IsLow moved sx FX gx rx sy FY gy ry fx fy y0 fits0 after =
-    then_format IsLow IsLow IsLow sx FX gx rx sy FY gy ry (then_goes gy) (λ front rest low. low) (λ x front rest fits low. moved (sx x) front rest low) fx fy
-    y0 fits0 (ends_of_second IsLow sx FX gx sy FY gy ry fy after)
+then_second_format moved {sx = sx} fx fy y0 fits0 after =
+    then_format (λ front rest low. low) (λ x front rest fits low. moved (sx x) front rest low) fx fy y0 fits0 (ends_of_second fy after)

@@ -1,11 +1,10 @@
 -- Laws by kind of token. A reader that stops at no low place keeps its laws whatever is low.
-use Rattle.std.proofs.Common.{◌≡◌, ℕ, Bool, true, false, cond, List, [], ◌∷◌, ◌++◌, Option, Some, None, Ok, Err, refl, sym, ap, subst, ◌∙◌, ◌⊎◌, inl, inr}
-use Rattle.df_format.specs.Reading.{Stop, Bad, Read, ◌>>=◌, as_at, either_at, text_at, behind_at, closed_at, one_at}
+use Rattle.std.proofs.Common.{◌≡◌, ℕ, Bool, true, false, cond, List, [], ◌∷◌, ◌++◌, Option, Some, None, Ok, Err, refl, sym, ap, subst, ◌∙◌, inl, inr}
+use Rattle.df_format.specs.Reading.{Stop, Bad, Read, ◌>>=◌, as_at, text_at, behind_at, closed_at, one_at}
 use Rattle.df_format.specs.Grammar.{CanGoOn}
 use Rattle.df_format.specs.Format.{Ends, Found, Stuck, IsLocal, Format}
 use Rattle.df_format.proofs.Laws.{ok_is, err_is, not_both, bind_ok, bind_err, chosen, never, ends_never, can_behind, can_go_on, no_first, stuck_at, stuck_first, stuck_as, stuck_behind}
-use Rattle.df_format.proofs.Choices.{Begins, either_format}
-use Rattle.df_format.proofs.Joins.{Views, as_format, alike_format, same_read, behind_format, closed_format}
+use Rattle.df_format.proofs.Joins.{viewed, alike_format, same_read, behind_format, closed_format}
 use Rattle.df_format.proofs.Ones.{one_format}
 
 -- ---- no low place
@@ -37,11 +36,6 @@ any_low IsLow f = low_as (λ front rest low. absurd low) f
 abbrev pub Of : {X Y : Type 0} → (X → Y) → (X → Type 0) → Y → Type 0
 Of {X} make Fits y = (x : X) × Fits x × (make x ≡ y)
 
-pub viewed : {T X Y : Type 0} {IsLow : List T → List T → Type 0} {sx : X → List T} {FX : X → Type 0} {gx : X → T → Bool} {rx : List T → Read T X}
-    {sy : Y → List T} {FY : Y → Type 0} {gy : Y → T → Bool} (make : X → Y)
-    → Format IsLow sx FX gx rx → Views make sx FX gx sy FY gy → Format IsLow sy FY gy (as_at make rx)
-viewed {IsLow = IsLow} {sx = sx} {FX = FX} {gx = gx} {rx = rx} {sy = sy} {FY = FY} {gy = gy} make f v = as_format IsLow make sx FX gx rx sy FY gy v f
-
 -- of all that make makes
 pub made : {T X Y : Type 0} {IsLow : List T → List T → Type 0} {sx : X → List T} {FX : X → Type 0} {gx : X → T → Bool} {rx : List T → Read T X}
     {sy : Y → List T} {gy : Y → T → Bool} (make : X → Y)
@@ -54,20 +48,11 @@ pub told_as : {T X : Type 0} {IsLow : List T → List T → Type 0} {spell text 
     → Read T X}
     → ((x : X) → Fits x → text x ≡ spell x) → ((x : X) (t : T) → Fits x → on x t ≡ goes x t)
     → Format IsLow spell Fits goes read → Format IsLow text Fits on read
-told_as {IsLow = IsLow} {spell = spell} {text = text} {Fits = Fits} {goes = goes} {on = on} {read = read} spelled alike f =
-    alike_format IsLow spell Fits goes text Fits on read (record { to = λ x h. h; from = λ x h. (x, h, refl); spelled = spelled; alike = alike }) f
+told_as spelled alike f = alike_format (record { to = λ x h. h; from = λ x h. (x, h, refl); spelled = spelled; alike = alike }) f
 
 pub fitting : {T X : Type 0} {IsLow : List T → List T → Type 0} {spell : X → List T} {F G : X → Type 0} {goes : X → T → Bool} {read : List T → Read T X}
     → ((x : X) → F x → G x) → ((x : X) → G x → F x) → Format IsLow spell F goes read → Format IsLow spell G goes read
-fitting {IsLow = IsLow} {spell = spell} {F = F} {G = G} {goes = goes} {read = read} to from f =
-    alike_format IsLow spell F goes spell G goes read (record { to = to; from = λ x h. (x, from x h, refl); spelled = λ x h. refl; alike = λ x t h. refl }) f
-
-pub either_of : {T X : Type 0} {IsLow : List T → List T → Type 0} {spell : X → List T} {F G : X → Type 0} {goes : X → T → Bool} {read other : List T → Read T X}
-    (begins : T → Bool) → Format IsLow spell F goes read → Format IsLow spell G goes other
-    → ((x : X) → F x → Begins begins true (spell x)) → ((x : X) → G x → Begins begins false (spell x))
-    → Format IsLow spell (λ x. F x ⊎ G x) goes (either_at begins read other)
-either_of {IsLow = IsLow} {spell = spell} {F = F} {G = G} {goes = goes} {read = read} {other = other} begins f g firsts seconds =
-    either_format IsLow begins spell F G goes read other f g firsts seconds
+fitting to from f = alike_format (record { to = to; from = λ x h. (x, from x h, refl); spelled = λ x h. refl; alike = λ x t h. refl }) f
 
 -- ---- behind and between fixed bytes
 
@@ -85,17 +70,13 @@ pub led : {X Y : Type 0} {IsLow Out : List ℕ → List ℕ → Type 0} {sx : X 
     → (x : X) → FX x → Format IsLow sx FX gx rx
     → ((x : X) → FX x → sy (make x) ≡ ws ++ sx x) → ((x : X) (c : ℕ) → FX x → gy (make x) c ≡ gx x c)
     → Format Out sy (Of make FX) gy (behind_at ws (as_at make rx))
-led {IsLow = IsLow} {Out = Out} {sx = sx} {FX = FX} {gx = gx} {rx = rx} {sy = sy} {gy = gy} ws make low x fits f spelled alike =
-    same_read Out sy (Of make FX) gy (as_at make (behind_at ws rx)) (behind_at ws (as_at make rx)) (λ bytes. bind_made make (text_at ws bytes) rx)
-    (made make (behind_format IsLow Out ws low sx FX gx rx x fits f) spelled alike)
+led {rx = rx} ws make low x fits f spelled alike =
+    same_read (λ bytes. bind_made make (text_at ws bytes) rx) (made make (behind_format ws low x fits f) spelled alike)
 
 pub enclosed : {X : Type 0} {IsLow : List ℕ → List ℕ → Type 0} {spell text : X → List ℕ} {Fits : X → Type 0} {goes : X → ℕ → Bool} {read : List ℕ → Read ℕ X}
     → IsLocal IsLow → (ws : List ℕ) (w : ℕ) (x : X) → Fits x → ((x : X) → Fits x → goes x w ≡ false) → ((x : X) → Fits x → text x ≡ ws ++ (spell x ++ w ∷ []))
     → Format IsLow spell Fits goes read → Format IsLow text Fits never (behind_at ws (closed_at (w ∷ []) read))
-enclosed {IsLow = IsLow} {spell = spell} {Fits = Fits} {goes = goes} {read = read} moved ws w x fits apart spelled f =
-    told_as spelled (λ x c h. refl)
-    (behind_format IsLow IsLow ws (moved ws) (λ x. spell x ++ w ∷ []) Fits never (closed_at (w ∷ []) read) x fits
-    (closed_format IsLow w [] spell Fits goes read apart f))
+enclosed moved ws w x fits apart spelled f = told_as spelled (λ x c h. refl) (behind_format ws (moved ws) x fits (closed_format w [] apart f))
 
 -- ---- what its first byte decides
 
@@ -135,7 +116,7 @@ pub first_format : {X : Type 0} (spell : X → List ℕ) (Fits : X → Type 0) (
     → ((x : X) (left : List ℕ) → Fits x → Ends goes x left → first_at test rest (spell x ++ left) ≡ Ok (x, left))
     → ((x : X) (c : ℕ) → Fits x → goes x c ≡ true → CanGoOn spell Fits (spell x ++ c ∷ [])) → Format nowhere spell Fits goes read
 first_format spell Fits goes read test rest same found again on =
-    same_read nowhere spell Fits goes (first_at test rest) read same (record {
+    same_read same (record {
       found = first_found spell Fits goes test rest found;
       again = again;
       stuck = λ bytes stop e.

@@ -62,7 +62,7 @@ two_chain high low (a ∷ b ∷ cs) = by (low a b)
 pub two_format : {high : ℕ → Bool} {low : ℕ → ℕ → Bool} {Fits : ℕ → Type 0}
     → Links high (λ a. one_at (passing (low a))) hex_byte itself (λ a b. low a b ≡ true) hex Fits → Format nowhere hex Fits never (two_at high low)
 two_format {high} {low} {Fits} links =
-    same_read nowhere hex Fits never (chain_at high (λ a. one_at (passing (low a))) hex_byte) (two_at high low) (two_chain high low) (chain_format links)
+    same_read (two_chain high low) (chain_format links)
 
 pair_links : Links is_hex (λ a. one_at (passing is_hex)) hex_byte itself (λ a b. is_hex b ≡ true) hex IsByte
 pair_links = record {

@@ -1,5 +1,5 @@
 -- Items in front of a closing byte, how deep values nest, and entries, read as they are spelled.
-use Rattle.df_value_text.proofs.Names.{◌≡◌, ℕ, Bool, true, false, eqb, List, [], ◌∷◌, ◌++◌, refl, sym, ap, subst, ◌∙◌, ◌⊎◌, inl, inr, eq-eqb, Read, as_at, more_spell, items_spell, Format, never, closed_format, Begins, Follow, ItemsFit, IsText, text_format, Of, made, fitting, either_of, joined, listed, none_listed, ended_at, suc, ◌≤◌, max, arith, is_lt, name_cmp, Plain, Plains, Pairs, items, entries, no_items, item, no_entries, entry, from_list, from_pairs, node_count, items_node_count, entries_node_count, IsSpelled, AreSpelled, AreEntries, AreBehind, Ok, append_assoc, ℤ, pos, negsuc, eqb-true, and_parts, nat_tests, ◌>>=◌, items_at, ok_is, bind_ok, then_at, in_map, low_as, nowhere, append-nil, flat_map, then_goes, Parts, Leads, items_goes, items_format, format_shrinks, behind_format, own, Less, int, greatest, leads_entry, higher_at, given_at, entry_at, next_entry_at, value_text, entry_text, last_of, last_split, LowWithin, MayFollow, IsOpen, Open, open_text, entries_led, then_format, ends_of_second}
+use Rattle.df_value_text.proofs.Names.{◌≡◌, ℕ, Bool, true, false, eqb, List, [], ◌∷◌, ◌++◌, refl, sym, ap, subst, ◌∙◌, ◌⊎◌, inl, inr, eq-eqb, Read, more_spell, items_spell, Format, never, closed_format, Begins, Follow, ItemsFit, IsText, text_format, Of, made, fitting, either_of, joined, listed, none_listed, ended_at, suc, ◌≤◌, max, arith, is_lt, name_cmp, Plain, Plains, Pairs, items, entries, no_items, item, no_entries, entry, from_list, from_pairs, node_count, items_node_count, entries_node_count, IsSpelled, AreSpelled, AreEntries, AreBehind, Ok, append_assoc, ℤ, pos, negsuc, eqb-true, and_parts, nat_tests, ◌>>=◌, items_at, ok_is, bind_ok, then_at, in_map, low_as, nowhere, append-nil, flat_map, Parts, Leads, items_goes, items_format, format_shrinks, behind_format, own, Less, int, greatest, leads_entry, higher_at, given_at, entry_at, next_entry_at, value_text, entry_text, last_of, last_split, LowWithin, MayFollow, IsOpen, Open, open_text, entries_led, then_format, ends_of_second}
 use Rattle.df_value_text.proofs.PathLaws.{joined_items}
 use Rattle.df_value_text.proofs.NameLaws.{IsName, name_goes, name_format, AfterName, is_less, NearName, higher_format, greatest_fits, below_greatest}
 use Rattle.df_value_text.proofs.WholeLaws.{whole_goes}
@@ -52,8 +52,7 @@ module _ {X : Type 0} (spell : X → List ℕ) (Fits : X → Type 0) (After : X 
       → Format IsLow (ended_text last spell) (Chain Fits After) never (ended_at last read)
   ended_format {IsLow} {goes} {read} ends f =
       fitting chain_of of_chain (either_of (λ c. eqb c last) (made none_listed (text_format IsLow (last ∷ [])) (λ w h. sym h) (λ w c h. refl))
-      (closed_format IsLow last [] (λ xs. joined 44 spell xs) (IsSome Fits After) (goes_on goes) (as_at listed read)
-      (λ xs h. subst (λ (ys : List X). goes_on goes ys last ≡ false) h.2 (ends h.0 h.1)) (made listed f (λ x h. joined_items 44 spell x.0 x.1) (λ x c h. refl)))
+      (closed_format last [] {goes = goes_on goes} (λ xs h. subst (λ (ys : List X). goes_on goes ys last ≡ false) h.2 (ends h.0 h.1)) (made listed f (λ x h. joined_items 44 spell x.0 x.1) (λ x c h. refl)))
       none_begins some_begins)
 
 -- ---- how deep lists and maps nest
@@ -271,18 +270,14 @@ module _ (n : ℕ) (inner : List ℕ → Read ℕ Plain) (f : Format LowWithin v
   LowGiven front rest = (inner : List ℕ) × (front ≡ 61 ∷ inner) × LowWithin inner rest
 
   given_format : Format LowGiven given_text (LevelFits n) value_goes (given_at inner)
-  given_format = behind_format LowWithin LowGiven (61 ∷ []) (λ front rest low. (front, refl, low)) value_text (LevelFits n) value_goes inner (int (pos 0))
-      (omega arith, omega arith) f
+  given_format = behind_format (61 ∷ []) (λ front rest low. (front, refl, low)) (int (pos 0)) (omega arith, omega arith) f
 
   -- an entry whose name is read so
   named_format : {F : List ℕ → Type 0} {name : List ℕ → Read ℕ (List ℕ)} (Near : List ℕ → List ℕ → Type 0) → Format Near own F name_goes name
       → Format (λ front rest. Near front rest ⊎ LowEntry F front rest) entry_text (λ e. F e.0 × LevelFits n e.1) entry_goes (then_at name (given_at inner))
   named_format {F} {name} Near fx =
-      then_format Near LowGiven (λ front rest. Near front rest ⊎ LowEntry F front rest) own F name_goes name given_text (LevelFits n) value_goes
-      (given_at inner) (then_goes value_goes) (λ front rest low. inl low)
-      (λ x front rest fits low. inr (x, low.0, fits, ap (λ (u : List ℕ). x ++ u) low.1, low.2)) fx given_format (int (pos 0)) (omega arith, omega arith)
-      (ends_of_second LowGiven own F name_goes given_text (LevelFits n) value_goes (given_at inner) given_format
-      (λ x p rest fits fits_p ends. name_apart x))
+      then_format (λ front rest low. inl low) (λ x front rest fits low. inr (x, low.0, fits, ap (λ (u : List ℕ). x ++ u) low.1, low.2)) fx given_format
+      (int (pos 0)) (omega arith, omega arith) (ends_of_second given_format (λ x p rest fits fits_p ends. name_apart x))
 
   pub entry_format : Format LowInMap entry_text (LevelEntry n) entry_goes (entry_at inner)
   entry_format = low_as first (named_format nowhere (name_format nowhere))

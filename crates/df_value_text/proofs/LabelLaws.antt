@@ -1,5 +1,5 @@
 -- Labels and privileges are read as they are spelled.
-use Rattle.df_value_text.proofs.Names.{◌≡◌, ℕ, Bool, true, false, eqb, List, [], ◌∷◌, ◌++◌, Option, Some, None, refl, sym, ap, subst, append_assoc, arith, ◌⊎◌, inl, inr, is_ascii_digit, eqb-true, nat_tests, then_at, text_at, closed_at, maybe_spell, CanGoOn, Ends, Format, never, ends_never, then_second_format, then_goes, text_format, own, IsText, closed_format, Begins, MaybeFits, maybe_goes, maybe_format, last_goes, Of, led, viewed, fitting, either_of, Privilege, Right, Plus, Minus, PlusAuth, MinusAuth, tag_text, tags_text, label_text, privilege_text, IsTag, AreTags, IsTagSet, IsLabel, IsPrivilege, IsLowTag, tag_at, tags_at, leads_tag, label_at, auth_at, plus_of, right_at, privilege_at, then_spell, ThenFits, right_text, label_of, minus_of, privilege_of}
+use Rattle.df_value_text.proofs.Names.{◌≡◌, ℕ, Bool, true, false, eqb, List, [], ◌∷◌, ◌++◌, Option, Some, None, refl, sym, ap, subst, append_assoc, arith, ◌⊎◌, inl, inr, is_ascii_digit, eqb-true, nat_tests, then_at, closed_at, maybe_spell, CanGoOn, Ends, Format, never, ends_never, then_second_format, then_goes, text_format, own, IsText, closed_format, Begins, MaybeFits, maybe_goes, maybe_format, last_goes, Of, led, viewed, fitting, either_of, Privilege, Right, Plus, Minus, PlusAuth, MinusAuth, tags_text, label_text, privilege_text, IsTag, AreTags, IsTagSet, IsLabel, IsPrivilege, IsLowTag, tags_at, leads_tag, label_at, auth_at, plus_of, right_at, privilege_at, then_spell, ThenFits, right_text, label_of, minus_of, privilege_of}
 use Rattle.df_value_text.proofs.TagLaws.{nowhere, nowhere_is_local, tag_goes, tag_format}
 use Rattle.df_value_text.proofs.TagSetLaws.{tags_goes, tags_format, low_is_local}
 
@@ -31,11 +31,9 @@ sets_text sets = then_spell (λ tags. tags_text tags ++ 124 ∷ []) (λ tags. ta
 
 sets_format : Format IsLowTag sets_text SetsFit (then_goes never) (then_at (closed_at (124 ∷ []) tags_at) (closed_at (125 ∷ []) tags_at))
 sets_format =
-    then_second_format IsLowTag low_is_local (λ tags. tags_text tags ++ 124 ∷ []) IsTagSet never (closed_at (124 ∷ []) tags_at)
-    (λ tags. tags_text tags ++ 125 ∷ []) IsTagSet never (closed_at (125 ∷ []) tags_at)
-    (closed_format IsLowTag 124 [] tags_text IsTagSet tags_goes tags_at (λ tags fits. tags_end_at tags 124 fits refl refl refl refl) tags_format)
-    (closed_format IsLowTag 125 [] tags_text IsTagSet tags_goes tags_at (λ tags fits. tags_end_at tags 125 fits refl refl refl refl) tags_format)
-    [] (tt, tt) (λ x y rest fx fy ends. ends_never x ((tags_text y ++ 125 ∷ []) ++ rest))
+    then_second_format low_is_local (closed_format 124 [] (λ tags fits. tags_end_at tags 124 fits refl refl refl refl) tags_format)
+    (closed_format 125 [] (λ tags fits. tags_end_at tags 125 fits refl refl refl refl) tags_format) [] (tt, tt)
+    (λ x y rest fx fy ends. ends_never x ((tags_text y ++ 125 ∷ []) ++ rest))
 
 pub label_format : Format IsLowTag label_text IsLabel never label_at
 label_format =
@@ -58,8 +56,7 @@ auth_can c h = record { some = auth; fits = refl; more = 117 ∷ 116 ∷ 104 ∷
 
 auth_format : Format nowhere (maybe_spell own) IsAuth (maybe_goes begins_auth never) auth_at
 auth_format =
-    maybe_format nowhere begins_auth own (IsText auth) never (text_at auth)
-    (λ x fits. record { first = 97; others = 117 ∷ 116 ∷ 104 ∷ []; is = fits; test = refl }) auth_can (text_format nowhere auth)
+    maybe_format begins_auth (text_format nowhere auth) (λ x fits. record { first = 97; others = 117 ∷ 116 ∷ 104 ∷ []; is = fits; test = refl }) auth_can
 
 abbrev pub right_goes : Right → ℕ → Bool
 right_goes Plus c = begins_auth c
@@ -125,6 +122,5 @@ privilege_goes p c = right_goes p.right c
 
 pub privilege_format : Format nowhere privilege_text IsPrivilege privilege_goes privilege_at
 privilege_format =
-    viewed privilege_of (then_second_format nowhere nowhere_is_local tag_text IsTag tag_goes tag_at right_text IsRight right_goes right_at
-    (tag_format nowhere nowhere_is_local) right_format Plus tt (λ tag r rest fits any ends. before_sign tag r rest fits))
+    viewed privilege_of (then_second_format nowhere_is_local (tag_format nowhere nowhere_is_local) right_format Plus tt (λ tag r rest fits any ends. before_sign tag r rest fits))
     (record { to = λ x fits. fits.0; from = λ p fits. ((p.tag, p.right), (fits, tt), refl); spelled = λ x fits. refl; alike = λ x c fits. refl })

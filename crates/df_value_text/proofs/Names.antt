@@ -1,14 +1,14 @@
 -- The names that most proofs here cite, passed on from one place. Declares nothing.
-pub use Rattle.df_format.proofs.Choices.{Begins, MaybeFits, maybe_format, maybe_goes}
+pub use Rattle.df_format.proofs.Choices.{Begins, MaybeFits, either_of, maybe_format, maybe_goes}
 pub use Rattle.df_format.proofs.ItemSteps.{Shrinks, format_shrinks, item_failed, item_read, more_step, no_more, onto, regroup}
 pub use Rattle.df_format.proofs.Items.{Follow, ItemsFit, LastEnds, Leads, Parts, items_again, items_format, items_found, items_goes, last_behind, last_goes, last_of, last_split}
-pub use Rattle.df_format.proofs.Joins.{as_format, behind_format, closed_format, same_read}
+pub use Rattle.df_format.proofs.Joins.{behind_format, closed_format, same_read, viewed}
 pub use Rattle.df_format.proofs.Laws.{stuck_at, both_false, bind_err, bind_ok, can_go_on, chosen, ends_never, err_is, first_bad, is_read, never, no_longer, not_both, ok_is, stands, told, viable_map, viable_of}
 pub use Rattle.df_format.proofs.Longest.{Whole, goes_on, is_longest, longest_read, same_split, whole_format}
 pub use Rattle.df_format.proofs.Several.{Each, all_none, all_step, all_stop, each_format, each_several}
 pub use Rattle.df_format.proofs.Texts.{IsText, own, text_format, text_found}
 pub use Rattle.df_format.proofs.Thens.{ThenFits, ends_of_second, then_format, then_goes, then_second_format}
-pub use Rattle.df_format.proofs.Tokens.{Links, Of, any_low, chain_at, chain_format, either_of, enclosed, first_at, first_format, first_stays, first_stops, fitting, itself, led, low_as, made, nowhere, nowhere_is_local, passing, passing_format, told_as, viewed}
+pub use Rattle.df_format.proofs.Tokens.{Links, Of, any_low, chain_at, chain_format, enclosed, first_at, first_format, first_stays, first_stops, fitting, itself, led, low_as, made, nowhere, nowhere_is_local, passing, passing_format, told_as}
 pub use Rattle.df_format.specs.Format.{Ends, Format, Found, IsLocal, IsViable, Stuck}
 pub use Rattle.df_format.specs.Grammar.{CanGoOn, FirstBad, IsLongest, Stands}
 pub use Rattle.df_format.specs.Reading.{Bad, Low, Read, Stop, all_at, as_at, behind_at, closed_at, decoded, either_at, items_at, maybe_at, more_at, more_of, one_at, starts, text_at, then_at, with_front, ◌>>=◌}

@@ -1,5 +1,5 @@
 -- Sets of tags are read as they are spelled.
-use Rattle.df_value_text.proofs.Names.{viewed, ◌≡◌, ℕ, Bool, true, false, eqb, List, [], ◌∷◌, ◌++◌, Option, Some, None, refl, sym, ap, ◌∙◌, append_assoc, length-append, length, arith, decimal, nat_list_cmp_total, is_lt, eqb-true, nat_tests, items_at, more_spell, items_spell, maybe_spell, CanGoOn, IsLocal, Format, Follow, Parts, ItemsFit, Leads, last_goes, items_goes, items_format, Shrinks, MaybeFits, maybe_goes, maybe_format, tag_cmp, path_text, tag_text, tags_text, IsTag, AreTags, IsTagSet, StandsLow, IsLowTag, tag_at, next_at, leads_tag, optional, tags_at, last_behind, last_of, IsAscending}
+use Rattle.df_value_text.proofs.Names.{viewed, ◌≡◌, ℕ, Bool, true, false, eqb, List, [], ◌∷◌, ◌++◌, Option, Some, None, refl, sym, ap, ◌∙◌, append_assoc, length-append, length, arith, decimal, nat_list_cmp_total, is_lt, eqb-true, nat_tests, more_spell, items_spell, maybe_spell, CanGoOn, IsLocal, Format, Follow, Parts, ItemsFit, Leads, last_goes, items_goes, items_format, Shrinks, MaybeFits, maybe_goes, maybe_format, tag_cmp, path_text, tag_text, tags_text, IsTag, AreTags, IsTagSet, StandsLow, IsLowTag, tag_at, next_at, leads_tag, optional, tags_at, last_behind, last_of, IsAscending}
 use Rattle.df_label.proofs.SetFacts.{below_trans}
 use Rattle.df_label.proofs.TagSetFacts.{tag_cmp_exact}
 use Rattle.df_value_text.proofs.NameLaws.{is_less}
@@ -124,7 +124,6 @@ tags_some c h = record {
 
 pub tags_format : Format IsLowTag tags_text IsTagSet tags_goes tags_at
 tags_format =
-    viewed optional (maybe_format IsLowTag begins_tag (items_spell 44 tag_text) (ItemsFit IsTag AfterTag) (items_goes leads_tag tag_goes)
-    (items_at leads_tag tag_at next_at) (λ x fits. record { first = 35; others = path_text x.0 ++ more_spell 44 tag_text x.1; is = refl; test = refl })
-    tags_some (items_format tags_parts tags_lead tag_at (tag_format IsLowTag low_is_local)))
+    viewed optional (maybe_format begins_tag (items_format tags_parts tags_lead tag_at (tag_format IsLowTag low_is_local))
+    (λ x fits. record { first = 35; others = path_text x.0 ++ more_spell 44 tag_text x.1; is = refl; test = refl }) tags_some)
     (record { to = tags_to; from = tags_from; spelled = tags_spelled; alike = tags_alike })

@@ -24,7 +24,7 @@ led_format : (test : ℕ → Bool) (Fits : ℕ → List ℕ → Type 0) (next : 
     → ((b : ℕ) → test b ≡ true → Format nowhere own (Fits b) never (next b))
     → ((b : ℕ) → test b ≡ true → (x : List ℕ) × Fits b x) → Format nowhere own (LedFits test Fits) never (led_at test next)
 led_format test Fits next formats some =
-    same_read nowhere own (LedFits test Fits) never (chain_at test next put) (led_at test next) (led_chain test next) (chain_format links)
+    same_read (led_chain test next) (chain_format links)
   where
     links : Links test next put own Fits own (LedFits test Fits)
     links = record { item = formats; some = some; to = λ b bs h fits. (h, fits); from = led_from test Fits; spelled = λ b bs h fits. refl }

@@ -98,7 +98,7 @@ pub ascii_format : Format nowhere escaped (λ c. IsEscaped c ⊎ IsPlain c) neve
 ascii_format =
     either_of (λ c. eqb c 92)
     (told_as escaped_is (λ c t h. refl)
-    (behind_format nowhere nowhere (92 ∷ []) (nowhere_is_local (92 ∷ [])) behind_slash IsEscaped never escape_at 34 (inl refl) escape_format))
+    (behind_format (92 ∷ []) (nowhere_is_local (92 ∷ [])) 34 (inl refl) escape_format))
     (told_as plain_is (λ c t h. refl) (passing_format is_plain)) (λ c h. record { first = 92; others = behind_slash c; is = escaped_is c h; test = refl })
     (λ c h. record { first = c; others = []; is = plain_is c h; test = plain_other c h })
 
