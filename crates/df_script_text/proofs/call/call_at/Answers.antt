@@ -6,15 +6,12 @@ pub between-words-requires-clause-order : goal.between-words-requires-clause-ord
 between-words-requires-clause-order c =
     let line : ScriptLine = record { actor = c.in-Ok.actor; call = c.in-Ok-read_call_at.call } in
     let told = c.in-Ok-read_call_at.ensures in
-    let bytes = c.args.bytes.now in
-    call_onward bytes c.args.at c.in-Ok.behind c.in-Ok-read_call_at.end line c.requires told.0
-    (unit_stands bytes c.args.at c.in-Ok.behind c.in-Ok.actor c.in-Ok.ensures.1) (told.2, told.1)
+    call_onward c.args.bytes.now _ c.in-Ok.behind _ line c.requires told.0
+    (unit_stands c.args.bytes.now c.args.at c.in-Ok.behind _ c.in-Ok.ensures.1) (told.2, told.1)
 
 pub returns : goal.returns
 returns c =
     let line : ScriptLine = record { actor = c.in-Ok.actor; call = c.in-Ok-read_call_at.call } in
     let told = c.in-Ok-read_call_at.ensures in
-    let bytes = c.args.bytes.now in
-    rw c.between-words.ensures
-    (call_found bytes c.args.at c.in-Ok.behind c.in-Ok-read_call_at.end line c.requires told.0
-    (unit_stands bytes c.args.at c.in-Ok.behind c.in-Ok.actor c.in-Ok.ensures.1) (told.2, told.1))
+    rw c.between-words.ensures (call_found c.args.bytes.now _ c.in-Ok.behind _ line c.requires told.0
+    (unit_stands c.args.bytes.now c.args.at c.in-Ok.behind _ c.in-Ok.ensures.1) (told.2, told.1))

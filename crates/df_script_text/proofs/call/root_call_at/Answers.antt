@@ -5,16 +5,13 @@ use Rattle.df_script_text.proofs.call.root_call_at.Goals as goal
 pub between-words-requires-clause-order : goal.between-words-requires-clause-order
 between-words-requires-clause-order c =
     let told = c.in-Ok-read_call_at.ensures in
-    let bytes = c.args.bytes.now in
     let line = root_call c.in-Ok.root c.in-Ok-read_call_at.call in
-    call_onward bytes c.args.at c.in-Ok.behind c.in-Ok-read_call_at.end line c.requires told.0
-    (root_stands bytes c.args.at c.in-Ok.behind c.in-Ok.root c.in-Ok.ensures.exact.1) (told.2, told.1)
+    call_onward c.args.bytes.now _ c.in-Ok.behind _ line c.requires told.0
+    (root_stands c.args.bytes.now c.args.at c.in-Ok.behind _ c.in-Ok.ensures.exact.1) (told.2, told.1)
 
 pub returns : goal.returns
 returns c =
     let told = c.in-Ok-read_call_at.ensures in
-    let bytes = c.args.bytes.now in
     let line = root_call c.in-Ok.root c.in-Ok-read_call_at.call in
-    rw c.between-words.ensures
-    (call_found bytes c.args.at c.in-Ok.behind c.in-Ok-read_call_at.end line c.requires told.0
-    (root_stands bytes c.args.at c.in-Ok.behind c.in-Ok.root c.in-Ok.ensures.exact.1) (told.2, told.1))
+    rw c.between-words.ensures (call_found c.args.bytes.now _ c.in-Ok.behind _ line c.requires told.0
+    (root_stands c.args.bytes.now c.args.at c.in-Ok.behind _ c.in-Ok.ensures.exact.1) (told.2, told.1))

@@ -8,24 +8,20 @@ use Rattle.df_script_text.proofs.line.read_line.Goals as goal
 
 pub returns-in_err-actor : goal.returns-in_err-actor
 returns-in_err-actor c =
-    let p = err_from_is_err_and c.from_residual.result c.from_residual.ensures.1 in
-    rw (p.1, p.2) (front_failed made c.args.line.now made_parts c.in_err-actor.field-0.0 c.in_err-actor.ensures)
+    let p = err_from_is_err_and c.from_residual.result c.from_residual.ensures.1 in rw (p.1, p.2) (front_failed made _ made_parts _ c.in_err-actor.ensures)
 
 pub returns-in_err-call : goal.returns-in_err-call
 returns-in_err-call c =
     let p = err_from_is_err_and c.from_residual-in_err-call.result c.from_residual-in_err-call.ensures.1 in
-    rw (p.1, p.2) (middle_failed made c.args.line.now made_parts c.in_ok-actor.actor c.in_ok-actor.behind c.in_ok-actor.ensures.1 c.in_err-call.field-0.0
-    c.in_err-call.ensures)
+    rw (p.1, p.2) (middle_failed made _ made_parts _ _ c.in_ok-actor.ensures.1 _ c.in_err-call.ensures)
 
 pub returns-then-end-line : goal.returns-then-end-line
 returns-then-end-line c =
-    tail_failed made c.args.line.now made_parts c.in_ok-actor.actor c.in_ok-actor.behind c.in_ok-actor.ensures.1 c.in_ok-call.call c.in_ok-call.end
-    c.in_ok-call.ensures
-    (Ok (tt, c.in_ok-call.end)) (c.in_ok-call.ensures.0, refl) fault.Syntax (refl, c.if-end-line.true)
+    tail_failed made _ made_parts _ _ c.in_ok-actor.ensures.1 _ _ c.in_ok-call.ensures (Ok (tt, c.in_ok-call.end)) (c.in_ok-call.ensures.0, refl) fault.Syntax
+    (refl, c.if-end-line.true)
 
 pub returns : goal.returns
 returns c =
-    let t = tail_read made c.args.line.now made_parts c.in_ok-actor.actor c.in_ok-actor.behind c.in_ok-actor.ensures.1 c.in_ok-call.call c.in_ok-call.end
-    c.in_ok-call.ensures
+    let t = tail_read made _ made_parts _ _ c.in_ok-actor.ensures.1 _ _ c.in_ok-call.ensures
     (Ok (tt, c.in_ok-call.end)) (c.in_ok-call.ensures.0, refl) tt (refl, c.if-end-line.false) in
     ((t.0.0, t.0.1), ap ended t.1 ∙ sym (made_line (record { actor = c.in_ok-actor.actor; call = c.in_ok-call.call })))

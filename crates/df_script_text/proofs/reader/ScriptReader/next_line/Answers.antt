@@ -1,11 +1,11 @@
 use Rattle.std.proofs.Common.{subst, sym}
 use Rattle.df_lines.specs.Refused.{NamesBadLine}
-use Rattle.df_lines.specs.declared.fault.FileFault.{FileFault}
 use Rattle.df_journal_text.proofs.Frames.{unended}
 use Rattle.df_script_text.specs.Reader.{HasRead, ReaderState}
 use Rattle.df_script_text.specs.Script.{IsScriptText}
 use Rattle.df_script_text.specs.TooLarge.{IsTooLargeIn}
 use Rattle.df_script_text.specs.code.Lines.{call_line}
+use Rattle.df_lines.specs.declared.fault.FileFault.{FileFault}
 use Rattle.df_script_text.specs.code.Stops.{StopsCall}
 use Rattle.df_script_text.proofs.Stops.{call_read, calls_refused, line_unread}
 use Rattle.df_script_text.proofs.reader.ScriptReader.next_line.Goals as goal
@@ -13,28 +13,21 @@ use Rattle.df_script_text.proofs.reader.ScriptReader.next_line.Goals as goal
 pub returns-in-Ok-clause-next : goal.returns-in-Ok-clause-next
 returns-in-Ok-clause-next c = λ roots lines h.
     let found = rw c.in-Ok-Some.field-0-is at c.in-Ok-Some.ensures.read in
-    let read = subst (HasRead roots lines) (sym c.self.view_is) h in
-    call_read c.self.inside.bytes.now roots lines c.in-Ok.line c.self.inside.place
-    c.in-Ok-Some.line.0.now c.in-Ok-Some.line.1 read found c.in-Ok.ensures
+    call_read _ _ _ _ _ _ _ (subst (HasRead roots lines) (sym c.self.view_is) h) found c.in-Ok.ensures
 
 pub returns-in-Ok-clause-words : goal.returns-in-Ok-clause-words
 returns-in-Ok-clause-words c = unended c.in-Ok-Some.line.0.now (call_line c.in-Ok.line) c.in-Ok.ensures.1
 
 pub returns-in-Err-clause-refused : goal.returns-in-Err-clause-refused
 returns-in-Err-clause-refused c = λ roots lines h.
-    let read = subst (HasRead roots lines) (sym c.self.view_is) h in
     subst (λ (v : ReaderState). NamesBadLine IsScriptText IsTooLargeIn v.bytes c.file_refused.result) c.self.view_is
-    (calls_refused c.self.inside.bytes.now roots lines c.self.inside.place c.in-Err.fault
-    c.file_refused.result c.file_refused.ensures read c.in-Err.ensures.stops)
+    (calls_refused _ _ _ _ _ _ c.file_refused.ensures (subst (HasRead roots lines) (sym c.self.view_is) h) c.in-Err.ensures.stops)
 
 pub returns-in-Err-read_line-clause-refused : goal.returns-in-Err-read_line-clause-refused
 returns-in-Err-read_line-clause-refused c = λ roots lines h.
-    let bytes = c.self.inside.bytes.now in
-    let place = c.self.inside.place in
-    let refused = c.file_refused-in-Err-read_line.result in
     let found = rw c.in-Ok-Some.field-0-is at c.in-Ok-Some.ensures.read in
-    let stops = subst (λ (f : FileFault). StopsCall bytes place f) (sym c.fault_of.ensures)
-    (line_unread bytes place c.in-Ok-Some.line.0.now c.in-Ok-Some.line.1 found c.in-Err-read_line.fault c.in-Err-read_line.ensures) in
-    let read = subst (HasRead roots lines) (sym c.self.view_is) h in
-    subst (λ (v : ReaderState). NamesBadLine IsScriptText IsTooLargeIn v.bytes refused) c.self.view_is
-    (calls_refused bytes roots lines place c.fault_of.result refused c.file_refused-in-Err-read_line.ensures read stops)
+    let stops = subst (λ (f : FileFault). StopsCall c.self.inside.bytes.now c.self.inside.place f) (sym c.fault_of.ensures)
+    (line_unread _ _ _ _ found _ c.in-Err-read_line.ensures) in
+    let refused = c.file_refused-in-Err-read_line in
+    subst (λ (v : ReaderState). NamesBadLine IsScriptText IsTooLargeIn v.bytes refused.result) c.self.view_is
+    (calls_refused _ _ _ _ c.fault_of.result _ refused.ensures (subst (HasRead roots lines) (sym c.self.view_is) h) stops)

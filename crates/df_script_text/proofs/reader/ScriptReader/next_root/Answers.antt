@@ -5,6 +5,4 @@ use Rattle.df_script_text.proofs.reader.ScriptReader.next_root.Goals as goal
 
 pub returns-clause-next : goal.returns-clause-next
 returns-clause-next c = λ roots lines h.
-    let line = c.in_ok-line.line in
-    let read = subst (HasRead roots lines) (sym c.self.view_is) h in
-    root_read c.self.inside.bytes.now roots lines c.self.inside.place line.root c.in_ok-line.next line.call line.words.now read c.in_ok-line.ensures
+    root_read _ _ _ _ _ _ _ _ (subst (HasRead roots lines) (sym c.self.view_is) h) c.in_ok-line.ensures
