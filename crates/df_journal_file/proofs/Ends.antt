@@ -1,7 +1,7 @@
 -- Where the entries of a journal end.
 use Rattle.df_journal_file.proofs.Names.{◌≡◌, ℕ, ◌≤◌, List, ◌∷◌, ◌++◌, length, length-append, drop, codes, refl, sym, ap, subst, ◌∙◌, arith, append-nil, inl, inr, drop_all, IsLine, EndsFile}
 use Rattle.std.proofs.Common.{length-drop}
-use Rattle.df_journal_file.proofs.Feeds.{spoken}
+use Rattle.df_script_text.proofs.Splits.{Avoids-text}
 use Rattle.df_journal_file.proofs.Fronts.{SameFirst, not_open, same_line}
 
 -- the line that stands there tells whether it is one
@@ -10,7 +10,7 @@ line_ends t line rest is e = (λ same. inr (rest, e ∙ ap (λ (l : List ℕ). l
   where
     cut : EndsFile t → line ≡ codes "---"
     cut (inl none) = absurd (let n = length-append line (10 ∷ rest) in omega (arith, n, ap length (sym e ∙ none)))
-    cut (inr more) = same_line line (codes "---") rest more.0 is (spoken (codes "---") refl) (sym e ∙ more.1)
+    cut (inr more) = same_line line (codes "---") rest more.0 is (Avoids-text (codes "---") refl) (sym e ∙ more.1)
 
 -- where there is no line feed, it is one where no byte is left
 pub open_ends : (bytes : List ℕ) (place : ℕ) → place ≤ length bytes → IsLine (drop place bytes)
@@ -19,7 +19,7 @@ open_ends bytes place inside line = (λ all. inl (drop_all place bytes (omega (a
   where
     cut : EndsFile (drop place bytes) → place ≡ length bytes
     cut (inl none) = omega (arith, inside, ap length none, length-drop place bytes)
-    cut (inr more) = absurd (not_open (drop place bytes) (codes "---") more.0 line (spoken (codes "---") refl) (append-nil (drop place bytes) ∙ more.1))
+    cut (inr more) = absurd (not_open (drop place bytes) (codes "---") more.0 line (Avoids-text (codes "---") refl) (append-nil (drop place bytes) ∙ more.1))
 
 -- what has the first line of an end is one
 pub same_end : (u t : List ℕ) → SameFirst u t → EndsFile u → EndsFile t

@@ -1,5 +1,5 @@
 -- Entries and the lines below them, put together.
-use Rattle.df_journal_file.proofs.Names.{◌≡◌, ℕ, Bool, true, false, List, [], ◌++◌, drop, Option, Some, None, refl, sym, ap, subst, ◌∙◌, arith, append_assoc, inl, inr, Label, Call, Commit, IsLabel, UnitName, PartRead, Reply, Effect, Done, Emitted, Noted, call_line, effect_text, note_text, noted_text, reads_text, IsAnswer, IsBare, IsCalled, IsNoteOf, HasNote, ShowsSome, IsNoteBy, IsShownBy, IsSomeCommit, IsSomeEffectOf, IsWholeBy, NotesNone, ShowsNone, IsHere}
+use Rattle.df_journal_file.proofs.Names.{◌≡◌, ℕ, Bool, true, false, List, [], ◌++◌, Option, Some, None, refl, sym, ap, subst, ◌∙◌, arith, append_assoc, inl, inr, Label, Call, Commit, IsLabel, UnitName, PartRead, Reply, Effect, Done, Emitted, Noted, call_line, effect_text, note_text, noted_text, reads_text, IsAnswer, IsBare, IsCalled, IsNoteOf, HasNote, ShowsSome, IsNoteBy, IsShownBy, IsSomeCommit, IsSomeEffectOf, IsWholeBy, NotesNone, ShowsNone, IsHere}
 use Rattle.df_unit.specs.declared.reply.Reply.TheVariants as reply
 use Rattle.df_journal_file.proofs.Feeds.{CallTold, told_line}
 
@@ -36,17 +36,18 @@ fits_note actor call r effect bare None n = tt
 abbrev pub done_of : CallTold → Reply → Effect → Option Label → Noted
 done_of c r effect note = record { entry = Done c.0 c.1 r effect; contamination = note }
 
+-- texts behind one another
+grouped : (l n r e below shown change tail : List ℕ) → below ≡ n ++ shown → shown ≡ r ++ change → change ≡ e ++ tail
+    → l ++ below ≡ (((l ++ n) ++ r) ++ e) ++ tail
+grouped l n r e below shown change tail a b c = simp (a, b, c, append_assoc)
+
 -- the lines of an entry behind one another
 pub done_spelled : (c : CallTold) (r : Reply) (note : Option Label) (effect : Effect) (s below shown change tail : List ℕ)
     → s ≡ told_line c ++ below → below ≡ note_text note ++ shown → shown ≡ reads_text r ++ change → change ≡ effect_text effect ++ tail
     → IsShownBy c.2 r → s ≡ noted_text (done_of c r effect note) ++ tail
 done_spelled c r note effect s below shown change tail one n m e f =
-    let line = call_line c.0 c.1 r in
     one ∙ ap (λ (u : List ℕ). u ++ below) (same_call c.0 c.1 c.2 r f)
-    ∙ ap (λ (u : List ℕ). line ++ u) (n ∙ ap (λ (u : List ℕ). note_text note ++ u) (m ∙ ap (λ (u : List ℕ). reads_text r ++ u) e))
-    ∙ sym (append_assoc line (note_text note) (reads_text r ++ (effect_text effect ++ tail)))
-    ∙ sym (append_assoc (line ++ note_text note) (reads_text r) (effect_text effect ++ tail))
-    ∙ sym (append_assoc ((line ++ note_text note) ++ reads_text r) (effect_text effect) tail)
+    ∙ grouped (call_line c.0 c.1 r) (note_text note) (reads_text r) (effect_text effect) below shown change tail n m e
 
 -- it is whole
 pub done_whole : (has : Bool) (c : CallTold) (r : Reply) (note : Option Label) (effect : Effect) → IsCalled c → IsNoteBy has c.2 note
@@ -63,9 +64,7 @@ done_read has {bytes} {at} {below} {shown} {change} {end} {c} {r} {note} {effect
   fits = done_whole has c r note effect one.fits n.fits s.fits e.fits;
   onward = omega (arith, one.onward, n.onward, s.onward, e.onward);
   inside = e.inside;
-  parts =
-      done_spelled c r note effect (drop at bytes) (drop below bytes) (drop shown bytes) (drop change bytes) (drop end bytes)
-      one.parts n.parts s.parts e.parts s.fits;
+  parts = done_spelled c r note effect _ _ _ _ _ one.parts n.parts s.parts e.parts s.fits;
 }
 
 -- an entry of what the world emitted

@@ -1,9 +1,9 @@
 -- The lines of a journal have no line feed but their last byte.
-use Rattle.df_journal_file.proofs.Names.{◌≡◌, ℕ, ◌<◌, ◌^◌, Bool, true, false, cond, eqb, List, [], ◌∷◌, ◌++◌, map, get_or, codes, decimal, refl, sym, ap, subst, ◌∙◌, append_assoc, inl, inr, AllByRecursion, flat_map-append, All-cons, All-nil, recursion_from_All, Label, IsLine, ended, Part, Spot, Call, EventName, UnitName, PartRead, Reply, IsLabel, IsPrivilege, label_text, privilege_text, tag_text, value_text, call_words, call_line, part_line, read_line, spot_line, ArePrivileges, IsCalled, IsEvent, IsPart, IsPartRead, IsReply, IsSpot, spaced, word, event_text, unit_text, reply_words, Avoids, Avoids-line, Avoids-words, IsLine-value, IsLine-word, AreWords-privileges, is_word, is_word-actor, is_word-append, is_word-decimal, is_word-label, is_word-name, is_word-privilege, is_word-tag, number_word, event_line, note_line}
-use Rattle.df_format.proofs.Laws.{told}
+use Rattle.df_journal_file.proofs.Names.{◌≡◌, ℕ, ◌<◌, ◌^◌, true, List, [], ◌∷◌, ◌++◌, map, codes, decimal, refl, sym, ap, subst, ◌∙◌, append_assoc, AllByRecursion, flat_map-append, recursion_from_All, Label, IsLine, ended, Part, Spot, Call, EventName, UnitName, PartRead, Reply, IsLabel, IsPrivilege, label_text, privilege_text, value_text, call_words, call_line, part_line, read_line, spot_line, ArePrivileges, IsCalled, IsEvent, IsPart, IsPartRead, IsReply, IsSpot, spaced, word, event_text, unit_text, reply_words, Avoids, Avoids-line, Avoids-words, IsLine-value, IsLine-word, AreWords-privileges, is_word, is_word-actor, is_word-append, is_word-decimal, is_word-label, is_word-name, is_word-privilege, is_word-tag, number_word, event_line, note_line}
 use Rattle.df_label.specs.declared.privilege.Privilege.{Privilege}
 use Rattle.df_unit.specs.declared.reply.Reply.TheVariants as reply
 use Rattle.df_script_text.proofs.Calls.{Avoids-call}
+use Rattle.df_script_text.proofs.Splits.{Avoids-text}
 use Rattle.df_journal_file.proofs.Fronts.{same_line, same_rest}
 
 -- this is a line with its line feed
@@ -27,13 +27,8 @@ IsLine-label label f = IsLine-word (label_text label) (is_word-label label f)
 -- a part behind a mark
 pub part_feeds : (mark : List ℕ) → is_word mark ≡ true → (part : Part) → IsPart part → IsFed (part_line mark part)
 part_feeds mark is part f =
-    fed_words mark (label_text part.label ∷ part.name ∷ value_text part.value ∷ map privilege_text part.privileges) is (
-      IsLine-label part.label f.1,
-      (
-        IsLine-word part.name (is_word-name part.name f.0),
-        (IsLine-value part.value f.2, IsLine-privileges part.privileges f.3),
-      ),
-    )
+    fed_words mark (label_text part.label ∷ part.name ∷ value_text part.value ∷ map privilege_text part.privileges) is
+    (search (IsLine-label, IsLine-word, is_word-name, IsLine-value, IsLine-privileges, f))
 
 -- what a read shows
 pub shown_feeds : (part : PartRead) → IsPartRead part → IsFed (read_line part)
@@ -62,36 +57,14 @@ event_word event f =
 pub event_feeds : (mark : List ℕ) → is_word mark ≡ true → (event : EventName) → IsEvent event → IsFed (event_line mark event)
 event_feeds mark is event f = fed_words mark (event_text event ∷ []) is (IsLine-word (event_text event) (event_word event f), tt)
 
--- whether no byte is a line feed
-abbrev pub unfed : List ℕ → Bool
-unfed [] = true
-unfed (b ∷ bs) = cond (eqb b 10) false (unfed bs)
-
--- what no byte of is one is a line
-pub spoken : (w : List ℕ) → unfed w ≡ true → IsLine w
-spoken [] h = All-nil (λ b. eqb b 10 ≡ false)
-spoken (b ∷ bs) h =
-    elim (told (eqb b 10)) [
-      | inl fed ↦ absurd (let no : false ≡ true = ap (λ (c : Bool). cond c false (unfed bs)) (sym fed) ∙ h in cc)
-      | inr free ↦
-          All-cons (λ b. eqb b 10 ≡ false) b bs free (spoken bs (ap (λ (c : Bool). cond c false (unfed bs)) (sym free) ∙ h))
-    ]
-
 -- a number's word has no line feed
 IsLine-number : (n : ℕ) → n < 2 ^ 32 → IsLine (decimal n)
 IsLine-number n small = IsLine-word (decimal n) (number_word n small)
 
 -- the words of a reply have no line feed
 IsLine-reply : (r : Reply) → IsReply r → AllByRecursion (Avoids 10) (reply_words r)
-IsLine-reply (reply.Handle h) f = (spoken (codes "handle") refl, (IsLine-number h f, tt))
-IsLine-reply (reply.Tag tag) f = (spoken (codes "tag") refl, (IsLine-word (tag_text tag) (is_word-tag tag f), tt))
-IsLine-reply (reply.Sub n) f = (spoken (codes "sub") refl, (IsLine-number n f, tt))
-IsLine-reply (reply.Unit n) f = (spoken (codes "unit") refl, (IsLine-number n f, tt))
-IsLine-reply (reply.Event h sub) f = (spoken (codes "event") refl, (IsLine-number h f.0, (IsLine-number sub f.1, tt)))
-IsLine-reply (reply.TooManyParts wanted) f = (spoken (codes "too many parts") refl, (IsLine-word (decimal wanted) (is_word-decimal wanted f), tt))
-IsLine-reply (reply.Lacks p) f = (spoken (codes "lacks") refl, (IsLine-word (privilege_text p) (is_word-privilege p f), tt))
-IsLine-reply (reply.CannotWrite out part) f = (spoken (codes "cannot write") refl, (IsLine-label out f.0, (IsLine-label part f.1, tt)))
-IsLine-reply r f = (spoken (get_or (reply_words r) 0 []) refl, tt)
+IsLine-reply (reply.Handle h) f = (Avoids-text (codes "handle") refl, (IsLine-number h f, tt))
+IsLine-reply _ f = search (Avoids-text, IsLine-word, IsLine-label, IsLine-number, is_word-tag, is_word-decimal, is_word-privilege, f) parts 6
 
 -- what a call's line tells, and the line
 abbrev pub CallTold : Type 0
@@ -112,7 +85,7 @@ call_feeds c f =
     ∙ ap (λ (u : List ℕ). unit_text c.0 ++ u) (sym (flat_map-append word (call_words c.1) answer)) in
     record {
       line = unit_text c.0 ++ spaced (call_words c.1 ++ answer);
-      free = subst IsLine whole (Avoids-line front answer called (spoken (codes "->") refl, IsLine-reply c.2 f.2.0));
+      free = subst IsLine whole (Avoids-line front answer called (Avoids-text (codes "->") refl, IsLine-reply c.2 f.2.0));
       is = refl;
     }
 

@@ -1,5 +1,5 @@
 -- The first bytes of what may stand from a place on, and texts that may.
-use Rattle.df_journal_file.proofs.Names.{◌≡◌, ℕ, ◌+◌, Bool, true, false, eqb, pos, List, [], ◌∷◌, ◌++◌, length, codes, refl, sym, ap, subst, ◌∙◌, arith, lit<, lit≤, ◌⊎◌, inl, inr, is_ascii_digit, flat_map, All-cons, All-nil, Label, Begins, Spot, Part, EventName, PartRead, Reply, IsLabel, IsPrivilege, IsValue, begins_digit, part_line, read_line, spot_line, ArePrivileges, IsAnswer, IsEvent, IsPart, IsPartRead, IsSpot, begins_pair, event_line, note_line, EndsFile, AddsFrom, BehindSome, CommitFrom, EditFrom, EffectFrom, EntriesFrom, GivenFrom, HandedFrom, Many, NoteFrom, ReadFrom, ShownFrom, Then}
+use Rattle.df_journal_file.proofs.Names.{◌≡◌, ℕ, ◌+◌, Bool, true, false, eqb, pos, List, [], ◌∷◌, ◌++◌, length, codes, refl, sym, ap, subst, ◌∙◌, arith, lit<, lit≤, ◌⊎◌, inl, inr, is_ascii_digit, flat_map, All-cons, All-nil, Label, Begins, Part, EventName, PartRead, Reply, IsLabel, IsPrivilege, IsValue, begins_digit, part_line, read_line, spot_line, ArePrivileges, IsAnswer, IsEvent, IsPart, IsPartRead, IsSpot, begins_pair, event_line, note_line, EndsFile, AddsFrom, BehindSome, CommitFrom, EditFrom, EffectFrom, EntriesFrom, GivenFrom, HandedFrom, Many, NoteFrom, ReadFrom, ShownFrom, Then}
 use Rattle.df_frozen.specs.Name.{is_name}
 use Rattle.df_frozen.specs.Plain.{Plain, int}
 use Rattle.df_unit.specs.declared.name.UnitName.TheVariants.{Root}
@@ -96,18 +96,8 @@ parts_some has mark =
 
 -- a part that is deleted
 pub edit_some : (has : Bool) (n : ℕ) → Begins (EditFrom has n) []
-edit_some has n =
-    let spot : Spot = record { name = codes "a"; label = no_label } in
-    let rest : List ℕ = [] in (
-      flat_map spot_line (spot ∷ []) ++ rest,
-      (
-        spot ∷ [],
-        rest,
-        All-cons IsSpot spot [] (refl, label_fits) (All-nil IsSpot),
-        ([], [], All-nil IsPart, (omega arith, none_left has [] (inl refl)), refl),
-        refl,
-      ),
-    )
+edit_some has = many_begins spot_line IsSpot (AddsFrom has) (record { name = codes "a"; label = no_label }) (refl, label_fits)
+    (λ n. ([], [], All-nil IsPart, (omega arith, none_left has [] (inl refl)), refl))
 
 -- a part that is shown
 pub read_some : (has : Bool) (n : ℕ) → Begins (ReadFrom has n) []

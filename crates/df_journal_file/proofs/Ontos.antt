@@ -13,8 +13,7 @@ stopped P (Err e) h p = subst P (sym h) p
 -- what stands in front of a value has two bytes
 front_long : (front : List ℕ) → IsValueFront front → 1 < length front
 front_long front (inl c) =
-    let words : List ℕ = word (codes "add") ++ (word (decimal c.1) ++ (word (label_text c.2.0) ++ word c.2.1)) in
-    omega (arith, ap length c.6, length-append (unit_text c.0) words)
+    omega (arith, ap length c.6, length-append (unit_text c.0) (word (codes "add") ++ (word (decimal c.1) ++ (word (label_text c.2.0) ++ word c.2.1))))
 front_long front (inr (inl s)) = omega (arith, ap length s.2)
 front_long front (inr (inr (inl p))) = omega (arith, ap length p.2)
 front_long front (inr (inr (inr p))) = omega (arith, ap length p.2)
@@ -195,16 +194,18 @@ module _ {X : Type 0} {text : X → List ℕ} {Fits : X → Type 0} {IsLarge IsT
       let rest = g.2.0 in
       (l.line, rest, l.free, (g.0, g.1, sym l.is), g.2.1 ∙ ap (λ (v : List ℕ). v ++ rest) l.is ∙ append_assoc l.line (10 ∷ []) rest)
 
+  -- it is the first bad one, where it isn't
+  spelled_stop : (bad : List ℕ) → StopsAt (IsSpelled text Fits) (drop at bytes) bad → IsStop IsText bytes at at [] bad
+  spelled_stop = stop_here IsText (IsSpelled text Fits) bytes at inside a.some spelled_first
+
   -- where no such line is read, reading stops
   pub line_stop : (f : FileFault) → StopsLine text Fits IsLarge bytes at f → StopsIn IsText bytes at f
   line_stop stop.NoMemory s = tt
   line_stop (stop.Bad place) s =
-      let first = stop_here IsText (IsSpelled text Fits) bytes at inside a.some spelled_first s.1.0 s.1.1 in
       subst (λ (p : ℕ). StopsIn IsText bytes at (stop.Bad p)) (sym s.0)
-      ([], s.1.0, first, λ l. s.1.2 (a.small s.1.0 s.1.1.behind s.1.1.parts l))
+      ([], s.1.0, spelled_stop s.1.0 s.1.1, λ l. s.1.2 (a.small s.1.0 s.1.1.behind s.1.1.parts l))
   line_stop (stop.TooLarge place) s =
-      let first = stop_here IsText (IsSpelled text Fits) bytes at inside a.some spelled_first s.1.0 s.1.1 in
-      subst (λ (p : ℕ). StopsIn IsText bytes at (stop.TooLarge p)) (sym s.0) ([], s.1.0, first, a.large s.1.0 s.1.2)
+      subst (λ (p : ℕ). StopsIn IsText bytes at (stop.TooLarge p)) (sym s.0) ([], s.1.0, spelled_stop s.1.0 s.1.1, a.large s.1.0 s.1.2)
 
 -- where no text that begins alike may stand
 pub never_stop : (IsText : List ℕ → Type 0) (bytes : List ℕ) (at : ℕ) → at ≤ length bytes → Begins IsText []

@@ -1,6 +1,6 @@
 -- What stands at the head of entries, and entries of what stands there.
-use Rattle.df_journal_file.proofs.Names.{◌≡◌, ℕ, ◌+◌, ◌<◌, Bool, true, false, eqb, List, [], ◌∷◌, ◌++◌, length, Option, Some, None, codes, refl, sym, ap, subst, ◌∙◌, arith, append_assoc, ◌⊎◌, inl, inr, is_ascii_digit, All, flat_map, eqb-true, All-cons, All-head, All-nil, All-tail, Label, Call, Commit, Effect, Entry, Done, Emitted, Noted, UnitName, PartRead, Reply, IsLabel, begins_with, begins_digit, call_words, call_line, effect_text, entry_text, note_text, noted_text, part_line, reads_text, spot_line, IsAnswer, IsCalled, IsCommit, IsEffectOf, IsEntry, IsNoteOf, IsPartRead, IsReply, spaced, unit_text, begins_pair, reply_words, more_first, unit_first, event_line, ChangesSome, EditsSome, EndsFile, HasNote, ShowsSome, IsNoteBy, IsShownBy, IsSomeCommit, IsSomeEffectOf, IsWholeBy, commit_lines, AddsFrom, CommitFrom, DoneFrom, EditFrom, EffectFrom, EntriesFrom, GivenFrom, NoteFrom, ShownFrom, ShowsNone}
-use Rattle.df_format.proofs.Laws.{told}
+use Rattle.df_journal_file.proofs.Names.{◌≡◌, ℕ, ◌+◌, ◌<◌, Bool, true, false, eqb, List, [], ◌∷◌, ◌++◌, length, Option, Some, None, codes, refl, sym, ap, subst, ◌∙◌, arith, append_assoc, ◌⊎◌, inl, inr, is_ascii_digit, All, flat_map, All-cons, All-head, All-nil, All-tail, Label, Call, Commit, Effect, Entry, Done, Emitted, Noted, UnitName, PartRead, Reply, IsLabel, begins_with, begins_digit, call_words, effect_text, entry_text, note_text, noted_text, reads_text, spot_line, IsAnswer, IsCalled, IsCommit, IsEffectOf, IsEntry, IsNoteOf, IsPartRead, IsReply, spaced, unit_text, begins_pair, reply_words, more_first, unit_first, event_line, ChangesSome, EditsSome, EndsFile, HasNote, ShowsSome, IsNoteBy, IsShownBy, IsSomeCommit, IsSomeEffectOf, IsWholeBy, commit_lines, AddsFrom, CommitFrom, DoneFrom, EditFrom, EffectFrom, EntriesFrom, GivenFrom, NoteFrom, ShownFrom, ShowsNone}
+use Rattle.std.proofs.lemmas.Bool.Decides.{nat_tests}
 use Rattle.df_unit.specs.declared.commit.Given.{Given}
 use Rattle.df_unit.specs.declared.entry.Effect.TheVariants as effect
 use Rattle.df_unit.specs.declared.reply.Reply.TheVariants as reply
@@ -11,11 +11,7 @@ use Rattle.df_journal_file.proofs.Entries.{alone, done_of, done_spelled, done_wh
 
 -- a digit is another byte
 digit_other : (c m : ℕ) → is_ascii_digit c ≡ true → is_ascii_digit m ≡ false → eqb c m ≡ false
-digit_other c m digit none =
-    elim (told (eqb c m)) [
-      | inl h ↦ absurd (let no : true ≡ false = sym digit ∙ ap is_ascii_digit (eqb-true c m h) ∙ none in cc)
-      | inr h ↦ h
-    ]
+digit_other c m digit none = grind (arith, nat_tests)
 
 -- what begins with a digit begins with no other byte or mark
 pub digit_begins : (m : ℕ) (u : List ℕ) → begins_digit u ≡ true → is_ascii_digit m ≡ false → (begins_with m u ≡ false) × (begins_pair m 32 u ≡ false)
@@ -25,9 +21,8 @@ digit_begins m (c ∷ cs) digit none = let e = digit_other c m digit none in (e,
 -- a call's line begins with a digit
 pub called_begins : (c : CallTold) (rest : List ℕ) → IsCalled c → begins_digit (told_line c ++ rest) ≡ true
 called_begins c rest fits =
-    let words : List (List ℕ) = call_words c.1 ++ codes "->" ∷ reply_words c.2 in
-    more_first (told_line c) rest
-    (more_first (unit_text c.0 ++ spaced words) (10 ∷ []) (more_first (unit_text c.0) (spaced words) (unit_first c.0 fits.0)))
+    more_first (told_line c) rest (more_first (unit_text c.0 ++ spaced (call_words c.1 ++ codes "->" ∷ reply_words c.2)) (10 ∷ [])
+    (more_first (unit_text c.0) _ (unit_first c.0 fits.0)))
 
 -- ---- replies
 
@@ -57,11 +52,9 @@ note_by bare r None f n fits = elim f.2 [ inl same ↦ sym same ∙ n | inr s �
 commit_from : (has : Bool) (mark : List ℕ) (commit : Commit) (tail : List ℕ) → IsCommit commit → EditsSome commit.edit → EntriesFrom has tail
     → CommitFrom has mark (commit_lines mark commit ++ tail)
 commit_from has mark commit tail f some t =
-    let deleted : List ℕ = flat_map spot_line commit.edit.0 in
-    let added : List ℕ = flat_map (part_line (codes "+")) commit.edit.1 in
-    let adds : AddsFrom has (0 + length commit.edit.0) (added ++ tail) = (commit.edit.1, tail, f.1.1, (omega (arith, some), t), refl) in
-    let edit : EditFrom has 0 ((deleted ++ added) ++ tail) = (commit.edit.0, added ++ tail, f.1.0, adds, append_assoc deleted added tail) in
-    (commit.event, (deleted ++ added) ++ tail, f.0, edit, append_assoc (event_line mark commit.event) (deleted ++ added) tail)
+    let adds : AddsFrom has (0 + length commit.edit.0) _ = (commit.edit.1, tail, f.1.1, (omega (arith, some), t), refl) in
+    let edit : EditFrom has 0 _ = (commit.edit.0, _, f.1.0, adds, append_assoc (flat_map spot_line commit.edit.0) _ tail) in
+    (commit.event, _, f.0, edit, append_assoc (event_line mark commit.event) _ tail)
 
 -- those of an effect
 effect_from : (has : Bool) (r : Reply) (e : Effect) (tail : List ℕ) → IsEffectOf e r → ChangesSome e → EntriesFrom has tail
@@ -69,9 +62,8 @@ effect_from : (has : Bool) (r : Reply) (e : Effect) (tail : List ℕ) → IsEffe
 effect_from has r effect.Nothing tail f some t = inl t
 effect_from has r (effect.Commit commit) tail f some t = inr (inl (commit_from has (codes "=") commit tail f some t))
 effect_from has (reply.Event h sub) (effect.Given given) tail f some t =
-    let parts : List ℕ = flat_map (part_line (codes ".")) given.parts in
-    let below : GivenFrom has 0 (parts ++ tail) = (given.parts, tail, f.2, (omega (arith, some), t), refl) in
-    inr (inr ((h, sub, refl), (given.event, parts ++ tail, f.1, below, append_assoc (event_line (codes "<") given.event) parts tail)))
+    let below : GivenFrom has 0 _ = (given.parts, tail, f.2, (omega (arith, some), t), refl) in
+    inr (inr ((h, sub, refl), (given.event, _, f.1, below, append_assoc (event_line (codes "<") given.event) _ tail)))
 effect_from has _ (effect.Given given) tail f some t = absurd f
 
 -- which parts are shown makes no effect another
@@ -117,17 +109,9 @@ unit_head : (has : Bool) (actor : UnitName) (call : Call) (r : Reply) (e : Effec
     → EntriesFrom has tail → DoneFrom has (entry_text note (Done actor call r e) ++ tail)
 unit_head has actor call r e note tail f shows changes notes t =
     let bare = bare_for r f.2 shows in
-    let change : List ℕ = effect_text e ++ tail in
-    let shown : List ℕ = reads_text r ++ change in
-    let below : List ℕ = note_text note ++ shown in
-    let showing = shown_from has bare.0 r change bare.1 bare.2 (effect_from has r e tail f.3 changes t) in
-    let behind = note_from has bare.0 note shown (notes bare.0 bare.2) showing in (
-      (actor, call, bare.0),
-      below,
-      (f.0, f.1, bare.1),
-      behind,
-      sym (done_spelled (actor, call, bare.0) r note e (call_line actor call bare.0 ++ below) below shown change tail refl refl refl refl bare.2),
-    )
+    let c : CallTold = (actor, call, bare.0) in
+    let behind = note_from has bare.0 note _ (notes bare.0 bare.2) (shown_from has bare.0 r _ bare.1 bare.2 (effect_from has r e tail f.3 changes t)) in
+    (c, _, (f.0, f.1, bare.1), behind, sym (done_spelled c r note e _ _ _ _ tail refl refl refl refl bare.2))
 
 -- those of any entry
 entry_head : (has : Bool) (entry : Entry) (note : Option Label) (tail : List ℕ) → IsWholeBy has (record { entry = entry; contamination = note })
@@ -150,10 +134,9 @@ opened has s t = cut t.0 t.1 t.2 t.3 t.4
     cut : (noted : List Noted) (end : List ℕ) → All (IsWholeBy has) noted → EndsFile end → s ≡ flat_map noted_text noted ++ end → EndsFile s ⊎ AtHead has s
     cut [] end f ends e = inl (subst EndsFile (sym e) ends)
     cut (n ∷ ns) end f ends e =
-        let tail : List ℕ = flat_map noted_text ns ++ end in
-        let whole : s ≡ noted_text n ++ tail = e ∙ append_assoc (noted_text n) (flat_map noted_text ns) end in
-        inr (subst (AtHead has) (sym whole)
-        (entry_head has n.entry n.contamination tail (All-head (IsWholeBy has) n ns f) (ns, end, All-tail (IsWholeBy has) n ns f, ends, refl)))
+        let tail : EntriesFrom has (flat_map noted_text ns ++ end) = (ns, end, All-tail (IsWholeBy has) n ns f, ends, refl) in
+        let head = entry_head has n.entry n.contamination _ (All-head (IsWholeBy has) n ns f) tail in
+        inr (subst (AtHead has) (sym (e ∙ append_assoc (noted_text n) (flat_map noted_text ns) end)) head)
 
 -- ---- to entries
 
@@ -164,31 +147,19 @@ Split {X} text Fits Rest s = (x : X) × (rest : List ℕ) × Fits x × Rest x re
 -- a commit
 commit_to : (has : Bool) (mark s : List ℕ) → CommitFrom has mark s → Split (commit_lines mark) IsSomeCommit (λ _. EntriesFrom has) s
 commit_to has mark s t =
-    let spots = t.3.0 in
-    let parts = t.3.3.0 in
-    let tail = t.3.3.1 in
-    let deleted : List ℕ = flat_map spot_line spots in
-    let added : List ℕ = flat_map (part_line (codes "+")) parts in (
-      record { event = t.0; edit = (spots, parts) },
-      tail,
-      ((t.2, (t.3.2, t.3.3.2)), omega (arith, t.3.3.3.0)),
-      t.3.3.3.1,
-      t.4 ∙ ap (λ (u : List ℕ). event_line mark t.0 ++ u)
-          (t.3.4 ∙ ap (λ (u : List ℕ). deleted ++ u) t.3.3.4 ∙ sym (append_assoc deleted added tail))
-          ∙ sym (append_assoc (event_line mark t.0) (deleted ++ added) tail),
-    )
+    let edit = t.3.4 ∙ ap (λ (u : List ℕ). flat_map spot_line t.3.0 ++ u) t.3.3.4 ∙ sym (append_assoc (flat_map spot_line t.3.0) _ _) in
+    let whole = t.4 ∙ ap (λ (u : List ℕ). event_line mark t.0 ++ u) edit ∙ sym (append_assoc (event_line mark t.0) _ _) in
+    (record { event = t.0; edit = (t.3.0, t.3.3.0) }, _, ((t.2, (t.3.2, t.3.3.2)), omega (arith, t.3.3.3.0)), t.3.3.3.1, whole)
 
 -- an effect
 effect_to : (has : Bool) (r : Reply) (s : List ℕ) → EffectFrom has r s → Split effect_text (IsSomeEffectOf r) (λ _. EntriesFrom has) s
 effect_to has r s (inl t) = (effect.Nothing, s, (tt, tt), t, refl)
 effect_to has r s (inr (inl t)) = let c = commit_to has (codes "=") s t in (effect.Commit c.0, c.1, c.2, c.3, c.4)
 effect_to has r s (inr (inr ((h, sub, is), t))) =
-    let parts = t.3.0 in
-    let given : Given = record { event = t.0; sub = sub; parts = parts } in
+    let given : Given = record { event = t.0; sub = sub; parts = t.3.0 } in
     let fits : IsSomeEffectOf (reply.Event h sub) (effect.Given given) = ((refl, t.2, t.3.2), omega (arith, t.3.3.0)) in
-    let text : List ℕ = flat_map (part_line (codes ".")) parts in
-    let whole = t.4 ∙ ap (λ (u : List ℕ). event_line (codes "<") t.0 ++ u) t.3.4 ∙ sym (append_assoc (event_line (codes "<") t.0) text t.3.1) in
-    (effect.Given given, t.3.1, subst (λ (q : Reply). IsSomeEffectOf q (effect.Given given)) (sym is) fits, t.3.3.1, whole)
+    let whole = t.4 ∙ ap (λ (u : List ℕ). event_line (codes "<") t.0 ++ u) t.3.4 ∙ sym (append_assoc (event_line (codes "<") t.0) _ _) in
+    (effect.Given given, _, subst (λ (q : Reply). IsSomeEffectOf q (effect.Given given)) (sym is) fits, t.3.3.1, whole)
 
 -- what a read shows
 shown_to : (has : Bool) (bare : Reply) (s : List ℕ) → IsAnswer bare → ShownFrom has bare s → Split reads_text (IsShownBy bare) (EffectFrom has) s
@@ -204,14 +175,8 @@ note_to has bare s (inr (some, t)) = (Some t.0, t.1, some_note has bare t.0 some
 
 -- one more entry
 cons_entry : (has : Bool) (n : Noted) (s tail : List ℕ) → IsWholeBy has n → EntriesFrom has tail → s ≡ noted_text n ++ tail → EntriesFrom has s
-cons_entry has n s tail w t e = (
-  n ∷ t.0,
-  t.1,
-  All-cons (IsWholeBy has) n t.0 w t.2,
-  t.3,
-  e ∙ ap (λ (u : List ℕ). noted_text n ++ u) t.4
-      ∙ sym (append_assoc (noted_text n) (flat_map noted_text t.0) t.1),
-)
+cons_entry has n s tail w t e =
+    (n ∷ t.0, t.1, All-cons (IsWholeBy has) n t.0 w t.2, t.3, e ∙ ap (λ (u : List ℕ). noted_text n ++ u) t.4 ∙ sym (append_assoc (noted_text n) _ t.1))
 
 -- the entry of a unit
 pub done_to : (has : Bool) (s : List ℕ) → DoneFrom has s → EntriesFrom has s

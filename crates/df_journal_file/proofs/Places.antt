@@ -24,9 +24,7 @@ module _ {X Y : Type 0} {text : X → List ℕ} {Fits : X → Type 0} {spell : Y
     fits = fits;
     onward = omega (arith, a.onward, b.onward);
     inside = b.inside;
-    parts =
-        a.parts ∙ ap (λ (u : List ℕ). text x ++ u) b.parts ∙ sym (append_assoc (text x) (spell y) (drop end bytes))
-        ∙ ap (λ (u : List ℕ). u ++ drop end bytes) (sym e);
+    parts = simp (a.parts, b.parts, e, append_assoc);
   }
 
 -- what has no text
@@ -60,7 +58,7 @@ module _ {X : Type 0} (text : X → List ℕ) (Fits : X → Type 0) (IsLarge : L
   pub told_at : (line : List ℕ) (next : Option ℕ) → IsLineHere bytes at (line, next) → (r : Result X LineFault) → TellsLine text Fits IsLarge line r
       → TellsAt text Fits IsLarge bytes at (finished at next r)
   told_at line (Some next) here (Ok x) t =
-      let parts = here.3 ∙ sym (append_assoc line (10 ∷ []) (drop next bytes)) ∙ ap (λ (u : List ℕ). u ++ drop next bytes) t.1 in
+      let parts = here.3 ∙ sym (append_assoc line (10 ∷ []) _) ∙ ap (λ (u : List ℕ). u ++ drop next bytes) t.1 in
       (record { fits = t.0; onward = omega (arith, here.1); inside = here.2; parts = parts }, here.1)
   told_at line None here (Ok x) t = (refl, (line, open_stop line here, small line x t.0 t.1))
   told_at line (Some next) here (Err fault.Syntax) t = (refl, (line, closed_stop line next here t.0, t.1))

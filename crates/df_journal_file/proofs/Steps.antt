@@ -20,15 +20,11 @@ same_reply : (c d : CallTold) → IsCalled c → IsCalled d → told_line c ≡ 
 same_reply c d f g e =
     let behind : CallTold → List ℕ = λ c. call_text c.1 ++ answer_text c.2 in
     let whole = unended (unit_text c.0 ++ behind c) (unit_text d.0 ++ behind d) (sym (called_line c.0 c.1 c.2) ∙ e ∙ called_line d.0 d.1 d.2) in
-    let unit = ok_is (c.0, behind c) (d.0, behind d)
-    (sym (called.front_back c.0 (behind c) f.0 (called.front_next c.1 c.2 f.1 f.2)) ∙ ap unit_at whole
-    ∙ called.front_back d.0 (behind d) g.0 (called.front_next d.1 d.2 g.1 g.2)) in
-    let call = ok_is (c.1, answer_text c.2) (d.1, answer_text d.2)
-    (sym (called.middle_back c.1 (answer_text c.2) f.1 (called.middle_next c.2 f.2)) ∙ ap (λ (q : UnitName × List ℕ). call_at q.1) unit
-    ∙ called.middle_back d.1 (answer_text d.2) g.1 (called.middle_next d.2 g.2)) in
-    let answer = ok_is (c.2, []) (d.2, [])
-    (sym (called.tail_back c.2 f.2) ∙ ap (λ (q : Call × List ℕ). answer_at q.1) call ∙ called.tail_back d.2 g.2) in
-    ap (λ (q : Reply × List ℕ). q.0) answer
+    let front = λ (c : CallTold) (f : IsCalled c). called.front_back c.0 (behind c) f.0 (called.front_next c.1 c.2 f.1 f.2) in
+    let middle = λ (c : CallTold) (f : IsCalled c). called.middle_back c.1 (answer_text c.2) f.1 (called.middle_next c.2 f.2) in
+    let unit = ok_is _ _ (sym (front c f) ∙ ap unit_at whole ∙ front d g) in
+    let call = ok_is _ _ (sym (middle c f) ∙ ap (λ (q : UnitName × List ℕ). call_at q.1) unit ∙ middle d g) in
+    ap (λ (q : Reply × List ℕ). q.0) (ok_is _ _ (sym (called.tail_back c.2 f.2) ∙ ap (λ (q : Call × List ℕ). answer_at q.1) call ∙ called.tail_back d.2 g.2))
 
 module _ (has : Bool) (bytes : List ℕ) (at : ℕ) where
   -- ---- edits
@@ -55,8 +51,7 @@ module _ (has : Bool) (bytes : List ℕ) (at : ℕ) where
 
   -- a commit, where its mark stands
   pub commit_onto : (r : Reply) → begins_pair 61 32 (drop at bytes) ≡ true → Onto (EffectFrom has r) bytes at (CommitFrom has (codes "=")) at
-  commit_onto r marked =
-      onto_here (EffectFrom has r) (CommitFrom has (codes "=")) bytes at (λ u like t. cut u ((like 61).1 refl ∙ marked) t) (λ u t. inr (inl t))
+  commit_onto r marked = onto_here _ _ _ _ (λ u like t. cut u ((like 61).1 refl ∙ marked) t) (λ u t. inr (inl t))
     where
       cut : (u : List ℕ) → begins_pair 61 32 u ≡ true → EffectFrom has r u → CommitFrom has (codes "=") u
       cut u b (inl t) = one_result b (entries_begin has u t 61 refl)
@@ -65,8 +60,7 @@ module _ (has : Bool) (bytes : List ℕ) (at : ℕ) where
 
   -- an event that is handed over, where its mark stands
   pub handed_onto : (r : Reply) → IsHanding r → begins_pair 60 32 (drop at bytes) ≡ true → Onto (EffectFrom has r) bytes at (HandedFrom has) at
-  handed_onto r hands marked =
-      onto_here (EffectFrom has r) (HandedFrom has) bytes at (λ u like t. cut u ((like 60).1 refl ∙ marked) t) (λ u t. inr (inr (hands, t)))
+  handed_onto r hands marked = onto_here _ _ _ _ (λ u like t. cut u ((like 60).1 refl ∙ marked) t) (λ u t. inr (inr (hands, t)))
     where
       cut : (u : List ℕ) → begins_pair 60 32 u ≡ true → EffectFrom has r u → HandedFrom has u
       cut u b (inl t) = one_result b (entries_begin has u t 60 refl)
@@ -77,8 +71,7 @@ module _ (has : Bool) (bytes : List ℕ) (at : ℕ) where
   pub nothing_onto : (r : Reply) → begins_pair 61 32 (drop at bytes) ≡ false → (IsHanding r → begins_pair 60 32 (drop at bytes) ≡ false)
       → Onto (EffectFrom has r) bytes at (EntriesFrom has) at
   nothing_onto r no_commit no_given =
-      onto_here (EffectFrom has r) (EntriesFrom has) bytes at
-      (λ u like t. cut u ((like 61).1 refl ∙ no_commit) (λ h. (like 60).1 refl ∙ no_given h) t) (λ u t. inl t)
+      onto_here _ _ _ _ (λ u like t. cut u ((like 61).1 refl ∙ no_commit) (λ h. (like 60).1 refl ∙ no_given h) t) (λ u t. inl t)
     where
       cut : (u : List ℕ) → begins_pair 61 32 u ≡ false → (IsHanding r → begins_pair 60 32 u ≡ false) → EffectFrom has r u → EntriesFrom has u
       cut u a b (inl t) = t
@@ -89,48 +82,40 @@ module _ (has : Bool) (bytes : List ℕ) (at : ℕ) where
 
   -- the reply `parts` shows some
   pub bare_onto : (bare : Reply) → bare ≡ reply.Parts [] → Onto (ShownFrom has bare) bytes at (ReadFrom has 0) at
-  bare_onto bare is =
-      onto_here (ShownFrom has bare) (ReadFrom has 0) bytes at (λ u like t. elim t [ inl s ↦ absurd (s.0 [] is) | inr s ↦ s.1 ]) (λ u t. inr (is, t))
+  bare_onto bare is = onto_here _ _ _ _ (λ u like t. elim t [ inl s ↦ absurd (s.0 [] is) | inr s ↦ s.1 ]) (λ u t. inr (is, t))
 
   -- each other reply stands alone
   pub alone_onto : (bare : Reply) → ShowsNone bare → Onto (ShownFrom has bare) bytes at (EffectFrom has bare) at
-  alone_onto bare none =
-      onto_here (ShownFrom has bare) (EffectFrom has bare) bytes at (λ u like t. elim t [ inl s ↦ s.1 | inr s ↦ absurd (none [] s.0) ]) (λ u t. inl (none, t))
+  alone_onto bare none = onto_here _ _ _ _ (λ u like t. elim t [ inl s ↦ s.1 | inr s ↦ absurd (none [] s.0) ]) (λ u t. inl (none, t))
 
   -- which parts are shown makes no effect another
   pub parts_onto : (parts : List PartRead) → Onto (EffectFrom has (reply.Parts [])) bytes at (EffectFrom has (reply.Parts parts)) at
-  parts_onto parts =
-      onto_here (EffectFrom has (reply.Parts [])) (EffectFrom has (reply.Parts parts)) bytes at (λ u like t. effect_parts has [] parts u t)
-      (λ u t. effect_parts has parts [] u t)
+  parts_onto parts = onto_here _ _ _ _ (λ u like t. effect_parts has [] parts u t) (λ u t. effect_parts has parts [] u t)
 
   -- ---- what is noted
 
   -- nothing
   pub unnoted_onto : (bare : Reply) → NotesNone has bare → Onto (NoteFrom has bare) bytes at (ShownFrom has bare) at
-  unnoted_onto bare none =
-      onto_here (NoteFrom has bare) (ShownFrom has bare) bytes at (λ u like t. elim t [ inl s ↦ s.1 | inr s ↦ absurd (s.0 none) ]) (λ u t. inl (none, t))
+  unnoted_onto bare none = onto_here _ _ _ _ (λ u like t. elim t [ inl s ↦ s.1 | inr s ↦ absurd (s.0 none) ]) (λ u t. inl (none, t))
 
   -- a contamination
   pub noted_onto : (bare : Reply) → ¬ NotesNone has bare → Onto (NoteFrom has bare) bytes at (Then note_line IsLabel (ShownFrom has bare)) at
-  noted_onto bare some =
-      onto_here (NoteFrom has bare) (Then note_line IsLabel (ShownFrom has bare)) bytes at
-      (λ u like t. elim t [ inl s ↦ absurd (some s.0) | inr s ↦ s.1 ]) (λ u t. inr (some, t))
+  noted_onto bare some = onto_here _ _ _ _ (λ u like t. elim t [ inl s ↦ absurd (some s.0) | inr s ↦ s.1 ]) (λ u t. inr (some, t))
 
   -- ---- calls
 
   -- behind the line of a call
   pub called_onto : {c : CallTold} {next : ℕ} → IsHere told_line IsCalled bytes at c next → Onto (EntriesFrom has) bytes at (NoteFrom has c.2) next
   called_onto {c} {next} h =
-      onto_fed (call_feeds c h.fits) (EntriesFrom has) (NoteFrom has c.2) bytes at next h.parts (λ u m. cut u (opened has (told_line c ++ u) m))
-      (λ u n. done_to has (told_line c ++ u) (c, u, h.fits, n, refl))
+      onto_fed (call_feeds c h.fits) _ _ _ _ _ h.parts (λ u m. cut u (opened has _ m)) (λ u n. done_to has _ (c, u, h.fits, n, refl))
     where
       cut : (u : List ℕ) → EndsFile (told_line c ++ u) ⊎ AtHead has (told_line c ++ u) → NoteFrom has c.2 u
       cut u (inl (inl e)) = one_result (called_begins c u h.fits) (ap begins_digit e)
       cut u (inl (inr e)) = one_result (called_begins c u h.fits) (ap begins_digit e.1)
       cut u (inr (inl d)) =
-          let rest : u ≡ d.1 = fed_rest u d.1 (call_feeds c h.fits) (call_feeds d.0 d.2) d.4 in
-          let same : c.2 ≡ d.0.2 = same_reply c d.0 h.fits d.2 (fed_same u d.1 (call_feeds c h.fits) (call_feeds d.0 d.2) d.4) in
-          subst (NoteFrom has c.2) (sym rest) (subst (λ (r : Reply). NoteFrom has r d.1) (sym same) d.3)
+          let feeds = call_feeds c h.fits in
+          let same = same_reply c d.0 h.fits d.2 (fed_same _ _ feeds (call_feeds d.0 d.2) d.4) in
+          subst (NoteFrom has c.2) (sym (fed_rest _ _ feeds (call_feeds d.0 d.2) d.4)) (subst (λ (r : Reply). NoteFrom has r d.1) (sym same) d.3)
       cut u (inr (inr m)) = one_result (called_begins c u h.fits) (ap begins_digit m.4)
 
   -- a line that is none is bad
@@ -153,8 +138,7 @@ module _ (has : Bool) (bytes : List ℕ) (at : ℕ) where
   -- what the world emitted, where its mark begins
   pub emitted_onto : begins_with 101 (drop at bytes) ≡ true → Onto (EntriesFrom has) bytes at (CommitFrom has (codes "emitted")) at
   emitted_onto marked =
-      onto_here (EntriesFrom has) (CommitFrom has (codes "emitted")) bytes at (λ u like t. cut u ((like 101).0 ∙ marked) (opened has u t))
-      (λ u t. emitted_to has u t)
+      onto_here _ _ _ _ (λ u like t. cut u ((like 101).0 ∙ marked) (opened has u t)) (λ u t. emitted_to has u t)
     where
       cut : (u : List ℕ) → begins_with 101 u ≡ true → EndsFile u ⊎ AtHead has u → CommitFrom has (codes "emitted") u
       cut u b (inl (inl e)) = one_result b (ap (begins_with 101) e)

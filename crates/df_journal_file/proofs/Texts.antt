@@ -1,9 +1,10 @@
 -- Whole journals: their first line, their roots and their entries.
-use Rattle.df_journal_file.proofs.Names.{◌≡◌, ℕ, Bool, true, false, List, [], ◌∷◌, ◌++◌, drop, map, Option, Some, None, Ok, codes, refl, sym, ap, subst, ◌∙◌, arith, lit<, append_assoc, inl, inr, All, AllByRecursion, flat_map, append_cancel_left, All-map, All-weaker, recursion_from_All, ok_is, Label, Begins, IsLine, ended, FileFault, RootStart, Entry, Done, Emitted, Noted, begins_with, noted_text, AreRoots, IsJournal, IsNoteOf, IsNoted, line, EndsJournal, IsUnmarked, journal_at, start_text, journal_back, front_text, First, IsJournalOf, Journal, Second, journal_by, EndsFile, IsWholeEntry, IsLargeIn, IsWholeBy, IsEitherFirst, IsFirstAt, IsText, IsWanted, StopsFirst, first_of, EntriesFrom, HeadFrom, Onto, StopsIn}
+use Rattle.df_journal_file.proofs.Names.{◌≡◌, ℕ, Bool, true, false, List, [], ◌∷◌, ◌++◌, drop, map, Option, Some, None, Ok, codes, refl, sym, ap, subst, ◌∙◌, arith, lit<, append_assoc, inl, inr, All, AllByRecursion, flat_map, append_cancel_left, All-map, All-weaker, recursion_from_All, ok_is, Label, Begins, IsLine, ended, FileFault, RootStart, Entry, Done, Emitted, Noted, begins_with, noted_text, AreRoots, IsJournal, IsNoteOf, IsNoted, line, EndsJournal, journal_at, start_text, journal_back, front_text, First, IsJournalOf, Journal, Second, journal_by, EndsFile, IsWholeEntry, IsLargeIn, IsWholeBy, IsEitherFirst, IsFirstAt, IsText, IsWanted, StopsFirst, first_of, EntriesFrom, HeadFrom, Onto, StopsIn}
 use mathlib.Core.Bool.{beq, not}
 use Rattle.std.proofs.lemmas.List.Folds.{flat_map-map}
 use Rattle.df_lines.specs.declared.fault.FileFault.TheVariants as stop
-use Rattle.df_journal_file.proofs.Feeds.{IsFed, spoken}
+use Rattle.df_script_text.proofs.Splits.{Avoids-text}
+use Rattle.df_journal_file.proofs.Feeds.{IsFed}
 use Rattle.df_journal_file.proofs.Ontos.{bad_here, onto_fed}
 use Rattle.df_journal_file.proofs.Roots.{head_some}
 use Rattle.df_journal_file.proofs.Values.{never_large}
@@ -83,25 +84,24 @@ text_by : (has : Bool) (bytes : List ℕ) (roots : List RootStart) (ns : List No
 text_by true bytes roots ns r = text_of bytes (Second roots ns) r
 text_by false bytes roots ns r = text_of bytes (First roots (map entry_of ns)) (journal_is bytes roots false ns r)
 
--- its version, its roots and its entries
-record IsRead (wanted : Option Bool) (bytes : List ℕ) : Type 0 where
-  has : Bool
-  is : IsWanted wanted has
+-- the journal that the bytes of a version are
+journal_of : (wanted : Option Bool) (bytes : List ℕ) → IsText wanted bytes → (j : Journal) × IsWanted wanted (version_of j) × IsJournalOf j bytes
+journal_of (Some true) bytes t = (Second t.0 t.1, refl, (t.3, (t.2, t.4, t.5)))
+journal_of (Some false) bytes t = (First t.0 t.1, refl, (t.3, (t.2, t.4, t.5)))
+journal_of None bytes (inl t) = (First t.0 t.1, tt, (t.3, (t.2, t.4, t.5)))
+journal_of None bytes (inr t) = (Second t.0 t.1, tt, (t.3, (t.2, t.4, t.5)))
+
+-- a journal as one in its version
+record IsBy (j : Journal) (bytes : List ℕ) : Type 0 where
   roots : List RootStart
   notes : List Noted
-  read : ReadBy has bytes roots notes
+  is : j ≡ journal_by (version_of j) roots notes
+  read : ReadBy (version_of j) bytes roots notes
 
-read_in : (has : Bool) (bytes : List ℕ) → IsText (Some has) bytes → (roots : List RootStart) × (notes : List Noted) × ReadBy has bytes roots notes
-read_in true bytes t = (t.0, t.1, (t.3, (t.2, t.4, t.5)))
-read_in false bytes t = (t.0, map bare_noted t.1, plain_by bytes t.0 t.1 (t.3, (t.2, t.4, t.5)))
-
-read_by : (wanted : Option Bool) (has : Bool) → IsWanted wanted has → (bytes : List ℕ) → IsText (Some has) bytes → IsRead wanted bytes
-read_by wanted has w bytes t = let r = read_in has bytes t in record { has = has; is = w; roots = r.0; notes = r.1; read = r.2 }
-
-read_text : (wanted : Option Bool) (bytes : List ℕ) → IsText wanted bytes → IsRead wanted bytes
-read_text (Some has) bytes t = read_by (Some has) has refl bytes t
-read_text None bytes (inl t) = read_by None false tt bytes t
-read_text None bytes (inr t) = read_by None true tt bytes t
+by_version : (bytes : List ℕ) (j : Journal) → IsJournalOf j bytes → IsBy j bytes
+by_version bytes (First roots es) r =
+    record { roots = roots; notes = map bare_noted es; is = ap (First roots) (sym (bare_entries es)); read = plain_by bytes roots es r }
+by_version bytes (Second roots ns) r = record { roots = roots; notes = ns; is = refl; read = r }
 
 -- ---- the first line
 
@@ -125,8 +125,8 @@ with_first has rest h =
 
 -- it is a line of its version, and begins with a letter
 first_feeds : (has : Bool) → IsFed (ended (first_of has))
-first_feeds true = record { line = codes "defcon-journal 2"; free = spoken (codes "defcon-journal 2") refl; is = refl }
-first_feeds false = record { line = codes "defcon-journal 1"; free = spoken (codes "defcon-journal 1") refl; is = refl }
+first_feeds true = record { line = codes "defcon-journal 2"; free = Avoids-text (codes "defcon-journal 2") refl; is = refl }
+first_feeds false = record { line = codes "defcon-journal 1"; free = Avoids-text (codes "defcon-journal 1") refl; is = refl }
 
 first_line : (has : Bool) → IsLine (first_of has) × IsEitherFirst (first_of has) × ((u : List ℕ) → begins_with 100 (ended (first_of has) ++ u) ≡ true)
 unfolding first_feeds
@@ -144,12 +144,12 @@ module _ (wanted : Option Bool) where
   -- the first line of a journal, and what stands behind it
   front : (u : List ℕ) → IsText wanted u → (has : Bool) × IsWanted wanted has × (rest : List ℕ) × HeadFrom has 0 rest × (u ≡ ended (first_of has) ++ rest)
   front u t =
-      let r = read_text wanted u t in
+      let j = journal_of wanted u t in
+      let r = by_version u j.0 j.2 in
       let end = r.read.1.0 in
-      let entries : EntriesFrom r.has (flat_map noted_text r.notes ++ end) = (r.notes, end, r.read.0.1, r.read.1.1, refl) in
-      let head : HeadFrom r.has 0 (tail_of r.roots r.notes end) =
-      (r.roots, flat_map noted_text r.notes ++ end, omega (arith, r.read.0.0.0), r.read.0.0.1, entries, refl) in
-      (r.has, r.is, tail_of r.roots r.notes end, head, behind_first r.has u r.roots r.notes r.read)
+      let entries : EntriesFrom (version_of j.0) (flat_map noted_text r.notes ++ end) = (r.notes, end, r.read.0.1, r.read.1.1, refl) in
+      let head : HeadFrom (version_of j.0) 0 (tail_of r.roots r.notes end) = (r.roots, _, omega (arith, r.read.0.0.0), r.read.0.0.1, entries, refl) in
+      (version_of j.0, j.1, tail_of r.roots r.notes end, head, behind_first (version_of j.0) u r.roots r.notes r.read)
 
   -- behind the first line
   pub text_onto : (has : Bool) → IsWanted wanted has → (bytes : List ℕ) (place : ℕ) → IsFirstAt (first_of has) bytes place
@@ -218,13 +218,8 @@ other_stop has k other bytes at i =
 
 -- an end is the end of a journal
 ends_journal : (end : List ℕ) → EndsFile end → EndsJournal end
-ends_journal end (inl e) =
-    let none : IsUnmarked [] = record { note = refl; shown = refl; commit = refl; given = refl; deleted = refl; added = refl; part = refl } in
-    subst EndsJournal (sym e) (record { unmarked = none; last = refl })
-ends_journal end (inr e) = subst EndsJournal (sym e.1) (record {
-  unmarked = record { note = refl; shown = refl; commit = refl; given = refl; deleted = refl; added = refl; part = refl };
-  last = refl;
-})
+ends_journal end (inl e) = subst EndsJournal (sym e) (search parts 2)
+ends_journal end (inr e) = subst EndsJournal (sym e.1) (search parts 2)
 
 -- nothing may be noted of any entry
 not_noted : (e : Entry) → IsNoteOf e None
@@ -244,36 +239,17 @@ tail_back has bytes roots ns r =
     ap journal_at (sym (regroup (ended (first_of true)) (start_text roots) run_line (flat_map noted_text ns) r.1.0))
     ∙ journal_back roots ns r.1.0 fits (ends_journal r.1.0 r.1.1)
 
--- a journal as one in its version
-record IsBy (j : Journal) (bytes : List ℕ) : Type 0 where
-  has : Bool
-  roots : List RootStart
-  notes : List Noted
-  is : j ≡ journal_by has roots notes
-  read : ReadBy has bytes roots notes
-
-by_version : (bytes : List ℕ) (j : Journal) → IsJournalOf j bytes → IsBy j bytes
-by_version bytes (First roots es) r = record {
-  has = false;
-  roots = roots;
-  notes = map bare_noted es;
-  is = ap (First roots) (sym (bare_entries es));
-  read = plain_by bytes roots es r;
-}
-by_version bytes (Second roots ns) r = record { has = true; roots = roots; notes = ns; is = refl; read = r }
-
 -- two journals that these bytes are
 pub one_journal : (bytes : List ℕ) (j k : Journal) → IsJournalOf j bytes → IsJournalOf k bytes → j ≡ k
 one_journal bytes j k a b =
     let r = by_version bytes j a in
     let s = by_version bytes k b in
-    let same = same_first r.has s.has (tail_of r.roots r.notes r.read.1.0) (tail_of s.roots s.notes s.read.1.0)
-    (sym (behind_first r.has bytes r.roots r.notes r.read) ∙ behind_first s.has bytes s.roots s.notes s.read) in
-    let both = ok_is ((r.roots, r.notes), r.read.1.0) ((s.roots, s.notes), s.read.1.0)
-    (sym (tail_back r.has bytes r.roots r.notes r.read) ∙ ap (λ (v : List ℕ). journal_at (ended (first_of true) ++ v)) same.1
-    ∙ tail_back s.has bytes s.roots s.notes s.read) in
+    let first = behind_first (version_of j) bytes r.roots r.notes r.read in
+    let same = same_first (version_of j) (version_of k) _ _ (sym first ∙ behind_first (version_of k) bytes s.roots s.notes s.read) in
+    let both = ok_is ((r.roots, r.notes), r.read.1.0) ((s.roots, s.notes), s.read.1.0) (sym (tail_back (version_of j) bytes r.roots r.notes r.read)
+    ∙ ap (λ (v : List ℕ). journal_at (ended (first_of true) ++ v)) same.1 ∙ tail_back (version_of k) bytes s.roots s.notes s.read) in
     r.is ∙ ap (λ (v : Bool). journal_by v r.roots r.notes) same.0
-    ∙ ap (λ (q : (List RootStart × List Noted) × List ℕ). journal_by s.has q.0.0 q.0.1) both ∙ sym s.is
+    ∙ ap (λ (q : (List RootStart × List Noted) × List ℕ). journal_by (version_of k) q.0.0 q.0.1) both ∙ sym s.is
 
 pub one_plain : (bytes : List ℕ) (roots others : List RootStart) (es ds : List Entry) → IsJournalOf (First roots es) bytes
     → IsJournalOf (First others ds) bytes → (roots ≡ others) × (es ≡ ds)

@@ -1,5 +1,5 @@
 -- Values that are too large, where a line may stand that has one.
-use Rattle.df_journal_file.proofs.Names.{◌≡◌, ℕ, ◌+◌, ◌&&◌, Bool, true, false, eqb, List, [], ◌∷◌, ◌++◌, codes, decimal, refl, sym, ap, subst, ◌∙◌, arith, append_assoc, append-nil, inl, inr, is_ascii_digit, flat_map, All-cons, All-nil, Label, Part, UnitName, label_text, begins_with, begins_digit, value_text, call_line, part_line, read_line, IsCalled, IsPart, IsPartRead, IsLargeCalled, IsLargePart, IsLargeShown, word, unit_text, begins_pair, more_first, unit_first, IsCallFront, IsLargeIn, IsPartFront, IsShownFront, IsValueFront, BehindSome, EntriesFrom, Many, ReadFrom}
+use Rattle.df_journal_file.proofs.Names.{◌≡◌, ℕ, ◌&&◌, Bool, true, false, eqb, List, [], ◌∷◌, ◌++◌, codes, decimal, refl, sym, ap, subst, ◌∙◌, arith, append_assoc, append-nil, inl, inr, is_ascii_digit, flat_map, All-cons, All-nil, Label, UnitName, label_text, begins_with, begins_digit, value_text, call_line, part_line, read_line, IsCalled, IsPart, IsPartRead, IsLargeCalled, IsLargePart, IsLargeShown, word, unit_text, begins_pair, more_first, unit_first, IsCallFront, IsLargeIn, IsPartFront, IsShownFront, IsValueFront, BehindSome, EntriesFrom, Many, ReadFrom}
 use Rattle.df_unit.specs.declared.call.Call.TheVariants.{AddPart}
 use Rattle.df_unit.specs.declared.reply.Reply.TheVariants as reply
 use Rattle.df_journal_file.proofs.Feeds.{CallTold}
@@ -13,12 +13,15 @@ use Rattle.df_journal_file.proofs.Opens.{digit_begins, done_to, none_left}
 abbrev pub BeginsNoValue : ℕ → Type 0
 BeginsNoValue m = (is_ascii_digit m ≡ false) × (eqb 58 m ≡ false) × (eqb 43 m ≡ false) × (eqb 46 m ≡ false)
 
--- a call begins with a digit
+-- the words of a call that adds a part, up to its value
+abbrev add_front : UnitName → ℕ → Label × List ℕ → List ℕ
+add_front actor h n = unit_text actor ++ (word (codes "add") ++ (word (decimal h) ++ (word (label_text n.0) ++ word n.1)))
+
+-- it begins with a digit
 call_first : (front more : List ℕ) → IsCallFront front → begins_digit (front ++ more) ≡ true
 call_first front more c =
-    let rest : List ℕ = word (codes "add") ++ (word (decimal c.1) ++ (word (label_text c.2.0) ++ word c.2.1)) in
     subst (λ (f : List ℕ). begins_digit (f ++ more) ≡ true) (sym c.6)
-    (more_first (unit_text c.0 ++ rest) more (more_first (unit_text c.0) rest (unit_first c.0 c.3)))
+    (more_first (add_front c.0 c.1 c.2) more (more_first (unit_text c.0) _ (unit_first c.0 c.3)))
 
 -- with none but a digit and three marks
 pub front_begins : (front more : List ℕ) → IsValueFront front → (m : ℕ) → BeginsNoValue m → begins_with m (front ++ more) ≡ false
@@ -101,10 +104,6 @@ module _ (IsText : List ℕ → Type 0) (bad behind : List ℕ) (l : IsLargeIn I
       let p = back l.front (l.rest ++ behind) l.wanting (ap (begins_pair m 32) (sym fronted) ∙ b) in
       (p.0, l.rest, p.1, l.parts ∙ ap (λ (f : List ℕ). f ++ l.rest) p.2, l.large)
 
--- the words of a call that adds a part, up to its value
-abbrev add_front : UnitName → ℕ → Label × List ℕ → List ℕ
-add_front actor h n = unit_text actor ++ (word (codes "add") ++ (word (decimal h) ++ (word (label_text n.0) ++ word n.1)))
-
 -- words behind one another, and a rest
 five_words : (u a h l n rest : List ℕ) → (u ++ (a ++ (h ++ (l ++ n)))) ++ rest ≡ u ++ (a ++ (h ++ (l ++ (n ++ rest))))
 five_words u a h l n rest = simp append_assoc
@@ -174,19 +173,14 @@ pub part_large : (mark : List ℕ) → ((front : List ℕ) → IsPartFront mark 
     → IsLargePart mark bad → IsLargeIn (Many (part_line mark) IsPart (BehindSome (EntriesFrom has)) n) [] bad
 part_large mark marks has n bad l =
     let name = l.0 in
-    let front : List ℕ = mark ++ (word (label_text name.0) ++ word name.1) in
-    let part : Part = part_with name.0 name.1 in
-    let behind : BehindSome (EntriesFrom has) (n + 1) [] = (omega arith, none_left has [] (inl refl)) in
+    let fits = All-cons IsPart (part_with name.0 name.1) [] (part_fits name.0 name.1 l.2.0 l.2.1) (All-nil IsPart) in
     record {
-      front = front;
+      front = mark ++ (word (label_text name.0) ++ word name.1);
       rest = l.1;
       parts = l.3;
-      wanting = marks front (name, l.2, refl);
+      wanting = marks _ (name, l.2, refl);
       large = l.4;
-      viable = (
-        zero_word,
-        (part ∷ [], [], All-cons IsPart part [] (part_fits name.0 name.1 l.2.0 l.2.1) (All-nil IsPart), behind, part_text mark name.0 name.1),
-      );
+      viable = (zero_word, (part_with name.0 name.1 ∷ [], [], fits, (omega arith, none_left has [] (inl refl)), part_text mark name.0 name.1));
     }
 
 -- what stands behind the value of a call that is answered `ok`

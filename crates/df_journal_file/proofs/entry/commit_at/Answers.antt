@@ -8,26 +8,19 @@ use Rattle.df_journal_file.proofs.entry.commit_at.Goals as goal
 
 pub returns-clause-read : goal.returns-clause-read
 returns-clause-read c =
-    let event = c.in_ok-event.ensures.0 in
-    let edit = c.in_ok-edit.ensures.read in
-    both_here event edit ((event.fits, edit.fits.0), edit.fits.1) refl
+    let edit = c.in_ok-edit.ensures.read in both_here c.in_ok-event.ensures.0 edit ((c.in_ok-event.ensures.0.fits, edit.fits.0), edit.fits.1) refl
 
 pub returns-clause-onward : goal.returns-clause-onward
 returns-clause-onward c = omega (arith, c.in_ok-event.ensures.1, c.in_ok-edit.ensures.read.onward)
 
 pub returns-in_err-event-clause-stops : goal.returns-in_err-event-clause-stops
 returns-in_err-event-clause-stops c = λ has is.
-    let mark = c.args.mark.now in
-    stopped _ c.from_residual.result c.from_residual.ensures.1
-    (then_stop (commit_kind mark is) (EditFrom has 0) (commit_some has mark) c.args.bytes.now c.args.at c.requires
-    c.in_err-event.field-0.0 c.in_err-event.ensures)
+    stopped _ _ c.from_residual.ensures.1 (then_stop (commit_kind _ is) (EditFrom has 0) (commit_some has _) _ _ c.requires _ c.in_err-event.ensures)
 
 pub returns-in_err-edit-clause-stops : goal.returns-in_err-edit-clause-stops
 returns-in_err-edit-clause-stops c = λ has is.
-    stopped _ c.from_residual-in_err-edit.result c.from_residual-in_err-edit.ensures.1
-    (then_onto (commit_kind c.args.mark.now is) (EditFrom has 0) c.in_ok-event.ensures.0
-    c.in_err-edit.field-0.0 (c.in_err-edit.ensures.stops has))
+    stopped _ _ c.from_residual-in_err-edit.ensures.1
+    (then_onto (commit_kind _ is) (EditFrom has 0) c.in_ok-event.ensures.0 _ (c.in_err-edit.ensures.stops has))
 
 pub returns-clause-onto : goal.returns-clause-onto
-returns-clause-onto c = λ has is f s.
-    then_onto (commit_kind c.args.mark.now is) (EditFrom has 0) c.in_ok-event.ensures.0 f (c.in_ok-edit.ensures.onto has f s)
+returns-clause-onto c = λ has is f s. then_onto (commit_kind _ is) (EditFrom has 0) c.in_ok-event.ensures.0 f (c.in_ok-edit.ensures.onto has f s)

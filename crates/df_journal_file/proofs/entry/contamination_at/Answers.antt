@@ -1,4 +1,4 @@
-use Rattle.df_journal_file.proofs.Names.{refl, NotesNone, ShownFrom}
+use Rattle.df_journal_file.proofs.Names.{refl, ShownFrom}
 use Rattle.df_journal_file.proofs.Entries.{no_note, some_note}
 use Rattle.df_journal_file.proofs.Fronts.{one_result}
 use Rattle.df_journal_file.proofs.Heads.{note_some}
@@ -10,31 +10,22 @@ use Rattle.df_journal_file.proofs.Steps.{noted_onto, unnoted_onto}
 use Rattle.df_journal_file.proofs.entry.contamination_at.Goals as goal
 
 pub returns-then-notes_none-clause-read : goal.returns-then-notes_none-clause-read
-returns-then-notes_none-clause-read c =
-    none_here c.requires (no_note c.args.has_notes c.args.reply.now (c.notes_none.ensures.0 c.if-notes_none.true)) refl
+returns-then-notes_none-clause-read c = none_here c.requires (no_note _ _ (c.notes_none.ensures.0 c.if-notes_none.true)) refl
 
 pub returns-clause-read : goal.returns-clause-read
 returns-clause-read c =
     let label = c.in_ok-label.ensures.0 in
-    let some : ¬ NotesNone c.args.has_notes c.args.reply.now = λ none. one_result (c.notes_none.ensures.1 none) c.if-notes_none.false in
-    as_here label (some_note c.args.has_notes c.args.reply.now c.in_ok-label.label some label.fits) refl
+    as_here label (some_note _ _ _ (λ none. one_result (c.notes_none.ensures.1 none) c.if-notes_none.false) label.fits) refl
 
 pub returns-then-notes_none-clause-onto : goal.returns-then-notes_none-clause-onto
-returns-then-notes_none-clause-onto c =
-    unnoted_onto c.args.has_notes c.args.bytes.now c.args.at c.args.reply.now (c.notes_none.ensures.0 c.if-notes_none.true)
+returns-then-notes_none-clause-onto c = unnoted_onto _ _ _ _ (c.notes_none.ensures.0 c.if-notes_none.true)
 
 pub returns-in_err-label-clause-stops : goal.returns-in_err-label-clause-stops
 returns-in_err-label-clause-stops c = λ answer.
-    let has = c.args.has_notes in
-    let bare = c.args.reply.now in
-    let f = c.in_err-label.field-0.0 in
-    stopped _ c.from_residual.result c.from_residual.ensures.1
-    (noted_onto has c.args.bytes.now c.args.at bare (λ none. one_result (c.notes_none.ensures.1 none) c.if-notes_none.false) f
-    (then_stop note_kind (ShownFrom has bare) (note_some has bare answer) c.args.bytes.now c.args.at c.requires f c.in_err-label.ensures))
+    stopped _ _ c.from_residual.ensures.1 (noted_onto _ _ _ _ (λ none. one_result (c.notes_none.ensures.1 none) c.if-notes_none.false) _
+    (then_stop note_kind (ShownFrom _ _) (note_some _ _ answer) _ _ c.requires _ c.in_err-label.ensures))
 
 pub returns-clause-onto : goal.returns-clause-onto
 returns-clause-onto c = λ f s.
-    let has = c.args.has_notes in
-    let bare = c.args.reply.now in
-    noted_onto has c.args.bytes.now c.args.at bare (λ none. one_result (c.notes_none.ensures.1 none) c.if-notes_none.false) f
-    (then_onto note_kind (ShownFrom has bare) c.in_ok-label.ensures.0 f s)
+    noted_onto _ _ _ _ (λ none. one_result (c.notes_none.ensures.1 none) c.if-notes_none.false) f
+    (then_onto note_kind (ShownFrom _ _) c.in_ok-label.ensures.0 f s)

@@ -1,4 +1,4 @@
-use Rattle.df_journal_file.proofs.Names.{List, sym, subst, ◌+◌, arith, length, refl, Spot, Part, edit_text, EditsSome, IsSomeEdit, EntriesFrom, IsHere}
+use Rattle.df_journal_file.proofs.Names.{sym, subst, arith, refl, EditsSome, EntriesFrom}
 use Rattle.df_journal_file.proofs.Fronts.{one_result}
 use Rattle.df_journal_file.proofs.LineKinds.{adds_run, spots_run}
 use Rattle.df_journal_file.proofs.Ontos.{stopped}
@@ -11,40 +11,24 @@ pub returns-clause-read : goal.returns-clause-read
 returns-clause-read c =
     let deleted = c.in_ok-deleted.ensures.read.0 in
     let added = c.in_ok-added.ensures.read.0 in
-    let some : EditsSome (c.in_ok-deleted.deleted.items, c.in_ok-added.added.items) =
-    subst EditsSome c.new-edit.ensures (c.edits_some.ensures.0 c.if-not-edits_some.false) in
-    subst (λ (e : List Spot × List Part). IsHere edit_text IsSomeEdit c.args.bytes.now c.args.at e c.in_ok-added.end) (sym c.new-edit.ensures)
-    (both_here deleted added ((deleted.fits, added.fits), some) refl)
+    let some = subst EditsSome c.new-edit.ensures (c.edits_some.ensures.0 c.if-not-edits_some.false) in
+    rw c.new-edit.ensures (both_here deleted added ((deleted.fits, added.fits), some) refl)
 
 pub returns-in_err-deleted-clause-stops : goal.returns-in_err-deleted-clause-stops
-returns-in_err-deleted-clause-stops c = λ has.
-    stopped _ c.from_residual.result c.from_residual.ensures.1
-    (run_stop (spots_run has) c.args.bytes.now c.args.at 0 c.in_err-deleted.field-0.0 c.in_err-deleted.ensures.stops)
+returns-in_err-deleted-clause-stops c = λ has. stopped _ _ c.from_residual.ensures.1 (run_stop (spots_run has) _ _ 0 _ c.in_err-deleted.ensures.stops)
 
 pub returns-in_err-added-clause-stops : goal.returns-in_err-added-clause-stops
 returns-in_err-added-clause-stops c = λ has.
-    let bytes = c.args.bytes.now in
-    let behind = c.in_ok-deleted.behind in
-    let deleted = c.in_ok-deleted.deleted.items in
-    let f = c.in_err-added.field-0.0 in
-    stopped _ c.from_residual-in_err-added.result c.from_residual-in_err-added.ensures.1
-    (run_onto (spots_run has) bytes c.args.at behind deleted 0 c.in_ok-deleted.ensures.read f
-    (run_stop (adds_run has) bytes behind (0 + length deleted) f c.in_err-added.ensures.stops))
+    stopped _ _ c.from_residual-in_err-added.ensures.1
+    (run_onto (spots_run has) _ _ _ _ 0 c.in_ok-deleted.ensures.read _ (run_stop (adds_run has) _ _ _ _ c.in_err-added.ensures.stops))
 
 pub returns-then-not-edits_some-clause-stops : goal.returns-then-not-edits_some-clause-stops
 returns-then-not-edits_some-clause-stops c = λ has.
-    let deleted = c.in_ok-deleted.deleted.items in
-    let added = c.in_ok-added.added.items in
-    no_edit_stop has c.args.bytes.now c.args.at c.in_ok-deleted.behind c.in_ok-added.end deleted added c.requires c.in_ok-deleted.ensures.read
-    c.in_ok-added.ensures.read (λ some. one_result (c.edits_some.ensures.1 (subst EditsSome (sym c.new-edit.ensures) some)) c.if-not-edits_some.true)
+    no_edit_stop has _ _ _ _ _ _ c.requires c.in_ok-deleted.ensures.read c.in_ok-added.ensures.read
+    (λ some. one_result (c.edits_some.ensures.1 (subst EditsSome (sym c.new-edit.ensures) some)) c.if-not-edits_some.true)
 
 pub returns-clause-onto : goal.returns-clause-onto
 returns-clause-onto c = λ has f s.
-    let bytes = c.args.bytes.now in
-    let behind = c.in_ok-deleted.behind in
-    let deleted = c.in_ok-deleted.deleted.items in
-    let added = c.in_ok-added.added.items in
-    let some : EditsSome (deleted, added) = subst EditsSome c.new-edit.ensures (c.edits_some.ensures.0 c.if-not-edits_some.false) in
-    run_onto (spots_run has) bytes c.args.at behind deleted 0 c.in_ok-deleted.ensures.read f
-    (filled_onto (EntriesFrom has) (adds_run has) bytes behind c.in_ok-added.end added c.in_ok-added.ensures.read (0 + length deleted)
-    (omega (arith, some)) f s)
+    let some = subst EditsSome c.new-edit.ensures (c.edits_some.ensures.0 c.if-not-edits_some.false) in
+    run_onto (spots_run has) _ _ _ _ 0 c.in_ok-deleted.ensures.read f
+    (filled_onto (EntriesFrom has) (adds_run has) _ _ _ _ c.in_ok-added.ensures.read _ (omega (arith, some)) f s)

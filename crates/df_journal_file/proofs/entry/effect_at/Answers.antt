@@ -1,5 +1,4 @@
-use Rattle.df_journal_file.proofs.Names.{sym, ◌∙◌, inl, refl, subst, Reply, IsSomeEffectOf}
-use Rattle.df_unit.specs.declared.entry.Effect.TheVariants as effect
+use Rattle.df_journal_file.proofs.Names.{sym, ◌∙◌, inl, refl}
 use Rattle.df_journal_file.proofs.Places.{as_here, none_here}
 use Rattle.df_journal_file.proofs.Steps.{commit_onto, handed_onto, nothing_onto}
 use Rattle.df_journal_file.proofs.Ontos.{stopped}
@@ -14,32 +13,25 @@ returns-in_default-clause-read c = none_here c.requires (tt, tt) refl
 pub returns-clause-read : goal.returns-clause-read
 returns-clause-read c =
     let given = c.in_ok-given.ensures.read in
-    as_here given (subst (λ (r : Reply). IsSomeEffectOf r (effect.Given c.in_ok-given.given)) (sym c.in-Some.ensures.0.1)
-    ((given.fits.0, given.fits.1, given.fits.2), given.fits.3)) refl
+    as_here given (rw c.in-Some.ensures.0.1 ((given.fits.0, given.fits.1, given.fits.2), given.fits.3)) refl
 
 pub returns-in_err-commit-clause-stops : goal.returns-in_err-commit-clause-stops
 returns-in_err-commit-clause-stops c = λ has.
-    let marked = sym c.mark_stands.ensures ∙ c.if-mark_stands.true in
-    stopped _ c.from_residual.result c.from_residual.ensures.1 (commit_onto has c.args.bytes.now c.args.at c.args.reply.now marked c.in_err-commit.field-0.0
-    (c.in_err-commit.ensures.stops has (inl refl)))
+    stopped _ _ c.from_residual.ensures.1
+    (commit_onto _ _ _ _ (sym c.mark_stands.ensures ∙ c.if-mark_stands.true) _ (c.in_err-commit.ensures.stops has (inl refl)))
 
 pub returns-then-mark_stands-clause-onto : goal.returns-then-mark_stands-clause-onto
 returns-then-mark_stands-clause-onto c = λ has f s.
-    let marked = sym c.mark_stands.ensures ∙ c.if-mark_stands.true in
-    commit_onto has c.args.bytes.now c.args.at c.args.reply.now marked f (c.in_ok-commit.ensures.onto has (inl refl) f s)
+    commit_onto _ _ _ _ (sym c.mark_stands.ensures ∙ c.if-mark_stands.true) f (c.in_ok-commit.ensures.onto has (inl refl) f s)
 
 pub returns-in_default-clause-onto : goal.returns-in_default-clause-onto
-returns-in_default-clause-onto c = λ has.
-    nothing_onto has c.args.bytes.now c.args.at c.args.reply.now (sym c.mark_stands.ensures ∙ c.if-mark_stands.false) c.in_default.ensures
+returns-in_default-clause-onto c = λ has. nothing_onto has _ _ _ (sym c.mark_stands.ensures ∙ c.if-mark_stands.false) c.in_default.ensures
 
 pub returns-in_err-given-clause-stops : goal.returns-in_err-given-clause-stops
 returns-in_err-given-clause-stops c = λ has.
     let some = c.in-Some.ensures in
-    stopped _ c.from_residual-in_err-given.result c.from_residual-in_err-given.ensures.1
-    (handed_onto has c.args.bytes.now c.args.at c.args.reply.now (some.0.0, c.in-Some.sub, some.0.1) some.1
-    c.in_err-given.field-0.0 (c.in_err-given.ensures.stops has))
+    stopped _ _ c.from_residual-in_err-given.ensures.1 (handed_onto has _ _ _ (some.0.0, _, some.0.1) some.1 _ (c.in_err-given.ensures.stops has))
 
 pub returns-clause-onto : goal.returns-clause-onto
 returns-clause-onto c = λ has f s.
-    let some = c.in-Some.ensures in
-    handed_onto has c.args.bytes.now c.args.at c.args.reply.now (some.0.0, c.in-Some.sub, some.0.1) some.1 f (c.in_ok-given.ensures.onto has f s)
+    let some = c.in-Some.ensures in handed_onto has _ _ _ (some.0.0, _, some.0.1) some.1 f (c.in_ok-given.ensures.onto has f s)

@@ -6,9 +6,7 @@ use Rattle.df_journal_file.proofs.Ontos.{stopped}
 use Rattle.df_journal_file.proofs.entry.entry_at.Goals as goal
 
 pub returns-clause-read : goal.returns-clause-read
-returns-clause-read c =
-    let read = c.in_ok-commit.ensures.read in
-    as_here read (emitted_whole c.args.has_notes c.in_ok-commit.commit read.fits) refl
+returns-clause-read c = as_here c.in_ok-commit.ensures.read (emitted_whole _ _ c.in_ok-commit.ensures.read.fits) refl
 
 pub returns-clause-onward : goal.returns-clause-onward
 returns-clause-onward c = c.in_ok-commit.ensures.onward
@@ -27,11 +25,9 @@ returns-then-not-byte_stands-clause-stops c = λ none. c.done_at.ensures.stops (
 
 pub returns-in_err-commit-clause-stops : goal.returns-in_err-commit-clause-stops
 returns-in_err-commit-clause-stops c = λ none.
-    let marked = sym c.byte_stands.ensures ∙ c.if-not-byte_stands.false in
-    stopped _ c.from_residual.result c.from_residual.ensures.1 (emitted_onto c.args.has_notes c.args.bytes.now c.args.at marked c.in_err-commit.field-0.0
-    (c.in_err-commit.ensures.stops c.args.has_notes (inr refl)))
+    stopped _ _ c.from_residual.ensures.1
+    (emitted_onto _ _ _ (sym c.byte_stands.ensures ∙ c.if-not-byte_stands.false) _ (c.in_err-commit.ensures.stops _ (inr refl)))
 
 pub returns-clause-onto : goal.returns-clause-onto
 returns-clause-onto c = λ f s.
-    let marked = sym c.byte_stands.ensures ∙ c.if-not-byte_stands.false in
-    emitted_onto c.args.has_notes c.args.bytes.now c.args.at marked f (c.in_ok-commit.ensures.onto c.args.has_notes (inr refl) f s)
+    emitted_onto _ _ _ (sym c.byte_stands.ensures ∙ c.if-not-byte_stands.false) f (c.in_ok-commit.ensures.onto _ (inr refl) f s)

@@ -5,13 +5,11 @@ use Rattle.df_journal_file.proofs.file.version_whole.Goals as goal
 
 pub returns-in_err-version-clause-stops : goal.returns-in_err-version-clause-stops
 returns-in_err-version-clause-stops g c =
-    stopped _ c.from_residual.result c.from_residual.ensures.1
-    (text_stop (Some c.args.has_notes) c.args.bytes.now c.in_err-version.field-0.0 c.in_err-version.ensures.stops)
+    stopped _ _ c.from_residual.ensures.1 (text_stop (Some c.args.has_notes) _ _ c.in_err-version.ensures.stops)
 
 pub returns-then-version-has_notes-clause-stops : goal.returns-then-version-has_notes-clause-stops
 returns-then-version-has_notes-clause-stops g c =
-    other_stop c.args.has_notes c.in_ok-version.version ((same_version c.in_ok-version.version c.args.has_notes).0 c.if-version-has_notes.true)
-    c.args.bytes.now c.in_ok-version.at c.in_ok-version.ensures.read
+    other_stop _ _ ((same_version _ _).0 c.if-version-has_notes.true) _ _ c.in_ok-version.ensures.read
 
 pub journal_at-requires : goal.journal_at-requires
 journal_at-requires g c =

@@ -14,7 +14,7 @@ pub returns-in_err-noted-clause-stops : goal.returns-in_err-noted-clause-stops
 returns-in_err-noted-clause-stops c =
     let stops = c.in_err-noted.ensures.stops (λ ends. let no : true ≡ false = sym (c.is_end.ensures.1 ends) ∙ c.if-is_end.false in cc) in
     subst (λ (v : CursorState). IfErr c.from_residual.result (StopsIn (EntriesFrom v.has_notes) v.bytes v.place)) c.self.view_is
-    (stopped _ c.from_residual.result c.from_residual.ensures.1 stops)
+    (stopped _ _ c.from_residual.ensures.1 stops)
 
 pub returns-clause-next : goal.returns-clause-next
 returns-clause-next c = λ roots notes h.
