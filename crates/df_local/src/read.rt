@@ -1,6 +1,6 @@
 //! Reading the parts of a handle.
 
-ghost use Rattle.std.specs.Prelude.{◌≡◌, ◌++◌, [], IfOk, OnErr, OnOk};
+ghost use Rattle.std.specs.Prelude.{◌≡◌, ◌++◌, [], IfOk, IsTrue, OnErr, OnOk};
 ghost use Rattle.df_unit.specs.Rows.{reply};
 ghost use Rattle.df_unit.specs.declared.call.Call.{Call};
 ghost use Rattle.df_local.specs.Locally.{Answers, with_own};
@@ -57,12 +57,27 @@ impl Local {
         let Reply::Parts(shown) = reply else {
             return Ok(());
         };
+        if bear_none(shown.as_slice()) {
+            return Ok(());
+        }
         let all = match privileges_of(self.alloc, shown.as_slice()) {
             Ok(all) => all,
             Err(refused) => return Err(refused),
         };
         self.held.grant_all(all)
     }
+}
+
+/// Whether nothing of what is shown bears a privilege.
+fn bear_none(shown: &[PartRead]) -> bool
+    ensures { IsTrue result → privileges_of shown.now ≡ [] }
+{
+    for part in shown {
+        if !part.privileges.as_slice().is_empty() {
+            return false;
+        }
+    }
+    true
 }
 
 /// The privileges of what is shown, in order.
