@@ -1,12 +1,10 @@
 -- Tests of fields are read as they are spelled.
-use Rattle.df_filter_text.proofs.Names.{◌≡◌, ℕ, Bool, false, eqb, List, [], ◌∷◌, ◌++◌, Option, Some, None, drop, refl, sym, ap, subst, ◌∙◌, arith, ◌⊎◌, inl, inr, ℤ, pos, negsuc, is_ascii_digit, nat_tests, Begins, either_at, then_at, closed_at, Format, never, ends_never, then_second_format, then_goes, behind_format, closed_format, nowhere, nowhere_is_local, Of, made, told_as, either_of, FieldTest, then_spell, ThenFits, field_test_text, IsFieldTest}
+use Rattle.df_filter_text.proofs.Names.{◌≡◌, ℕ, Bool, false, eqb, List, [], ◌∷◌, ◌++◌, Option, Some, None, drop, refl, sym, ap, subst, ◌∙◌, arith, ◌⊎◌, inl, inr, ℤ, pos, negsuc, is_ascii_digit, nat_tests, Begins, either_at, then_at, closed_at, Format, ends_never, then_second_format, then_goes, behind_format, closed_format, nowhere, nowhere_is_local, Of, made, told_as, either_of, FieldTest, then_spell, ThenFits, field_test_text, IsFieldTest}
 use Rattle.std.specs.Prelude.{IsUtf8}
 use Rattle.std.specs.Fmt.{signed_decimal}
 use Rattle.std.proofs.lemmas.Str.{IsUtf8-nil}
 use Rattle.df_value_text.specs.ReadWhole.{IsWhole, whole_at}
-use Rattle.df_value_text.specs.ReadWords.{words_at}
 use Rattle.df_filter.specs.declared.field_test.FieldTest.TheVariants.{IntEq, IntLess, IntMore, IntIn, TextEq, TextPrefix}
-use Rattle.df_value_text.specs.Value.{words_text}
 use Rattle.df_value_text.proofs.NumberLaws.{no_digit_begins}
 use Rattle.df_value_text.proofs.WholeLaws.{whole_goes, whole_format}
 use Rattle.df_value_text.proofs.WordsLaws.{words_format}
@@ -42,9 +40,6 @@ field_test_goes t c = goes_last (last_number t) c
 pub zero_fits : IsWhole (pos 0)
 zero_fits = omega arith
 
-words_law : Format nowhere words_text IsUtf8 never words_at
-words_law = words_format nowhere nowhere_is_local
-
 whole_law : Format nowhere signed_decimal IsWhole whole_goes whole_at
 whole_law = whole_format nowhere nowhere_is_local
 
@@ -62,7 +57,7 @@ behind_sign t = drop 1 (field_test_text t)
 
 equal_law : Format nowhere behind_sign IsEqual field_test_goes (either_at (λ c. eqb c 34) words_equal_at whole_equal_at)
 equal_law =
-    either_of (λ c. eqb c 34) (made (λ text. TextEq text) words_law (λ text h. refl) (λ text c h. refl))
+    either_of (λ c. eqb c 34) (made (λ text. TextEq text) words_format (λ text h. refl) (λ text c h. refl))
     (made (λ n. IntEq n) whole_law (λ z h. refl) (λ z c h. refl))
     (λ t h. record { first = 34; others = _; is = ap behind_sign (sym h.2); test = refl })
     (λ t h. let b = begins_whole h.0 h.1 in record { first = b.first; others = b.others; is = ap behind_sign (sym h.2) ∙ b.is; test = b.test })
@@ -97,7 +92,7 @@ range_kind : Kind field_test_text field_test_goes (58 ∷ []) (Of range_of (Then
 range_kind = signed 58 range_of (pos 0, pos 0) (zero_fits, zero_fits) ends_law (λ ends h. refl) (λ ends c h. refl)
 
 prefix_kind : Kind field_test_text field_test_goes (94 ∷ []) (Of (λ text. TextPrefix text) IsUtf8) prefix_at
-prefix_kind = signed 94 (λ text. TextPrefix text) [] IsUtf8-nil words_law (λ text h. refl) (λ text c h. refl)
+prefix_kind = signed 94 (λ text. TextPrefix text) [] IsUtf8-nil words_format (λ text h. refl) (λ text c h. refl)
 
 -- ---- each of them
 

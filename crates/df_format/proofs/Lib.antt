@@ -5,7 +5,6 @@ pub mod Joins
 pub mod Choices
 pub mod ItemSteps
 pub mod Items
-pub mod Ones
 pub mod Backs
 pub mod Tokens
 pub mod Longest

@@ -1,11 +1,10 @@
 -- Laws by kind of token. A reader that stops at no low place keeps its laws whatever is low.
 use Rattle.std.proofs.Common.{◌≡◌, ℕ, Bool, true, false, cond, List, [], ◌∷◌, ◌++◌, Option, Some, None, Ok, Err, refl, sym, ap, subst, ◌∙◌, inl, inr}
-use Rattle.df_format.specs.Reading.{Stop, Bad, Read, ◌>>=◌, as_at, text_at, behind_at, closed_at, one_at}
+use Rattle.df_format.specs.Reading.{Stop, Bad, Read, ◌>>=◌, as_at, text_at, behind_at, closed_at, decoded, one_at}
 use Rattle.df_format.specs.Grammar.{CanGoOn}
 use Rattle.df_format.specs.Format.{Ends, Found, Stuck, IsLocal, Format}
 use Rattle.df_format.proofs.Laws.{ok_is, err_is, not_both, bind_ok, bind_err, chosen, never, ends_never, can_behind, can_go_on, no_first, stuck_at, stuck_first, stuck_as, stuck_behind}
 use Rattle.df_format.proofs.Joins.{viewed, alike_format, same_read, behind_format, closed_format}
-use Rattle.df_format.proofs.Ones.{one_format}
 
 -- ---- no low place
 
@@ -199,12 +198,13 @@ itself c = c ∷ []
 abbrev pub passing : (ℕ → Bool) → ℕ → Option ℕ
 passing test c = cond (test c) (Some c) None
 
-passing_back : (test : ℕ → Bool) (c x : ℕ) → passing test c ≡ Some x → (c ≡ x) × (test x ≡ true)
-passing_back test c x e = by (test c) refl e
-  where
-    by : (b : Bool) → test c ≡ b → cond b (Some c) None ≡ Some x → (c ≡ x) × (test x ≡ true)
-    by false h e = absurd cc
-    by true h e = let same : c ≡ x = cc in (same, ap test (sym same) ∙ h)
+passing_first : (test : ℕ → Bool) (bytes : List ℕ) → first_at test (λ c cs. (c, cs)) bytes ≡ one_at (passing test) bytes
+passing_first test [] = refl
+passing_first test (c ∷ cs) =
+    elim (test c) as (λ b. cond b (Ok (c, cs)) (Err (Bad (c ∷ cs))) ≡ decoded (cond b (Some c) None) c cs) [ true ↦ refl | false ↦ refl ]
 
 pub passing_format : (test : ℕ → Bool) → Format nowhere itself (λ c. test c ≡ true) never (one_at (passing test))
-passing_format test = one_format nowhere (λ c. c) (λ c. test c ≡ true) (passing test) (record { back = passing_back test; again = λ x fits. rw fits refl })
+passing_format test =
+    first_format itself (λ c. test c ≡ true) never (one_at (passing test)) test (λ c cs. (c, cs)) (passing_first test)
+    (λ c cs h. record { parts = refl; fits = h; ends = ends_never c cs }) (λ c rest fits ends. rw fits refl)
+    (λ c t fits g. absurd (let no : false ≡ true = g in cc))

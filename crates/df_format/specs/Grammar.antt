@@ -1,5 +1,5 @@
 -- A grammar is the image of a spelling: its texts are what is spelled of the things that fit.
-use Rattle.std.specs.Prelude.{◌≡◌, ◌≤◌, length, List, [], ◌∷◌, ◌++◌, Option, Some}
+use Rattle.std.specs.Prelude.{◌≡◌, ◌≤◌, length, List, [], ◌∷◌, ◌++◌}
 
 -- some text begins so
 pub record CanGoOn {T X : Type 0} (spell : X → List T) (Fits : X →
@@ -31,9 +31,3 @@ pub record FirstBad {T X : Type 0} (spell : X → List T) (Fits : X →
   pub parts : tokens ≡ front ++ rest
   pub viable : CanGoOn spell Fits front
   pub dead : (t : T) (tail : List T) → rest ≡ t ∷ tail → CanGoOn spell Fits (front ++ t ∷ []) → ⊥
-
--- a token is decoded as a whole: decoding and spelling undo each other
-pub record Decodes {T X : Type 0} (token : X → T) (Fits : X → Type 0) (decode : T →
-    Option X) : Type 0 where
-  pub back : (t : T) (x : X) → decode t ≡ Some x → (t ≡ token x) × Fits x
-  pub again : (x : X) → Fits x → decode (token x) ≡ Some x

@@ -10,10 +10,6 @@ abbrev pub maybe_spell : {T X : Type 0} → (X → List T) → Option X → List
 maybe_spell spell None = []
 maybe_spell spell (Some x) = spell x
 
--- one token
-abbrev pub one_spell : {T X : Type 0} → (X → T) → X → List T
-one_spell token x = token x ∷ []
-
 -- items, each behind sep
 abbrev pub more_spell : {T X : Type 0} → T → (X → List T) → List X → List T
 more_spell sep spell [] = []

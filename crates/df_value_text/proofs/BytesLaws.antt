@@ -1,5 +1,5 @@
 -- Bytes are read as they are spelled.
-use Rattle.df_value_text.proofs.Names.{◌≡◌, ℕ, ◌+◌, ◌*◌, ◌/◌, ◌%◌, ◌<◌, Bool, true, false, cond, List, [], ◌∷◌, ◌++◌, Some, None, Ok, Err, refl, append_assoc, arith, codes, flat_map, nat_tests, Bad, Read, ◌>>=◌, decoded, one_at, CanGoOn, IsLocal, Format, never, same_read, nowhere, nowhere_is_local, any_low, enclosed, itself, passing, passing_format, chain_at, chain_format, Links, each_format, hex, hex_digit, is_hex, hex_byte, pairs_at, bytes_at, AreBytes, Each, two_at, hex_value}
+use Rattle.df_value_text.proofs.Names.{◌≡◌, ℕ, ◌+◌, ◌*◌, ◌/◌, ◌%◌, ◌<◌, Bool, true, false, cond, List, [], ◌∷◌, ◌++◌, Some, None, Ok, Err, refl, append_assoc, arith, codes, flat_map, nat_tests, Bad, Read, ◌>>=◌, decoded, one_at, CanGoOn, Format, never, same_read, nowhere, nowhere_is_local, enclosed, itself, passing, passing_format, chain_at, chain_format, Links, each_format, hex, hex_digit, is_hex, hex_byte, pairs_at, bytes_at, AreBytes, Each, two_at, hex_value}
 
 abbrev pub pairs_text : List ℕ → List ℕ
 pairs_text bytes = flat_map hex bytes
@@ -93,6 +93,5 @@ pairs_format = each_format pairs_each
 abbrev pub bytes_text : List ℕ → List ℕ
 bytes_text bytes = codes "x\"" ++ flat_map hex bytes ++ codes "\""
 
-pub bytes_format : (IsLow : List ℕ → List ℕ → Type 0) → IsLocal IsLow → Format IsLow bytes_text AreBytes never bytes_at
-bytes_format IsLow moved =
-    any_low IsLow (enclosed nowhere_is_local (120 ∷ 34 ∷ []) 34 [] tt (λ bytes fits. refl) (λ bytes fits. simp append_assoc) pairs_format)
+pub bytes_format : Format nowhere bytes_text AreBytes never bytes_at
+bytes_format = enclosed nowhere_is_local (120 ∷ 34 ∷ []) 34 [] tt (λ bytes fits. refl) (λ bytes fits. simp append_assoc) pairs_format

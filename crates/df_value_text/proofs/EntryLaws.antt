@@ -93,21 +93,15 @@ LevelFits n p = IsSpelled p × (nest p ≤ n)
 
 -- ---- lists, item by item
 
-items_follow : (n : ℕ) (prev : Plain) (ps : List Plain) → Follow (λ prev. LevelFits n) prev ps → AreSpelled (from_list ps) × (items_nest (from_list ps) ≤ n)
-items_follow n prev [] h = (tt, omega arith)
-items_follow n prev (p ∷ ps) h = let r = items_follow n p ps h.1 in ((h.0.0, r.0), omega (arith, h.0.1, r.1))
-
 pub items_to : (n : ℕ) (ps : List Plain) → Chain (LevelFits n) (λ prev. LevelFits n) ps → AreSpelled (from_list ps) × (items_nest (from_list ps) ≤ n)
 items_to n [] h = (tt, omega arith)
-items_to n (p ∷ ps) h = items_follow n p (p ∷ ps) h
-
-list_follow : (n : ℕ) (prev : Plain) (ps : List Plain) → AreSpelled (from_list ps) → items_nest (from_list ps) ≤ n → Follow (λ prev. LevelFits n) prev ps
-list_follow n prev [] h k = tt
-list_follow n prev (p ∷ ps) h k = ((h.0, omega (arith, k)), list_follow n p ps h.1 (omega (arith, k)))
+items_to n (p ∷ []) h = ((h.0.0, tt), omega (arith, h.0.1))
+items_to n (p ∷ q ∷ ps) h = let r = items_to n (q ∷ ps) h.1 in ((h.0.0, r.0), omega (arith, h.0.1, r.1))
 
 pub list_chain : (n : ℕ) (ps : List Plain) → AreSpelled (from_list ps) → items_nest (from_list ps) ≤ n → Chain (LevelFits n) (λ prev. LevelFits n) ps
 list_chain n [] h k = tt
-list_chain n (p ∷ ps) h k = list_follow n p (p ∷ ps) h k
+list_chain n (p ∷ []) h k = ((h.0, omega (arith, k)), tt)
+list_chain n (p ∷ q ∷ ps) h k = ((h.0, omega (arith, k)), list_chain n (q ∷ ps) h.1 (omega (arith, k)))
 
 items_list : (ps : Plains) → (list : List Plain) × (from_list list ≡ ps)
 items_list no_items = ([], refl)

@@ -97,12 +97,10 @@ bad_longer text (c ∷ here) behind lt bad = record {
 
 -- a name that begins here ends in front of what stands behind
 name_inside : (here behind name tail : List ℕ) → (behind ≡ []) ⊎ (32 ≤ length here) → IsName name → here ++ behind ≡ name ++ tail → length behind ≤ length tail
-name_inside here behind name tail room fits e = shorter room (name_size name fits).1
-    (sym (length-append here behind) ∙ ap (λ (u : List ℕ). length u) e ∙ length-append name tail)
-  where
-    shorter : (behind ≡ []) ⊎ (32 ≤ length here) → length name ≤ 32 → length here + length behind ≡ length name + length tail → length behind ≤ length tail
-    shorter (inl none) few sizes = omega (arith, ap (λ (u : List ℕ). length u) none)
-    shorter (inr many) few sizes = omega (arith, many, few, sizes)
+name_inside here behind name tail room fits e =
+    let few = (name_size name fits).1 in
+    let sizes = sym (length-append here behind) ∙ ap (λ (u : List ℕ). length u) e ∙ length-append name tail in
+    elim room [ inl none ↦ omega (arith, ap (λ (u : List ℕ). length u) none) | inr many ↦ omega (arith, many, few, sizes) ]
 
 pub record Inside (here behind name tail : List ℕ) : Type 0 where
   pub more : List ℕ

@@ -52,8 +52,8 @@ scalar_opens p (inr h) = opens_of 34 false (λ z k. int_opens 34 (inl (omega ari
 
 leaf_format : Format LowWithin value_text IsLeaf value_goes leaf_at
 leaf_format =
-    any_low LowWithin (either_of (λ c. eqb c 34) (made words (words_format nowhere nowhere_is_local) (λ s h. refl) (λ s c h. refl))
-    (either_of (λ c. eqb c 120) (made bytes (bytes_format nowhere nowhere_is_local) (λ s h. refl) (λ s c h. refl))
+    any_low LowWithin (either_of (λ c. eqb c 34) (made words words_format (λ s h. refl) (λ s c h. refl))
+    (either_of (λ c. eqb c 120) (made bytes bytes_format (λ s h. refl) (λ s c h. refl))
     (made int (whole_format nowhere nowhere_is_local) (λ z h. refl) (λ z c h. refl))
     (opens_of 120 true (λ s k. bytes_open 120 true s refl)) (opens_of 120 false (int_opens 120 (inr (omega arith)))))
     (opens_of 34 true (λ s k. words_open 34 true s refl)) scalar_opens)

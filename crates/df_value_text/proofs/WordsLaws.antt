@@ -1,5 +1,5 @@
 -- Words and their characters are read as they are spelled.
-use Rattle.df_value_text.proofs.Names.{◌≡◌, ℕ, ◌/◌, ◌%◌, ◌<◌, Bool, true, false, cond, eqb, List, [], ◌∷◌, refl, arith, ◌⊎◌, inl, inr, nat_tests, one_at, Format, told, never, behind_format, nowhere, nowhere_is_local, told_as, either_of, itself, passing, passing_format, Links, hex, hex_digit, escaped, is_hex, hex_byte, is_quoted, is_control, is_plain, escape_at, ascii_at, zero, suc, ◌≤◌, nat_lt, ◌++◌, sym, ap, subst, ◌∙◌, flat_map, scalar, low_scalar, append-nil, CanGoOn, Begins, Of, made, is_lead, trail_length, least_second, most_second, char_at, begins_char, is_high, is_low, control_at, alone, Ok, append_assoc, IsUtf8, AllByRecursion, concat, scalars, encodes, and_parts, flat_map-append, IsLocal, any_low, viewed, enclosed, each_format, chars_at, words_at, Each, words_text}
+use Rattle.df_value_text.proofs.Names.{◌≡◌, ℕ, ◌/◌, ◌%◌, ◌<◌, Bool, true, false, cond, eqb, List, [], ◌∷◌, refl, arith, ◌⊎◌, inl, inr, nat_tests, one_at, Format, told, never, behind_format, nowhere, nowhere_is_local, told_as, either_of, itself, passing, passing_format, Links, hex, hex_digit, escaped, is_hex, hex_byte, is_quoted, is_control, is_plain, escape_at, ascii_at, zero, suc, ◌≤◌, nat_lt, ◌++◌, sym, ap, subst, ◌∙◌, flat_map, scalar, low_scalar, append-nil, CanGoOn, Begins, Of, made, is_lead, trail_length, least_second, most_second, char_at, begins_char, is_high, is_low, control_at, alone, Ok, append_assoc, IsUtf8, AllByRecursion, concat, scalars, encodes, and_parts, flat_map-append, viewed, enclosed, each_format, chars_at, words_at, Each, words_text}
 use Rattle.df_value_text.proofs.BytesLaws.{pair_back, byte_back, two_format}
 use Rattle.std.proofs.Math.Utf8.{encode}
 use Rattle.std.proofs.lemmas.Str.{encode_ascii}
@@ -301,6 +301,5 @@ chars_utf8 bytes text rest e = (chars_format.found bytes text rest e).fits
 
 -- ---- in quotes
 
-pub words_format : (IsLow : List ℕ → List ℕ → Type 0) → IsLocal IsLow → Format IsLow words_text IsUtf8 never words_at
-words_format IsLow moved = any_low IsLow (enclosed nowhere_is_local (34 ∷ []) 34 [] ([], (refl, refl)) (λ text fits. refl)
-    (λ text fits. simp append_assoc) chars_format)
+pub words_format : Format nowhere words_text IsUtf8 never words_at
+words_format = enclosed nowhere_is_local (34 ∷ []) 34 [] ([], (refl, refl)) (λ text fits. refl) (λ text fits. simp append_assoc) chars_format
