@@ -14,10 +14,10 @@ pub line_found : (bytes : List ℕ) (at root end next : ℕ) (call : Call) (word
     words next
 line_found bytes at root end next call words feed inside last found e =
     let fed : drop end bytes ≡ 10 ∷ drop next bytes = (text_found (10 ∷ []) (drop end bytes) feed (drop next bytes) e).1 in
-    let text : drop at bytes ≡ words ++ 10 ∷ drop next bytes = found.stands ∙ ap (λ (u : List ℕ). words ++ u) fed in
-    let size : length (drop at bytes) ≡ length words + length (10 ∷ drop next bytes) = ap length text ∙ length-append words (10 ∷ drop next bytes) in
+    let text = found.stands ∙ ap (λ (u : List ℕ). words ++ u) fed in
+    let size = ap length text ∙ length-append words (10 ∷ drop next bytes) in
+    let none = subst (Avoids 10) (sym found.spelled) (Avoids-call (root_call root call) found.fits) in
     let further : at < next = omega (arith, size, length-drop at bytes, length-drop next bytes, inside, last) in
-    let none : Avoids 10 words = subst (Avoids 10) (sym found.spelled) (Avoids-call (root_call root call) found.fits) in
     record { fits = found.fits; spelled = found.spelled; line = (none, further, last, text) }
 
 -- one more call of a root

@@ -127,12 +127,9 @@ roots_before bytes at rs place i a =
 pub start_before : (bytes : List ℕ) (at : ℕ) (rs : List RootStart) (mid : ℕ) → IsFirstAt bytes at → AreRootsAt bytes at rs mid
     → bytes ≡ script_text rs [] ++ drop mid bytes
 start_before bytes at rs mid i r =
-    let heads : List (List ℕ) = head_lines rs in
-    let behind : List ℕ = drop mid bytes in
     roots_before bytes at rs r.place i r.passed
-    ∙ ap (λ (u : List ℕ). lines_text heads ++ u) r.run
-    ∙ sym (append_assoc (lines_text heads) (ended run) behind)
-    ∙ ap (λ (u : List ℕ). u ++ behind) (sym (flat_map-append ended heads (run ∷ [])) ∙ sym (script_text-lines rs []))
+    ∙ ap (λ (u : List ℕ). lines_text (head_lines rs) ++ u) r.run ∙ sym (append_assoc (lines_text (head_lines rs)) (ended run) (drop mid bytes))
+    ∙ ap (λ (u : List ℕ). u ++ drop mid bytes) (sym (flat_map-append ended (head_lines rs) (run ∷ [])) ∙ sym (script_text-lines rs []))
 
 -- ---- the grammar
 

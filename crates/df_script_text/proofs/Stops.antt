@@ -108,8 +108,7 @@ call_stop bytes rs ls place here bad h is some stop =
     bad_at IsCallLine bytes (script_lines (rs, ls)) place here bad h.inside (h.text ∙ ap (λ (u : List ℕ). u ++ drop place bytes) (script_text-lines rs ls))
     is stop (AreLines-script rs ls h.script.0.0 h.script.0.1 h.script.1) (rs, ls) h.script [] (sym (append-nil (script_lines (rs, ls))))
     (λ x f rest e.
-    let both : script_lines x ≡ head_lines rs ++ run ∷ (map call_line ls ++ bad ∷ rest) =
-    e ∙ append_assoc (head_lines rs) (run ∷ map call_line ls) (bad ∷ rest) in
+    let both = e ∙ append_assoc (head_lines rs) (run ∷ map call_line ls) (bad ∷ rest) in
     let tail : numbered root_text 0 x.0 ++ run ∷ map call_line x.1 ≡ numbered root_text 0 rs ++ run ∷ (map call_line ls ++ bad ∷ rest) = cc in
     next_call 0 rs x.0 ls x.1 bad rest (recursion_from_All IsScriptLine x.1 f.1) tail)
     (λ none x f e. omega (arith, some, ap length none, length-drop place bytes))

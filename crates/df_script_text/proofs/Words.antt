@@ -31,18 +31,12 @@ each_passes p q f (b ∷ bs) h = let t = and_parts (p b) (list_all p bs) h in rw
 digit_above : (d : ℕ) → is_ascii_digit d ≡ true → nat_lt 32 d ≡ true
 digit_above d h = grind (arith, nat_tests)
 
-name_byte_above : (b : ℕ) → is_name_byte b ≡ true → nat_lt 32 b ≡ true
-name_byte_above b h = grind (arith, nat_tests)
-
 letter_above : (b : ℕ) → is_letter b ≡ true → nat_lt 32 b ≡ true
 letter_above b h = grind (arith, nat_tests)
 
 -- digits are a word
 is_word-digits : (ds : List ℕ) → all_ascii_digits ds ≡ true → is_word ds ≡ true
-is_word-digits [] h = refl
-is_word-digits (d ∷ ds) h =
-    let p = and_parts (is_ascii_digit d) (all_ascii_digits ds) h in
-    rw (digit_above d p.0, is_word-digits ds p.1) refl
+is_word-digits ds h = each_passes is_ascii_digit (λ b. nat_lt 32 b) digit_above ds h
 
 -- digits and their value, as std reads them
 digits_model : IsNumeralModel (λ ds. all_ascii_digits ds ≡ true) (digits_value 10)
@@ -63,7 +57,7 @@ is_word-name [] h = refl
 is_word-name (b ∷ bs) h =
     let p = and_parts (is_letter b) _ h in
     let q = and_parts _ (list_all is_name_byte bs) p.1 in
-    rw (letter_above b p.0, each_passes is_name_byte (λ b. nat_lt 32 b) name_byte_above bs q.1) refl
+    rw (letter_above b p.0, each_passes is_name_byte (λ b. nat_lt 32 b) (λ b h. grind (arith, nat_tests)) bs q.1) refl
 
 -- two words in a row are a word
 pub is_word-append : (xs ys : List ℕ) → is_word xs ≡ true → is_word ys ≡ true → is_word (xs ++ ys) ≡ true
