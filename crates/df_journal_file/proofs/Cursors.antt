@@ -56,12 +56,10 @@ module _ (has : Bool) (bytes : List ℕ) where
   passed_lines roots notes noted place lines p whole spelled short is =
       let inside = p.inside in
       let within : place + length lines ≤ length bytes = omega (arith, inside, short, length-drop place bytes) in
-      let stands : drop place bytes ≡ lines ++ drop (length lines) (drop place bytes) = (starts_is Decides-eqb (drop place bytes) lines true is).0 refl in
-      let next = place + length lines in
-      let rest = drop next bytes in
-      let lie : drop place bytes ≡ lines ++ rest = stands ∙ ap (λ (u : List ℕ). lines ++ u) (drop-drop (length lines) place bytes) in
-      let here : drop place bytes ≡ noted_text noted ++ rest = lie ∙ ap (λ (u : List ℕ). u ++ rest) spelled in
-      passed_on roots notes noted place next p (record { fits = whole; onward = omega arith; inside = within; parts = here })
+      let stands = (starts_is Decides-eqb (drop place bytes) lines true is).0 refl in
+      let lie = stands ∙ ap (λ (u : List ℕ). lines ++ u) (drop-drop (length lines) place bytes) in
+      let here = lie ∙ ap (λ (u : List ℕ). u ++ drop (place + length lines) bytes) spelled in
+      passed_on roots notes noted place _ p (record { fits = whole; onward = omega arith; inside = within; parts = here })
 
 -- where an end stands, what was read is the whole journal
 pub all_read : (has : Bool) (bytes : List ℕ) (roots : List RootStart) (notes : List Noted) (place : ℕ)

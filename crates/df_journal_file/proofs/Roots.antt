@@ -95,8 +95,7 @@ module _ (has : Bool) where
   -- behind both
   pub roots_onto : (bytes : List ℕ) (at : ℕ) (rs : List RootStart) (end : ℕ) → AreRootsAt bytes at rs end → Onto (From 0) bytes at (EntriesFrom has) end
   roots_onto bytes at rs end r = λ f s.
-      passed_onto bytes at rs r.place r.passed f
-      (run_onto (0 + length rs) bytes r.place end (omega (arith, r.passed.few)) r.run f s)
+      passed_onto _ _ rs r.place r.passed f (run_onto (0 + length rs) _ r.place end (omega (arith, r.passed.few)) r.run f s)
 
   -- ---- where reading roots stops
 
@@ -131,8 +130,7 @@ module _ (has : Bool) where
   -- a line that is none of them is bad
   root_stop : (n : ℕ) → n < 2 ^ 32 → (bytes : List ℕ) (at : ℕ) → at ≤ length bytes → (f : FileFault) → StopsRoot n bytes at f → StopsIn (From n) bytes at f
   root_stop n few bytes at inside stop.NoMemory s = tt
-  root_stop n few bytes at inside (stop.Bad place) s =
-      bad_here (From n) (IsHeadLine n) bytes at inside (head_some n few) (λ u same h. head_goes n u h) (head_small n) place s
+  root_stop n few bytes at inside (stop.Bad place) s = bad_here _ _ _ at inside (head_some n few) (λ u same h. head_goes n u h) (head_small n) place s
   root_stop n few bytes at inside (stop.TooLarge place) s = absurd s
 
   -- behind roots too

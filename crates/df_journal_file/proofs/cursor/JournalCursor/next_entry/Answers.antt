@@ -5,10 +5,8 @@ use Rattle.df_journal_file.proofs.cursor.JournalCursor.next_entry.Goals as goal
 
 pub returns-then-is_end-clause-next : goal.returns-then-is_end-clause-next
 returns-then-is_end-clause-next c = λ roots notes h.
-    let at = c.self.inside in
-    let read = subst (HasPassed roots notes) (sym c.self.view_is) h in
     subst (λ (v : CursorState). IsJournalOf (journal_by v.has_notes roots notes) v.bytes) c.self.view_is
-    (all_read at.has_notes at.bytes.now roots notes at.place read (c.is_end.ensures.0 c.if-is_end.true))
+    (all_read _ _ roots notes _ (subst (HasPassed roots notes) (sym c.self.view_is) h) (c.is_end.ensures.0 c.if-is_end.true))
 
 pub returns-in_err-noted-clause-stops : goal.returns-in_err-noted-clause-stops
 returns-in_err-noted-clause-stops c =
@@ -18,6 +16,4 @@ returns-in_err-noted-clause-stops c =
 
 pub returns-clause-next : goal.returns-clause-next
 returns-clause-next c = λ roots notes h.
-    let at = c.self.inside in
-    let read = subst (HasPassed roots notes) (sym c.self.view_is) h in
-    passed_on at.has_notes at.bytes.now roots notes c.in_ok-noted.noted at.place c.in_ok-noted.next read c.in_ok-noted.ensures.read
+    passed_on _ _ roots notes _ _ _ (subst (HasPassed roots notes) (sym c.self.view_is) h) c.in_ok-noted.ensures.read
