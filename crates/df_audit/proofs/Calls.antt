@@ -1,27 +1,10 @@
 -- Entries of calls that are made and spelled.
-use Rattle.std.proofs.Common.{◌≡◌, ℕ, ◌+◌, ◌<◌, ◌^◌, Bool, true, false, List, [], ◌∷◌, ◌++◌, Option, None, IfSome, codes, length, take, drop, refl, ap, sym, subst, ◌∙◌, arith, append-nil, length-append}
-use Rattle.std.specs.List.{flat_map}
-use Rattle.std.proofs.lemmas.List.{drop-append-le, drop_all, take-append-le, take_all}
-use Rattle.df_label.specs.declared.label.Label.{Label}
-use Rattle.df_machine.specs.Journal.{State, answer_in, contamination_in, firsts}
-use Rattle.df_machine.specs.Tables.{IsStep, place_in}
-use Rattle.df_machine.specs.declared.tables.Tables.{Tables}
-use Rattle.df_replay.specs.Noted.{past_of}
+use Rattle.df_audit.proofs.Names.{◌≡◌, ℕ, ◌+◌, ◌<◌, ◌^◌, Bool, true, false, List, [], ◌∷◌, ◌++◌, Option, None, IfSome, codes, length, take, drop, refl, ap, sym, subst, ◌∙◌, arith, append-nil, length-append, flat_map, drop-append-le, drop_all, take-append-le, take_all, Label, State, answer_in, contamination_in, firsts, IsStep, place_in, Tables, past_of, answered, rows, RootStart, Call, Effect, Done, Noted, Root, Reply, effect_text, entry_text, note_text, noted_text, reads_text, CursorState, HasPassed, AppendsCall, IsNoteIn, IsReadCall, left_in, noted_call, stays_in, IsSoFar, PassesOne, TakesOne, wanted_of, Wanted}
 use Rattle.df_rules.specs.Commits.{commit_in, commit_of}
-use Rattle.df_rules.specs.Legal.{answered}
-use Rattle.df_rules.specs.Start.{rows}
-use Rattle.df_start.specs.declared.start.RootStart.{RootStart}
-use Rattle.df_unit.specs.declared.call.Call.{Call}
-use Rattle.df_unit.specs.declared.entry.Effect.{Effect}
-use Rattle.df_unit.specs.declared.entry.Entry.TheVariants.{Done}
-use Rattle.df_unit.specs.declared.entry.Noted.{Noted}
 use Rattle.df_unit.specs.declared.name.UnitName.{UnitName}
-use Rattle.df_unit.specs.declared.name.UnitName.TheVariants.{Root}
-use Rattle.df_unit.specs.declared.reply.Reply.{Reply}
 use Rattle.df_value_text.specs.Fits.{IsLabel}
 use Rattle.df_journal_text.specs.Ask.{asked}
 use Rattle.df_journal_text.specs.Call.{call_words}
-use Rattle.df_journal_text.specs.Entry.{effect_text, entry_text, note_text, noted_text, reads_text}
 use Rattle.df_journal_text.specs.Fits.{IsCall, IsReply, IsUnit}
 use Rattle.df_journal_text.specs.Front.{call_front}
 use Rattle.df_journal_text.specs.Line.{line, spaced}
@@ -30,13 +13,9 @@ use Rattle.df_journal_text.specs.Reply.{reply_words}
 use Rattle.df_journal_text.specs.declared.ask.Ask.{Ask}
 use Rattle.df_script_text.specs.Common.{common_line}
 use Rattle.df_script_text.specs.Script.{IsScriptLine}
-use Rattle.df_journal_file.specs.Cursor.{CursorState, HasPassed}
 use Rattle.df_journal_file.specs.code.Entries.{IsWholeBy}
 use Rattle.df_spelled.specs.Spelled.{IsOutput}
 use Rattle.df_spelled.proofs.Rows.{answered_whole}
-use Rattle.df_audit.specs.code.Calling.{AppendsCall, IsNoteIn, IsReadCall, left_in, noted_call, stays_in}
-use Rattle.df_audit.specs.code.Passing.{IsSoFar, PassesOne, TakesOne, wanted_of}
-use Rattle.df_audit.specs.declared.pass.Wanted.{Wanted}
 use Rattle.df_audit.specs.declared.pass.Wanted.TheVariants as wanted
 use Rattle.df_audit.proofs.Passes.{one_fits, passes_one, so_far_more}
 

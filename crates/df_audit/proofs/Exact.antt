@@ -1,21 +1,12 @@
 -- A journal is right, or wrong first at one place, whichever way it is told.
-use Rattle.std.proofs.Common.{◌≡◌, ◌⊎◌, inl, inr, ℕ, List, [], ◌∷◌, ◌++◌, length, map, reverse, refl, ap, sym, subst, ◌∙◌}
+use Rattle.df_audit.proofs.Names.{◌≡◌, ◌⊎◌, inl, inr, ℕ, List, [], ◌∷◌, ◌++◌, length, map, reverse, refl, ap, sym, subst, ◌∙◌, firsts, Legal, rows, RootStart, Entry, Noted, AreRight, First, IsJournalOf, Journal, Second, IsRightJournal, IsWrongAt, entries_in}
 use Rattle.std.specs.Prelude.{suc}
-use Rattle.df_machine.specs.Journal.{firsts}
 use Rattle.df_rules.proofs.Places.{legal_at}
-use Rattle.df_rules.specs.Legal.{Legal}
-use Rattle.df_rules.specs.Start.{rows}
-use Rattle.df_start.specs.declared.start.RootStart.{RootStart}
-use Rattle.df_unit.specs.declared.entry.Entry.{Entry}
-use Rattle.df_unit.specs.declared.entry.Noted.{Noted}
-use Rattle.df_replay.specs.Noted.{AreRight}
 use Rattle.df_check.proofs.Judged.{legal_not_wrong}
 use Rattle.df_check.proofs.JudgedNoted.{right_at}
 use Rattle.df_check.specs.Check as plain
 use Rattle.df_check.specs.CheckNoted as with_notes
 use Rattle.df_journal_file.proofs.Texts.{not_both, one_noted, one_plain}
-use Rattle.df_journal_file.specs.Either.{First, IsJournalOf, Journal, Second}
-use Rattle.df_audit.specs.Audit.{IsRightJournal, IsWrongAt, entries_in}
 
 -- ---- of two places in a list one comes first, or they are one
 

@@ -1,26 +1,10 @@
 -- Why an entry of a right journal stands, by what is noted of it.
-use Rattle.std.proofs.Common.{◌≡◌, ℕ, ◌+◌, ◌<◌, List, [], ◌∷◌, ◌++◌, Bool, true, false, ◌||◌, Result, Ok, Err, IfOk, Some, get_or, length, map, reverse, take, refl, ap, sym, subst, ◌∙◌, arith}
+use Rattle.df_audit.proofs.Names.{◌≡◌, ℕ, ◌+◌, ◌<◌, List, [], ◌∷◌, ◌++◌, Bool, true, false, ◌||◌, Result, Ok, Err, IfOk, Some, get_or, length, map, reverse, take, refl, ap, sym, subst, ◌∙◌, arith, All, flat_map, flat_map_more, length-map, reverse-reverse, take_more, firsts, rows, RootStart, Entry, Noted, noted, IsClosed, IsGrounds, at_places, set_of, noted_text, head_text, journal_text, Journal, Explains, IsWhyOf, entries_at, entries_in, past_in, roots_in, AreGrounds, ExplainsNoted, Audit, Finding, Right, Wrong, NoPlace}
 use Rattle.std.specs.Prelude.{nat_le, ◌==◌, slice_get}
-use Rattle.std.specs.List.{All, flat_map}
 use Rattle.std.proofs.lemmas.Bool.{eq-eqb, le-leb, leb-true}
-use Rattle.std.proofs.lemmas.List.{flat_map_more, length-append, length-map, reverse-reverse, take_more}
+use Rattle.std.proofs.lemmas.List.{length-append}
 use Rattle.std.proofs.lemmas.List.Elements.{All-cons, All-nil, filter_map-append}
 use Rattle.std.proofs.lemmas.Option.{slice_get_read}
-use Rattle.df_machine.specs.Journal.{firsts}
-use Rattle.df_rules.specs.Start.{rows}
-use Rattle.df_start.specs.declared.start.RootStart.{RootStart}
-use Rattle.df_unit.specs.declared.entry.Entry.{Entry}
-use Rattle.df_unit.specs.declared.entry.Noted.{Noted}
-use Rattle.df_replay.specs.Noted.{noted}
-use Rattle.df_why.specs.Grounds.{IsClosed, IsGrounds, at_places, set_of}
-use Rattle.df_journal_text.specs.Entry.{noted_text}
-use Rattle.df_journal_text.specs.Start.{head_text, journal_text}
-use Rattle.df_journal_file.specs.Either.{Journal}
-use Rattle.df_audit.specs.Audit.{Explains, IsWhyOf, entries_at, entries_in, past_in, roots_in}
-use Rattle.df_audit.specs.code.Picking.{AreGrounds, ExplainsNoted}
-use Rattle.df_audit.specs.declared.audit.Audit.{Audit}
-use Rattle.df_audit.specs.declared.audit.Finding.{Finding}
-use Rattle.df_audit.specs.declared.audit.Finding.TheVariants.{Right, Wrong, NoPlace}
 use Rattle.df_audit.proofs.Sound.{legal_is_sound}
 use Rattle.df_audit.proofs.Told.{IsKnown}
 

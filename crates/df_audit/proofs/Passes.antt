@@ -1,36 +1,15 @@
 -- A journal that is gone over entry by entry, as far as it has come.
-use Rattle.std.proofs.Common.{◌≡◌, ℕ, ◌+◌, ◌<◌, ◌^◌, Bool, true, false, List, [], ◌∷◌, ◌++◌, ◌-◌, Option, None, Some, Result, Ok, Err, IfOk, OnOk, length, map, reverse, refl, ap, sym, subst, ◌∙◌, arith, append_assoc, append-nil, length-append}
-use Rattle.std.specs.List.{flat_map}
+use Rattle.df_audit.proofs.Names.{◌≡◌, ℕ, ◌+◌, ◌<◌, ◌^◌, Bool, true, false, List, [], ◌∷◌, ◌++◌, ◌-◌, Option, None, Some, Result, Ok, Err, IfOk, OnOk, length, map, reverse, refl, ap, sym, subst, ◌∙◌, arith, append_assoc, append-nil, length-append, flat_map, length-map, map-append, reverse-append, Label, State, firsts, AgreesWith, Tables, Legal, purge, rows, RootStart, Entry, Noted, contamination_of, noted, noted_in, past_of, noted_past, right_notes, noted_text, head_text, CursorState, HasPassed, IsJournalOf, Journal, journal_by, IsPurgeOf, IsRightJournal, IsUpgradeOf, OfJournal, past_in, roots_in, ComesTo, EndsRight, HasComeTo, IsMade, IsSoFar, IsJudged, PassesOne, TakesKept, TakesNote, TakesOne, front_of, wanted_of, wanted_text, Wanted}
 use Rattle.std.proofs.lemmas.Grind.{flat_map-append}
-use Rattle.std.proofs.lemmas.List.{length-map, map-append, reverse-append}
-use Rattle.df_label.specs.declared.label.Label.{Label}
 use Rattle.df_memory.specs.declared.NoMemory.{NoMemory}
-use Rattle.df_machine.specs.Journal.{State, firsts}
-use Rattle.df_machine.specs.Tables.{AgreesWith}
-use Rattle.df_machine.specs.declared.tables.Tables.{Tables}
-use Rattle.df_rules.specs.Legal.{Legal}
-use Rattle.df_rules.specs.Purge.{purge}
-use Rattle.df_rules.specs.Start.{rows}
-use Rattle.df_start.specs.declared.start.RootStart.{RootStart}
-use Rattle.df_unit.specs.declared.entry.Entry.{Entry}
-use Rattle.df_unit.specs.declared.entry.Noted.{Noted}
-use Rattle.df_replay.specs.Noted.{contamination_of, noted, noted_in, past_of}
 use Rattle.df_replay.specs.Replay.{Compares, entry_for, replayed}
 use Rattle.df_replay.specs.declared.repeats.Compared.{Compared}
 use Rattle.df_replay.specs.declared.repeats.Compared.TheVariants.{Other, Same}
-use Rattle.df_replay.proofs.Notes.{noted_past, right_notes}
 use Rattle.df_replay.proofs.Right.{is_right}
 use Rattle.df_purge.specs.code.Left.{left_noted}
 use Rattle.df_purge.proofs.ByNotes.{purged_by_notes}
-use Rattle.df_journal_text.specs.Entry.{noted_text}
-use Rattle.df_journal_text.specs.Start.{head_text}
-use Rattle.df_journal_file.specs.Cursor.{CursorState, HasPassed}
-use Rattle.df_journal_file.specs.Either.{IsJournalOf, Journal, journal_by}
-use Rattle.df_audit.specs.Audit.{IsPurgeOf, IsRightJournal, IsUpgradeOf, OfJournal, past_in, roots_in}
-use Rattle.df_audit.specs.code.Passing.{ComesTo, EndsRight, HasComeTo, IsMade, IsSoFar, IsJudged, PassesOne, TakesKept, TakesNote, TakesOne, front_of, wanted_of, wanted_text}
 use Rattle.df_audit.specs.declared.pass.Passed.{Passed}
 use Rattle.df_audit.specs.declared.pass.Passed.TheVariants as found
-use Rattle.df_audit.specs.declared.pass.Wanted.{Wanted}
 use Rattle.df_audit.specs.declared.pass.Wanted.TheVariants as wanted
 use Rattle.df_audit.proofs.Sound.{legal_is_sound, legal_separates}
 use Rattle.df_audit.proofs.Told.{legal_in}

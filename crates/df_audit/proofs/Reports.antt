@@ -1,15 +1,7 @@
 -- Reports of a first wrong place.
-use Rattle.std.proofs.Common.{◌≡◌, ℕ, List, [], ◌∷◌, ◌++◌, None, Result, Ok, Err, IfOk, get_or, length, refl, ap, sym, subst, ◌∙◌}
-use Rattle.df_start.specs.declared.start.RootStart.{RootStart}
-use Rattle.df_unit.specs.declared.entry.Entry.{Entry}
-use Rattle.df_unit.specs.declared.entry.Noted.{Noted}
+use Rattle.df_audit.proofs.Names.{◌≡◌, ℕ, List, [], ◌∷◌, ◌++◌, None, Result, Ok, Err, IfOk, get_or, length, refl, ap, sym, subst, ◌∙◌, RootStart, Entry, Noted, entry_text, noted_text, IsCheckOfFirst, IsCheckOfSecond, wrong_text, Audit, Finding, Wrong}
 use Rattle.df_check.specs.Check as plain
 use Rattle.df_check.specs.CheckNoted as with_notes
-use Rattle.df_journal_text.specs.Entry.{entry_text, noted_text}
-use Rattle.df_audit.specs.Audit.{IsCheckOfFirst, IsCheckOfSecond, wrong_text}
-use Rattle.df_audit.specs.declared.audit.Audit.{Audit}
-use Rattle.df_audit.specs.declared.audit.Finding.{Finding}
-use Rattle.df_audit.specs.declared.audit.Finding.TheVariants.{Wrong}
 
 module _ {X : Type 0} where
   -- the element behind some

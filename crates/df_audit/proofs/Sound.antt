@@ -1,6 +1,5 @@
 -- A legal journal is sound.
-use Rattle.std.proofs.Common.{List, map}
-use Rattle.df_label.specs.declared.label.Label.{Label}
+use Rattle.df_audit.proofs.Names.{List, map, Label, Legal, rows, roots, RootStart, Entry, Done, Reply}
 use Rattle.df_machine.specs.Journal as machine
 use Rattle.df_rules.proofs.Exercised.{exercised}
 use Rattle.df_rules.proofs.Places.{legal_before}
@@ -9,16 +8,10 @@ use Rattle.df_rules.proofs.ReleaseLaws.{row_release_laws}
 use Rattle.df_rules.proofs.RowLaws.{row_laws}
 use Rattle.df_rules.proofs.Taking.{gets_give_deliveries}
 use Rattle.df_rules.proofs.TakingRows.{row_taking_laws, nothing_after_all}
-use Rattle.df_rules.specs.Legal.{Legal}
 use Rattle.df_rules.specs.Separates.{Separates}
-use Rattle.df_rules.specs.Start.{rows, roots}
 use Rattle.std.specs.Prelude.{◌∷◌}
 use Rattle.df_start.specs.Begun.{begun}
-use Rattle.df_start.specs.declared.start.RootStart.{RootStart}
 use Rattle.df_unit.specs.declared.call.Call.TheVariants.{Get}
-use Rattle.df_unit.specs.declared.entry.Entry.{Entry}
-use Rattle.df_unit.specs.declared.entry.Entry.TheVariants.{Done}
-use Rattle.df_unit.specs.declared.reply.Reply.{Reply}
 use Rattle.df_audit.specs.Sound.{IsSound}
 
 pub legal_separates : (begin : List RootStart) (past : List Entry) → Legal rows (machine.firsts begin) past → (l : Label)

@@ -1,22 +1,6 @@
 -- What is told of a journal whose notes are known.
-use Rattle.std.proofs.Common.{◌≡◌, ℕ, List, Result, Ok, Err, IfOk, reverse, ap, sym, subst, ◌∙◌}
-use Rattle.df_label.specs.declared.label.Label.{Label}
-use Rattle.df_machine.specs.Journal.{firsts}
-use Rattle.df_rules.specs.Legal.{Legal}
-use Rattle.df_rules.specs.Purge.{purge}
-use Rattle.df_rules.specs.Start.{rows}
-use Rattle.df_start.specs.declared.start.RootStart.{RootStart}
-use Rattle.df_unit.specs.declared.entry.Entry.{Entry}
-use Rattle.df_unit.specs.declared.entry.Noted.{Noted}
-use Rattle.df_replay.specs.Noted.{AreRight, noted, past_of}
-use Rattle.df_replay.proofs.Notes.{noted_past, right_notes}
-use Rattle.df_journal_text.specs.Start.{journal_text}
-use Rattle.df_journal_file.specs.Either.{First, Journal, Second}
-use Rattle.df_audit.specs.Audit.{IsPurgeOf, IsRightJournal, IsUpgradeOf, IsWrongAt, Purges, Upgrades, past_in, roots_in}
+use Rattle.df_audit.proofs.Names.{◌≡◌, ℕ, List, Result, Ok, Err, IfOk, reverse, ap, sym, subst, ◌∙◌, Label, firsts, Legal, purge, rows, RootStart, Entry, Noted, AreRight, noted, past_of, noted_past, right_notes, journal_text, First, Journal, Second, IsPurgeOf, IsRightJournal, IsUpgradeOf, IsWrongAt, Purges, Upgrades, past_in, roots_in, Audit, Finding, Right}
 use Rattle.df_audit.specs.code.Noting.{IsNotedOf}
-use Rattle.df_audit.specs.declared.audit.Audit.{Audit}
-use Rattle.df_audit.specs.declared.audit.Finding.{Finding}
-use Rattle.df_audit.specs.declared.audit.Finding.TheVariants.{Right}
 use Rattle.df_audit.specs.declared.right.Noting.{Noting}
 use Rattle.df_audit.specs.declared.right.Noting.TheVariants as noting
 use Rattle.df_audit.proofs.Sound.{legal_is_sound, legal_separates}

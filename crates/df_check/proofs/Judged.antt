@@ -1,18 +1,6 @@
 -- A check of a journal, as far as it has come.
-use Rattle.std.proofs.Common.{◌≡◌, ◌↔◌, ℕ, List, ◌∷◌, ◌++◌, ◌+◌, ◌<◌, ◌≤◌, Some, length, take, drop, get_or, reverse, refl, ap, sym, subst, ◌∙◌, arith}
-use Rattle.std.proofs.lemmas.List.{drop_more, length-take-le, take-append-drop, take_all}
-use Rattle.df_machine.specs.Journal.{firsts}
-use Rattle.df_machine.specs.Tables.{AgreesWith}
-use Rattle.df_machine.specs.declared.tables.Tables.{Tables}
-use Rattle.df_rules.specs.Legal.{Legal}
-use Rattle.df_rules.specs.Start.{rows}
-use Rattle.df_rules.proofs.Places.{legal_at}
-use Rattle.df_start.specs.declared.start.RootStart.{RootStart}
-use Rattle.df_unit.specs.declared.entry.Entry.{Entry}
-use Rattle.df_replay.specs.Replay.{entry_for, replayed}
+use Rattle.df_check.proofs.Names.{◌≡◌, ◌↔◌, ℕ, List, ◌∷◌, ◌++◌, ◌+◌, ◌<◌, ◌≤◌, Some, length, take, drop, get_or, reverse, refl, ap, sym, subst, ◌∙◌, arith, drop_more, length-take-le, take-append-drop, take_all, firsts, AgreesWith, Tables, Legal, rows, legal_at, RootStart, Entry, entry_for, replayed, is_right, right_is, IsFirstWrong, Judges, TellsOther}
 use Rattle.df_replay.proofs.Replayed.{reversed_more}
-use Rattle.df_replay.proofs.Right.{is_right, right_is}
-use Rattle.df_check.specs.Check.{IsFirstWrong, Judges, TellsOther}
 use Rattle.df_check.specs.declared.plain.Verdict.{Verdict}
 use Rattle.df_check.specs.declared.plain.Verdict.TheVariants.{Valid, Wrong}
 

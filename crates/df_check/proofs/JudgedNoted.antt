@@ -1,24 +1,10 @@
 -- A check of a noted journal, as far as it has come.
-use Rattle.std.proofs.Common.{◌≡◌, ◌↔◌, ℕ, List, [], ◌∷◌, ◌++◌, ◌+◌, ◌<◌, ◌≤◌, Option, Some, length, take, drop, get_or, map, reverse, refl, ap, sym, subst, ◌∙◌, arith, append_assoc, length-append}
-use Rattle.std.proofs.lemmas.List.{length-map, length-reverse, length-take-le, map-append, reverse-append, take_all, take_more}
+use Rattle.df_check.proofs.Names.{◌≡◌, ◌↔◌, ℕ, List, [], ◌∷◌, ◌++◌, ◌+◌, ◌<◌, ◌≤◌, Option, Some, length, take, drop, get_or, map, reverse, refl, ap, sym, subst, ◌∙◌, arith, append_assoc, length-append, length-map, length-reverse, length-take-le, map-append, reverse-append, take_all, take_more, State, firsts, AgreesWith, Tables, Legal, rows, legal_at, RootStart, Entry, Noted, AreRight, noted, noted_in, past_of, Compares, entry_for, replayed, is_right, right_is, same_contamination, JudgesNoted, TellsOtherNoted, noted_for, Valid, Wrong}
 use Rattle.df_label.specs.declared.label.Label.{Label}
-use Rattle.df_machine.specs.Journal.{State, firsts}
-use Rattle.df_machine.specs.Tables.{AgreesWith}
-use Rattle.df_machine.specs.declared.tables.Tables.{Tables}
-use Rattle.df_rules.specs.Legal.{Legal}
-use Rattle.df_rules.specs.Start.{rows}
-use Rattle.df_rules.proofs.Places.{legal_at}
-use Rattle.df_start.specs.declared.start.RootStart.{RootStart}
-use Rattle.df_unit.specs.declared.entry.Entry.{Entry}
-use Rattle.df_unit.specs.declared.entry.Noted.{Noted}
-use Rattle.df_replay.specs.Noted.{AreRight, noted, noted_in, past_of}
-use Rattle.df_replay.specs.Replay.{Compares, entry_for, replayed}
 use Rattle.df_replay.specs.declared.repeats.Compared.TheVariants.{Other, Same}
-use Rattle.df_replay.proofs.Right.{is_right, right_is, same_contamination}
 use Rattle.df_check.proofs.Judged.{split_at}
-use Rattle.df_check.specs.CheckNoted.{IsFirstWrong, JudgesNoted, TellsOtherNoted, noted_for}
+use Rattle.df_check.specs.CheckNoted.{IsFirstWrong}
 use Rattle.df_check.specs.declared.noted.NotedVerdict.{NotedVerdict}
-use Rattle.df_check.specs.declared.noted.NotedVerdict.TheVariants.{Valid, Wrong}
 
 -- the tables are those of what was kept so far
 pub record IsSoFar (roots : List RootStart) (journal : List Noted) (i : ℕ) (tables : Tables) : Type 0 where

@@ -1,15 +1,10 @@
 -- What a step puts on a disk.
-use Rattle.std.proofs.Common.{◌≡◌, ◌⊎◌, inl, inr, ⊎_elim, ℕ, List, [], ◌∷◌, ◌++◌, Option, Some, None, refl, sym, ◌∙◌, ap, subst}
-use Rattle.std.specs.Prelude.{IfSome, OnOk, Result, Ok, Err, slice_get}
+use Rattle.df_durable.proofs.Names.{◌≡◌, ◌⊎◌, inl, inr, ⊎_elim, ℕ, List, [], ◌∷◌, ◌++◌, Option, Some, None, refl, sym, ◌∙◌, ap, subst, IfSome, OnOk, slice_get, IsSettled, LeavesOnly, IsAtRest, IsEmpty, Keeps, KeepsOrOneMore, IsKept, entry_record, records_of, start_record, AppendsTo, IsEmptyOrFirst, IsEmptyOrStarted, IsOnDisk, KeepsBeforeOrAfter, next_entry, KeptCore, Entry}
+use Rattle.std.specs.Prelude.{Result, Ok, Err}
 use Rattle.std.proofs.lemmas.List.Elements.{All-nil}
-use Rattle.df_disk.specs.Disk.{IsSettled, LeavesOnly}
-use Rattle.df_disk.specs.Records.{IsAtRest, IsEmpty, Keeps, KeepsOrOneMore}
 use Rattle.df_disk.proofs.Begins.{at_start, if_told}
 use Rattle.df_disk.proofs.Moments.{started}
-use Rattle.df_image.specs.Image.{IsKept, entry_record, records_of, start_record}
 use Rattle.df_image.specs.Reading.{IsEntryRecord}
-use Rattle.df_durable.specs.Keeping.{AppendsTo, IsEmptyOrFirst, IsEmptyOrStarted, IsOnDisk, KeepsBeforeOrAfter, next_entry}
-use Rattle.df_durable.specs.declared.keeping.KeptCore.{KeptCore}
 use Rattle.df_image.proofs.Fronts.{kept-push, records-push}
 use Rattle.df_durable.proofs.Moments.{leaves_on, leaves_too}
 use Rattle.df_journal_file.specs.Journal.{IsWholeEntry}
@@ -17,7 +12,6 @@ use Rattle.df_journal_text.specs.Fits.{AreRoots}
 use Rattle.df_machine.specs.Journal.{State, appended}
 use Rattle.df_start.specs.declared.start.RootStart.{RootStart}
 use Rattle.df_unit.specs.declared.call.Call.{Call}
-use Rattle.df_unit.specs.declared.entry.Entry.{Entry}
 use Rattle.df_unit.specs.declared.name.UnitName.{UnitName}
 
 module _ (core : State) (actor : UnitName) (call : Call) where

@@ -1,3 +1,4 @@
+pub mod Names
 pub mod Keepings
 pub mod Moments
 pub mod Openings

@@ -1,6 +1,5 @@
 -- What a crash leaves, in other words, and over runs of calls.
-use Rattle.std.proofs.Common.{inl, inr, ⊎_elim, ℕ, List, arith}
-use Rattle.df_disk.specs.Disk.{LeavesOnly}
+use Rattle.df_durable.proofs.Names.{inl, inr, ⊎_elim, ℕ, List, arith, LeavesOnly}
 
 module _ {D : Type 0} (moment : D → ℕ) (left_since : D → ℕ → List ℕ → Type 0) where
   pub leaves_too : (old new : D) (P Q : List ℕ → Type 0) → ((c : List ℕ) → P c → Q c) → LeavesOnly moment left_since old new P

@@ -1,18 +1,9 @@
 -- What is opened on a disk.
-use Rattle.std.proofs.Common.{◌≡◌, ◌⊎◌, inl, inr, ℕ, ◌^◌, ◌<◌, List, length, Option, None, Some, Result, Ok, Err, refl, sym, ◌∙◌, ap, subst}
-use Rattle.std.specs.Prelude.{IfOk, IfSome}
-use Rattle.df_disk.specs.Disk.{IsSettled, NoMore}
-use Rattle.df_disk.specs.Records.{IsAtRest}
+use Rattle.df_durable.proofs.Names.{◌≡◌, ◌⊎◌, inl, inr, ℕ, ◌^◌, ◌<◌, List, length, Option, None, Some, Result, Ok, Err, refl, sym, ◌∙◌, ap, subst, IfOk, IfSome, IsSettled, NoMore, IsAtRest, records_of, IsOnDisk, IfRead, IsOf, not_taken, KeepsTo, OpenCause, KeptCore}
 use Rattle.df_disk.specs.declared.image.NotTaken.{NotTaken}
 use Rattle.df_disk.specs.declared.image.NotTaken.TheVariants as taken
 use Rattle.df_disk.proofs.Begins.{at_told}
-use Rattle.df_image.specs.Image.{records_of}
-use Rattle.df_durable.specs.Keeping.{IsOnDisk}
-use Rattle.df_durable.specs.Opening.{IfRead, IsOf, not_taken}
-use Rattle.df_image.specs.Front.{KeepsTo}
-use Rattle.df_durable.specs.declared.cause.OpenCause.{OpenCause}
 use Rattle.df_durable.specs.declared.cause.OpenCause.TheVariants.{DiskFault, Damaged, NoMemory}
-use Rattle.df_durable.specs.declared.keeping.KeptCore.{KeptCore}
 
 -- ---- a disk that was not read
 

@@ -1,12 +1,8 @@
 -- A kept entry whose call is made again.
-use Rattle.std.proofs.Common.{◌≡◌, Bool, true, false, ℕ, List, ◌∷◌, Result, Ok, Err, refl, ◌∙◌, ap, subst}
-use Rattle.std.specs.Prelude.{IfOk, IsTrue, OnOk, ◌↔◌}
-use Rattle.df_image.specs.Front.{TakesEntry}
-use Rattle.df_image.specs.Image.{State}
+use Rattle.df_durable.proofs.Names.{◌≡◌, Bool, true, false, ℕ, List, ◌∷◌, Result, Ok, Err, refl, ◌∙◌, ap, subst, IfOk, IsTrue, OnOk, ◌↔◌, TakesEntry, State, Entry}
 use Rattle.df_image.specs.Reading.{IsOneEntry}
 use Rattle.df_replay.specs.Replay.{entry_for, replayed}
 use Rattle.df_replay.proofs.Right.{is_right, right_is}
-use Rattle.df_unit.specs.declared.entry.Entry.{Entry}
 
 module _ (old new : State) (text : List ℕ) (entry : Entry) (one : IsOneEntry text entry) where
   one_taken : new ≡ replayed old entry → (alike : Bool) → (IsTrue alike ↔ (entry_for old entry ≡ entry)) → TakesEntry old text new alike

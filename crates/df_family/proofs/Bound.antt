@@ -1,27 +1,9 @@
 -- What every entry keeps of the units of a root's family, for a relation that keeps the rules.
-use Rattle.std.proofs.Common.{inl, inr, ◌≡◌, ◌⊎◌, ℕ, zero, suc, List, [], ◌∷◌, ◌++◌, Bool, true, false, not, ◌||◌, refl, sym, ◌∙◌, subst, cond, Option, Some, None}
-use Rattle.std.specs.Prelude.{⊤, slice_get, slice_set, map}
-use Rattle.std.specs.List.{filter, flat_map, list_any, list_all}
-use Rattle.std.proofs.lemmas.Bool.{and_from, or_left, or_right, or_cases}
+use Rattle.df_family.proofs.Names.{inl, inr, ◌≡◌, ◌⊎◌, ℕ, zero, suc, List, [], ◌∷◌, ◌++◌, Bool, true, false, not, ◌||◌, refl, sym, ◌∙◌, subst, cond, Option, Some, None, ⊤, slice_get, slice_set, map, filter, flat_map, list_any, list_all, and_from, or_left, or_right, or_cases, privilege_eq, tag_eq, contains, Label, Privilege, names, root_names, Relation, can_write, can_reach, Part, holds, grant, grant_all, needed, needed_to_attach, Del, Roots, handle_at, opened, replaced, OwnState, Fixed, Handle}
 use Rattle.df_label.specs.Privileges.{contains as contains_privilege}
-use Rattle.df_label.specs.Privilege.{privilege_eq}
-use Rattle.df_label.specs.Tag.{tag_eq}
-use Rattle.df_label.specs.TagSet.{contains}
-use Rattle.df_label.specs.declared.label.Label.{Label}
-use Rattle.df_label.specs.declared.privilege.Privilege.{Privilege}
 use Rattle.df_label.proofs.PrivilegeFacts.{privilege_eq-Decides}
-use Rattle.df_family.specs.Family.{names, root_names}
-use Rattle.df_family.specs.May.{Relation, can_write, can_reach}
 use Rattle.df_label.proofs.TagSetFacts.{tag_eq-itself}
-use Rattle.df_part.specs.declared.part.Part.{Part}
-use Rattle.df_priv.specs.Held.{holds, grant, grant_all}
-use Rattle.df_priv.specs.Needed.{needed, needed_to_attach}
-use Rattle.df_priv.specs.declared.need.Act.TheVariants.{Del}
 use Rattle.df_priv.proofs.HeldFacts.{holds-grant}
-use Rattle.df_rules.specs.Always.{Roots}
-use Rattle.df_unit.specs.Handles.{handle_at, opened, replaced}
-use Rattle.df_unit.specs.OwnState.{OwnState, Fixed}
-use Rattle.df_unit.specs.declared.handle.Handle.{Handle}
 
 -- lists
 

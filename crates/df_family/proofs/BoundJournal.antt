@@ -1,49 +1,24 @@
 -- What is kept of the units of each root's family is so in every legal journal into which nothing was emitted.
-use Rattle.std.proofs.Common.{◌≡◌, ℕ, ◌-◌, zero, suc, List, [], ◌∷◌, Bool, true, false, not, ◌&&◌, refl, sym, ap, subst, cond, Option, Some, None, length, take, arith}
-use Rattle.std.specs.Prelude.{⊤, drop, slice_get, map}
-use Rattle.std.specs.List.{filter, flat_map}
-use Rattle.std.specs.Option.{option_map, option_and_then, option_or}
-use Rattle.std.proofs.lemmas.Bool.{eqb-true, eq-eqb}
-use Rattle.df_filter.specs.declared.clause.Clause.{Clause}
-use Rattle.df_label.specs.Label.{flows_to}
-use Rattle.df_label.specs.Tag.{maker_of, number_of}
-use Rattle.df_label.specs.declared.label.Label.{Label}
-use Rattle.df_label.specs.declared.privilege.Privilege.{Privilege}
-use Rattle.df_family.specs.Family.{names, begins_with, is_of}
-use Rattle.df_family.specs.May.{Relation, IsClosed, MayHold}
+use Rattle.df_family.proofs.Names.{◌≡◌, ℕ, ◌-◌, zero, suc, List, [], ◌∷◌, Bool, true, false, not, ◌&&◌, refl, sym, ap, subst, cond, Option, Some, None, length, take, arith, ⊤, drop, slice_get, map, filter, flat_map, option_map, option_and_then, option_or, eqb-true, eq-eqb, Clause, flows_to, maker_of, number_of, Label, Privilege, names, begins_with, is_of, Relation, IsClosed, MayHold, apply, is_deleted, spared, Part, holds, Roots, rows, roots, root_of, begin, fixed_of, child, readable_at, OwnState, Fixed, reply, effect, after, path_of, is_nil, Call, Instantiate, Given, Effect, UnitName, Reply}
 use Rattle.df_family.specs.Never.{NeverHolds}
 use Rattle.df_family.proofs.Bound.{Each, each_append, each_filter, IsBacked, IsBound, IsFixedBound}
 use Rattle.df_family.proofs.BoundRows.{AddsBacked, kept_after, effect_backed, root_bound, fixed_bound, begin_bound, child_bound}
-use Rattle.df_part.specs.Contents.{apply, is_deleted, spared}
 use Rattle.df_part.specs.Part.{cut}
-use Rattle.df_part.specs.declared.part.Part.{Part}
-use Rattle.df_priv.specs.Held.{holds}
 use Rattle.df_rules.proofs.Invariant.{IfThere}
 use Rattle.df_rules.proofs.RowLaws.{first_is, second_is, makes_is, by_fixed}
-use Rattle.df_rules.specs.Always.{Roots}
 use Rattle.df_rules.specs.Choices.{matches}
 use Rattle.df_rules.specs.Commits.{commit_in, commit_of, committed, contents}
 use Rattle.df_rules.specs.Deliveries.{deliveries, deliveries_plain, deliveries_instance, plain_news, instance_news, offer, was_handed}
 use Rattle.df_rules.specs.Legal.{Legal, IsRight, IsUnaided, IsDone, answer, answer_of, left}
 use Rattle.df_rules.specs.Own.{own, own_plain, own_instance, stepped, made_by, root_at, fixed, fixed_by, is_given, born}
-use Rattle.df_rules.specs.Start.{rows, roots, root_of}
 use Rattle.df_rules.specs.Subscriptions.{subscriptions}
 use Rattle.df_unit.proofs.SameFacts.{same_name-exact, same_name_decides}
-use Rattle.df_unit.specs.Beginnings.{begin, fixed_of, child, readable_at}
 use Rattle.df_unit.specs.Name.{same, same_event}
-use Rattle.df_unit.specs.OwnState.{OwnState, Fixed}
-use Rattle.df_unit.specs.Rows.{reply, effect, after, path_of, is_nil}
-use Rattle.df_unit.specs.declared.call.Call.{Call}
-use Rattle.df_unit.specs.declared.call.Call.TheVariants.{Instantiate}
 use Rattle.df_unit.specs.declared.commit.Commit.{Commit}
-use Rattle.df_unit.specs.declared.commit.Given.{Given}
-use Rattle.df_unit.specs.declared.entry.Effect.{Effect}
 use Rattle.df_unit.specs.declared.entry.Entry.{Entry}
 use Rattle.df_unit.specs.declared.entry.Entry.TheVariants.{Done, Emitted}
 use Rattle.df_unit.specs.declared.name.EventName.{EventName}
-use Rattle.df_unit.specs.declared.name.UnitName.{UnitName}
 use Rattle.df_unit.specs.declared.name.UnitName.TheVariants.{Root, Managed}
-use Rattle.df_unit.specs.declared.reply.Reply.{Reply}
 
 -- the state is bound by the root with which the path begins
 abbrev pub InFamily : Roots → Relation → List ℕ → OwnState → Type 0

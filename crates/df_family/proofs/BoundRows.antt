@@ -1,50 +1,19 @@
 -- Each row of the call table keeps what is kept of a unit of a root's family.
-use Rattle.std.proofs.Common.{inl, inr, ◌≡◌, ◌⊎◌, ℕ, List, [], ◌∷◌, ◌++◌, Bool, true, false, not, ◌&&◌, refl, sym, ◌∙◌, ap, subst, cond, Option, Some, None, length}
-use Rattle.std.specs.Prelude.{⊤, is_some, nat_le, slice_get, map}
-use Rattle.std.specs.List.{filter, list_all}
-use Rattle.std.specs.Option.{option_or}
+use Rattle.df_family.proofs.Names.{inl, inr, ◌≡◌, ◌⊎◌, ℕ, List, [], ◌∷◌, ◌++◌, Bool, true, false, not, ◌&&◌, refl, sym, ◌∙◌, ap, subst, cond, Option, Some, None, length, ⊤, is_some, nat_le, slice_get, map, filter, list_all, option_or, and_parts, or_left, or_right, or_cases, flows_to, maker_of, contains, meet, privilege_eq, Label, Privilege, Clause, names, begins_with, Relation, IsClosed, can_write, can_reach, is_at, is_deleted, Part, holds, needed, needed_to_attach, Add, Del, Roots, root_of, fixed_of, begin, child, draft_of, view_of, handle_at, OwnState, Fixed, reply, effect, after, changed, half_changed, is_accepted, is_instance, is_nil, where_held, at_handle, found, first_given, next_tag, path_of, next_event, published, released, sources, taken_in, unless_lacking, lacking_tag, lacking_authority, Call, CreateEvent, AddPart, DelPart, ReadPart, CloneEvent, AttachPrivilege, ChangeOutLabel, CreateTag, DropEvent, Subscribe, SubscribeManaged, Get, Publish, Release, ChangeInOut, Instantiate, Given, Effect, Handle, UnitName, Reply}
 use Rattle.std.specs.Str.{bytes_eq}
-use Rattle.std.proofs.lemmas.Bool.{and_parts, or_left, or_right, or_cases}
-use Rattle.df_label.specs.Label.{flows_to}
-use Rattle.df_label.specs.Tag.{maker_of}
-use Rattle.df_label.specs.TagSet.{contains, meet}
 use Rattle.df_label.specs.Privileges.{contains as contains_privilege, add}
-use Rattle.df_label.specs.Privilege.{privilege_eq}
-use Rattle.df_label.specs.declared.label.Label.{Label}
-use Rattle.df_label.specs.declared.privilege.Privilege.{Privilege}
 use Rattle.df_label.proofs.LabelFacts.{flows_to-parts}
 use Rattle.df_label.proofs.PrivilegeFacts.{contains-add}
 use Rattle.df_label.proofs.SetFacts.{is_some-find_not}
 use Rattle.df_label.proofs.TagFacts.{maker_of-push}
 use Rattle.df_label.proofs.TagSetFacts.{contains-meet, contains-included}
-use Rattle.df_filter.specs.declared.clause.Clause.{Clause}
-use Rattle.df_family.specs.Family.{names, begins_with}
-use Rattle.df_family.specs.May.{Relation, IsClosed, can_write, can_reach}
 use Rattle.df_family.proofs.Bound.{Each, each_append, each_weaker, each_map, each_filter, each_flat_map, each_contained, held_from, is_one, EachOpen, IfOpen, open_one, close_one, open_at, change_one, MayAttach, MayWrite, IsWritten, IsBacked, IsHandleOf, LacksOnly, IsBound, IsFixedBound, integrity_named, reached}
-use Rattle.df_part.specs.Contents.{is_at, is_deleted}
 use Rattle.df_part.specs.declared.edit.Spot.{Spot}
-use Rattle.df_part.specs.declared.part.Part.{Part}
-use Rattle.df_priv.specs.Held.{holds}
-use Rattle.df_priv.specs.Needed.{needed, needed_to_attach}
 use Rattle.df_priv.specs.declared.need.Act.{Act}
-use Rattle.df_priv.specs.declared.need.Act.TheVariants.{Add, Del}
 use Rattle.df_priv.specs.declared.need.Half.{Half}
-use Rattle.df_rules.specs.Always.{Roots}
-use Rattle.df_rules.specs.Start.{root_of}
-use Rattle.df_unit.specs.Beginnings.{fixed_of, begin, child}
 use Rattle.df_unit.specs.Drafts.{spot, has_at, visible_named, raised, new_part, relabel, relabelled, cloned, attach, attached_in, deleted_in}
-use Rattle.df_unit.specs.Handles.{draft_of, view_of, handle_at}
 use Rattle.df_unit.specs.Limits.{most_path, most_units}
 use Rattle.df_unit.specs.Held.{all_over}
-use Rattle.df_unit.specs.OwnState.{OwnState, Fixed}
-use Rattle.df_unit.specs.Rows.{reply, effect, after, changed, half_changed, is_accepted, is_instance, is_nil, where_held, at_handle, found, first_given, next_tag, path_of, next_event, published, released, sources, taken_in, unless_lacking, lacking_tag, lacking_authority}
-use Rattle.df_unit.specs.declared.call.Call.{Call}
-use Rattle.df_unit.specs.declared.call.Call.TheVariants.{CreateEvent, AddPart, DelPart, ReadPart, CloneEvent, AttachPrivilege, ChangeOutLabel, CreateTag, DropEvent, Subscribe, SubscribeManaged, Get, Publish, Release, ChangeInOut, Instantiate}
-use Rattle.df_unit.specs.declared.commit.Given.{Given}
-use Rattle.df_unit.specs.declared.entry.Effect.{Effect}
-use Rattle.df_unit.specs.declared.handle.Handle.{Handle}
-use Rattle.df_unit.specs.declared.name.UnitName.{UnitName}
-use Rattle.df_unit.specs.declared.reply.Reply.{Reply}
 use Rattle.df_unit.proofs.Members.{added_or_had, has_still, others_stay, same_or_not, stayed}
 
 -- replies

@@ -1,3 +1,4 @@
+pub mod Names
 pub mod Bound
 pub mod BoundRows
 pub mod BoundJournal

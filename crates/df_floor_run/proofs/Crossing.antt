@@ -1,6 +1,5 @@
 -- The brains of a floor may cross threads, and threads may share them.
-use denote.Param.Send.{IsSend, IsSync, sendable}
-use Rattle.std.proofs.Crossing.{crosses}
+use Rattle.df_floor_run.proofs.Names.{IsSend, IsSync, sendable, crosses}
 use Rattle.df_book.proofs.tree.Tree.TheLaws.TheKnot as knot
 use Rattle.df_book.specs.contracts.book.Book as Book
 use Rattle.df_book.specs.contracts.entry.Entry as Entry

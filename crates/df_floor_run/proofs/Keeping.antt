@@ -1,13 +1,6 @@
 -- What the turns of units leave of a journal: what one more entry of theirs leaves.
-use Rattle.std.proofs.Common.{ℕ, zero, suc, List, [], ◌∷◌, Bool, true, false, sym, subst, cond, Option, Some, None}
-use Rattle.df_booking.specs.CrewState.{CrewState, want_in}
-use Rattle.df_booking.specs.Turns.{asked, asked_by, is_local_want, turn_of, turned}
+use Rattle.df_floor_run.proofs.Names.{ℕ, zero, suc, List, [], ◌∷◌, Bool, true, false, sym, subst, cond, Option, Some, None, CrewState, want_in, asked, asked_by, is_local_want, turn_of, turned, State, appended, has_delivery_in, IsTurn, Repeated, is_full, take_turn, take_turns, Brain, Calls, Wait, Want, Call, UnitName}
 use Rattle.df_turn.specs.Locally.{most_local}
-use Rattle.df_machine.specs.Journal.{State, appended, has_delivery_in}
-use Rattle.df_plain_floor.specs.PlainRun.{IsTurn, Repeated, is_full, take_turn, take_turns}
-use Rattle.df_rules.specs.Follows.{Brain, Calls, Wait, Want}
-use Rattle.df_unit.specs.declared.call.Call.{Call}
-use Rattle.df_unit.specs.declared.name.UnitName.{UnitName}
 
 module _ {B : Type 0} (brain : Brain B) (P : State → Type 0) (u : UnitName) (more : (c : Call) (core : State) → P core → P (appended u c core)) where
   pub asked_keeps : (core : State) (w : Option Want) → P core → P (asked_by core u w)

@@ -1,3 +1,4 @@
+pub mod Names
 mod Keeping
 mod Opening
 mod Roll

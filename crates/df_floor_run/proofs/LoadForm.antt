@@ -1,9 +1,7 @@
 -- The configuration of the load is in form.
-use Rattle.std.proofs.Common.{ℕ, List, [], ◌∷◌, true, false, true≢false, refl, sym, ap, arith, codes, pos}
-use Rattle.std.specs.Prelude.{All, ◌<◌, bytes_eq}
+use Rattle.df_floor_run.proofs.Names.{ℕ, List, [], ◌∷◌, true, false, true≢false, refl, sym, ap, arith, codes, pos, All, bytes_eq, AreNumbers, IsConfig, IsPair, IsTrader, load_config, load_pair, load_pairs, load_trader, load_traders}
+use Rattle.std.specs.Prelude.{◌<◌}
 use Rattle.std.proofs.lemmas.List.Elements.{All-cons, All-nil}
-use Rattle.df_config.specs.ConfigForm.{AreNumbers, IsConfig, IsPair, IsTrader}
-use Rattle.df_floor_run.specs.Load.{load_config, load_pair, load_pairs, load_trader, load_traders}
 
 first_pair : IsPair (load_pair (codes "AAA") (codes "BBB"))
 first_pair = record {

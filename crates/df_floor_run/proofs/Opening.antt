@@ -1,30 +1,9 @@
 -- The plain opening: it has no entry of the first root, and where it isn't stopped, the other roots wait after it.
-use Rattle.std.proofs.Common.{◌≡◌, ◌⊎◌, inl, inr, ℕ, zero, suc, ◌<◌, List, [], ◌∷◌, ◌++◌, Bool, true, false, true≢false, ◌||◌, refl, sym, ◌∙◌, ap, subst, cond, Option, Some, length, arith}
-use Rattle.std.specs.Prelude.{is_some, slice_get}
-use Rattle.std.specs.Option.{option_map}
+use Rattle.df_floor_run.proofs.Names.{◌≡◌, ◌⊎◌, inl, inr, ℕ, zero, suc, ◌<◌, List, [], ◌∷◌, ◌++◌, Bool, true, false, true≢false, ◌||◌, refl, sym, ◌∙◌, ap, subst, cond, Option, Some, length, arith, is_some, slice_get, option_map, CrewState, turned, more_longer, more_refl, more_trans, IsMore, State, appended, firsts, IsTurn, Opened, Repeated, is_full, root_name, take_turn, Brain, Opens, has_entry, is_of, replies_of, wanted, Wait, answer, own, rows, grown_after, own_grows, RootStart, same, OwnState, Call, Entry, UnitName, Reply, same_name-exact}
 use Rattle.std.proofs.lemmas.Bool.{le-leb, leb-true}
-use Rattle.df_booking.specs.CrewState.{CrewState}
 use Rattle.df_booking.specs.Minds.{mind_from}
-use Rattle.df_booking.specs.Turns.{turned}
-use Rattle.df_crew.proofs.Growing.{more_longer, more_refl, more_trans}
 use Rattle.df_crew.proofs.Still.{at_rest}
-use Rattle.df_crew.specs.Growing.{IsMore}
-use Rattle.df_machine.specs.Journal.{State, appended, firsts}
-use Rattle.df_plain_floor.specs.PlainRun.{IsTurn, Opened, Repeated, is_full, root_name, take_turn}
 use Rattle.df_plain_floor.proofs.More.{take_more}
-use Rattle.df_rules.specs.Follows.{Brain, Opens, has_entry, is_of, replies_of, wanted, Wait}
-use Rattle.df_rules.specs.Legal.{answer}
-use Rattle.df_rules.specs.Own.{own}
-use Rattle.df_rules.specs.Start.{rows}
-use Rattle.df_rules.proofs.Growth.{grown_after, own_grows}
-use Rattle.df_start.specs.declared.start.RootStart.{RootStart}
-use Rattle.df_unit.specs.Name.{same}
-use Rattle.df_unit.specs.OwnState.{OwnState}
-use Rattle.df_unit.specs.declared.call.Call.{Call}
-use Rattle.df_unit.specs.declared.entry.Entry.{Entry}
-use Rattle.df_unit.specs.declared.name.UnitName.{UnitName}
-use Rattle.df_unit.specs.declared.reply.Reply.{Reply}
-use Rattle.df_unit.proofs.SameFacts.{same_name-exact}
 use Rattle.df_floor_run.proofs.Keeping.{turns_keep}
 
 abbrev pub first : UnitName

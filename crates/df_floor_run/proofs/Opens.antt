@@ -1,35 +1,12 @@
 -- The plain run of a floor opens: each root but the first waits before the first root's first entry.
-use Rattle.std.proofs.Common.{◌≡◌, ℕ, zero, suc, ◌<◌, List, [], ◌∷◌, ◌++◌, Bool, true, false, ◌||◌, refl, ◌∙◌, ap, subst, cond, Option, Some, length, map, arith}
-use Rattle.std.specs.Prelude.{is_some, pred, slice_get}
+use Rattle.df_floor_run.proofs.Names.{◌≡◌, ℕ, zero, suc, ◌<◌, List, [], ◌∷◌, ◌++◌, Bool, true, false, ◌||◌, refl, ◌∙◌, ap, subst, cond, Option, Some, length, map, arith, is_some, pred, slice_get, IsConfig, Config, CrewState, mind_in, want_by, want_in, floor_brains, paired, Mind, begins, State, firsts, IsMore, ArePasses, IsOpening, IsPlainRun, is_full, root_name, Calls, Opens, OthersWait, Start, has_entry, is_of, last_of, state_after, own, root_of, rows, grown_after, own_grows, IsFloorJournal, first_states, floor_brain, RootStart, Tick, OwnState, Call, Entry, UnitName, Reply, fresh_crew}
 use Rattle.std.proofs.lemmas.List.{length-map}
 use Rattle.std.proofs.lemmas.Option.{slice_get_within}
-use Rattle.df_config.specs.ConfigForm.{IsConfig}
-use Rattle.df_config.specs.declared.config.Config.{Config}
-use Rattle.df_booking.specs.CrewState.{CrewState, mind_in, want_by, want_in}
-use Rattle.df_floor.specs.Brains.{floor_brains}
 use Rattle.df_floor.specs.Starting.{floor_start}
-use Rattle.df_floor.proofs.Paired.{paired}
-use Rattle.df_floor_units.specs.Floor.{Mind, begins}
 use Rattle.df_floor_units.specs.declared.kind.Kind.TheVariants as kind
-use Rattle.df_machine.specs.Journal.{State, firsts}
-use Rattle.df_crew.specs.Growing.{IsMore}
-use Rattle.df_plain_floor.specs.PlainRun.{ArePasses, IsOpening, IsPlainRun, is_full, root_name}
-use Rattle.df_rules.specs.Follows.{Calls, Opens, OthersWait, Start, has_entry, is_of, last_of, state_after}
-use Rattle.df_rules.specs.Own.{own}
-use Rattle.df_rules.specs.Start.{root_of, rows}
-use Rattle.df_rules.proofs.Growth.{grown_after, own_grows}
 use Rattle.df_settling.proofs.Counts.{keep_counts}
 use Rattle.df_settling.specs.Counts.{entries_of}
-use Rattle.df_settling.specs.Settling.{IsFloorJournal, first_states, floor_brain}
 use Rattle.df_start.specs.Begun.{begun}
-use Rattle.df_start.specs.declared.start.RootStart.{RootStart}
-use Rattle.df_ticks.specs.declared.tick.Tick.{Tick}
-use Rattle.df_unit.specs.OwnState.{OwnState}
-use Rattle.df_unit.specs.declared.call.Call.{Call}
-use Rattle.df_unit.specs.declared.entry.Entry.{Entry}
-use Rattle.df_unit.specs.declared.name.UnitName.{UnitName}
-use Rattle.df_unit.specs.declared.reply.Reply.{Reply}
-use Rattle.df_floor_run.specs.FloorRun.{fresh_crew}
 use Rattle.df_floor_run.proofs.Opening.{first, none_none, opened_more, opened_none, opened_waits, opens_none}
 use Rattle.df_floor_run.proofs.Passing.{passes_open}
 

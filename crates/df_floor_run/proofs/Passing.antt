@@ -1,16 +1,6 @@
 -- The plain passes begin with the first root, which wants a call where there is a tick.
-use Rattle.std.proofs.Common.{◌≡◌, ◌⊎◌, inl, inr, ℕ, zero, suc, List, [], ◌∷◌, Bool, true, false, ◌||◌, refl, sym, ◌∙◌, ap, subst, cond, Option, Some}
-use Rattle.df_booking.specs.CrewState.{CrewState, want_in}
-use Rattle.df_booking.specs.Turns.{asked, is_local_want, turn_of, turned}
+use Rattle.df_floor_run.proofs.Names.{◌≡◌, ◌⊎◌, inl, inr, ℕ, zero, suc, List, [], ◌∷◌, Bool, true, false, ◌||◌, refl, sym, ◌∙◌, ap, subst, cond, Option, Some, CrewState, want_in, asked, is_local_want, turn_of, turned, State, appended, firsts, IsPass, Repeated, is_full, take_turn, take_turns, Brain, Calls, Opens, OthersWait, Want, has_entry, is_of, answered, exists, rows, Call, UnitName}
 use Rattle.df_turn.specs.Locally.{most_local}
-use Rattle.df_machine.specs.Journal.{State, appended, firsts}
-use Rattle.df_plain_floor.specs.PlainRun.{IsPass, Repeated, is_full, take_turn, take_turns}
-use Rattle.df_rules.specs.Follows.{Brain, Calls, Opens, OthersWait, Want, has_entry, is_of}
-use Rattle.df_rules.specs.Legal.{answered}
-use Rattle.df_rules.specs.Own.{exists}
-use Rattle.df_rules.specs.Start.{rows}
-use Rattle.df_unit.specs.declared.call.Call.{Call}
-use Rattle.df_unit.specs.declared.name.UnitName.{UnitName}
 use Rattle.df_floor_run.proofs.Keeping.{all_keep, run_keeps}
 use Rattle.df_floor_run.proofs.Opening.{first, takes_all}
 use Rattle.df_floor_run.proofs.Roll.{headed}

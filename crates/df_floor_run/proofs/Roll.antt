@@ -1,7 +1,5 @@
 -- The first unit of a roll, where the first root exists, is the first root.
-use Rattle.std.proofs.Common.{◌≡◌, inl, inr, zero, suc, List, [], ◌∷◌, Bool, true, false, refl, sym, ◌∙◌, ap, subst, cond, Option, None, arith}
-use Rattle.std.specs.Prelude.{is_some}
-use Rattle.std.specs.Option.{option_and_then, option_map, option_or}
+use Rattle.df_floor_run.proofs.Names.{◌≡◌, inl, inr, zero, suc, List, [], ◌∷◌, Bool, true, false, refl, sym, ◌∙◌, ap, subst, cond, Option, None, arith, is_some, option_and_then, option_map, option_or, IsRoll, State, firsts, exists, made_by, own_plain, stepped, rows, same, OwnState, Entry, UnitName, Managed, Root, same_name-exact}
 use Rattle.std.specs.Cmp.{nat_cmp_is}
 use Rattle.std.specs.Cmp.Lexicographic.{slice_cmp}
 use Rattle.std.specs.Ordering.{nat_cmp, ordering_then}
@@ -10,18 +8,9 @@ use Rattle.std.specs.declared.cmp.Ordering.TheVariants.{Greater, Less}
 use Rattle.std.proofs.lemmas.Bool.{or_cases}
 use Rattle.df_label.specs.Ascending.{IsBelow, contains_by}
 use Rattle.df_label.specs.Tag.{maker_of, number_of}
-use Rattle.df_machine.specs.Journal.{IsRoll, State, firsts}
-use Rattle.df_rules.specs.Own.{exists, made_by, own_plain, stepped}
 use Rattle.df_rules.specs.Rules.{Rules}
-use Rattle.df_rules.specs.Start.{rows}
-use Rattle.df_unit.specs.Name.{same}
-use Rattle.df_unit.specs.OwnState.{OwnState}
 use Rattle.df_unit.specs.UnitOrder.{unit_cmp}
 use Rattle.df_unit.specs.UnitOrderLaws.{unit_cmp_ties}
-use Rattle.df_unit.specs.declared.entry.Entry.{Entry}
-use Rattle.df_unit.specs.declared.name.UnitName.{UnitName}
-use Rattle.df_unit.specs.declared.name.UnitName.TheVariants.{Managed, Root}
-use Rattle.df_unit.proofs.SameFacts.{same_name-exact}
 use Rattle.df_floor_run.proofs.Opening.{first}
 
 nobody_by : (R : Rules) (e : Entry) → option_or (stepped R (Root []) e None) (made_by R e [] None) ≡ None

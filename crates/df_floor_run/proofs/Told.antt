@@ -1,21 +1,12 @@
 -- The lines of one more entry of a legal journal.
-use Rattle.std.proofs.Common.{◌≡◌, ℕ, List, [], ◌∷◌, ◌++◌, ◌+◌, ◌<◌, length, take, drop, get_or, reverse, refl, ap, sym, subst, ◌∙◌}
+use Rattle.df_floor_run.proofs.Names.{◌≡◌, ℕ, List, [], ◌∷◌, ◌++◌, ◌+◌, ◌<◌, length, take, drop, get_or, reverse, refl, ap, sym, subst, ◌∙◌, noted_text, firsts, AgreesWith, Legal, rows, RootStart, Entry, noted, noted_in, entry_for, replayed}
 use Rattle.std.specs.List.{flat_map}
 use Rattle.std.proofs.lemmas.Grind.{flat_map-append}
 use Rattle.std.proofs.lemmas.List.{drop_more, take-append-drop}
-use Rattle.df_journal_text.specs.Entry.{noted_text}
-use Rattle.df_machine.specs.Journal.{firsts}
-use Rattle.df_machine.specs.Tables.{AgreesWith}
 use Rattle.df_machine.specs.declared.tables.Tables.{Tables}
 use Rattle.df_rules.proofs.Places.{legal_at}
-use Rattle.df_rules.specs.Legal.{Legal}
-use Rattle.df_rules.specs.Start.{rows}
-use Rattle.df_start.specs.declared.start.RootStart.{RootStart}
-use Rattle.df_unit.specs.declared.entry.Entry.{Entry}
 use Rattle.df_replay.proofs.Replayed.{reversed_more}
 use Rattle.df_replay.proofs.Right.{right_is}
-use Rattle.df_replay.specs.Noted.{noted, noted_in}
-use Rattle.df_replay.specs.Replay.{entry_for, replayed}
 
 -- the lines of entries with their actors' contaminations, the oldest first
 abbrev pub lines_of : List RootStart → List Entry → List ℕ

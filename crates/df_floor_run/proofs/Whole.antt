@@ -1,25 +1,8 @@
 -- What the run of a crew tells of the floor whose crew it is.
-use Rattle.std.proofs.Common.{◌≡◌, ℕ, ◌≤◌, List, refl, sym, ◌∙◌, ap, subst, length, arith}
-use Rattle.std.specs.Prelude.{◌↔◌}
-use Rattle.df_config.specs.ConfigForm.{IsConfig}
-use Rattle.df_config.specs.declared.config.Config.{Config}
-use Rattle.df_booking.specs.CrewState.{CrewState}
-use Rattle.df_floor_units.specs.Floor.{Mind}
-use Rattle.df_booking.specs.Manned.{IsFollowed}
+use Rattle.df_floor_run.proofs.Names.{◌≡◌, ℕ, ◌≤◌, List, refl, sym, ◌∙◌, ap, subst, length, arith, ◌↔◌, IsConfig, Config, CrewState, Mind, IsFollowed, State, IsMore, IsAtLimit, IsPlainRun, IsQuiet, Ended, IsFloorJournal, floor_brain, most_entries, RootStart, Tick, EndsWith, IsFloorRun, RunsTo, fresh_crew, run_text, IsLoadText, load_config, Ran, TellsReport, TellsRun, end_of, FloorEnd}
 use Rattle.df_gen.specs.Generated.{generated}
-use Rattle.df_machine.specs.Journal.{State}
-use Rattle.df_crew.specs.Growing.{IsMore}
-use Rattle.df_plain_floor.specs.PlainRun.{IsAtLimit, IsPlainRun, IsQuiet}
-use Rattle.df_plain_floor.specs.declared.run.Ended.{Ended}
 use Rattle.df_plain_floor.specs.declared.run.Ended.TheVariants as ended
 use Rattle.df_settling.proofs.Bound.{settles}
-use Rattle.df_settling.specs.Settling.{IsFloorJournal, floor_brain, most_entries}
-use Rattle.df_start.specs.declared.start.RootStart.{RootStart}
-use Rattle.df_ticks.specs.declared.tick.Tick.{Tick}
-use Rattle.df_floor_run.specs.FloorRun.{EndsWith, IsFloorRun, RunsTo, fresh_crew, run_text}
-use Rattle.df_floor_run.specs.Load.{IsLoadText, load_config}
-use Rattle.df_floor_run.specs.code.Running.{Ran, TellsReport, TellsRun, end_of}
-use Rattle.df_floor_run.specs.declared.run.FloorEnd.{FloorEnd}
 use Rattle.df_floor_run.specs.declared.run.FloorEnd.TheVariants.{Quiet, Unsettled}
 use Rattle.df_floor_run.proofs.LoadForm.{load_form}
 use Rattle.df_floor_run.proofs.Opens.{floor_opens}

@@ -1,36 +1,15 @@
 -- A journal of the floor that goes on from the plain opening opens, whoever takes turns: after the opening the exchange alone has something to do.
-use Rattle.std.proofs.Common.{◌≡◌, ◌≢◌, ◌⊎◌, inl, inr, ℕ, zero, suc, List, [], ◌∷◌, ◌++◌, Bool, true, false, true≢false, ◌||◌, refl, sym, ◌∙◌, ap, subst, Option, Some, None, drop}
-use Rattle.std.specs.Prelude.{slice_get}
-use Rattle.df_booking.specs.CrewState.{CrewState}
-use Rattle.df_config.specs.ConfigForm.{IsConfig}
-use Rattle.df_config.specs.declared.config.Config.{Config}
-use Rattle.df_floor.specs.Brains.{floor_brains}
-use Rattle.df_floor_units.specs.Floor.{Mind}
-use Rattle.df_crew.specs.Growing.{IsMore}
-use Rattle.df_plain_floor.specs.PlainRun.{IsOpening, is_full, root_name}
+use Rattle.df_floor_run.proofs.Names.{◌≡◌, ◌≢◌, ◌⊎◌, inl, inr, ℕ, zero, suc, List, [], ◌∷◌, ◌++◌, Bool, true, false, true≢false, ◌||◌, refl, sym, ◌∙◌, ap, subst, Option, Some, None, drop, slice_get, CrewState, IsConfig, Config, floor_brains, Mind, IsMore, IsOpening, is_full, root_name, Calls, Follows, IsWanted, Opens, OthersWait, Wait, Want, has_entry, replies_of, wanted, IsUnaided, Legal, left, own, rows, IsFloorJournal, first_states, floor_brain, Tick, same, OwnState, Call, Entry, UnitName, Root, fresh_crew}
 use Rattle.df_rules.specs.Deliveries.{deliveries}
-use Rattle.df_rules.specs.Follows.{Calls, Follows, IsWanted, Opens, OthersWait, Wait, Want, has_entry, replies_of, wanted}
-use Rattle.df_rules.specs.Legal.{IsUnaided, Legal, left}
-use Rattle.df_rules.specs.Own.{own}
-use Rattle.df_rules.specs.Start.{rows}
 use Rattle.df_settling.proofs.Bound.{World, actor_member, world}
 use Rattle.df_settling.proofs.Entries.{name_refl}
 use Rattle.df_settling.proofs.Members.{Member, member_kind, members, watcher}
 use Rattle.df_settling.proofs.Silent.{AreSilent, silent}
 use Rattle.df_settling.proofs.Totals.{In}
-use Rattle.df_settling.specs.Settling.{IsFloorJournal, first_states, floor_brain}
-use Rattle.df_ticks.specs.declared.tick.Tick.{Tick}
-use Rattle.df_unit.specs.Name.{same}
-use Rattle.df_unit.specs.OwnState.{OwnState}
-use Rattle.df_unit.specs.declared.call.Call.{Call}
 use Rattle.df_unit.specs.declared.commit.Given.{Given}
-use Rattle.df_unit.specs.declared.entry.Entry.{Entry}
 use Rattle.df_unit.specs.declared.entry.Entry.TheVariants.{Done, Emitted}
-use Rattle.df_unit.specs.declared.name.UnitName.{UnitName}
-use Rattle.df_unit.specs.declared.name.UnitName.TheVariants.{Root}
 use Rattle.df_floor_run.proofs.Opening.{first}
 use Rattle.df_floor_run.proofs.Opens as opens
-use Rattle.df_floor_run.specs.FloorRun.{fresh_crew}
 
 none_dropped : (n : ℕ) (ds : List Given) → ds ≡ [] → drop n ds ≡ []
 none_dropped zero ds e = e

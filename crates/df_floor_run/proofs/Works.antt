@@ -1,30 +1,9 @@
 -- What workers make of a crew, and what that tells of the floor whose crew it is.
-use Rattle.std.proofs.Common.{◌≡◌, ℕ, List, [], ◌++◌, Bool, true, false, refl, sym, ◌∙◌, ap, subst, length}
-use Rattle.std.specs.Prelude.{◌↔◌, reverse}
+use Rattle.df_floor_run.proofs.Names.{◌≡◌, ℕ, List, [], ◌++◌, Bool, true, false, refl, sym, ◌∙◌, ap, subst, length, ◌↔◌, IsPrefix, CrewState, IsFollowed, IsConfig, Config, more_trans, IsMore, origin_of, seen_of, floor_brains, Mind, State, IsAtLimit, IsOpening, IsQuiet, is_full, Ended, Opens, IsFloorJournal, floor_brain, RootStart, Tick, Entry, EndsWith, IsFloorCrew, IsWorkedRun, fresh_crew, run_text, GoesOn, TellsWorked, Worked, end_of, FloorEnd}
+use Rattle.std.specs.Prelude.{reverse}
 use Rattle.std.proofs.lemmas.List.{reverse-append, reverse-reverse}
-use mathlib.Core.List.{IsPrefix}
-use Rattle.df_booking.specs.CrewState.{CrewState}
-use Rattle.df_booking.specs.Manned.{IsFollowed}
-use Rattle.df_config.specs.ConfigForm.{IsConfig}
-use Rattle.df_config.specs.declared.config.Config.{Config}
-use Rattle.df_crew.proofs.Growing.{more_trans}
-use Rattle.df_crew.specs.Growing.{IsMore}
-use Rattle.df_crew.specs.Seen.{origin_of, seen_of}
 use Rattle.df_crew.specs.declared.origin.Origin.{Origin}
-use Rattle.df_floor.specs.Brains.{floor_brains}
-use Rattle.df_floor_units.specs.Floor.{Mind}
-use Rattle.df_machine.specs.Journal.{State}
-use Rattle.df_plain_floor.specs.PlainRun.{IsAtLimit, IsOpening, IsQuiet, is_full}
-use Rattle.df_plain_floor.specs.declared.run.Ended.{Ended}
 use Rattle.df_plain_floor.specs.declared.run.Ended.TheVariants as ended
-use Rattle.df_rules.specs.Follows.{Opens}
-use Rattle.df_settling.specs.Settling.{IsFloorJournal, floor_brain}
-use Rattle.df_start.specs.declared.start.RootStart.{RootStart}
-use Rattle.df_ticks.specs.declared.tick.Tick.{Tick}
-use Rattle.df_unit.specs.declared.entry.Entry.{Entry}
-use Rattle.df_floor_run.specs.FloorRun.{EndsWith, IsFloorCrew, IsWorkedRun, fresh_crew, run_text}
-use Rattle.df_floor_run.specs.code.Running.{GoesOn, TellsWorked, Worked, end_of}
-use Rattle.df_floor_run.specs.declared.run.FloorEnd.{FloorEnd}
 use Rattle.df_floor_run.proofs.Opens as opens
 use Rattle.df_floor_run.proofs.Whole.{ends}
 use Rattle.df_floor_run.proofs.Worked.{worked_opens}

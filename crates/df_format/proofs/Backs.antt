@@ -1,7 +1,5 @@
 -- What is spelled is read back, and what stands behind it is left.
-use Rattle.std.proofs.Common.{◌≡◌, ℕ, zero, suc, ◌<◌, ◌≤◌, Bool, true, false, List, [], ◌∷◌, ◌++◌, length, Ok, refl, sym, ap, subst, ◌∙◌, append_assoc, arith, length-append}
-use Rattle.std.specs.List.{AllByRecursion, flat_map}
-use Rattle.df_format.specs.Reading.{Read, while_at, all_at}
+use Rattle.df_format.proofs.Names.{◌≡◌, ℕ, zero, suc, ◌<◌, ◌≤◌, Bool, true, false, List, [], ◌∷◌, ◌++◌, length, Ok, refl, sym, ap, subst, ◌∙◌, append_assoc, arith, length-append, AllByRecursion, flat_map, Read, while_at, all_at}
 
 -- What is spelled is read back before what may follow, it stands there, and it may follow itself.
 pub record Back {T X : Type 0} (stands : List T → Bool) (spell : X → List T) (Fits : X → Type 0) (Next : List T → Type 0)

@@ -1,9 +1,6 @@
 -- What may be missing, and one of two kinds: the first token tells.
-use Rattle.std.proofs.Common.{◌≡◌, Bool, true, false, List, [], ◌∷◌, ◌++◌, Option, Some, None, Ok, Err, refl, ap, subst, ◌∙◌, ◌⊎◌, inl, inr}
-use Rattle.df_format.specs.Reading.{Stop, Read, ◌>>=◌, maybe_at, either_at}
+use Rattle.df_format.proofs.Names.{◌≡◌, Bool, true, false, List, [], ◌∷◌, ◌++◌, Option, Some, None, Ok, Err, refl, ap, subst, ◌∙◌, ◌⊎◌, inl, inr, Stop, Read, ◌>>=◌, maybe_at, either_at, CanGoOn, Ends, Found, Stuck, Format}
 use Rattle.df_format.specs.Spelling.{maybe_spell}
-use Rattle.df_format.specs.Grammar.{CanGoOn}
-use Rattle.df_format.specs.Format.{Ends, Found, Stuck, Format}
 use Rattle.df_format.proofs.Laws.{ok_is, not_both, bind_ok, bind_err, chosen, no_first, stuck_first, stuck_as, first_same}
 
 -- a spelling begins with such a token

@@ -1,8 +1,6 @@
 -- Steps of readers of items with a separator between each two.
-use Rattle.std.proofs.Common.{◌≡◌, ℕ, zero, suc, ◌≤◌, Bool, true, false, cond, List, [], ◌∷◌, ◌++◌, length, Ok, Err, refl, sym, ap, ◌∙◌, append_assoc, length-append, arith}
+use Rattle.df_format.proofs.Names.{◌≡◌, ℕ, zero, suc, ◌≤◌, Bool, true, false, cond, List, [], ◌∷◌, ◌++◌, length, Ok, Err, refl, sym, ap, ◌∙◌, append_assoc, length-append, arith, Stop, Read, ◌>>=◌, more_at, more_of, with_front, Format}
 use Rattle.std.proofs.lemmas.List.{append-nil}
-use Rattle.df_format.specs.Reading.{Stop, Read, ◌>>=◌, more_at, more_of, with_front}
-use Rattle.df_format.specs.Format.{Format}
 use Rattle.df_format.proofs.Laws.{bind_same}
 
 -- ---- steps

@@ -1,10 +1,7 @@
 -- Items with a separator between each two.
-use Rattle.std.proofs.Common.{◌≡◌, ℕ, zero, suc, ◌≤◌, Bool, true, false, cond, List, [], ◌∷◌, ◌++◌, length, Ok, Err, refl, sym, ap, subst, ◌∙◌, append_assoc, arith, inl, inr}
+use Rattle.df_format.proofs.Names.{◌≡◌, ℕ, zero, suc, ◌≤◌, Bool, true, false, cond, List, [], ◌∷◌, ◌++◌, length, Ok, Err, refl, sym, ap, subst, ◌∙◌, append_assoc, arith, inl, inr, Stop, Read, ◌>>=◌, more_of, items_at, CanGoOn, Ends, Stuck, Format}
 use Rattle.std.proofs.lemmas.List.{append-nil}
-use Rattle.df_format.specs.Reading.{Stop, Read, ◌>>=◌, more_of, items_at}
 use Rattle.df_format.specs.Spelling.{more_spell, items_spell}
-use Rattle.df_format.specs.Grammar.{CanGoOn}
-use Rattle.df_format.specs.Format.{Ends, Stuck, Format}
 use Rattle.df_format.proofs.Laws.{ok_is, not_both, bind_ok, bind_err, told, both_false, stop_ends, can_within, can_behind, can_go_on, stuck_as, stuck_behind}
 use Rattle.df_format.proofs.ItemSteps.{Shrinks, onto, more_step, more_stop}
 

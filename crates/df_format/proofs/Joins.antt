@@ -1,8 +1,5 @@
 -- Another view of what is read, the same reader in another form, and fixed bytes before and behind.
-use Rattle.std.proofs.Common.{◌≡◌, ℕ, Bool, false, List, [], ◌∷◌, ◌++◌, Ok, Err, refl, sym, ap, subst, ◌∙◌, inl, inr}
-use Rattle.df_format.specs.Reading.{Read, ◌>>=◌, as_at, text_at, behind_at, closed_at}
-use Rattle.df_format.specs.Grammar.{CanGoOn}
-use Rattle.df_format.specs.Format.{Ends, Found, Format}
+use Rattle.df_format.proofs.Names.{◌≡◌, ℕ, Bool, false, List, [], ◌∷◌, ◌++◌, Ok, Err, refl, sym, ap, subst, ◌∙◌, inl, inr, Read, ◌>>=◌, as_at, text_at, behind_at, closed_at, CanGoOn, Ends, Found, Format}
 use Rattle.df_format.proofs.Laws.{ok_is, not_both, bind_ok, bind_err, never, ends_never, stuck_as}
 use Rattle.df_format.proofs.Thens.{then_format, ends_of_second}
 use Rattle.df_format.proofs.Texts.{text_format}

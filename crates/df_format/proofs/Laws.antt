@@ -1,8 +1,5 @@
 -- Steps of readers, and one thing behind another.
-use Rattle.std.proofs.Common.{◌≡◌, Bool, true, false, cond, List, [], ◌∷◌, ◌++◌, Result, Ok, Err, refl, sym, ap, subst, ◌∙◌, append_assoc, append-nil, ◌⊎◌, inl, inr}
-use Rattle.df_format.specs.Reading.{Stop, Bad, Low, Read, ◌>>=◌}
-use Rattle.df_format.specs.Grammar.{CanGoOn, Stands, FirstBad}
-use Rattle.df_format.specs.Format.{Ends, IsViable, place, Cause, Stuck, Format}
+use Rattle.df_format.proofs.Names.{◌≡◌, Bool, true, false, cond, List, [], ◌∷◌, ◌++◌, Result, Ok, Err, refl, sym, ap, subst, ◌∙◌, append_assoc, append-nil, ◌⊎◌, inl, inr, Stop, Bad, Low, Read, ◌>>=◌, CanGoOn, Stands, FirstBad, Ends, IsViable, place, Cause, Stuck, Format}
 
 -- ---- steps
 

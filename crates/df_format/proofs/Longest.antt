@@ -1,11 +1,8 @@
 -- What is read is the longest thing that stands there, and the longest is read.
-use Rattle.std.proofs.Common.{◌≡◌, Bool, ◌<◌, ◌≤◌, List, [], ◌∷◌, ◌++◌, length, Ok, refl, sym, ap, subst, ◌∙◌, append_assoc, append-nil, length-append, arith, inl, inr}
+use Rattle.df_format.proofs.Names.{◌≡◌, Bool, ◌<◌, ◌≤◌, List, [], ◌∷◌, ◌++◌, length, Ok, refl, sym, ap, subst, ◌∙◌, append_assoc, append-nil, length-append, arith, inl, inr, Read, IsLongest, Ends, Format}
 use Rattle.std.specs.Prelude.{nat_lt}
 use Rattle.std.proofs.lemmas.Bool.Decides.{nat_tests}
 use Rattle.std.proofs.lemmas.List.{append_cancel_left}
-use Rattle.df_format.specs.Reading.{Read}
-use Rattle.df_format.specs.Grammar.{IsLongest}
-use Rattle.df_format.specs.Format.{Ends, Format}
 use Rattle.df_format.proofs.Laws.{ok_is, told}
 
 -- of two that stand in front, the longer begins with the shorter

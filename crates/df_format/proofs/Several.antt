@@ -1,9 +1,5 @@
 -- As many things as stand there.
-use Rattle.std.proofs.Common.{◌≡◌, ℕ, zero, suc, ◌<◌, ◌≤◌, Bool, true, false, cond, List, [], ◌∷◌, ◌++◌, length, Ok, Err, refl, sym, ap, subst, ◌∙◌, append_assoc, length-append, arith, inl, inr}
-use Rattle.std.specs.List.{AllByRecursion, flat_map}
-use Rattle.df_format.specs.Reading.{Stop, Bad, Read, ◌>>=◌, starts, while_at, all_at}
-use Rattle.df_format.specs.Grammar.{CanGoOn}
-use Rattle.df_format.specs.Format.{Ends, Found, Stuck, Format}
+use Rattle.df_format.proofs.Names.{◌≡◌, ℕ, zero, suc, ◌<◌, ◌≤◌, Bool, true, false, cond, List, [], ◌∷◌, ◌++◌, length, Ok, Err, refl, sym, ap, subst, ◌∙◌, append_assoc, length-append, arith, inl, inr, AllByRecursion, flat_map, Stop, Bad, Read, ◌>>=◌, starts, while_at, all_at, CanGoOn, Ends, Found, Stuck, Format}
 use Rattle.df_format.proofs.Laws.{ok_is, not_both, bind_ok, bind_err, bind_same, told, never, ends_never, can_within, can_behind, can_go_on, first_same, stuck_as, stuck_behind}
 use Rattle.df_format.proofs.Choices.{Begins}
 use Rattle.df_format.proofs.ItemSteps.{onto}

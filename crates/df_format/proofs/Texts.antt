@@ -1,8 +1,6 @@
 -- Fixed bytes.
-use Rattle.std.proofs.Common.{◌≡◌, ℕ, true, false, eqb, List, [], ◌∷◌, ◌++◌, Ok, Err, refl, sym, ap, ◌∙◌, inl, inr, eq-eqb}
+use Rattle.df_format.proofs.Names.{◌≡◌, ℕ, true, false, eqb, List, [], ◌∷◌, ◌++◌, Ok, Err, refl, sym, ap, ◌∙◌, inl, inr, eq-eqb, Stop, Bad, ◌>>=◌, text_at, Stuck, Format}
 use Rattle.std.proofs.lemmas.Bool.{eqb-true}
-use Rattle.df_format.specs.Reading.{Stop, Bad, ◌>>=◌, text_at}
-use Rattle.df_format.specs.Format.{Stuck, Format}
 use Rattle.df_format.proofs.Laws.{ok_is, not_both, bind_ok, bind_err, chosen, never, ends_never, can_behind, can_go_on, no_first, stuck_first, stuck_behind, stuck_as}
 
 pub text_again : (ws rest : List ℕ) → text_at ws (ws ++ rest) ≡ Ok (ws, rest)

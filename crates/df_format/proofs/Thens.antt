@@ -1,9 +1,6 @@
 -- One thing and then another.
-use Rattle.std.proofs.Common.{◌≡◌, Bool, true, List, [], ◌∷◌, ◌++◌, Ok, refl, sym, ap, subst, ◌∙◌, append_assoc, inl, inr}
-use Rattle.df_format.specs.Reading.{Read, ◌>>=◌, then_at}
+use Rattle.df_format.proofs.Names.{◌≡◌, Bool, true, List, [], ◌∷◌, ◌++◌, Ok, refl, sym, ap, subst, ◌∙◌, append_assoc, inl, inr, Read, ◌>>=◌, then_at, CanGoOn, Ends, Found, IsLocal, Format}
 use Rattle.df_format.specs.Spelling.{then_spell}
-use Rattle.df_format.specs.Grammar.{CanGoOn}
-use Rattle.df_format.specs.Format.{Ends, Found, IsLocal, Format}
 use Rattle.df_format.proofs.Laws.{ok_is, not_both, bind_ok, bind_err, stop_ends, can_within, can_behind, can_go_on, stuck_as, stuck_behind}
 
 abbrev pub ThenFits : {X Y : Type 0} → (X → Type 0) → (Y → Type 0) → X × Y → Type 0

@@ -1,8 +1,5 @@
 -- Laws by kind of token. A reader that stops at no low place keeps its laws whatever is low.
-use Rattle.std.proofs.Common.{◌≡◌, ℕ, Bool, true, false, cond, List, [], ◌∷◌, ◌++◌, Option, Some, None, Ok, Err, refl, sym, ap, subst, ◌∙◌, inl, inr}
-use Rattle.df_format.specs.Reading.{Stop, Bad, Read, ◌>>=◌, as_at, text_at, behind_at, closed_at, decoded, one_at}
-use Rattle.df_format.specs.Grammar.{CanGoOn}
-use Rattle.df_format.specs.Format.{Ends, Found, Stuck, IsLocal, Format}
+use Rattle.df_format.proofs.Names.{◌≡◌, ℕ, Bool, true, false, cond, List, [], ◌∷◌, ◌++◌, Option, Some, None, Ok, Err, refl, sym, ap, subst, ◌∙◌, inl, inr, Stop, Bad, Read, ◌>>=◌, as_at, text_at, behind_at, closed_at, decoded, one_at, CanGoOn, Ends, Found, Stuck, IsLocal, Format}
 use Rattle.df_format.proofs.Laws.{ok_is, err_is, not_both, bind_ok, bind_err, chosen, never, ends_never, can_behind, can_go_on, no_first, stuck_at, stuck_first, stuck_as, stuck_behind}
 use Rattle.df_format.proofs.Joins.{viewed, alike_format, same_read, behind_format, closed_format}
 

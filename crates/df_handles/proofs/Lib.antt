@@ -1,3 +1,4 @@
+pub mod Names
 pub mod OpenHandles
 pub mod Slots
 pub mod Views

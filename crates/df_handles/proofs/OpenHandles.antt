@@ -1,7 +1,5 @@
 -- What opening and drafting do to the list of handles.
-use Rattle.std.proofs.Common.{◌≡◌, ℕ, zero, suc, ◌<◌, ◌≤◌, Option, Some, None, List, [], ◌∷◌, ◌++◌, length, set, get_or, refl, ap, sym, ◌∙◌, arith}
-use Rattle.df_unit.specs.declared.handle.Handle.{Handle}
-use Rattle.df_unit.specs.Handles.{least_free, open_count, opened, handle_at, replaced, changed_at}
+use Rattle.df_handles.proofs.Names.{◌≡◌, ℕ, zero, suc, ◌<◌, ◌≤◌, Option, Some, None, List, [], ◌∷◌, ◌++◌, length, set, get_or, refl, ap, sym, ◌∙◌, arith, Handle, least_free, open_count, opened, handle_at, replaced, changed_at}
 
 -- as many handles are open as numbers below the least free one, at least
 pub least_free_within : (hs : List (Option Handle)) → least_free hs ≤ open_count hs

@@ -1,12 +1,8 @@
 -- What a change of one place does to the handles that the places show.
-use Rattle.std.proofs.Common.{◌≡◌, ℕ, ◌+◌, ◌<◌, ◌≤◌, Option, Some, None, List, [], ◌∷◌, ◌++◌, length, take, map, set, get_or, add-one, refl, ap, sym, ◌∙◌, arith}
+use Rattle.df_handles.proofs.Names.{◌≡◌, ℕ, ◌+◌, ◌<◌, ◌≤◌, Option, Some, None, List, [], ◌∷◌, ◌++◌, length, take, map, set, get_or, add-one, refl, ap, sym, ◌∙◌, arith, length-map, map-append, map-set, get_or-map, Handle, least_free, opened, replaced, changed_at, shown, all_shown}
 use Rattle.std.specs.Option.{option_map}
-use Rattle.std.proofs.lemmas.List.{length-map, map-append, map-set, get_or-map}
 use Rattle.std.proofs.Math.Seq.{map-set_same, take-suc}
-use Rattle.df_unit.specs.declared.handle.Handle.{Handle}
-use Rattle.df_unit.specs.Handles.{least_free, opened, replaced, changed_at}
 use Rattle.df_handles.specs.declared.slot.Slot.{Slot}
-use Rattle.df_handles.specs.code.Slot.{shown, all_shown}
 use Rattle.df_handles.proofs.OpenHandles.{opened_in, opened_end, none_kept, changed_at-open}
 
 -- a place that shows what it showed changes nothing

@@ -1,20 +1,14 @@
 -- What is looked for in a view is found in one go.
-use Rattle.std.proofs.Common.{◌≡◌, ℕ, suc, ◌<◌, Bool, true, false, not, ◌&&◌, ◌||◌, List, [], ◌∷◌, length, get_or, drop, drop-cons, refl, sym, ap, ◌∙◌, arith}
-use Rattle.std.specs.List.{filter, list_any}
+use Rattle.df_handles.proofs.Names.{◌≡◌, ℕ, suc, ◌<◌, Bool, true, false, not, ◌&&◌, ◌||◌, List, [], ◌∷◌, length, get_or, drop, drop-cons, refl, sym, ap, ◌∙◌, arith, filter, list_any, is_at, is_deleted, Part, has_at, visible, visible_named, Handle, is_visible, named_in, has_seen, shown_in, visible_in}
 use Rattle.std.specs.Str.{bytes_eq}
 use Rattle.std.proofs.lemmas.Bool.{and_parts}
 use Rattle.std.proofs.lemmas.Slice.Eq.{bytes_eq-Decides}
 use Rattle.df_label.specs.Label.{flows_to, label_eq}
 use Rattle.df_label.proofs.LabelFacts.{label_eq-Decides}
 use Rattle.df_label.specs.declared.label.Label.{Label}
-use Rattle.df_part.specs.Contents.{is_at, is_deleted}
 use Rattle.df_part.specs.Part.{readable}
 use Rattle.df_part.specs.declared.edit.Spot.{Spot}
-use Rattle.df_part.specs.declared.part.Part.{Part}
-use Rattle.df_unit.specs.Drafts.{has_at, shown, visible, visible_named}
-use Rattle.df_unit.specs.declared.handle.Handle.{Handle}
-use Rattle.df_handles.specs.Visible.{is_visible, named_in}
-use Rattle.df_handles.specs.code.Views.{has_seen, shown_in, visible_in}
+use Rattle.df_unit.specs.Drafts.{shown}
 
 -- two filters in turn are one
 filtered_once : {A : Type 0} (q r : A → Bool) (xs : List A) → filter q (filter r xs) ≡ filter (λ y. r y && q y) xs

@@ -1,20 +1,9 @@
 -- An image that is gone through record by record.
-use Rattle.std.proofs.Common.{◌≡◌, ◌≢◌, inl, inr, ℕ, ◌+◌, ◌^◌, ◌<◌, List, [], ◌∷◌, ◌++◌, length, drop, reverse, refl, sym, ◌∙◌, ap, subst, arith, length-append}
-use Rattle.std.specs.Prelude.{map}
-use Rattle.std.specs.List.{All, AllByRecursion}
-use Rattle.std.proofs.lemmas.List.{append-nil, drop_at, reverse-append, map-append}
-use Rattle.std.proofs.lemmas.List.Elements.{All-from_recursion, All-nil, recursion_from_All}
+use Rattle.df_image.proofs.Names.{◌≡◌, ◌≢◌, inl, inr, ℕ, ◌+◌, ◌^◌, ◌<◌, List, [], ◌∷◌, ◌++◌, length, drop, reverse, refl, sym, ◌∙◌, ap, subst, arith, length-append, map, All, AllByRecursion, append-nil, drop_at, reverse-append, map-append, All-from_recursion, All-nil, recursion_from_All, opened, record_text, length-record, BreaksAt, IsKept, IsNext, State, entry_record, records_of, start_record, IsWholeEntry, AreRoots, RootStart, Entry}
 use Rattle.df_disk.specs.Found.{BeginsWith}
-use Rattle.df_disk.specs.Records.{opened, record_text}
 use Rattle.df_disk.proofs.Crash.{opened-push}
-use Rattle.df_disk.proofs.Heads.{length-record}
 use Rattle.df_image.proofs.SameRecords.{one_record}
-use Rattle.df_image.specs.Image.{BreaksAt, IsKept, IsNext, State, entry_record, records_of, start_record}
 use Rattle.df_image.specs.Front.{IsFront, KeepsTo, TakesAnswer, TakesNone}
-use Rattle.df_journal_file.specs.Journal.{IsWholeEntry}
-use Rattle.df_journal_text.specs.Fits.{AreRoots}
-use Rattle.df_start.specs.declared.start.RootStart.{RootStart}
-use Rattle.df_unit.specs.declared.entry.Entry.{Entry}
 
 -- ---- one entry more
 

@@ -1,24 +1,14 @@
 -- An image keeps one journal, or is damaged at one gate.
-use Rattle.std.proofs.Common.{◌≡◌, ◌⊎◌, inl, inr, ⊎_elim, ℕ, ◌+◌, ◌^◌, ◌<◌, List, [], ◌∷◌, ◌++◌, length, reverse, refl, sym, ◌∙◌, ap, subst, arith, append_assoc, length-append}
-use Rattle.std.specs.Prelude.{codes, map, None}
-use Rattle.std.specs.List.{All, AllByRecursion}
-use Rattle.std.proofs.lemmas.List.{append_cancel_left, reverse-reverse}
-use Rattle.std.proofs.lemmas.List.Elements.{All-from_recursion, All-nil, recursion_from_All}
-use Rattle.df_disk.specs.Records.{IsEmpty, opened, record_text}
-use Rattle.df_image.specs.Image.{BreaksAt, IsDamagedAt, IsKept, IsNext, KeepsJournal, LacksEntry, LacksStart, State, entry_record, records_of, start_record}
+use Rattle.df_image.proofs.Names.{◌≡◌, ◌⊎◌, inl, inr, ⊎_elim, ℕ, ◌+◌, ◌^◌, ◌<◌, List, [], ◌∷◌, ◌++◌, length, reverse, refl, sym, ◌∙◌, ap, subst, arith, append_assoc, length-append, codes, map, All, AllByRecursion, append_cancel_left, reverse-reverse, All-from_recursion, All-nil, recursion_from_All, IsEmpty, opened, record_text, BreaksAt, IsDamagedAt, IsKept, IsNext, KeepsJournal, LacksEntry, LacksStart, State, entry_record, records_of, start_record, IsWholeEntry, AreRoots, IsJournal, IsNoteOf, IsNoted, line, RootStart, Entry}
+use Rattle.std.specs.Prelude.{None}
 use Rattle.df_image.proofs.Readings.{no_roots}
 use Rattle.df_image.proofs.SameRecords.{one_record}
-use Rattle.df_journal_file.specs.Journal.{IsWholeEntry}
-use Rattle.df_journal_text.specs.Fits.{AreRoots, IsJournal, IsNoteOf, IsNoted}
-use Rattle.df_journal_text.specs.Line.{line}
 use Rattle.df_journal_text.specs.Start.{head_text, journal_text, start_text}
 use Rattle.df_journal_text.proofs.JournalBacks.{journal_is_one}
 use Rattle.df_rules.proofs.Places.{legal_at}
 use Rattle.df_rules.specs.Legal.{IsRight, Legal}
 use Rattle.df_rules.specs.Start.{roots, rows}
 use Rattle.df_start.specs.Begun.{begun}
-use Rattle.df_start.specs.declared.start.RootStart.{RootStart}
-use Rattle.df_unit.specs.declared.entry.Entry.{Entry}
 use Rattle.df_unit.specs.declared.entry.Entry.TheVariants.{Done, Emitted}
 use Rattle.df_unit.specs.declared.entry.Noted.{Noted}
 

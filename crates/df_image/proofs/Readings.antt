@@ -1,16 +1,6 @@
 -- What the reader of journals says of a record.
-use Rattle.std.proofs.Common.{◌≡◌, inl, ℕ, ◌<◌, List, [], ◌∷◌, ◌++◌, length, Option, None, Some, Result, Ok, Err, refl, sym, ◌∙◌, ap, subst, arith}
-use Rattle.std.specs.Prelude.{codes, option_to_list, ◌↔◌, IfOk, IsSome, OnOk}
-use Rattle.std.specs.List.{All, AllByRecursion}
-use Rattle.std.proofs.lemmas.List.{append-nil}
-use Rattle.std.proofs.lemmas.List.Elements.{All-from_recursion, All-nil, recursion_from_All}
-use Rattle.df_image.specs.Image.{entry_record, start_record}
+use Rattle.df_image.proofs.Names.{◌≡◌, inl, ℕ, ◌<◌, List, [], ◌∷◌, ◌++◌, length, Option, None, Some, Result, Ok, Err, refl, sym, ◌∙◌, ap, subst, arith, codes, option_to_list, ◌↔◌, IfOk, IsSome, OnOk, All, AllByRecursion, append-nil, All-from_recursion, All-nil, recursion_from_All, entry_record, start_record, EndsFile, IsPlainJournal, IsWholeEntry, plain_text, AreRoots, IsRoot, line, RootStart, Entry}
 use Rattle.df_image.specs.Reading.{TellsLast}
-use Rattle.df_journal_file.specs.Journal.{EndsFile, IsPlainJournal, IsWholeEntry, plain_text}
-use Rattle.df_journal_text.specs.Fits.{AreRoots, IsRoot}
-use Rattle.df_journal_text.specs.Line.{line}
-use Rattle.df_start.specs.declared.start.RootStart.{RootStart}
-use Rattle.df_unit.specs.declared.entry.Entry.{Entry}
 
 -- what stands in front of an entry in a journal without roots
 abbrev pub head : List ℕ

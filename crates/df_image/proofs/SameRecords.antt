@@ -1,10 +1,7 @@
 -- Two records in front of the same bytes are one.
-use Rattle.std.proofs.Common.{◌≡◌, ℕ, ◌+◌, ◌^◌, ◌<◌, List, ◌++◌, length, take, drop, refl, sym, ◌∙◌, ap, arith, append_assoc, length-append}
+use Rattle.df_image.proofs.Names.{◌≡◌, ℕ, ◌+◌, ◌^◌, ◌<◌, List, ◌++◌, length, take, drop, refl, sym, ◌∙◌, ap, arith, append_assoc, length-append, take_at, drop_at, record_text, length-count, length-record}
 use Rattle.std.specs.Int.{w64, to_be_bytes, from_be_bytes}
-use Rattle.std.proofs.lemmas.List.{take_at, drop_at}
 use Rattle.std.proofs.lemmas.Nat.{from_be_bytes-to_be_bytes_8}
-use Rattle.df_disk.specs.Records.{record_text}
-use Rattle.df_disk.proofs.Heads.{length-count, length-record}
 
 front : (bytes rest : List ℕ) → take 8 (record_text bytes ++ rest) ≡ to_be_bytes w64 (length bytes)
 front bytes rest = ap (take 8) (append_assoc (to_be_bytes w64 (length bytes)) bytes rest)

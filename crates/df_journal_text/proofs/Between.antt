@@ -1,11 +1,8 @@
 -- What stands from a place up to another.
-use Rattle.std.specs.List.{starts_with}
-use Rattle.std.proofs.Common.{◌≡◌, ℕ, ◌+◌, ◌-◌, ◌≤◌, true, false, eqb, List, ◌++◌, length, take, drop, refl, sym, ap, ◌∙◌, arith, length-append}
-use Rattle.std.proofs.lemmas.Bool.{false≢true}
+use Rattle.df_journal_text.proofs.Names.{starts_with, ◌≡◌, ℕ, ◌+◌, ◌-◌, ◌≤◌, true, false, eqb, List, ◌++◌, length, take, drop, refl, sym, ap, ◌∙◌, arith, length-append, false≢true, drop-drop, take-append-le, take_all, BeginsWith}
 use Rattle.std.proofs.lemmas.Bool.Decides.{Decides-eqb}
-use Rattle.std.proofs.lemmas.List.{drop-drop, length-drop, take-append-le, take_all}
+use Rattle.std.proofs.lemmas.List.{length-drop}
 use Rattle.std.proofs.lemmas.Slice.Eq.{starts_is}
-use Rattle.df_journal_text.specs.code.Judging.{BeginsWith}
 
 -- what stands in front, as long as it is
 front_of : (xs ys : List ℕ) → take (length xs) (xs ++ ys) ≡ xs

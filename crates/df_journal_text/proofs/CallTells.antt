@@ -1,6 +1,5 @@
 -- What the reader of calls answers.
-use Rattle.df_journal_text.proofs.Names.{◌≡◌, ℕ, ◌≤◌, List, ◌++◌, length, drop, Result, Ok, Err, codes, decimal, refl, sym, ap, subst, ◌∙◌, inl, Stop, Read, then_at, text_at, not_both, ok_is, text_again, text_found, Label, Call, AddPart, IsSpelled, IsValue, label_text, label_at, name_at, short_at, value_at, value_text, Fails, EndsWord, Fault, value_format, IsCall, IsLargeCall, IsLargeWord, word, add_of, added_at, call_at, plain_kinds, spot_at, keyed, kinds_at, word_at, EndsCall, IsStopped, IsUnspelled, Tells, behind_add, call_text, line_fault, LineFault}
-use Rattle.df_frozen.specs.Plain.{Plain}
+use Rattle.df_journal_text.proofs.Names.{◌≡◌, ℕ, ◌≤◌, List, ◌++◌, length, drop, Result, Ok, Err, codes, decimal, refl, sym, ap, subst, ◌∙◌, inl, Stop, Read, then_at, text_at, not_both, ok_is, text_again, text_found, Label, Call, AddPart, IsSpelled, IsValue, label_text, label_at, name_at, short_at, value_at, value_text, Fails, EndsWord, Fault, value_format, IsCall, IsLargeCall, IsLargeWord, word, add_of, added_at, call_at, plain_kinds, spot_at, keyed, kinds_at, word_at, EndsCall, IsStopped, IsUnspelled, Tells, behind_add, call_text, line_fault, LineFault, Plain}
 use Rattle.df_journal_text.specs.declared.line_fault.LineFault.TheVariants as fault
 use Rattle.df_journal_text.proofs.Appends.{four_apart, three_apart}
 use Rattle.df_journal_text.proofs.CallBacks.{call_back}

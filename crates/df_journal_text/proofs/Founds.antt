@@ -1,11 +1,14 @@
 -- What reading gives is spelled so, and fits.
-use Rattle.df_journal_text.proofs.Names.{◌≡◌, ℕ, suc, zero, ◌<◌, ◌^◌, true, eqb, Bool, Option, Some, None, List, [], ◌∷◌, ◌++◌, length, map, Ok, Err, decimal, refl, sym, ap, subst, ◌∙◌, arith, append_assoc, append-nil, inl, inr, AllByRecursion, flat_map, All-from_recursion, Bad, Low, Read, ◌>>=◌, as_at, then_at, maybe_at, text_at, behind_at, closed_at, while_at, Format, maybe_spell, bind_ok, chosen, ok_is, not_both, text_found, is_name, Privilege, IsLabel, IsPrivilege, IsTag, IsTagSet, label_text, path_text, privilege_text, tag_text, label_at, privilege_at, name_at, numbers_at, short_at, tag_at, label_format, privilege_format, nowhere, nowhere_is_local, behind_byte, long_found, short_format, tag_format, filter_text, IsFilter, filter_at, ArePrivileges, IsUnit, spaced, word, unit_text, braced_at, instance_at, unit_at, unit_of, ascend, ascending, bare_at, begins_pair, each_privilege_at, keyed, kinds_at, privileges_at, word_at}
+use Rattle.df_journal_text.proofs.Names.{◌≡◌, ℕ, suc, zero, ◌<◌, ◌^◌, true, eqb, Bool, Option, Some, None, List, [], ◌∷◌, ◌++◌, length, map, Ok, Err, decimal, refl, sym, ap, subst, ◌∙◌, arith, append_assoc, append-nil, inl, inr, AllByRecursion, flat_map, All-from_recursion, Bad, Low, Read, ◌>>=◌, as_at, then_at, maybe_at, text_at, behind_at, closed_at, while_at, bind_ok, chosen, ok_is, not_both, text_found, is_name, Privilege, IsLabel, IsPrivilege, IsTag, IsTagSet, label_text, path_text, privilege_text, tag_text, label_at, privilege_at, name_at, numbers_at, short_at, tag_at, label_format, privilege_format, nowhere, nowhere_is_local, filter_text, IsFilter, filter_at, ArePrivileges, IsUnit, spaced, word, unit_text, braced_at, instance_at, unit_at, unit_of, ascend, ascending, bare_at, begins_pair, each_privilege_at, keyed, kinds_at, privileges_at, word_at}
 use Rattle.df_format.proofs.Choices.{MaybeFits}
 use Rattle.df_value_text.proofs.NameLaws.{name_format}
 use Rattle.df_value_text.proofs.TagSetLaws.{tags_format}
 use Rattle.df_filter_text.proofs.FilterLaws.{filter_format}
 use Rattle.df_journal_text.proofs.WordBacks.{braced, spaced-privileges}
 use Rattle.df_journal_text.proofs.Words.{ascending_of}
+use Rattle.df_format.specs.Format.{Format}
+use Rattle.df_format.specs.Spelling.{maybe_spell}
+use Rattle.df_value_text.proofs.TagLaws.{behind_byte, long_found, short_format, tag_format}
 
 -- what reading gives stands in front, and fits
 pub record Finds {X : Type 0} (spell : X → List ℕ) (Fits : X → Type 0) (read : List ℕ → Read ℕ X) : Type 0 where

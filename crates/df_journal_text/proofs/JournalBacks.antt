@@ -1,10 +1,12 @@
 -- Journals that are spelled are read back, so a text is that of one journal.
-use Rattle.df_journal_text.proofs.Names.{◌≡◌, ℕ, ◌<◌, ◌||◌, true, false, eqb, List, [], ◌∷◌, ◌++◌, length, Option, Some, None, Ok, codes, decimal, refl, sym, ap, subst, ◌∙◌, append_assoc, arith, inl, inr, is_ascii_digit, flat_map, eqb-true, recursion_from_All, more_spell, Read, Back, all_back, ok_is, told, Label, RootStart, UnitName, Root, Managed, Commit, Done, Emitted, IsTag, path_text, tags_text, begins_with, begins_digit, digit_first, joined_items, Call, Reply, Effect, call_words, effect_text, entry_text, note_text, noted_text, reads_text, spaced, reply_words, IsEntry, IsJournal, IsNoteOf, IsNoted, IsRoot, IsUnit, unit_text, EndsJournal, IsUnmarked, begins_entry, journal_at, noted_at, journal_text, start_text}
+use Rattle.df_journal_text.proofs.Names.{◌≡◌, ℕ, ◌<◌, ◌||◌, true, false, eqb, List, [], ◌∷◌, ◌++◌, length, Option, Some, None, Ok, codes, decimal, refl, sym, ap, subst, ◌∙◌, append_assoc, arith, inl, inr, is_ascii_digit, flat_map, eqb-true, recursion_from_All, Read, Back, all_back, ok_is, told, Label, RootStart, UnitName, Root, Managed, Commit, Done, Emitted, IsTag, path_text, tags_text, begins_with, begins_digit, Call, Reply, Effect, call_words, effect_text, entry_text, note_text, noted_text, reads_text, spaced, reply_words, IsEntry, IsJournal, IsNoteOf, IsNoted, IsRoot, IsUnit, unit_text, EndsJournal, IsUnmarked, begins_entry, journal_at, noted_at, journal_text, start_text}
 use Rattle.std.proofs.lemmas.List.{append-nil}
 use Rattle.df_unit.specs.declared.entry.Entry.{Entry}
 use Rattle.df_unit.specs.declared.entry.Noted.{Noted}
 use Rattle.df_journal_text.proofs.EntryBacks.{commit-rest, commit_back, commit_text, done_back}
 use Rattle.df_journal_text.proofs.StartBacks.{start_back}
+use Rattle.df_format.specs.Spelling.{more_spell}
+use Rattle.df_value_text.proofs.TagLaws.{digit_first, joined_items}
 
 -- ---- the first byte of an entry
 

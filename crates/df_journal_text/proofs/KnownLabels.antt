@@ -1,11 +1,5 @@
 -- A label that was read is known by its word.
-use Rattle.std.proofs.Common.{◌≡◌, ℕ, ◌-◌, ◌≤◌, List, ◌++◌, Some, Ok, length, take, drop, sym, ap, subst, ◌∙◌}
-use Rattle.df_label.specs.declared.label.Label.{Label}
-use Rattle.df_value_text.specs.Fits.{IsLabel}
-use Rattle.df_value_text.specs.Label.{label_text}
-use Rattle.df_value_text.specs.ReadLabel.{label_at}
-use Rattle.df_value_text.proofs.Backs.{label_back}
-use Rattle.df_journal_text.specs.code.KnownLabel.{IsKnown}
+use Rattle.df_journal_text.proofs.Names.{◌≡◌, ℕ, ◌-◌, ◌≤◌, List, ◌++◌, Some, Ok, length, take, drop, sym, ap, subst, ◌∙◌, Label, IsLabel, label_text, label_at, label_back, IsKnown}
 use Rattle.df_journal_text.proofs.Between.{between, onward}
 use Rattle.df_journal_text.proofs.Founds.{label_finds}
 

@@ -1,7 +1,7 @@
 -- Readers of several things, as loops read them.
-use Rattle.df_journal_text.proofs.Names.{◌≡◌, Bool, true, false, List, [], ◌∷◌, ◌++◌, Ok, Err, refl, sym, ap, ◌∙◌, Stop, Read, all_at, with_front, regroup}
+use Rattle.df_journal_text.proofs.Names.{◌≡◌, Bool, true, false, List, [], ◌∷◌, ◌++◌, Ok, Err, refl, sym, ap, ◌∙◌, Stop, Read, all_at, with_front, Several, all_none, all_step, all_stop}
 use Rattle.std.proofs.lemmas.List.{append-nil}
-use Rattle.df_format.proofs.Several.{Several, all_none, all_step, all_stop}
+use Rattle.df_format.proofs.ItemSteps.{regroup}
 
 pub front_nil : {T X : Type 0} (r : Read T (List X)) → with_front [] r ≡ r
 front_nil (Ok xs) = refl

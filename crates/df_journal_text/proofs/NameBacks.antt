@@ -1,6 +1,7 @@
 -- Names of units and events that are spelled are read back.
-use Rattle.df_journal_text.proofs.Names.{◌≡◌, ℕ, false, eqb, List, [], ◌∷◌, ◌++◌, None, Ok, decimal, refl, ap, ◌∙◌, append_assoc, is_ascii_digit, maybe_at, closed_at, path_text, tags_text, numbers_at, short_at, tags_at, EndsWord, EndsPath, path_back, digits_back, short_back, braced_back, at_break, UnitName, Root, Managed, IsUnit, IsEvent, unit_text, event_text, instance_at, unit_at, event_at}
+use Rattle.df_journal_text.proofs.Names.{◌≡◌, ℕ, false, eqb, List, [], ◌∷◌, ◌++◌, None, Ok, decimal, refl, ap, ◌∙◌, append_assoc, is_ascii_digit, maybe_at, closed_at, path_text, tags_text, numbers_at, short_at, tags_at, EndsWord, EndsPath, path_back, digits_back, short_back, braced_back, UnitName, Root, Managed, IsUnit, IsEvent, unit_text, event_text, instance_at, unit_at, event_at}
 use Rattle.df_journal_text.proofs.WordBacks.{Word}
+use Rattle.df_value_text.proofs.WordEnds.{at_break}
 
 -- no path and no instance goes on with what stands there
 abbrev pub EndsUnit : List ℕ → Type 0

@@ -1,6 +1,7 @@
 -- Whether privileges ascend, as a loop finds it.
-use Rattle.df_journal_text.proofs.Names.{◌≡◌, ℕ, ◌+◌, ◌<◌, zero, suc, Bool, true, false, List, [], ◌∷◌, ◌++◌, length, take, get_or, refl, sym, ap, subst, ◌∙◌, arith, is_lt, Less, Equal, Greater, true≢false, take_more, IsAscending, IsBelow, privilege_cmp, Privilege, privilege_cmp_exact, ascending-push}
+use Rattle.df_journal_text.proofs.Names.{◌≡◌, ℕ, ◌+◌, ◌<◌, zero, suc, Bool, true, false, List, [], ◌∷◌, ◌++◌, length, take, get_or, refl, sym, ap, subst, ◌∙◌, arith, is_lt, Less, Equal, Greater, true≢false, take_more, IsAscending, IsBelow, privilege_cmp, Privilege, privilege_cmp_exact}
 use Rattle.std.specs.declared.cmp.Ordering.{Ordering}
+use Rattle.df_label.proofs.SetFacts.{ascending-push}
 
 -- what comes before all comes before the one at a place
 below_at : (p : Privilege) (ps : List Privilege) (i : ℕ) (d : Privilege) → i < length ps → IsBelow privilege_cmp p ps → privilege_cmp p (get_or ps i d) ≡ Less

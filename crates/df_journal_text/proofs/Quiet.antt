@@ -1,16 +1,6 @@
 -- The entry of a call without effect that is told a handle.
-use Rattle.std.proofs.Common.{◌≡◌, ℕ, List, [], ◌++◌, Option, append_assoc, append-nil, sym, ap, ◌∙◌}
-use Rattle.std.proofs.lemmas.List.Concat.{flat_map-append}
-use Rattle.df_label.specs.declared.label.Label.{Label}
-use Rattle.df_unit.specs.declared.call.Call.{Call}
-use Rattle.df_unit.specs.declared.entry.Effect.{Effect}
-use Rattle.df_unit.specs.declared.entry.Entry.TheVariants.{Done}
-use Rattle.df_unit.specs.declared.name.UnitName.{UnitName}
-use Rattle.df_unit.specs.declared.reply.Reply.{Reply}
-use Rattle.df_unit.specs.declared.reply.Reply.TheVariants.{Handle}
-use Rattle.df_journal_text.specs.Entry.{call_line, entry_text, note_text}
+use Rattle.df_journal_text.proofs.Names.{◌≡◌, ℕ, List, [], ◌++◌, Option, append_assoc, append-nil, sym, ap, ◌∙◌, flat_map-append, Label, Call, Effect, Done, UnitName, Reply, Handle, call_line, entry_text, note_text, answer_text}
 use Rattle.df_journal_text.specs.Front.{call_front}
-use Rattle.df_journal_text.specs.code.Outcome.{answer_text}
 
 -- the line of a call is its front, with the reply behind it
 line_of : (actor : UnitName) (call : Call) (r : Reply) → call_line actor call r ≡ call_front actor call ++ answer_text r

@@ -1,5 +1,5 @@
 -- What the reader of values answers, as a word of a line.
-use Rattle.df_journal_text.proofs.Names.{◌≡◌, ℕ, ◌≤◌, true, false, List, [], ◌∷◌, ◌++◌, length, drop, Ok, Err, refl, sym, ap, subst, ◌∙◌, arith, append-nil, length-append, inl, inr, text_at, Ends, not_both, told, text_found, IsSpelled, IsValue, value_at, value_within, value_text, Fails, IsFound, IsRead, IsSyntaxAt, EndsWord, Fault, nowhere, nowhere_is_local, value_format, value_goes, value_stands, IsLargeWord, IsTooLarge, word, word_at, Tells, line_fault, value_fault}
+use Rattle.df_journal_text.proofs.Names.{◌≡◌, ℕ, ◌≤◌, true, false, List, [], ◌∷◌, ◌++◌, length, drop, Ok, Err, refl, sym, ap, subst, ◌∙◌, arith, append-nil, length-append, inl, inr, text_at, not_both, told, text_found, IsSpelled, IsValue, value_at, value_within, value_text, Fails, IsFound, IsRead, IsSyntaxAt, EndsWord, Fault, nowhere, nowhere_is_local, value_format, value_goes, IsLargeWord, IsTooLarge, word, word_at, Tells, line_fault, value_fault, Plain, int, words, items, entries, node_count}
 use Rattle.std.specs.Prelude.{nat_lt}
 use Rattle.std.proofs.lemmas.Bool.Decides.{nat_tests}
 use Rattle.df_format.specs.Grammar.{CanGoOn, Stands}
@@ -15,9 +15,11 @@ use Rattle.df_value_text.proofs.CountingSteps.{walked_few}
 use Rattle.df_value_text.proofs.LimitLaws.{no_value}
 use Rattle.df_value_text.proofs.ValueAnswers.{level_fits, value_ends}
 use Rattle.df_value_text.proofs.WholeLaws.{whole_format}
-use Rattle.df_frozen.specs.Plain.{Plain, int, words, bytes as blob, items, entries, node_count}
+use Rattle.df_frozen.specs.Plain.{bytes as blob}
 use Rattle.df_value_text.specs.declared.refused.TextRefused.TheVariants as refused
 use Rattle.df_journal_text.proofs.Stopped.{on_fault}
+use Rattle.df_format.specs.Format.{Ends}
+use Rattle.df_value_text.proofs.WordEnds.{value_stands}
 
 abbrev pub value_word_text : Plain → List ℕ
 value_word_text v = word (value_text v)

@@ -1,10 +1,9 @@
 -- Keywords, instances and privileges, as the code reads them.
-use Rattle.df_journal_text.proofs.Names.{◌≡◌, ℕ, ◌<◌, ◌≤◌, true, false, eqb, List, [], ◌∷◌, length, drop, length-drop, Some, None, Ok, Err, ◌++◌, text_again, IsStopped, refl, sym, ap, ◌∙◌, arith, inl, inr, is_lt, Less, and_parts, Low, Read, ◌>>=◌, maybe_at, text_at, format_shrinks, bind_ok, told, text_found, IsAscending, privilege_cmp, Privilege, privilege_cmp_exact, below_trans, privilege_text, IsPrivilege, begins_with, privilege_at, privilege_format, privilege_goes, nowhere, ascend, ascending, begins_pair, each_privilege_at, privileges_at, word_at}
+use Rattle.df_journal_text.proofs.Names.{◌≡◌, ℕ, ◌<◌, ◌≤◌, true, false, eqb, List, [], ◌∷◌, length, drop, length-drop, Some, None, Ok, Err, ◌++◌, text_again, IsStopped, refl, sym, ap, ◌∙◌, arith, inl, inr, is_lt, Less, and_parts, Low, Read, ◌>>=◌, maybe_at, text_at, bind_ok, told, text_found, IsAscending, privilege_cmp, Privilege, privilege_cmp_exact, privilege_text, IsPrivilege, begins_with, privilege_at, privilege_format, privilege_goes, nowhere, ascend, ascending, begins_pair, each_privilege_at, privileges_at, word_at, Option, BeginsWith, Several}
 use Rattle.std.specs.Prelude.{MatchOption}
-use Rattle.std.proofs.Common.{Option}
-use Rattle.df_journal_text.specs.code.Judging.{BeginsWith}
-use Rattle.df_format.proofs.Several.{Several}
 use Rattle.df_journal_text.proofs.Orders.{is_less}
+use Rattle.df_format.proofs.ItemSteps.{format_shrinks}
+use Rattle.df_label.proofs.SetFacts.{below_trans}
 
 -- ---- keywords
 

@@ -1,23 +1,8 @@
 -- A row of which nothing may be passed on passes nothing on.
-use Rattle.std.proofs.Common.{◌≡◌, ℕ, suc, ◌+◌, ◌<◌, ◌⊎◌, inl, inr, List, [], ◌∷◌, ◌++◌, Bool, true, false, ◌&&◌, ◌||◌, refl, sym, ◌∙◌, ap, subst, arith}
-use Rattle.std.specs.Prelude.{slice_index_or}
-use Rattle.std.specs.List.{Contains, list_any}
-use Rattle.std.proofs.lemmas.Bool.{or_parts}
-use borrow.Author.Count.{below_more}
-use Rattle.std.proofs.lemmas.List.Elements.{Contains-append_left, Contains-push}
+use Rattle.df_lint.proofs.Names.{◌≡◌, ℕ, suc, ◌+◌, ◌<◌, ◌⊎◌, inl, inr, List, [], ◌∷◌, ◌++◌, Bool, true, false, ◌&&◌, ◌||◌, refl, sym, ◌∙◌, ap, subst, arith, slice_index_or, Contains, list_any, or_parts, below_more, Contains-append_left, Contains-push, tag_eq, Privilege, Right, Plus, Minus, PlusAuth, MinusAuth, RootStart, attaches, cells_at, has, row_of, row_at, rows_of, IsSeen, IsSettled, Cell, auth_of, needed_to_attach}
 use Rattle.df_label.specs.Privileges.{contains as contains_privilege}
-use Rattle.df_label.specs.Tag.{tag_eq}
-use Rattle.df_label.specs.declared.privilege.Privilege.{Privilege}
-use Rattle.df_label.specs.declared.privilege.Right.{Right}
-use Rattle.df_label.specs.declared.privilege.Right.TheVariants.{Plus, Minus, PlusAuth, MinusAuth}
-use Rattle.df_start.specs.declared.start.RootStart.{RootStart}
 use Rattle.df_lint.proofs.CellRows.{row_at_of}
 use Rattle.df_lint.proofs.Cells.{contains_row}
-use Rattle.df_lint.specs.code.Cells.{attaches, cells_at, has, row_of}
-use Rattle.df_lint.specs.code.Rows.{row_at, rows_of}
-use Rattle.df_lint.specs.code.Spread.{IsSeen, IsSettled}
-use Rattle.df_lint.specs.declared.cell.Cell.{Cell}
-use Rattle.df_priv.specs.Needed.{auth_of, needed_to_attach}
 
 no_auth : (c : Cell) (r : Right) → attaches c ≡ false → has c (auth_of r) ≡ false
 no_auth c Plus none = (or_parts c.plus_auth c.minus_auth none).0

@@ -1,17 +1,7 @@
 -- The rows of a table as cells and as privileges.
-use Rattle.std.proofs.Common.{◌≡◌, ◌≢◌, ℕ, zero, suc, ◌<◌, List, [], ◌∷◌, Bool, true, false, ◌&&◌, ◌||◌, ◌==◌, refl, sym, ◌∙◌, ap, subst, length, arith}
-use Rattle.std.specs.Prelude.{slice_set, slice_index_or}
-use Rattle.std.proofs.lemmas.Bool.{eqb-true, eqb-false}
-use Rattle.std.proofs.lemmas.List.{get_or-set_other, length-set}
+use Rattle.df_lint.proofs.Names.{◌≡◌, ◌≢◌, ℕ, zero, suc, ◌<◌, List, [], ◌∷◌, Bool, true, false, ◌&&◌, ◌||◌, ◌==◌, refl, sym, ◌∙◌, ap, subst, length, arith, slice_set, slice_index_or, eqb-true, eqb-false, get_or-set_other, length-set, Privilege, RootStart, Grows, IsRow, cells_at, no_bar, pass_row, row_of, Gains, row_reaches, IsGivenBy, IsTable, row_at, rows_of, Cell, needed_to_attach}
 use Rattle.df_label.specs.Privileges.{contains as contains_privilege}
-use Rattle.df_label.specs.declared.privilege.Privilege.{Privilege}
-use Rattle.df_start.specs.declared.start.RootStart.{RootStart}
 use Rattle.df_lint.proofs.Cells.{contains_pass, grows_gains, length-pass, or_false, reaches_exactly, row-pass}
-use Rattle.df_lint.specs.code.Cells.{Grows, IsRow, cells_at, no_bar, pass_row, row_of}
-use Rattle.df_lint.specs.code.Passing.{Gains, row_reaches}
-use Rattle.df_lint.specs.code.Rows.{IsGivenBy, IsTable, row_at, rows_of}
-use Rattle.df_lint.specs.declared.cell.Cell.{Cell}
-use Rattle.df_priv.specs.Needed.{needed_to_attach}
 
 -- lists of rows
 

@@ -1,26 +1,6 @@
 -- What a row of cells has.
-use Rattle.std.proofs.Common.{inl, inr, ◌≡◌, ◌⊎◌, ℕ, zero, suc, ◌+◌, ◌<◌, List, [], ◌∷◌, Bool, true, false, not, ◌&&◌, ◌||◌, refl, sym, ◌∙◌, ap, subst, length, take, arith}
-use Rattle.std.specs.List.{list_all}
-use Rattle.std.proofs.lemmas.Bool.{and_from, and_parts, or_cases, or_left, or_right, or_parts}
-use Rattle.std.specs.Prelude.{slice_set, slice_index_or}
-use Rattle.std.specs.Ordering.{is_eq, ordering_then}
-use Rattle.std.specs.declared.cmp.Ordering.{Ordering}
-use Rattle.std.specs.declared.cmp.Ordering.TheVariants.{Less, Equal, Greater}
-use Rattle.df_label.specs.Ascending.{IsAscending, IsBelow}
-use Rattle.df_label.specs.Privilege.{privilege_eq, right_cmp}
+use Rattle.df_lint.proofs.Names.{inl, inr, ◌≡◌, ◌⊎◌, ℕ, zero, suc, ◌+◌, ◌<◌, List, [], ◌∷◌, Bool, true, false, not, ◌&&◌, ◌||◌, refl, sym, ◌∙◌, ap, subst, length, take, arith, list_all, and_from, and_parts, or_cases, or_left, or_right, or_parts, slice_set, slice_index_or, is_eq, ordering_then, Ordering, Less, Equal, Greater, IsAscending, IsBelow, privilege_eq, right_cmp, tag_cmp, tag_eq, Privilege, Right, Plus, Minus, PlusAuth, MinusAuth, tag_eq-itself, tag_eq-exact, contains, Label, Grows, IsRow, blank, cell_at, gives, has, is_bar, no_bar, pass_row, passed, pick, row_of, Gains, IsPassedOn, row_passes, row_reaches, Cell, auth_of, needed, needed_to_attach, Del}
 use Rattle.df_label.specs.Privileges.{contains as contains_privilege}
-use Rattle.df_label.specs.Tag.{tag_cmp, tag_eq}
-use Rattle.df_label.specs.declared.privilege.Privilege.{Privilege}
-use Rattle.df_label.specs.declared.privilege.Right.{Right}
-use Rattle.df_label.specs.declared.privilege.Right.TheVariants.{Plus, Minus, PlusAuth, MinusAuth}
-use Rattle.df_label.proofs.TagSetFacts.{tag_eq-itself, tag_eq-exact}
-use Rattle.df_label.specs.TagSet.{contains}
-use Rattle.df_label.specs.declared.label.Label.{Label}
-use Rattle.df_lint.specs.code.Cells.{Grows, IsRow, blank, cell_at, gives, has, is_bar, no_bar, pass_row, passed, pick, row_of}
-use Rattle.df_lint.specs.code.Passing.{Gains, IsPassedOn, row_passes, row_reaches}
-use Rattle.df_lint.specs.declared.cell.Cell.{Cell}
-use Rattle.df_priv.specs.Needed.{auth_of, needed, needed_to_attach}
-use Rattle.df_priv.specs.declared.need.Act.TheVariants.{Del}
 
 -- passing on, cell by cell
 

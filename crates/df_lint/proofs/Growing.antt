@@ -1,29 +1,7 @@
 -- Rows grow by what is passed on, and the work that is left gets less.
-use Rattle.std.proofs.Common.{inl, inr, ◌≡◌, ◌≢◌, ◌⊎◌, ℕ, zero, suc, ◌+◌, ◌<◌, ◌≤◌, List, [], ◌∷◌, ◌++◌, Bool, true, false, ◌&&◌, ◌||◌, ◌==◌, refl, sym, ◌∙◌, ap, subst, cond, length, map, arith}
-use Rattle.std.specs.Prelude.{slice_set, slice_index_or}
-use Rattle.std.specs.List.{Contains, list_any, flat_map}
-use Rattle.std.specs.Ordering.{is_eq, ordering_then}
-use Rattle.std.specs.declared.cmp.Ordering.{Ordering}
-use Rattle.std.specs.declared.cmp.Ordering.TheVariants.{Less, Equal, Greater}
-use Rattle.std.proofs.lemmas.Bool.{and_parts, eqb-true, eqb-false, or_cases, or_left, or_right}
-use borrow.Author.Count.{below_more}
-use Rattle.std.proofs.lemmas.List.Elements.{Contains-append_left, Contains-push, Contains-push_cases}
-use Rattle.std.proofs.lemmas.List.{get_or-set_other, length-append, length-set}
-use Rattle.df_family.specs.May.{Relation}
-use Rattle.df_label.specs.Privilege.{privilege_eq, right_cmp}
+use Rattle.df_lint.proofs.Names.{inl, inr, ◌≡◌, ◌≢◌, ◌⊎◌, ℕ, zero, suc, ◌+◌, ◌<◌, ◌≤◌, List, [], ◌∷◌, ◌++◌, Bool, true, false, ◌&&◌, ◌||◌, ◌==◌, refl, sym, ◌∙◌, ap, subst, cond, length, map, arith, slice_set, slice_index_or, Contains, list_any, flat_map, is_eq, ordering_then, Ordering, Less, Equal, Greater, and_parts, eqb-true, eqb-false, or_cases, or_left, or_right, below_more, Contains-append_left, Contains-push, Contains-push_cases, get_or-set_other, length-append, length-set, Relation, privilege_eq, right_cmp, tag_cmp, tag_eq, Privilege, Right, Plus, Minus, PlusAuth, MinusAuth, privilege_eq-Decides, tag_eq-itself, RootStart, Gains, row_reaches, IsGivenBy, Settles, row_at, AreWithin, Extends, HasRows, IsSeen, IsSeenBy, IsSettled, PassesOn, lacks, missing, work, needed_to_attach}
 use Rattle.df_label.specs.Privileges.{contains as contains_privilege}
-use Rattle.df_label.specs.Tag.{tag_cmp, tag_eq}
-use Rattle.df_label.specs.declared.privilege.Privilege.{Privilege}
-use Rattle.df_label.specs.declared.privilege.Right.{Right}
-use Rattle.df_label.specs.declared.privilege.Right.TheVariants.{Plus, Minus, PlusAuth, MinusAuth}
-use Rattle.df_label.proofs.PrivilegeFacts.{privilege_eq-Decides}
-use Rattle.df_label.proofs.TagSetFacts.{tag_eq-itself}
-use Rattle.df_start.specs.declared.start.RootStart.{RootStart}
 use Rattle.df_lint.proofs.Steps.{or_assoc}
-use Rattle.df_lint.specs.code.Passing.{Gains, row_reaches}
-use Rattle.df_lint.specs.code.Rows.{IsGivenBy, Settles, row_at}
-use Rattle.df_lint.specs.code.Spread.{AreWithin, Extends, HasRows, IsSeen, IsSeenBy, IsSettled, PassesOn, lacks, missing, work}
-use Rattle.df_priv.specs.Needed.{needed_to_attach}
 use Rattle.df_unit.specs.Held.{all_over}
 
 -- all privileges over the tags of some rows

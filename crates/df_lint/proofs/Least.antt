@@ -1,38 +1,10 @@
 -- What the rows have in the end is the least relation that keeps the rules.
-use Rattle.std.proofs.Common.{inl, inr, ◌≡◌, ◌⊎◌, ℕ, zero, suc, ◌<◌, List, [], ◌∷◌, Bool, true, false, not, ◌&&◌, ◌||◌, refl, sym, ◌∙◌, ap, subst, cond, length, map, Some, arith}
-use Rattle.std.specs.Prelude.{slice_get, slice_index_or}
-use Rattle.std.specs.List.{filter, list_all, list_any}
-use Rattle.std.proofs.lemmas.Bool.{and_from, and_parts, or_cases, or_left, or_right}
+use Rattle.df_lint.proofs.Names.{inl, inr, ◌≡◌, ◌⊎◌, ℕ, zero, suc, ◌<◌, List, [], ◌∷◌, Bool, true, false, not, ◌&&◌, ◌||◌, refl, sym, ◌∙◌, ap, subst, cond, length, map, Some, arith, slice_get, slice_index_or, filter, list_all, list_any, and_from, and_parts, or_cases, or_left, or_right, begins_with, names, IsClosed, IsLeast, MayHold, Relation, can_write, maker_of, tag_cmp, tag_eq, contains, Label, Privilege, tag_eq-itself, privilege_eq, privilege_eq-Decides, Roots, begun, RootStart, AreTagsOf, row_can_write, row_passes, row_reaches, IsRow, cell_at, cells_at, has, row_of, first_cell, first_cells, first_has, IsFirstRow, IsTable, found, row_at, rows_of, Cell, IsAscending, Right, Plus, Minus, PlusAuth, MinusAuth, length-map, HasRows, IsSpread, PassesOn, needed, needed_to_attach, Add, Del}
 use Rattle.df_family.proofs.Bound.{reached, root_named}
-use Rattle.df_family.specs.Family.{begins_with, names}
-use Rattle.df_family.specs.May.{IsClosed, IsLeast, MayHold, Relation, can_write}
 use Rattle.df_label.specs.Privileges.{contains as contains_privilege}
-use Rattle.df_label.specs.Tag.{maker_of, tag_cmp, tag_eq}
-use Rattle.df_label.specs.TagSet.{contains}
-use Rattle.df_label.specs.declared.label.Label.{Label}
-use Rattle.df_label.specs.declared.privilege.Privilege.{Privilege}
-use Rattle.df_label.proofs.TagSetFacts.{tag_eq-itself}
-use Rattle.df_label.specs.Privilege.{privilege_eq}
-use Rattle.df_label.proofs.PrivilegeFacts.{privilege_eq-Decides}
-use Rattle.df_rules.specs.Always.{Roots}
-use Rattle.df_start.specs.Begun.{begun}
-use Rattle.df_start.specs.declared.start.RootStart.{RootStart}
-use Rattle.df_lint.specs.Tags.{AreTagsOf}
-use Rattle.df_lint.specs.code.Passing.{row_can_write, row_passes, row_reaches}
-use Rattle.df_lint.specs.code.Cells.{IsRow, cell_at, cells_at, has, row_of}
-use Rattle.df_lint.specs.code.First.{first_cell, first_cells, first_has}
-use Rattle.df_lint.specs.code.Rows.{IsFirstRow, IsTable, found, row_at, rows_of}
-use Rattle.df_lint.specs.declared.cell.Cell.{Cell}
 use Rattle.df_lint.proofs.CellRows.{row_at_of}
 use Rattle.df_lint.proofs.Cells.{all_contained, contains_at, contains_away, or_false, place_of_tag}
 use Rattle.df_lint.proofs.Steps.{or_comm}
-use Rattle.df_label.specs.Ascending.{IsAscending}
-use Rattle.df_label.specs.declared.privilege.Right.{Right}
-use Rattle.df_label.specs.declared.privilege.Right.TheVariants.{Plus, Minus, PlusAuth, MinusAuth}
-use Rattle.std.proofs.lemmas.List.{length-map}
-use Rattle.df_lint.specs.code.Spread.{HasRows, IsSpread, PassesOn}
-use Rattle.df_priv.specs.Needed.{needed, needed_to_attach}
-use Rattle.df_priv.specs.declared.need.Act.TheVariants.{Add, Del}
 
 all_or : {X : Type 0} (q p : X → Bool) (xs : List X) → list_all p (filter (λ x. not (q x)) xs) ≡ true → list_all (λ x. q x || p x) xs ≡ true
 all_or q p [] h = refl

@@ -1,3 +1,4 @@
+pub mod Names
 pub mod Cells
 pub mod CellRows
 pub mod Attaching

@@ -1,24 +1,8 @@
 -- The lines of a start, by the rows of what may be held.
-use Rattle.std.proofs.Common.{◌≡◌, ℕ, suc, ◌+◌, ◌<◌, ◌≤◌, List, [], ◌∷◌, ◌++◌, Bool, true, false, sym, ◌∙◌, ap, append_assoc, get_or, length, take, arith}
-use Rattle.std.specs.List.{flat_map}
-use Rattle.df_family.proofs.BoundJournal.{never}
-use Rattle.df_family.specs.Family.{names}
-use Rattle.df_family.specs.May.{IsLeast}
+use Rattle.df_lint.proofs.Names.{◌≡◌, ℕ, suc, ◌+◌, ◌<◌, ◌≤◌, List, [], ◌∷◌, ◌++◌, Bool, true, false, sym, ◌∙◌, ap, append_assoc, get_or, length, take, arith, flat_map, never, names, IsLeast, IsAscending, tag_cmp, Privilege, IsLintText, lint_line, lint_lines, tag_lines, append-nil, take_all, take_more, Right, Plus, Minus, PlusAuth, MinusAuth, cell_at, has, row_of, Cell, AreTagsOf, found, row_at, Roots}
 use Rattle.df_family.specs.Never.{NeverHolds}
-use Rattle.df_label.specs.Ascending.{IsAscending}
-use Rattle.df_label.specs.Tag.{tag_cmp}
-use Rattle.df_label.specs.declared.privilege.Privilege.{Privilege}
-use Rattle.df_lint.specs.LintText.{IsLintText, lint_line, lint_lines, tag_lines}
-use Rattle.std.proofs.lemmas.List.{append-nil, take_all, take_more}
 use Rattle.df_label.specs.Privileges.{contains as contains_privilege}
-use Rattle.df_label.specs.declared.privilege.Right.{Right}
-use Rattle.df_label.specs.declared.privilege.Right.TheVariants.{Plus, Minus, PlusAuth, MinusAuth}
 use Rattle.df_lint.proofs.Cells.{contains_at}
-use Rattle.df_lint.specs.code.Cells.{cell_at, has, row_of}
-use Rattle.df_lint.specs.declared.cell.Cell.{Cell}
-use Rattle.df_lint.specs.Tags.{AreTagsOf}
-use Rattle.df_lint.specs.code.Rows.{found, row_at}
-use Rattle.df_rules.specs.Always.{Roots}
 
 -- where the rows don't have a privilege, no unit of the family ever holds it
 never_told : (start : Roots) (rows : List (List Privilege)) → IsLeast start (found rows) → (k : ℕ) (p : Privilege) → names start p.tag ≡ true → found rows k p ≡ false → NeverHolds start k p

@@ -1,14 +1,5 @@
 -- One more element of a loop.
-use Rattle.std.proofs.Common.{◌≡◌, ℕ, ◌+◌, ◌<◌, List, [], ◌∷◌, ◌++◌, Bool, true, false, ◌||◌, refl, sym, ◌∙◌, ap, length, take, map, get_or}
-use Rattle.std.specs.List.{list_any}
-use Rattle.std.proofs.lemmas.List.{take_more}
-use Rattle.df_label.specs.Tag.{tag_eq}
-use Rattle.df_label.specs.TagSet.{contains, union, with}
-use Rattle.df_label.specs.declared.privilege.Privilege.{Privilege}
-use Rattle.df_family.specs.Family.{names, root_names}
-use Rattle.df_label.proofs.TagSetFacts.{contains-union, contains-with}
-use Rattle.df_start.specs.Begun.{begun}
-use Rattle.df_start.specs.declared.start.RootStart.{RootStart}
+use Rattle.df_lint.proofs.Names.{◌≡◌, ℕ, ◌+◌, ◌<◌, List, [], ◌∷◌, ◌++◌, Bool, true, false, ◌||◌, refl, sym, ◌∙◌, ap, length, take, map, get_or, list_any, take_more, tag_eq, contains, union, with, Privilege, names, root_names, contains-union, contains-with, begun, RootStart}
 
 pub or_assoc : (a b c : Bool) → ((a || b) || c) ≡ (a || (b || c))
 or_assoc true b c = refl

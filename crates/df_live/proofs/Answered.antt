@@ -1,31 +1,16 @@
 -- What was taken and written at each moment of a run.
-use Rattle.std.proofs.Common.{◌≡◌, ℕ, ◌+◌, ◌^◌, ◌≤◌, List, [], ◌∷◌, ◌++◌, length, take, codes, Option, Some, None, option_map, refl, sym, ap, subst, ◌∙◌, append_assoc, append-nil, inl, inr, eqb, false}
+use Rattle.df_live.proofs.Names.{◌≡◌, ℕ, ◌+◌, ◌^◌, ◌≤◌, List, [], ◌∷◌, ◌++◌, length, take, codes, Option, Some, None, option_map, refl, sym, ap, subst, ◌∙◌, append_assoc, append-nil, inl, inr, eqb, false, Consumes, flat_map-append, All-from_recursion, All-nil, All-push, Rose, line, head_text, start_text, IsLine, ended, lines_text, IsScript, IsScriptLine, script_line, script_text, call_line, head_lines, ScriptLine, RootStart, AppendsStep, Records, RecordsScript, journal_of, AnswersAll, AnswersScript, IsDue, IsPartOfLine, Leaves, AnswersCall, HasAnswered, IsBadCall, IsLineDue, IsReading, Stops, StopsAnswer, StopsHead, StopsLine, TakesCall, TakesStart, LiveStatus}
 use Rattle.std.specs.List.{flat_map}
-use Rattle.std.specs.Io.KnownBytes.{Consumes}
-use Rattle.std.proofs.lemmas.List.Concat.{flat_map-append}
-use Rattle.std.proofs.lemmas.List.Elements.{All-from_recursion, All-nil, All-push}
-use Rattle.df_io.specs.Faults.{Rose}
 use Rattle.df_io.specs.Pieces.{HasAll, HasFront}
-use Rattle.df_journal_text.specs.Line.{line}
-use Rattle.df_journal_text.specs.Start.{head_text, start_text}
-use Rattle.df_lines.specs.Lines.{IsLine, ended, lines_text}
 use Rattle.df_machine.specs.Journal.{State}
 use Rattle.df_machine.specs.Tables.{AgreesWith}
 use Rattle.df_machine.specs.declared.tables.Tables.{Tables}
-use Rattle.df_script_text.specs.Script.{IsScript, IsScriptLine, script_line, script_text}
-use Rattle.df_script_text.specs.code.Lines.{call_line, head_lines}
-use Rattle.df_script_text.specs.declared.line.ScriptLine.{ScriptLine}
-use Rattle.df_start.specs.declared.start.RootStart.{RootStart}
 use Rattle.df_steps.proofs.Journals.{written_more}
 use Rattle.df_steps.specs.code.Written.{IsWritten}
 use Rattle.df_steps.proofs.Sound.{journal_is_sound, journal_is_unaided}
-use Rattle.df_steps.specs.Steps.{AppendsStep, Records, RecordsScript, journal_of}
 use Rattle.df_live.proofs.Parts.{consumes-consumes, consumes-none}
 use Rattle.df_live.proofs.Starts.{due_call, due_last, head_is, rose_before, start_lines}
 use Rattle.df_live.proofs.Taking.{ended_part}
-use Rattle.df_live.specs.Live.{AnswersAll, AnswersScript, IsDue, IsPartOfLine, Leaves}
-use Rattle.df_live.specs.code.Stops.{AnswersCall, HasAnswered, IsBadCall, IsLineDue, IsReading, Stops, StopsAnswer, StopsHead, StopsLine, TakesCall, TakesStart}
-use Rattle.df_live.specs.declared.status.LiveStatus.{LiveStatus}
 use Rattle.df_live.specs.declared.status.LiveStatus.TheVariants as status
 
 -- ---- what was written

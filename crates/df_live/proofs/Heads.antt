@@ -1,21 +1,9 @@
 -- The lines of a start that were taken.
-use Rattle.std.proofs.Common.{◌≡◌, ℕ, ◌+◌, ◌≤◌, List, [], ◌∷◌, ◌++◌, length, Option, Some, None, refl, sym, ap, subst, ◌∙◌, arith, append-nil, length-append, zero-add, inl, inr}
-use Rattle.std.specs.Io.KnownBytes.{Consumes}
-use Rattle.std.proofs.lemmas.List.Concat.{flat_map-append}
-use Rattle.std.proofs.lemmas.List.Elements.{All-push}
-use Rattle.df_journal_text.specs.Fits.{AreRoots, IsRoot}
-use Rattle.df_journal_text.specs.Start.{root_text}
-use Rattle.df_lines.specs.Lines.{ended, lines_text}
-use Rattle.df_lines.specs.declared.refused.BadKind.{BadKind}
+use Rattle.df_live.proofs.Names.{◌≡◌, ℕ, ◌+◌, ◌≤◌, List, [], ◌∷◌, ◌++◌, length, Option, Some, None, refl, sym, ap, subst, ◌∙◌, arith, append-nil, length-append, zero-add, inl, inr, Consumes, flat_map-append, All-push, AreRoots, IsRoot, root_text, ended, lines_text, BadKind, head_lines, IsHeadLine, RootStart, IsBadHead, IsLineDue, IsReading, StopsHead, StopsLine, TakesRoot, TakesStart, LiveStatus}
 use Rattle.df_script_text.proofs.Numbered.{numbered-push}
-use Rattle.df_script_text.specs.code.Lines.{head_lines}
-use Rattle.df_script_text.specs.code.Stops.{IsHeadLine}
-use Rattle.df_start.specs.declared.start.RootStart.{RootStart}
 use Rattle.df_live.proofs.Parts.{consumes-consumes}
 use Rattle.df_live.proofs.Starts.{due_first, due_root, first, head_is, start_lines}
 use Rattle.df_live.proofs.Taking.{ended_part}
-use Rattle.df_live.specs.code.Stops.{IsBadHead, IsLineDue, IsReading, StopsHead, StopsLine, TakesRoot, TakesStart}
-use Rattle.df_live.specs.declared.status.LiveStatus.{LiveStatus}
 use Rattle.df_live.specs.declared.status.LiveStatus.TheVariants as status
 
 -- a run that stops at a line stops while it reads

@@ -1,3 +1,4 @@
+pub mod Names
 pub mod Answered
 pub mod Heads
 pub mod Parts

@@ -1,7 +1,6 @@
 -- What is moved of a piece to a line.
-use Rattle.std.proofs.Common.{◌≡◌, ℕ, ◌+◌, ◌-◌, ◌<◌, ◌≤◌, Bool, true, false, List, [], ◌∷◌, ◌++◌, length, take, drop, slice_range, Option, Some, None, option_map, Ok, Err, refl, sym, ap, subst, ◌∙◌, arith, append_assoc, length-drop, length-take}
+use Rattle.df_live.proofs.Names.{◌≡◌, ℕ, ◌+◌, ◌-◌, ◌<◌, ◌≤◌, Bool, true, false, List, [], ◌∷◌, ◌++◌, length, take, drop, slice_range, Option, Some, None, option_map, Ok, Err, refl, sym, ap, subst, ◌∙◌, arith, append_assoc, length-drop, length-take, Consumes}
 use Rattle.std.proofs.lemmas.List.{drop-drop, drop-take, take-append-drop}
-use Rattle.std.specs.Io.KnownBytes.{Consumes}
 use Rattle.df_live.specs.Part.{AppendsPart}
 use Rattle.df_live.specs.ReadLines.{Moves, TakesPart}
 use Rattle.df_live.specs.declared.part.Part.{Part}

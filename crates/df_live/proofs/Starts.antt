@@ -1,39 +1,22 @@
 -- The first bad line of what was left is that of the whole.
-use Rattle.std.proofs.Common.{◌≡◌, ℕ, ◌+◌, ◌<◌, ◌≤◌, List, [], ◌∷◌, ◌++◌, length, take, drop, map, codes, eqb, false, Option, Some, None, IfSome, inl, inr, ◌^◌, refl, sym, ap, subst, ◌∙◌, arith, append_assoc, append-nil, length-append}
+use Rattle.df_live.proofs.Names.{◌≡◌, ℕ, ◌+◌, ◌<◌, ◌≤◌, List, [], ◌∷◌, ◌++◌, length, take, drop, map, codes, eqb, false, Option, Some, None, IfSome, inl, inr, ◌^◌, refl, sym, ap, subst, ◌∙◌, arith, append_assoc, append-nil, length-append, Consumes, flat_map-append, All-nil, Rose, AreRoots, line, root_text, start_text, IsLine, ended, lines_text, BadKind, IsScript, IsScriptText, script_text, call_line, head_lines, numbered, script_lines, ArePassed, IsCallLine, IsFirstAt, IsHeadLine, StopsAt, ScriptLine, RootStart, HasLongLine, IsDue, IsTooLong, IsBadCall, IsBadHead, IsKind, IsLineDue, LiveStatus}
 use Rattle.std.specs.List.{All}
-use Rattle.std.specs.Io.KnownBytes.{Consumes}
 use Rattle.std.proofs.Math.Seq.{take-append_seam}
 use Rattle.std.proofs.lemmas.List.{drop_at, length-map}
-use Rattle.std.proofs.lemmas.List.Concat.{flat_map-append}
-use Rattle.std.proofs.lemmas.List.Elements.{All-nil}
-use Rattle.df_io.specs.Faults.{Rose}
-use Rattle.df_journal_text.specs.Fits.{AreRoots}
-use Rattle.df_journal_text.specs.Line.{line}
-use Rattle.df_journal_text.specs.Start.{root_text, start_text}
 use Rattle.df_lines.proofs.FirstBad.{names_line}
 use Rattle.df_lines.proofs.Splits.{number-line}
 use Rattle.df_lines.specs.Kinds.{refused_line}
-use Rattle.df_lines.specs.Lines.{IsLine, ended, lines_text}
 use Rattle.df_lines.specs.Refused.{NamesBadLine}
 use Rattle.df_lines.specs.code.Faults.{NamesBadPlace}
 use Rattle.df_lines.specs.declared.fault.FileFault.TheVariants as fault
-use Rattle.df_lines.specs.declared.refused.BadKind.{BadKind}
 use Rattle.df_lines.specs.declared.refused.BadKind.TheVariants.{Syntax, TooLarge}
 use Rattle.df_lines.specs.declared.refused.FileRefused.TheVariants as refused
 use Rattle.df_script_text.proofs.Files.{AreLines-head, AreLines-script, roots_text-numbered, script_text-lines}
 use Rattle.df_script_text.proofs.Numbered.{length-numbered}
 use Rattle.df_script_text.proofs.Stops.{calls_stop, first_stop, roots_stop}
 use Rattle.df_script_text.specs.Reader.{HasReadUpTo}
-use Rattle.df_script_text.specs.Script.{IsScript, IsScriptText, script_text}
 use Rattle.df_script_text.specs.TooLarge.{IsTooLargeIn}
-use Rattle.df_script_text.specs.code.Lines.{call_line, head_lines, numbered, script_lines}
-use Rattle.df_script_text.specs.code.Stops.{ArePassed, IsCallLine, IsFirstAt, IsHeadLine, StopsAt}
-use Rattle.df_script_text.specs.declared.line.ScriptLine.{ScriptLine}
-use Rattle.df_start.specs.declared.start.RootStart.{RootStart}
-use Rattle.df_live.specs.Live.{HasLongLine, IsDue, IsTooLong}
 use Rattle.df_live.proofs.Parts.{consumes-none}
-use Rattle.df_live.specs.code.Stops.{IsBadCall, IsBadHead, IsKind, IsLineDue}
-use Rattle.df_live.specs.declared.status.LiveStatus.{LiveStatus}
 use Rattle.df_live.specs.declared.status.LiveStatus.TheVariants as status
 
 -- the line `run`, and the first

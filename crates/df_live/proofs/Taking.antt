@@ -1,23 +1,9 @@
 -- A line that was taken, and why a run stops at one.
-use Rattle.std.proofs.Common.{◌≡◌, ℕ, ◌<◌, List, [], ◌∷◌, ◌++◌, length, codes, Option, Some, None, IfSome, OnOk, OnErr, Result, Ok, Err, is_err, is_ok, true, false, if◌then◌else◌, refl, sym, ap, subst, ◌∙◌, arith, append_assoc, append-nil, length-append}
-use Rattle.std.proofs.lemmas.Bool.{true≢false}
-use Rattle.std.specs.Io.KnownBytes.{Consumes}
-use Rattle.df_io.specs.Faults.{Rose}
-use Rattle.df_io.specs.Limits.{longest_file}
-use Rattle.df_lines.specs.Lines.{IsLine, ended}
-use Rattle.df_lines.specs.declared.refused.BadKind.{BadKind}
-use Rattle.df_script_text.specs.code.Stops.{IsCallLine, StopsAt}
-use Rattle.df_script_text.specs.declared.line.ScriptLine.{ScriptLine}
+use Rattle.df_live.proofs.Names.{◌≡◌, ℕ, ◌<◌, List, [], ◌∷◌, ◌++◌, length, codes, Option, Some, None, IfSome, OnOk, OnErr, Result, Ok, Err, is_err, is_ok, true, false, if◌then◌else◌, refl, sym, ap, subst, ◌∙◌, arith, append_assoc, append-nil, length-append, true≢false, Consumes, Rose, longest_file, IsLine, ended, BadKind, IsCallLine, StopsAt, ScriptLine, HasLongLine, IsPartOfLine, IsBadCall, IsBadHead, IsLineDue, IsNoCall, IsTakenAs, ReadsCall, ReadsRoot, RefusesCall, RefusesHead, StopsLine, StopsTaking, TakesCall, TakesRoot, not_taken, NotTaken, Taken, LiveStatus, RootStart}
 use Rattle.df_live.specs.Lines.{TakesAs}
-use Rattle.df_live.specs.Live.{HasLongLine, IsPartOfLine}
-use Rattle.df_live.specs.code.Stops.{IsBadCall, IsBadHead, IsLineDue, IsNoCall, IsTakenAs, ReadsCall, ReadsRoot, RefusesCall, RefusesHead, StopsLine, StopsTaking, TakesCall, TakesRoot, not_taken}
-use Rattle.df_live.specs.declared.lines.NotTaken.{NotTaken}
 use Rattle.df_live.specs.declared.lines.NotTaken.TheVariants as why
-use Rattle.df_live.specs.declared.lines.Taken.{Taken}
 use Rattle.df_live.specs.declared.lines.Taken.TheVariants as taken
-use Rattle.df_live.specs.declared.status.LiveStatus.{LiveStatus}
 use Rattle.df_live.specs.declared.status.LiveStatus.TheVariants as status
-use Rattle.df_start.specs.declared.start.RootStart.{RootStart}
 
 -- what holds where a call is done or fails
 pub if_done : {A E : Type 0} {P : Type 0} (r : Result A E) → is_err r ≡ false → OnOk r P → P

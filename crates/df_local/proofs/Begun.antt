@@ -1,18 +1,12 @@
 -- What begins by another unit keeps the fact on its tags.
-use Rattle.std.proofs.Common.{◌≡◌, inl, inr, ℕ, List, true, sym, ◌∙◌}
+use Rattle.df_local.proofs.Names.{◌≡◌, inl, inr, ℕ, List, true, sym, ◌∙◌, join, Label, begin, beginning, fixed_of, readable_at, IsKept, Fixed, OwnState, IsAccounted}
 use Rattle.std.proofs.lemmas.Bool.{and_parts, or_cases, or_left, or_right}
 use Rattle.df_filter.specs.declared.clause.Clause.{Clause}
-use Rattle.df_label.specs.Label.{join}
 use Rattle.df_label.specs.TagSet.{contains, is_subset, meet, union}
-use Rattle.df_label.specs.declared.label.Label.{Label}
 use Rattle.df_label.specs.declared.privilege.Privilege.{Privilege}
 use Rattle.df_label.proofs.LabelFacts.{flows_to-join_right}
 use Rattle.df_label.proofs.TagSetFacts.{contains-included, contains-meet, is_subset-union_right, meet-is_subset_left}
-use Rattle.df_unit.specs.Beginnings.{begin, beginning, fixed_of, readable_at}
-use Rattle.df_unit.specs.KeptFact.{IsKept}
-use Rattle.df_unit.specs.OwnState.{Fixed, OwnState}
 use Rattle.df_unit.proofs.Members.{in_both, in_either}
-use Rattle.df_local.specs.Births.{IsAccounted}
 
 -- what a subscription keeps of a unit is accounted for
 pub fixed_accounted : (st : OwnState) (filter : List Clause) → IsKept st → IsAccounted (fixed_of st filter)

@@ -1,19 +1,14 @@
 -- What a read brings to its unit.
-use Rattle.std.proofs.Common.{◌≡◌, ℕ, true, List, [], ◌∷◌, ◌++◌, Option, None, Some, refl, sym, ap, ◌∙◌}
+use Rattle.df_local.proofs.Names.{◌≡◌, ℕ, true, List, [], ◌∷◌, ◌++◌, Option, None, Some, refl, sym, ap, ◌∙◌, OwnState, after, at_handle, changed, found, is_accepted, is_nil, reply, Effect, Reply, brought, holding, privileges_of}
 use Rattle.std.specs.Prelude.{if◌then◌else◌}
 use Rattle.std.specs.List.{flat_map}
 use Rattle.df_part.specs.declared.part.Part.{Part}
 use Rattle.df_unit.specs.Drafts.{shown, visible_named}
 use Rattle.df_unit.specs.Handles.{handle_at}
-use Rattle.df_unit.specs.OwnState.{OwnState}
-use Rattle.df_unit.specs.Rows.{after, at_handle, changed, found, is_accepted, is_nil, reply}
 use Rattle.df_unit.specs.declared.call.Call.TheVariants.{ReadPart}
 use Rattle.df_unit.specs.declared.commit.Given.{Given}
-use Rattle.df_unit.specs.declared.entry.Effect.{Effect}
 use Rattle.df_unit.specs.declared.handle.Handle.{Handle}
 use Rattle.df_unit.specs.declared.name.UnitName.{UnitName}
-use Rattle.df_unit.specs.declared.reply.Reply.{Reply}
-use Rattle.df_local.specs.code.Shown.{brought, holding, privileges_of}
 
 -- what is shown of parts has their privileges
 brought_shown : (parts : List Part) → privileges_of (shown parts) ≡ flat_map (λ part. part.privileges) parts

@@ -1,26 +1,10 @@
 -- What stays of a journal with the right notes is the purge, with the right notes.
-use Rattle.std.proofs.Common.{◌≡◌, Bool, true, false, if◌then◌else◌, List, [], ◌∷◌, ◌++◌, Option, Some, None, map, refl, ap, sym, subst, ◌∙◌, append-nil}
-use Rattle.std.specs.List.{flat_map}
+use Rattle.df_purge.proofs.Names.{◌≡◌, Bool, true, false, if◌then◌else◌, List, [], ◌∷◌, ◌++◌, Option, Some, None, map, refl, ap, sym, subst, ◌∙◌, append-nil, flat_map, Label, contamination_in, firsts, purge_keeps, row_laws, commit_of, own, echo, emitted, is_within, left_of, purge, rows, begun, RootStart, Commit, Entry, Done, Emitted, AreRight, noted, noted_in, past_of, emitted_noted, is_noted_within, left_noted}
 use Rattle.std.specs.Option.{option_map}
 use Rattle.std.proofs.lemmas.Grind.{flat_map-append}
-use Rattle.df_label.specs.declared.label.Label.{Label}
-use Rattle.df_machine.specs.Journal.{contamination_in, firsts}
-use Rattle.df_rules.proofs.PurgeKeeps.{purge_keeps}
-use Rattle.df_rules.proofs.RowLaws.{row_laws}
-use Rattle.df_rules.specs.Commits.{commit_of}
-use Rattle.df_rules.specs.Own.{own}
-use Rattle.df_rules.specs.Purge.{echo, emitted, is_within, left_of, purge}
-use Rattle.df_rules.specs.Start.{rows}
-use Rattle.df_start.specs.Begun.{begun}
-use Rattle.df_start.specs.declared.start.RootStart.{RootStart}
 use Rattle.df_unit.specs.OwnState.{OwnState}
-use Rattle.df_unit.specs.declared.commit.Commit.{Commit}
-use Rattle.df_unit.specs.declared.entry.Entry.{Entry}
-use Rattle.df_unit.specs.declared.entry.Entry.TheVariants.{Done, Emitted}
 use Rattle.df_unit.specs.declared.entry.Noted.{Noted}
 use Rattle.df_unit.specs.declared.name.UnitName.{UnitName}
-use Rattle.df_replay.specs.Noted.{AreRight, noted, noted_in, past_of}
-use Rattle.df_purge.specs.code.Left.{emitted_noted, is_noted_within, left_noted}
 
 module _ (begin : List RootStart) (label : Label) where
   abbrev left : List Entry → List Entry

@@ -1,32 +1,14 @@
 -- A purge, as far as it has come.
-use Rattle.std.proofs.Common.{◌≡◌, Bool, true, false, ℕ, List, ◌∷◌, ◌++◌, ◌+◌, ◌<◌, ◌≤◌, Option, Some, None, length, take, drop, get_or, reverse, refl, ap, sym, subst, ◌∙◌}
-use Rattle.std.proofs.lemmas.List.{drop_more, reverse-append, take_all, take-append-drop}
-use Rattle.df_label.specs.declared.label.Label.{Label}
-use Rattle.df_machine.specs.Journal.{firsts}
-use Rattle.df_machine.specs.Tables.{AgreesWith}
+use Rattle.df_purge.proofs.Names.{◌≡◌, Bool, true, false, ℕ, List, ◌∷◌, ◌++◌, ◌+◌, ◌<◌, ◌≤◌, Option, Some, None, length, take, drop, get_or, reverse, refl, ap, sym, subst, ◌∙◌, drop_more, reverse-append, take_all, take-append-drop, Label, firsts, AgreesWith, purge_keeps, purge_legal, row_laws, commit_of, own, Keeps, echo, emitted, left_of, purge, stays, rows, begun, RootStart, Commit, Entry, Done, Emitted, contamination_of, entry_for, replayed, is_noted_within}
 use Rattle.df_machine.specs.declared.tables.Tables.{Tables}
 use Rattle.df_rules.proofs.Exercised.{exercised}
 use Rattle.df_rules.proofs.Places.{legal_at, legal_before}
-use Rattle.df_rules.proofs.PurgeKeeps.{purge_keeps, purge_legal}
 use Rattle.df_rules.proofs.ReleaseLaws.{row_release_laws}
-use Rattle.df_rules.proofs.RowLaws.{row_laws}
-use Rattle.df_rules.specs.Commits.{commit_of}
 use Rattle.df_rules.specs.Legal.{Legal}
-use Rattle.df_rules.specs.Own.{own}
-use Rattle.df_rules.specs.Purge.{Keeps, echo, emitted, left_of, purge, stays}
-use Rattle.df_rules.specs.Start.{rows}
-use Rattle.df_start.specs.Begun.{begun}
-use Rattle.df_start.specs.declared.start.RootStart.{RootStart}
-use Rattle.df_unit.specs.declared.commit.Commit.{Commit}
-use Rattle.df_unit.specs.declared.entry.Entry.{Entry}
-use Rattle.df_unit.specs.declared.entry.Entry.TheVariants.{Done, Emitted}
 use Rattle.std.specs.Prelude.{map}
 use Rattle.df_replay.proofs.Replayed.{reversed_more}
 use Rattle.df_replay.proofs.Right.{right_is}
-use Rattle.df_replay.specs.Noted.{contamination_of}
-use Rattle.df_replay.specs.Replay.{entry_for, replayed}
 use Rattle.df_purge.proofs.ByNotes.{same_within}
-use Rattle.df_purge.specs.code.Left.{is_noted_within}
 use Rattle.df_purge.specs.Purged.{EmitsByPrivileges}
 
 -- the tables are those of what was kept so far, and what stays of it stands there

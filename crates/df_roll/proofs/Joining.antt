@@ -1,12 +1,5 @@
 -- Seats in chunks, as one list.
-use Rattle.std.proofs.Common.{◌≡◌, ℕ, zero, suc, ◌+◌, ◌-◌, ◌<◌, ◌≤◌, List, [], ◌∷◌, ◌++◌, take, drop, get_or, set, length, Some, refl, ap, sym, subst, ◌∙◌, arith}
-use Rattle.std.proofs.lemmas.List.{append_assoc, at_drop_more, length-append}
-use Rattle.std.proofs.lemmas.List.Edits.{insert-append_left, insert-append_right}
-use Rattle.std.specs.List.{insert}
-use Rattle.std.specs.Prelude.{slice_get}
-use Rattle.df_roll.specs.Chunks.{AreFilled, IsPut, joined, place_in}
-use Rattle.df_roll.specs.Roll.{names_in}
-use Rattle.df_roll.specs.declared.seat.Seat.{Seat}
+use Rattle.df_roll.proofs.Names.{◌≡◌, ℕ, zero, suc, ◌+◌, ◌-◌, ◌<◌, ◌≤◌, List, [], ◌∷◌, ◌++◌, take, drop, get_or, set, length, Some, refl, ap, sym, subst, ◌∙◌, arith, append_assoc, at_drop_more, length-append, insert-append_left, insert-append_right, insert, slice_get, AreFilled, IsPut, joined, place_in, names_in, Seat}
 
 -- the seats before a chunk, its own, and those behind it
 parts : (cs : List (List Seat)) (k : ℕ) (d : List Seat) → k < length cs → joined cs ≡ joined (take k cs) ++ (get_or cs k d ++ joined (drop (suc k) cs))

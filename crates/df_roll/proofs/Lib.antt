@@ -1,3 +1,4 @@
+pub mod Names
 pub mod Joining
 pub mod Seating
 pub mod Spots

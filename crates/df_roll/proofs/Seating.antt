@@ -1,23 +1,8 @@
 -- What a binary search of the seats tells, and one more seat.
-use Rattle.std.proofs.Common.{◌≡◌, ℕ, zero, suc, ◌<◌, ◌≤◌, Bool, true, false, if◌then◌else◌, List, [], ◌∷◌, get_or, length, Option, Some, None, Result, Ok, Err, IfOk, IfErr, refl, ap, sym, subst, ◌∙◌, arith}
+use Rattle.df_roll.proofs.Names.{◌≡◌, ℕ, zero, suc, ◌<◌, ◌≤◌, Bool, true, false, if◌then◌else◌, List, [], ◌∷◌, get_or, length, Option, Some, None, Result, Ok, Err, IfOk, IfErr, refl, ap, sym, subst, ◌∙◌, arith, length-map, insert, IsBinarySearchResult, IsNonDecreasingBy, IsPartitionPoint, IsSearchInRange, option_or, is_some, is_eq, ordering_index, Less, Equal, Greater, IsAscending, IsBelow, same, unit_cmp, unit_cmp_ties, UnitName, unit_cmp_exact, names_in, seat_of, Seat}
 use Rattle.std.proofs.Math.ListN.{get_or-map}
-use Rattle.std.proofs.lemmas.List.{length-map}
-use Rattle.std.specs.List.{insert}
-use Rattle.std.specs.List.Sorted.{IsBinarySearchResult, IsNonDecreasingBy, IsPartitionPoint, IsSearchInRange}
-use Rattle.std.specs.Option.{option_or}
-use Rattle.std.specs.Prelude.{is_some}
-use Rattle.std.specs.Ordering.{is_eq, ordering_index}
-use Rattle.std.specs.declared.cmp.Ordering.TheVariants.{Less, Equal, Greater}
 use Rattle.df_label.proofs.PlaceFacts.{non_decreasing, searched_ascending}
-use Rattle.df_label.specs.Ascending.{IsAscending, IsBelow}
-use Rattle.df_unit.specs.Name.{same}
-use Rattle.df_unit.specs.UnitOrder.{unit_cmp}
-use Rattle.df_unit.specs.UnitOrderLaws.{unit_cmp_ties}
-use Rattle.df_unit.specs.declared.name.UnitName.{UnitName}
-use Rattle.df_unit.proofs.OrderFacts.{unit_cmp_exact}
 use Rattle.df_unit.proofs.SameFacts.{same_name-exact}
-use Rattle.df_roll.specs.Roll.{names_in, seat_of}
-use Rattle.df_roll.specs.declared.seat.Seat.{Seat}
 
 abbrev name : Seat → UnitName
 name s = s.unit

@@ -1,21 +1,7 @@
 -- In which chunk a unit's seat is, or would be.
-use Rattle.std.proofs.Common.{◌≡◌, ℕ, zero, suc, ◌+◌, ◌<◌, ◌≤◌, List, [], ◌∷◌, ◌++◌, take, drop, get_or, length, Option, Some, None, Err, if◌then◌else◌, refl, ap, sym, subst, ◌∙◌, arith}
-use Rattle.std.proofs.lemmas.List.{get_or-append-add, get_or_append_left, length-append, length-map, map-append}
-use Rattle.std.specs.List.{insert}
-use Rattle.std.specs.List.Sorted.{IsBinarySearchResult, IsNonDecreasingBy, IsPartitionPoint}
+use Rattle.df_roll.proofs.Names.{◌≡◌, ℕ, zero, suc, ◌+◌, ◌<◌, ◌≤◌, List, [], ◌∷◌, ◌++◌, take, drop, get_or, length, Option, Some, None, Err, if◌then◌else◌, refl, ap, sym, subst, ◌∙◌, arith, get_or-append-add, get_or_append_left, length-append, length-map, map-append, insert, IsBinarySearchResult, IsNonDecreasingBy, IsPartitionPoint, is_eq, ordering_index, Less, Equal, Greater, IsAscending, IsBelow, same, unit_cmp, unit_cmp_ties, UnitName, unit_cmp_exact, AreFilled, AreOrdered, IsAbove, first_cmp, joined, place_in, names_in, seat_of, Seat}
 use Rattle.std.specs.Cmp.{tied_itself}
-use Rattle.std.specs.Ordering.{is_eq, ordering_index}
-use Rattle.std.specs.declared.cmp.Ordering.TheVariants.{Less, Equal, Greater}
 use Rattle.df_label.proofs.SetFacts.{below_trans, reversed}
-use Rattle.df_label.specs.Ascending.{IsAscending, IsBelow}
-use Rattle.df_unit.specs.Name.{same}
-use Rattle.df_unit.specs.UnitOrder.{unit_cmp}
-use Rattle.df_unit.specs.UnitOrderLaws.{unit_cmp_ties}
-use Rattle.df_unit.specs.declared.name.UnitName.{UnitName}
-use Rattle.df_unit.proofs.OrderFacts.{unit_cmp_exact}
-use Rattle.df_roll.specs.Chunks.{AreFilled, AreOrdered, IsAbove, first_cmp, joined, place_in}
-use Rattle.df_roll.specs.Roll.{names_in, seat_of}
-use Rattle.df_roll.specs.declared.seat.Seat.{Seat}
 use Rattle.df_roll.proofs.Joining.{insert-middle, joined-parts}
 use Rattle.df_roll.proofs.Seating.{below_at, found_at, rises}
 

@@ -1,33 +1,9 @@
 -- Instances and children begin above their owner or maker.
-use Rattle.std.proofs.Common.{◌≡◌, ◌⊎◌, inl, inr, ℕ, List, Bool, true, false, refl, subst, ap, ◌∙◌, cond, Option, Some, None}
-use Rattle.std.specs.Option.{option_and_then, option_or}
-use Rattle.df_filter.specs.declared.clause.Clause.{Clause}
-use Rattle.df_label.specs.Tag.{maker_of, number_of}
-use Rattle.df_label.specs.TagSet.{is_subset, union, meet}
-use Rattle.df_label.specs.declared.label.Label.{Label}
-use Rattle.df_label.specs.declared.privilege.Privilege.{Privilege}
-use Rattle.df_label.proofs.LabelFacts.{flows_to-from_parts, flows_to-join_left}
-use Rattle.df_label.proofs.TagSetFacts.{is_subset-refl, is_subset-trans, is_subset-union_left, is_subset-union_right, meet-is_subset_right}
+use Rattle.df_rules.proofs.Names.{◌≡◌, ◌⊎◌, inl, inr, ℕ, List, Bool, true, false, refl, subst, ap, ◌∙◌, cond, Option, Some, None, option_and_then, option_or, Clause, maker_of, number_of, is_subset, union, meet, Label, Privilege, flows_to-from_parts, flows_to-join_left, is_subset-refl, is_subset-trans, is_subset-union_left, is_subset-union_right, meet-is_subset_right, commit_of, before_fixed, stepped, made_by, own_plain, own_instance, fixed, is_given, born, rows, same_name-exact, fixed_of, begin, readable_at, child, child_input, child_secrets, same, OwnState, Fixed, Call, Instantiate, Effect, Entry, Done, Emitted, UnitName, Root, Managed, Reply}
 use Rattle.df_rules.specs.Begins.{Begins, IsAbove, IsInstanceOf, IsChildOf, owner_of}
-use Rattle.df_rules.specs.Commits.{commit_of}
-use Rattle.df_rules.specs.Exercised.{before_fixed}
-use Rattle.df_rules.specs.Own.{stepped, made_by, own_plain, own_instance, fixed, is_given, born}
-use Rattle.df_rules.specs.Start.{rows}
 use Rattle.df_rules.proofs.Invariant.{FixedFrom, fixed_from, base_within}
 use Rattle.df_rules.proofs.RowLaws.{by_fixed, makes_is}
 use Rattle.df_rules.proofs.Steps.{or_is, step_none}
-use Rattle.df_unit.proofs.SameFacts.{same_name-exact}
-use Rattle.df_unit.specs.Beginnings.{fixed_of, begin, readable_at, child, child_input, child_secrets}
-use Rattle.df_unit.specs.Name.{same}
-use Rattle.df_unit.specs.OwnState.{OwnState, Fixed}
-use Rattle.df_unit.specs.declared.call.Call.{Call}
-use Rattle.df_unit.specs.declared.call.Call.TheVariants.{Instantiate}
-use Rattle.df_unit.specs.declared.entry.Effect.{Effect}
-use Rattle.df_unit.specs.declared.entry.Entry.{Entry}
-use Rattle.df_unit.specs.declared.entry.Entry.TheVariants.{Done, Emitted}
-use Rattle.df_unit.specs.declared.name.UnitName.{UnitName}
-use Rattle.df_unit.specs.declared.name.UnitName.TheVariants.{Root, Managed}
-use Rattle.df_unit.specs.declared.reply.Reply.{Reply}
 
 begin_above : (st : OwnState) (filter : List Clause) (t : List (List ℕ)) → is_subset (fixed_of st filter).base t ≡ true → IsInstanceOf st (begin (fixed_of st filter) t)
 begin_above st filter t base =

@@ -1,25 +1,5 @@
 -- What it is for two journals to agree at a label on units, records and deliveries, and what an emitted entry does.
-use Rattle.std.proofs.Common.{◌≡◌, ℕ, List, [], ◌++◌, true, false, refl, sym, ◌∙◌, ap, Option, Some, None}
-use Rattle.std.specs.Prelude.{⊤}
-use Rattle.std.specs.Option.{option_or}
-use Rattle.std.proofs.lemmas.List.{append-nil}
-use Rattle.df_filter.specs.declared.clause.Clause.{Clause}
-use Rattle.df_label.specs.Label.{flows_to}
-use Rattle.df_label.specs.declared.label.Label.{Label}
-use Rattle.df_rules.specs.Deliveries.{plain_news, instance_news, deliveries_plain, deliveries_instance}
-use Rattle.df_rules.specs.Own.{own_plain, own_instance, fixed, born}
-use Rattle.df_rules.specs.Purge.{is_within, emitted}
-use Rattle.df_rules.specs.Rules.{Rules}
-use Rattle.df_rules.specs.Subscriptions.{subscriptions}
-use Rattle.df_unit.specs.Beginnings.{readable_at}
-use Rattle.df_unit.specs.Name.{same}
-use Rattle.df_unit.specs.OwnState.{OwnState, Fixed}
-use Rattle.df_unit.specs.declared.commit.Commit.{Commit}
-use Rattle.df_unit.specs.declared.commit.Given.{Given}
-use Rattle.df_unit.specs.declared.entry.Entry.{Entry}
-use Rattle.df_unit.specs.declared.entry.Entry.TheVariants.{Done, Emitted}
-use Rattle.df_unit.specs.declared.name.UnitName.{UnitName}
-use Rattle.df_unit.specs.declared.name.UnitName.TheVariants.{Root, Managed}
+use Rattle.df_rules.proofs.Names.{◌≡◌, ℕ, List, [], ◌++◌, true, false, refl, sym, ◌∙◌, ap, Option, Some, None, ⊤, option_or, append-nil, Clause, flows_to, Label, plain_news, instance_news, deliveries_plain, deliveries_instance, own_plain, own_instance, fixed, born, is_within, emitted, Rules, subscriptions, readable_at, same, OwnState, Fixed, Commit, Given, Entry, Done, Emitted, UnitName, Root, Managed}
 
 -- what is there and whose label flows to l is there again; what is not there is not there again
 abbrev pub Agrees : {A : Type 0} → (A → Label) → Label → Option A → Option A → Type 0

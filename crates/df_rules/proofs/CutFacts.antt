@@ -1,21 +1,6 @@
 -- What is readable at a label after a commit follows from what was readable there before, and so do the choices within it.
-use Rattle.std.proofs.Common.{◌≡◌, ℕ, List, [], ◌∷◌, ◌++◌, Bool, true, false, not, ◌&&◌, ◌||◌, refl, sym, ◌∙◌, ap, subst, cond, inl, inr}
-use Rattle.std.specs.List.{filter, list_any}
+use Rattle.df_rules.proofs.Names.{◌≡◌, ℕ, List, [], ◌∷◌, ◌++◌, Bool, true, false, not, ◌&&◌, ◌||◌, refl, sym, ◌∙◌, ap, subst, cond, inl, inr, filter, list_any, filter-append, Clause, flows_to, label_eq, tag_set_eq, is_subset, union, Label, apply, is_at, is_deleted, spared, cut, Spot, Part, serves, fits, gives, cut_spots, flows_to-from_parts, flows_to-trans, label_eq-Decides, tag_set_eq-Decides, is_subset-refl, is_subset-trans, is_subset-union_left, is_subset-union_right, and_parts, and_right, or_cases}
 use Rattle.std.specs.Str.{bytes_eq}
-use Rattle.std.proofs.lemmas.List.Elements.{filter-append}
-use Rattle.df_filter.specs.declared.clause.Clause.{Clause}
-use Rattle.df_label.specs.Label.{flows_to, label_eq}
-use Rattle.df_label.specs.TagSet.{tag_set_eq, is_subset, union}
-use Rattle.df_label.specs.declared.label.Label.{Label}
-use Rattle.df_part.specs.Contents.{apply, is_at, is_deleted, spared}
-use Rattle.df_part.specs.Part.{cut}
-use Rattle.df_part.specs.declared.edit.Spot.{Spot}
-use Rattle.df_part.specs.declared.part.Part.{Part}
-use Rattle.df_rules.specs.Choices.{serves, fits, gives}
-use Rattle.df_rules.specs.Commits.{cut_spots}
-use Rattle.df_label.proofs.LabelFacts.{flows_to-from_parts, flows_to-trans, label_eq-Decides}
-use Rattle.df_label.proofs.TagSetFacts.{tag_set_eq-Decides, is_subset-refl, is_subset-trans, is_subset-union_left, is_subset-union_right}
-use Rattle.std.proofs.lemmas.Bool.{and_parts, and_right, or_cases}
 
 -- a stronger test after a weaker one
 pub filter_filter : {X : Type 0} (p q : X → Bool) → ((x : X) → p x ≡ true → q x ≡ true) → (xs : List X) → filter p (filter q xs) ≡ filter p xs

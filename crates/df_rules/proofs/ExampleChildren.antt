@@ -1,20 +1,6 @@
 -- Worked examples of units that make units.
-use Rattle.std.proofs.Common.{◌≡◌, ℕ, zero, suc, List, [], ◌∷◌, refl}
-use Rattle.std.specs.Prelude.{reverse, replicate}
-use Rattle.df_label.specs.declared.label.Label.{Label}
-use Rattle.df_label.specs.declared.privilege.Privilege.{Privilege}
-use Rattle.df_priv.specs.declared.need.Act.TheVariants.{Del}
-use Rattle.df_priv.specs.declared.need.Half.{Half}
-use Rattle.df_rules.specs.Legal.{Legal, run}
-use Rattle.df_rules.specs.Purge.{purge}
-use Rattle.df_rules.specs.Start.{rows, roots}
+use Rattle.df_rules.proofs.Names.{◌≡◌, ℕ, zero, suc, List, [], ◌∷◌, refl, reverse, replicate, Label, Privilege, Del, Half, Legal, run, purge, rows, roots, Call, CreateEvent, AddPart, ChangeOutLabel, CreateTag, Get, Publish, ChangeInOut, Instantiate, Entry, Emitted, Root, Reply}
 use Rattle.df_rules.proofs.ExampleWords.{a, unit, event, tag, public, secret, plus, minus, plus_auth, minus_auth, whole, part, commit, says, commits}
-use Rattle.df_unit.specs.declared.call.Call.{Call}
-use Rattle.df_unit.specs.declared.call.Call.TheVariants.{CreateEvent, AddPart, ChangeOutLabel, CreateTag, Get, Publish, ChangeInOut, Instantiate}
-use Rattle.df_unit.specs.declared.entry.Entry.{Entry}
-use Rattle.df_unit.specs.declared.entry.Entry.TheVariants.{Emitted}
-use Rattle.df_unit.specs.declared.name.UnitName.TheVariants.{Root}
-use Rattle.df_unit.specs.declared.reply.Reply.{Reply}
 
 -- a child has the secrets of both labels of its maker, and the privileges that its maker may pass on
 abbrev a_child_begins_with_its_makers_secrets_start : List (Label × List Privilege)

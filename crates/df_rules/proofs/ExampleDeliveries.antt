@@ -1,14 +1,6 @@
 -- Worked examples of deliveries: what a unit is handed, and when.
-use Rattle.std.proofs.Common.{List, [], ◌∷◌, refl}
-use Rattle.std.specs.Prelude.{reverse}
-use Rattle.df_label.specs.declared.label.Label.{Label}
-use Rattle.df_label.specs.declared.privilege.Privilege.{Privilege}
-use Rattle.df_rules.specs.Legal.{Legal}
-use Rattle.df_rules.specs.Start.{rows, roots}
+use Rattle.df_rules.proofs.Names.{List, [], ◌∷◌, refl, reverse, Label, Privilege, Legal, rows, roots, CreateEvent, AddPart, ReadPart, Subscribe, Get, Publish, Release, Entry, Reply}
 use Rattle.df_rules.proofs.ExampleWords.{a, b, price, unit, event, tag, public, secret, whole, part, read, present, commit, says, commits, gets}
-use Rattle.df_unit.specs.declared.call.Call.TheVariants.{CreateEvent, AddPart, ReadPart, Subscribe, Get, Publish, Release}
-use Rattle.df_unit.specs.declared.entry.Entry.{Entry}
-use Rattle.df_unit.specs.declared.reply.Reply.{Reply}
 
 -- a subscriber is handed an event that matches, and reads its part
 abbrev a_subscriber_reads_what_is_published_start : List (Label × List Privilege)

@@ -1,18 +1,8 @@
 -- Worked examples of filters: which events match, by the values of their parts.
-use Rattle.std.proofs.Common.{ℕ, pos, List, [], ◌∷◌, codes, refl}
-use Rattle.std.specs.Prelude.{reverse}
-use Rattle.df_filter.specs.declared.clause.Clause.{Clause}
+use Rattle.df_rules.proofs.Names.{ℕ, pos, List, [], ◌∷◌, codes, refl, reverse, Clause, Plain, words, entries, no_entries, entry, Label, Privilege, Legal, rows, roots, CreateEvent, AddPart, Subscribe, Get, Publish, Entry, Reply}
 use Rattle.df_filter.specs.declared.clause.Test.TheVariants.{Key}
 use Rattle.df_filter.specs.declared.field_test.FieldTest.{FieldTest}
-use Rattle.df_frozen.specs.Plain.{Plain, words, entries, no_entries, entry}
-use Rattle.df_label.specs.declared.label.Label.{Label}
-use Rattle.df_label.specs.declared.privilege.Privilege.{Privilege}
-use Rattle.df_rules.specs.Legal.{Legal}
-use Rattle.df_rules.specs.Start.{rows, roots}
 use Rattle.df_rules.proofs.ExampleWords.{t, price, unit, event, public, whole, part, commit, says, commits, gets}
-use Rattle.df_unit.specs.declared.call.Call.TheVariants.{CreateEvent, AddPart, Subscribe, Get, Publish}
-use Rattle.df_unit.specs.declared.entry.Entry.{Entry}
-use Rattle.df_unit.specs.declared.reply.Reply.{Reply}
 
 -- the map of a price and a symbol
 abbrev quote : ℕ → List ℕ → Plain

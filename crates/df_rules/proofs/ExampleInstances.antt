@@ -1,17 +1,6 @@
 -- Worked examples of managed subscriptions: an instance for each contamination.
-use Rattle.std.proofs.Common.{◌≡◌, List, [], ◌∷◌, refl}
-use Rattle.std.specs.Prelude.{reverse}
-use Rattle.df_label.specs.declared.label.Label.{Label}
-use Rattle.df_label.specs.declared.privilege.Privilege.{Privilege}
-use Rattle.df_priv.specs.declared.need.Act.TheVariants.{Add}
-use Rattle.df_priv.specs.declared.need.Half.{Half}
-use Rattle.df_rules.specs.Legal.{Legal}
-use Rattle.df_rules.specs.Purge.{purge}
-use Rattle.df_rules.specs.Start.{rows, roots}
+use Rattle.df_rules.proofs.Names.{◌≡◌, List, [], ◌∷◌, refl, reverse, Label, Privilege, Add, Half, Legal, purge, rows, roots, CreateEvent, AddPart, ChangeOutLabel, CreateTag, SubscribeManaged, Get, Publish, Entry, Reply}
 use Rattle.df_rules.proofs.ExampleWords.{a, b, s, t, unit, instance, event, tag, public, secret, vouched, plus, minus, whole, part, present, commit, says, commits, gets}
-use Rattle.df_unit.specs.declared.call.Call.TheVariants.{CreateEvent, AddPart, ChangeOutLabel, CreateTag, SubscribeManaged, Get, Publish}
-use Rattle.df_unit.specs.declared.entry.Entry.{Entry}
-use Rattle.df_unit.specs.declared.reply.Reply.{Reply}
 
 -- each choice of parts gives the instance of its contamination, and no join of all parts makes one
 abbrev an_instance_for_each_contamination_start : List (Label × List Privilege)

@@ -1,16 +1,6 @@
 -- Worked examples of labels: how parts are labelled, and who may write them.
-use Rattle.std.proofs.Common.{List, [], ◌∷◌, refl}
-use Rattle.std.specs.Prelude.{reverse}
-use Rattle.df_label.specs.declared.label.Label.{Label}
-use Rattle.df_label.specs.declared.privilege.Privilege.{Privilege}
-use Rattle.df_priv.specs.declared.need.Act.TheVariants.{Add}
-use Rattle.df_priv.specs.declared.need.Half.{Half}
-use Rattle.df_rules.specs.Legal.{Legal}
-use Rattle.df_rules.specs.Start.{rows, roots}
+use Rattle.df_rules.proofs.Names.{List, [], ◌∷◌, refl, reverse, Label, Privilege, Add, Half, Legal, rows, roots, CreateEvent, AddPart, DelPart, ReadPart, CloneEvent, Subscribe, Get, Publish, Release, ChangeInOut, Entry, Reply}
 use Rattle.df_rules.proofs.ExampleWords.{a, b, unit, event, tag, public, secret, vouched, plus, whole, part, spot, present, commit, says, commits, gets}
-use Rattle.df_unit.specs.declared.call.Call.TheVariants.{CreateEvent, AddPart, DelPart, ReadPart, CloneEvent, Subscribe, Get, Publish, Release, ChangeInOut}
-use Rattle.df_unit.specs.declared.entry.Entry.{Entry}
-use Rattle.df_unit.specs.declared.reply.Reply.{Reply}
 
 -- a part is labelled again by the output label at the publish
 abbrev parts_are_labelled_at_the_publish_start : List (Label × List Privilege)

@@ -1,18 +1,6 @@
 -- Worked examples of privileges: what they permit, and how they pass from unit to unit.
-use Rattle.std.proofs.Common.{◌≡◌, List, [], ◌∷◌, refl}
-use Rattle.std.specs.Prelude.{reverse}
-use Rattle.df_label.specs.declared.label.Label.{Label}
-use Rattle.df_label.specs.declared.privilege.Privilege.{Privilege}
-use Rattle.df_priv.specs.declared.need.Act.TheVariants.{Add, Del}
-use Rattle.df_priv.specs.declared.need.Half.{Half}
-use Rattle.df_rules.specs.Legal.{Legal}
-use Rattle.df_rules.specs.Purge.{purge}
-use Rattle.df_rules.specs.Start.{rows, roots}
+use Rattle.df_rules.proofs.Names.{◌≡◌, List, [], ◌∷◌, refl, reverse, Label, Privilege, Add, Del, Half, Legal, purge, rows, roots, CreateEvent, AddPart, ReadPart, AttachPrivilege, ChangeOutLabel, CreateTag, Subscribe, Publish, ChangeInOut, Entry, Emitted, Reply}
 use Rattle.df_rules.proofs.ExampleWords.{a, s, t, grant, unit, event, tag, public, secret, plus, minus, plus_auth, minus_auth, whole, part, bearing, read, present, commit, says, commits, gets}
-use Rattle.df_unit.specs.declared.call.Call.TheVariants.{CreateEvent, AddPart, ReadPart, AttachPrivilege, ChangeOutLabel, CreateTag, Subscribe, Publish, ChangeInOut}
-use Rattle.df_unit.specs.declared.entry.Entry.{Entry}
-use Rattle.df_unit.specs.declared.entry.Entry.TheVariants.{Emitted}
-use Rattle.df_unit.specs.declared.reply.Reply.{Reply}
 
 -- who reads a part holds the privileges that it bears
 abbrev a_part_bears_a_privilege_start : List (Label × List Privilege)

@@ -1,24 +1,9 @@
 -- Short words for the worked examples: a journal is written with the oldest entry first, a line an entry.
+use Rattle.df_rules.proofs.Names.{Clause, Plain, int, Label, Privilege, Spot, Part, Call, Get, Commit, Effect, Entry, Done, EventName, UnitName, Root, Managed, Reply}
 use Rattle.std.specs.Prelude.{ℕ, pos, List, [], ◌∷◌}
-use Rattle.df_filter.specs.declared.clause.Clause.{Clause}
 use Rattle.df_filter.specs.declared.clause.Test.TheVariants.{Present}
-use Rattle.df_frozen.specs.Plain.{Plain, int}
-use Rattle.df_label.specs.declared.label.Label.{Label}
-use Rattle.df_label.specs.declared.privilege.Privilege.{Privilege}
 use Rattle.df_label.specs.declared.privilege.Right.TheVariants.{Plus, Minus, PlusAuth, MinusAuth}
-use Rattle.df_part.specs.declared.edit.Spot.{Spot}
-use Rattle.df_part.specs.declared.part.Part.{Part}
-use Rattle.df_unit.specs.declared.call.Call.{Call}
-use Rattle.df_unit.specs.declared.call.Call.TheVariants.{Get}
-use Rattle.df_unit.specs.declared.commit.Commit.{Commit}
-use Rattle.df_unit.specs.declared.entry.Effect.{Effect}
-use Rattle.df_unit.specs.declared.entry.Entry.{Entry}
-use Rattle.df_unit.specs.declared.entry.Entry.TheVariants.{Done}
-use Rattle.df_unit.specs.declared.name.EventName.{EventName}
-use Rattle.df_unit.specs.declared.name.UnitName.{UnitName}
-use Rattle.df_unit.specs.declared.name.UnitName.TheVariants.{Root, Managed}
 use Rattle.df_unit.specs.declared.parts.PartRead.{PartRead}
-use Rattle.df_unit.specs.declared.reply.Reply.{Reply}
 
 -- names
 

@@ -1,46 +1,8 @@
 -- What a unit beyond the label emits, it emits by privileges over what it lacks.
-use Rattle.std.proofs.Common.{inl, inr, ◌≡◌, ◌⊎◌, ℕ, List, [], ◌∷◌, Bool, true, false, ◌&&◌, refl, sym, ap, subst, cond, Option, Some, None}
-use Rattle.std.specs.Prelude.{slice_get, is_some}
-use Rattle.std.specs.Option.{option_map, option_and_then}
-use Rattle.std.specs.List.{list_all, filter}
-use Rattle.df_label.specs.Label.{flows_to}
-use Rattle.df_label.specs.Tag.{maker_of, number_of}
-use Rattle.df_label.specs.TagSet.{contains}
-use Rattle.df_label.specs.declared.label.Label.{Label}
-use Rattle.df_part.specs.Part.{cut}
-use Rattle.df_part.specs.declared.edit.Spot.{Spot}
-use Rattle.df_part.specs.declared.part.Part.{Part}
-use Rattle.df_priv.specs.declared.need.Act.{Act}
-use Rattle.df_priv.specs.declared.need.Act.TheVariants.{Add, Del}
-use Rattle.df_priv.specs.declared.need.Half.{Half}
-use Rattle.df_rules.specs.Commits.{commit_in, commit_of, cut_spots, cut_commit}
-use Rattle.df_rules.specs.Deliveries.{deliveries}
-use Rattle.df_rules.specs.Exercised.{ChangesBy, HasPlainChange, HasOwnChange, IsMaking, IsExercised, before_fixed}
-use Rattle.df_rules.specs.Laws.{Laws, ReleaseLaws, IsChange}
-use Rattle.df_rules.specs.Legal.{Legal, IsRight, left, answer_of}
-use Rattle.df_rules.specs.Own.{stepped, made_by, own_plain, own_instance, own, fixed, is_given, born}
-use Rattle.df_rules.specs.Purge.{echo}
-use Rattle.df_rules.specs.Rules.{Rules}
+use Rattle.df_rules.proofs.Names.{inl, inr, ◌≡◌, ◌⊎◌, ℕ, List, [], ◌∷◌, Bool, true, false, ◌&&◌, refl, sym, ap, subst, cond, Option, Some, None, slice_get, is_some, option_map, option_and_then, list_all, filter, flows_to, maker_of, number_of, contains, Label, cut, Spot, Part, Act, Add, Del, Half, commit_in, commit_of, cut_spots, cut_commit, deliveries, ChangesBy, HasPlainChange, HasOwnChange, IsMaking, IsExercised, before_fixed, Laws, ReleaseLaws, IsChange, Legal, IsRight, left, answer_of, stepped, made_by, own_plain, own_instance, own, fixed, is_given, born, echo, Rules, flows_to-parts, flows_to-trans, contains-included, same_name-exact, and_parts, or_cases, same, IsKept, OwnState, Fixed, is_nil, Call, Commit, Given, Effect, Entry, Done, Emitted, UnitName, Root, Managed, Reply}
 use Rattle.df_rules.proofs.Invariant.{FixedFrom, fixed_from, own_holds}
-use Rattle.df_label.proofs.LabelFacts.{flows_to-parts, flows_to-trans}
-use Rattle.df_label.proofs.TagSetFacts.{contains-included}
-use Rattle.df_unit.proofs.SameFacts.{same_name-exact}
-use Rattle.std.proofs.lemmas.Bool.{and_parts, or_cases}
 use Rattle.df_rules.proofs.PurgeKeeps.{began}
 use Rattle.df_rules.proofs.Steps.{or_is, none_step}
-use Rattle.df_unit.specs.Name.{same}
-use Rattle.df_unit.specs.KeptFact.{IsKept}
-use Rattle.df_unit.specs.OwnState.{OwnState, Fixed}
-use Rattle.df_unit.specs.Rows.{is_nil}
-use Rattle.df_unit.specs.declared.call.Call.{Call}
-use Rattle.df_unit.specs.declared.commit.Commit.{Commit}
-use Rattle.df_unit.specs.declared.commit.Given.{Given}
-use Rattle.df_unit.specs.declared.entry.Effect.{Effect}
-use Rattle.df_unit.specs.declared.entry.Entry.{Entry}
-use Rattle.df_unit.specs.declared.entry.Entry.TheVariants.{Done, Emitted}
-use Rattle.df_unit.specs.declared.name.UnitName.{UnitName}
-use Rattle.df_unit.specs.declared.name.UnitName.TheVariants.{Root, Managed}
-use Rattle.df_unit.specs.declared.reply.Reply.{Reply}
 
 -- where something of a list is readable at l, and out flows to all of it, out flows to l
 all_to_one : {X : Type 0} (label : X → Label) (out l : Label) (xs : List X) → list_all (λ x. flows_to out (label x)) xs ≡ true → is_nil (filter (λ x. flows_to (label x) l) xs) ≡ false → flows_to out l ≡ true

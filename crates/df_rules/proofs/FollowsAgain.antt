@@ -1,31 +1,9 @@
 -- A purged journal follows the same step functions.
-use Rattle.std.proofs.Common.{inl, inr, ◌≡◌, ℕ, List, [], ◌∷◌, ◌++◌, Bool, true, false, refl, sym, ◌∙◌, ap, subst, cond, Option, Some, None}
-use Rattle.std.specs.Prelude.{◌≢◌, is_some}
-use Rattle.std.specs.Option.{option_map, option_or}
-use Rattle.df_label.specs.Label.{flows_to}
-use Rattle.df_label.specs.declared.label.Label.{Label}
-use Rattle.df_rules.specs.Commits.{commit_of}
-use Rattle.df_rules.specs.Exercised.{before_fixed}
+use Rattle.df_rules.proofs.Names.{inl, inr, ◌≡◌, ℕ, List, [], ◌∷◌, ◌++◌, Bool, true, false, refl, sym, ◌∙◌, ap, subst, cond, Option, Some, None, ◌≢◌, is_some, option_map, option_or, flows_to, Label, commit_of, before_fixed, Laws, left, own, own_plain, fixed, fixed_by, is_within, echo, emitted, left_of, stays, purge, Rules, flows_to-trans, same_name-exact, same, OwnState, Fixed, Commit, Given, Entry, Done, Emitted, UnitName, Root, Managed, Reply}
 use Rattle.df_rules.specs.Follows.{Brain, replies_of, wanted, root_began, began_with, EntryFollows, Follows}
-use Rattle.df_rules.specs.Laws.{Laws}
-use Rattle.df_rules.specs.Legal.{left}
-use Rattle.df_rules.specs.Own.{own, own_plain, fixed, fixed_by}
-use Rattle.df_rules.specs.Purge.{is_within, echo, emitted, left_of, stays, purge}
-use Rattle.df_rules.specs.Rules.{Rules}
 use Rattle.df_rules.proofs.Invariant.{fixed_from}
-use Rattle.df_label.proofs.LabelFacts.{flows_to-trans}
-use Rattle.df_unit.proofs.SameFacts.{same_name-exact}
 use Rattle.df_rules.proofs.PurgeKeeps.{same_own, same_deliveries, fixed_agrees, fixed_by_skipped, began}
 use Rattle.df_rules.proofs.Steps.{none_before, own_back, is_out}
-use Rattle.df_unit.specs.Name.{same}
-use Rattle.df_unit.specs.OwnState.{OwnState, Fixed}
-use Rattle.df_unit.specs.declared.commit.Commit.{Commit}
-use Rattle.df_unit.specs.declared.commit.Given.{Given}
-use Rattle.df_unit.specs.declared.entry.Entry.{Entry}
-use Rattle.df_unit.specs.declared.entry.Entry.TheVariants.{Done, Emitted}
-use Rattle.df_unit.specs.declared.name.UnitName.{UnitName}
-use Rattle.df_unit.specs.declared.name.UnitName.TheVariants.{Root, Managed}
-use Rattle.df_unit.specs.declared.reply.Reply.{Reply}
 
 replies-emitted : (u : UnitName) (oc : Option Commit) (past : List Entry) → replies_of u (emitted oc ++ past) ≡ replies_of u past
 replies-emitted u None past = refl

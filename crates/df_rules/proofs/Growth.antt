@@ -1,37 +1,8 @@
 -- What only grows: privileges, contamination, counts and deliveries.
-use Rattle.std.proofs.Common.{◌≡◌, ℕ, ◌+◌, ◌≤◌, List, [], ◌∷◌, ◌++◌, Bool, true, false, refl, sym, ◌∙◌, ap, subst, cond, Option, Some, None, arith}
-use Rattle.std.specs.Option.{option_map, option_or}
-use Rattle.std.proofs.lemmas.List.{append-nil, append_assoc}
-use Rattle.df_label.specs.Tag.{maker_of}
-use Rattle.df_label.specs.TagSet.{is_subset, contains, with}
-use Rattle.df_label.specs.declared.privilege.Privilege.{Privilege}
-use Rattle.df_priv.specs.declared.need.Act.{Act}
-use Rattle.df_priv.specs.declared.need.Act.TheVariants.{Add, Del}
-use Rattle.df_priv.specs.declared.need.Half.{Half}
-use Rattle.df_rules.specs.Commits.{commit_of}
-use Rattle.df_rules.specs.Deliveries.{plain_news, instance_news, deliveries, deliveries_plain, deliveries_instance}
+use Rattle.df_rules.proofs.Names.{◌≡◌, ℕ, ◌+◌, ◌≤◌, List, [], ◌∷◌, ◌++◌, Bool, true, false, refl, sym, ◌∙◌, ap, subst, cond, Option, Some, None, arith, option_map, option_or, append-nil, append_assoc, maker_of, is_subset, contains, with, Privilege, Act, Add, Del, Half, commit_of, plain_news, instance_news, deliveries, deliveries_plain, deliveries_instance, stepped, made_by, own_plain, own_instance, own, fixed, born, Rules, subscriptions, flows_to-refl, flows_to-trans, flows_to-join_left, is_subset-refl, is_subset-trans, is_subset-with, holds, grant, grant_all, same, OwnState, after, changed, half_changed, now_dropped, now_endorsed, is_accepted, found, next_tag, handle_at, Call, CreateEvent, ReadPart, CloneEvent, ChangeOutLabel, CreateTag, Subscribe, SubscribeManaged, Get, ChangeInOut, Instantiate, Given, Effect, Entry, Done, Emitted, UnitName, Root, Managed, Reply}
 use Rattle.df_rules.specs.Grows.{HasGrown}
-use Rattle.df_rules.specs.Own.{stepped, made_by, own_plain, own_instance, own, fixed, born}
-use Rattle.df_rules.specs.Rules.{Rules}
-use Rattle.df_rules.specs.Subscriptions.{subscriptions}
-use Rattle.df_label.proofs.LabelFacts.{flows_to-refl, flows_to-trans, flows_to-join_left}
-use Rattle.df_label.proofs.TagSetFacts.{is_subset-refl, is_subset-trans, is_subset-with}
 use Rattle.df_priv.proofs.HeldFacts.{holds-grant_kept}
-use Rattle.df_priv.specs.Held.{holds, grant, grant_all}
 use Rattle.df_unit.specs.Held.{all_over}
-use Rattle.df_unit.specs.Name.{same}
-use Rattle.df_unit.specs.OwnState.{OwnState}
-use Rattle.df_unit.specs.Rows.{after, changed, half_changed, now_dropped, now_endorsed, is_accepted, found, next_tag}
-use Rattle.df_unit.specs.Handles.{handle_at}
-use Rattle.df_unit.specs.declared.call.Call.{Call}
-use Rattle.df_unit.specs.declared.call.Call.TheVariants.{CreateEvent, ReadPart, CloneEvent, ChangeOutLabel, CreateTag, Subscribe, SubscribeManaged, Get, ChangeInOut, Instantiate}
-use Rattle.df_unit.specs.declared.commit.Given.{Given}
-use Rattle.df_unit.specs.declared.entry.Effect.{Effect}
-use Rattle.df_unit.specs.declared.entry.Entry.{Entry}
-use Rattle.df_unit.specs.declared.entry.Entry.TheVariants.{Done, Emitted}
-use Rattle.df_unit.specs.declared.name.UnitName.{UnitName}
-use Rattle.df_unit.specs.declared.name.UnitName.TheVariants.{Root, Managed}
-use Rattle.df_unit.specs.declared.reply.Reply.{Reply}
 
 -- privileges
 

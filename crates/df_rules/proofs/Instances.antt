@@ -1,33 +1,9 @@
 -- In a legal journal an instance keeps to its name: its input label stays, and it makes no tags, subscriptions and units.
-use Rattle.std.proofs.Common.{◌≡◌, ℕ, ◌<◌, List, [], ◌∷◌, Bool, true, false, refl, subst, cond, Option, Some, None, arith}
-use Rattle.std.specs.Prelude.{⊤}
-use Rattle.std.specs.Option.{option_map, option_or}
-use Rattle.df_filter.specs.declared.clause.Clause.{Clause}
-use Rattle.df_rules.specs.Commits.{commit_of}
-use Rattle.df_rules.specs.Deliveries.{deliveries}
+use Rattle.df_rules.proofs.Names.{◌≡◌, ℕ, ◌<◌, List, [], ◌∷◌, Bool, true, false, refl, subst, cond, Option, Some, None, arith, ⊤, option_map, option_or, Clause, commit_of, deliveries, Legal, IsRight, answer, left, own_plain, own_instance, fixed, fixed_by, stepped, is_given, born, rows, subscriptions, same_name-exact, begin, same, OwnState, Fixed, reply, effect, after, changed, is_accepted, Call, CreateTag, Subscribe, SubscribeManaged, Get, ChangeInOut, Instantiate, Commit, Given, Effect, Entry, Done, Emitted, UnitName, Managed, Reply}
 use Rattle.df_rules.specs.Instances.{KeepsToItsName}
-use Rattle.df_rules.specs.Legal.{Legal, IsRight, answer, left}
-use Rattle.df_rules.specs.Own.{own_plain, own_instance, fixed, fixed_by, stepped, is_given, born}
-use Rattle.df_rules.specs.Start.{rows}
-use Rattle.df_rules.specs.Subscriptions.{subscriptions}
 use Rattle.df_rules.proofs.Invariant.{base_within}
 use Rattle.df_rules.proofs.Numbers.{Numbered, AreNumbered, numbered}
 use Rattle.df_rules.proofs.RowLaws.{first_is}
-use Rattle.df_unit.proofs.SameFacts.{same_name-exact}
-use Rattle.df_unit.specs.Beginnings.{begin}
-use Rattle.df_unit.specs.Name.{same}
-use Rattle.df_unit.specs.OwnState.{OwnState, Fixed}
-use Rattle.df_unit.specs.Rows.{reply, effect, after, changed, is_accepted}
-use Rattle.df_unit.specs.declared.call.Call.{Call}
-use Rattle.df_unit.specs.declared.call.Call.TheVariants.{CreateTag, Subscribe, SubscribeManaged, Get, ChangeInOut, Instantiate}
-use Rattle.df_unit.specs.declared.commit.Commit.{Commit}
-use Rattle.df_unit.specs.declared.commit.Given.{Given}
-use Rattle.df_unit.specs.declared.entry.Effect.{Effect}
-use Rattle.df_unit.specs.declared.entry.Entry.{Entry}
-use Rattle.df_unit.specs.declared.entry.Entry.TheVariants.{Done, Emitted}
-use Rattle.df_unit.specs.declared.name.UnitName.{UnitName}
-use Rattle.df_unit.specs.declared.name.UnitName.TheVariants.{Managed}
-use Rattle.df_unit.specs.declared.reply.Reply.{Reply}
 
 -- an instance's fixed record is there, and the instance keeps to its name
 abbrev Keeping : List (List ℕ) → Option Fixed → Option OwnState → Type 0

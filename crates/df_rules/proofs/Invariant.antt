@@ -1,25 +1,6 @@
 -- What is so of the roots and is kept by entries, instances and children, is so of every unit in any journal.
-use Rattle.std.proofs.Common.{◌≡◌, ℕ, List, [], ◌∷◌, Bool, true, false, refl, cond, Option, Some, None}
-use Rattle.std.specs.Prelude.{⊤, is_some, slice_get}
-use Rattle.std.specs.Option.{option_map, option_and_then, option_or}
-use Rattle.df_label.specs.Tag.{maker_of, number_of}
-use Rattle.df_label.specs.TagSet.{is_subset}
-use Rattle.df_part.specs.Contents.{spared}
-use Rattle.df_rules.specs.Commits.{commit_of, contents}
-use Rattle.df_rules.specs.Exercised.{before_fixed}
-use Rattle.df_rules.specs.Own.{stepped, made_by, own_plain, own_instance, own, fixed, fixed_by, is_given, born}
-use Rattle.df_rules.specs.Rules.{Rules}
+use Rattle.df_rules.proofs.Names.{◌≡◌, ℕ, List, [], ◌∷◌, Bool, true, false, refl, cond, Option, Some, None, ⊤, is_some, slice_get, option_map, option_and_then, option_or, maker_of, number_of, is_subset, spared, commit_of, contents, before_fixed, stepped, made_by, own_plain, own_instance, own, fixed, fixed_by, is_given, born, Rules, same, OwnState, Fixed, Call, Commit, Effect, Entry, Done, Emitted, UnitName, Root, Managed, Reply}
 use Rattle.df_rules.proofs.CutFacts.{gives_within}
-use Rattle.df_unit.specs.Name.{same}
-use Rattle.df_unit.specs.OwnState.{OwnState, Fixed}
-use Rattle.df_unit.specs.declared.call.Call.{Call}
-use Rattle.df_unit.specs.declared.commit.Commit.{Commit}
-use Rattle.df_unit.specs.declared.entry.Effect.{Effect}
-use Rattle.df_unit.specs.declared.entry.Entry.{Entry}
-use Rattle.df_unit.specs.declared.entry.Entry.TheVariants.{Done, Emitted}
-use Rattle.df_unit.specs.declared.name.UnitName.{UnitName}
-use Rattle.df_unit.specs.declared.name.UnitName.TheVariants.{Root, Managed}
-use Rattle.df_unit.specs.declared.reply.Reply.{Reply}
 
 -- it is so of the unit, if there is one
 abbrev pub IfThere : (OwnState → Type 0) → Option OwnState → Type 0

@@ -1,3 +1,4 @@
+pub mod Names
 pub mod CutFacts
 pub mod SeenFacts
 pub mod Agreement

@@ -1,32 +1,6 @@
 -- A unit's deliveries are what the commits call for.
-use Rattle.std.proofs.Common.{◌≡◌, ◌⊎◌, inl, inr, ℕ, List, [], ◌∷◌, ◌++◌, Bool, true, false, not, ◌&&◌, ◌||◌, refl, sym, ◌∙◌, ap, subst, cond, Option, Some, None, arith}
-use Rattle.std.specs.Prelude.{◌==◌}
-use Rattle.std.specs.List.{Contains, list_any, flat_map}
-use Rattle.std.proofs.lemmas.Bool.{and_from, or_cases, or_left, or_right, eq-eqb}
-use Rattle.std.proofs.lemmas.List.Elements.{Contains-append_left, Contains-append_right, Contains-append_cases, Contains-push, Contains-push_cases}
-use Rattle.std.proofs.lemmas.List.Folds.{list_any-append}
-use Rattle.df_filter.specs.declared.clause.Clause.{Clause}
-use Rattle.df_part.specs.Contents.{apply}
-use Rattle.df_part.specs.Part.{cut}
-use Rattle.df_part.specs.declared.part.Part.{Part}
-use Rattle.df_rules.specs.Choices.{matches}
-use Rattle.df_rules.specs.Commits.{commit_of, contents}
-use Rattle.df_rules.specs.Deliveries.{was_handed, offer, plain_news, instance_news, deliveries, deliveries_plain, deliveries_instance}
+use Rattle.df_rules.proofs.Names.{◌≡◌, ◌⊎◌, inl, inr, ℕ, List, [], ◌∷◌, ◌++◌, Bool, true, false, not, ◌&&◌, ◌||◌, refl, sym, ◌∙◌, ap, subst, cond, Option, Some, None, arith, ◌==◌, Contains, list_any, flat_map, and_from, or_cases, or_left, or_right, eq-eqb, Contains-append_left, Contains-append_right, Contains-append_cases, Contains-push, Contains-push_cases, list_any-append, Clause, apply, cut, Part, matches, commit_of, contents, was_handed, offer, plain_news, instance_news, deliveries, deliveries_plain, deliveries_instance, own_plain, fixed, is_given, Rules, subscriptions, same_event_decides, readable_at, same_event, OwnState, Fixed, is_nil, Commit, Given, Entry, EventName, UnitName, Root, Managed}
 use Rattle.df_rules.specs.Matching.{IsMatch, IsChosen, CallsFor}
-use Rattle.df_rules.specs.Own.{own_plain, fixed, is_given}
-use Rattle.df_rules.specs.Rules.{Rules}
-use Rattle.df_rules.specs.Subscriptions.{subscriptions}
-use Rattle.df_unit.proofs.SameFacts.{same_event_decides}
-use Rattle.df_unit.specs.Beginnings.{readable_at}
-use Rattle.df_unit.specs.Name.{same_event}
-use Rattle.df_unit.specs.OwnState.{OwnState, Fixed}
-use Rattle.df_unit.specs.Rows.{is_nil}
-use Rattle.df_unit.specs.declared.commit.Commit.{Commit}
-use Rattle.df_unit.specs.declared.commit.Given.{Given}
-use Rattle.df_unit.specs.declared.entry.Entry.{Entry}
-use Rattle.df_unit.specs.declared.name.EventName.{EventName}
-use Rattle.df_unit.specs.declared.name.UnitName.{UnitName}
-use Rattle.df_unit.specs.declared.name.UnitName.TheVariants.{Root, Managed}
 
 -- elements of lists
 

@@ -1,29 +1,7 @@
 -- A unit's ordinary subscriptions have ascending numbers, below the count of all that it made.
-use Rattle.std.proofs.Common.{◌≡◌, ℕ, zero, suc, ◌+◌, ◌≤◌, ◌<◌, List, [], ◌∷◌, ◌++◌, Bool, true, false, refl, sym, subst, cond, Option, Some, None, All, arith}
-use Rattle.std.specs.Prelude.{⊤, ◌==◌, option_to_list}
-use Rattle.std.specs.List.{AllPairs}
-use Rattle.std.specs.Option.{option_map, option_and_then, option_or}
-use Rattle.std.proofs.lemmas.Bool.{eqb-true}
-use Rattle.std.proofs.lemmas.List.{append-nil}
+use Rattle.df_rules.proofs.Names.{◌≡◌, ℕ, zero, suc, ◌+◌, ◌≤◌, ◌<◌, List, [], ◌∷◌, ◌++◌, Bool, true, false, refl, sym, subst, cond, Option, Some, None, All, arith, ⊤, ◌==◌, option_to_list, AllPairs, option_map, option_and_then, option_or, eqb-true, append-nil, Clause, maker_of, commit_of, stepped, made_by, own_plain, own_instance, own, fixed, born, rows, ComesBefore, subscribed_by, subscriptions, same, OwnState, after, subscribes, Call, Subscribe, Effect, Entry, Done, Emitted, UnitName, Root, Managed, Reply}
 use Rattle.std.proofs.lemmas.List.Kept.{AllPairs-cons}
-use Rattle.df_filter.specs.declared.clause.Clause.{Clause}
-use Rattle.df_label.specs.Tag.{maker_of}
-use Rattle.df_rules.specs.Commits.{commit_of}
-use Rattle.df_rules.specs.Own.{stepped, made_by, own_plain, own_instance, own, fixed, born}
-use Rattle.df_rules.specs.Start.{rows}
-use Rattle.df_rules.specs.Subscriptions.{ComesBefore, subscribed_by, subscriptions}
 use Rattle.df_rules.proofs.Growth.{grown_after}
-use Rattle.df_unit.specs.Name.{same}
-use Rattle.df_unit.specs.OwnState.{OwnState}
-use Rattle.df_unit.specs.Rows.{after, subscribes}
-use Rattle.df_unit.specs.declared.call.Call.{Call}
-use Rattle.df_unit.specs.declared.call.Call.TheVariants.{Subscribe}
-use Rattle.df_unit.specs.declared.entry.Effect.{Effect}
-use Rattle.df_unit.specs.declared.entry.Entry.{Entry}
-use Rattle.df_unit.specs.declared.entry.Entry.TheVariants.{Done, Emitted}
-use Rattle.df_unit.specs.declared.name.UnitName.{UnitName}
-use Rattle.df_unit.specs.declared.name.UnitName.TheVariants.{Root, Managed}
-use Rattle.df_unit.specs.declared.reply.Reply.{Reply}
 
 -- each number is above n
 abbrev pub Above : ℕ → List (ℕ × List Clause) → Type 0

@@ -1,33 +1,6 @@
 -- No event is handed twice to one subscription.
-use Rattle.std.proofs.Common.{◌≡◌, ℕ, ◌<◌, List, [], ◌∷◌, ◌++◌, Bool, true, false, not, ◌&&◌, ◌||◌, refl, sym, ◌∙◌, ap, subst, cond, Option, Some, None, arith}
-use Rattle.std.specs.Prelude.{⊤, ◌==◌}
-use Rattle.std.specs.List.{list_any, flat_map}
-use Rattle.std.proofs.lemmas.Bool.{eqb-true, or_from}
-use Rattle.std.proofs.lemmas.List.Folds.{list_any-append}
-use Rattle.std.proofs.lemmas.List.{append-nil, append_assoc}
-use Rattle.df_filter.specs.declared.clause.Clause.{Clause}
-use Rattle.df_label.specs.declared.label.Label.{Label}
-use Rattle.df_label.specs.declared.privilege.Privilege.{Privilege}
-use Rattle.df_part.specs.Contents.{apply}
-use Rattle.df_part.specs.Part.{cut}
-use Rattle.df_part.specs.declared.part.Part.{Part}
-use Rattle.df_rules.specs.Choices.{matches}
-use Rattle.df_rules.specs.Commits.{commit_of, contents}
-use Rattle.df_rules.specs.Deliveries.{was_handed, offer, plain_news, instance_news, deliveries, deliveries_plain, deliveries_instance}
-use Rattle.df_rules.specs.Own.{own_plain, fixed, is_given}
-use Rattle.df_rules.specs.Start.{rows, roots}
-use Rattle.df_rules.specs.Subscriptions.{subscriptions}
+use Rattle.df_rules.proofs.Names.{◌≡◌, ℕ, ◌<◌, List, [], ◌∷◌, ◌++◌, Bool, true, false, not, ◌&&◌, ◌||◌, refl, sym, ◌∙◌, ap, subst, cond, Option, Some, None, arith, ⊤, ◌==◌, list_any, flat_map, eqb-true, or_from, list_any-append, append-nil, append_assoc, Clause, Label, Privilege, apply, cut, Part, matches, commit_of, contents, was_handed, offer, plain_news, instance_news, deliveries, deliveries_plain, deliveries_instance, own_plain, fixed, is_given, rows, roots, subscriptions, readable_at, same, same_event, OwnState, Fixed, is_nil, Commit, Given, Entry, EventName, UnitName, Root, Managed}
 use Rattle.df_rules.proofs.Numbers.{Above, Numbered, AreNumbered, numbered}
-use Rattle.df_unit.specs.Beginnings.{readable_at}
-use Rattle.df_unit.specs.Name.{same, same_event}
-use Rattle.df_unit.specs.OwnState.{OwnState, Fixed}
-use Rattle.df_unit.specs.Rows.{is_nil}
-use Rattle.df_unit.specs.declared.commit.Commit.{Commit}
-use Rattle.df_unit.specs.declared.commit.Given.{Given}
-use Rattle.df_unit.specs.declared.entry.Entry.{Entry}
-use Rattle.df_unit.specs.declared.name.EventName.{EventName}
-use Rattle.df_unit.specs.declared.name.UnitName.{UnitName}
-use Rattle.df_unit.specs.declared.name.UnitName.TheVariants.{Root, Managed}
 
 below_differs : (n k : ℕ) → n < k → (n == k) ≡ false
 below_differs n k lt = go (n == k) refl

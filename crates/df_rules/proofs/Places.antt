@@ -1,11 +1,5 @@
 -- A journal is legal exactly where each of its entries is the answer after those before it.
-use Rattle.std.proofs.Common.{◌≡◌, List, [], ◌∷◌, ◌++◌, refl, sym, ◌∙◌, ap, subst}
-use Rattle.std.specs.Prelude.{reverse}
-use Rattle.std.proofs.lemmas.List.{reverse-append, reverse-reverse, append_assoc}
-use Rattle.df_rules.specs.Legal.{Legal, IsRight}
-use Rattle.df_rules.specs.Rules.{Rules}
-use Rattle.df_unit.specs.OwnState.{OwnState}
-use Rattle.df_unit.specs.declared.entry.Entry.{Entry}
+use Rattle.df_rules.proofs.Names.{◌≡◌, List, [], ◌∷◌, ◌++◌, refl, sym, ◌∙◌, ap, subst, reverse, reverse-append, reverse-reverse, append_assoc, Legal, IsRight, Rules, OwnState, Entry}
 
 module _ (R : Rules) (s : List OwnState) where
   right_at : (past : List Entry) → Legal R s past → (newer older : List Entry) (e : Entry) → past ≡ newer ++ e ∷ older → IsRight R s older e

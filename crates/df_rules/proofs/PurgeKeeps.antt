@@ -1,35 +1,9 @@
 -- The purge keeps what units within the label are, are given and are answered.
-use Rattle.std.proofs.Common.{◌≡◌, ◌⊎◌, inl, inr, ℕ, List, [], ◌∷◌, ◌++◌, Bool, true, false, refl, sym, ◌∙◌, ap, subst, cond, Option, Some, None}
-use Rattle.std.specs.Prelude.{option_to_list}
-use Rattle.std.specs.Option.{option_map, option_and_then, option_or}
-use Rattle.std.proofs.lemmas.List.{append-nil}
-use Rattle.df_filter.specs.declared.clause.Clause.{Clause}
-use Rattle.df_label.specs.Label.{flows_to}
-use Rattle.df_label.specs.Tag.{maker_of, number_of}
-use Rattle.df_label.specs.declared.label.Label.{Label}
-use Rattle.df_part.specs.Part.{cut}
-use Rattle.df_rules.specs.Commits.{commit_of, contents, committed}
-use Rattle.df_rules.specs.Deliveries.{plain_news, instance_news, deliveries, deliveries_plain, deliveries_instance}
-use Rattle.df_rules.specs.Laws.{Laws}
-use Rattle.df_rules.specs.Legal.{Legal, IsRight, answer, answer_of}
-use Rattle.df_rules.specs.Own.{stepped, root_at, made_by, own_plain, own_instance, own, fixed, fixed_by, is_given, born}
-use Rattle.df_rules.specs.Purge.{Keeps, is_within, echo, emitted, left_of, stays, purge}
-use Rattle.df_rules.specs.Rules.{Rules}
-use Rattle.df_rules.specs.Subscriptions.{subscribed_by, subscriptions}
+use Rattle.df_rules.proofs.Names.{◌≡◌, ◌⊎◌, inl, inr, ℕ, List, [], ◌∷◌, ◌++◌, Bool, true, false, refl, sym, ◌∙◌, ap, subst, cond, Option, Some, None, option_to_list, option_map, option_and_then, option_or, append-nil, Clause, flows_to, maker_of, number_of, Label, cut, commit_of, contents, committed, plain_news, instance_news, deliveries, deliveries_plain, deliveries_instance, Laws, Legal, IsRight, answer, answer_of, stepped, root_at, made_by, own_plain, own_instance, own, fixed, fixed_by, is_given, born, Keeps, is_within, echo, emitted, left_of, stays, purge, Rules, subscribed_by, subscriptions, flows_to-trans, readable_at, same, OwnState, Fixed, Commit, Given, Entry, Done, Emitted, UnitName, Root, Managed}
 use Rattle.df_rules.proofs.Agreement.{Agrees, contaminated, recorded, agrees_refl, agrees_eq, agrees_or, or_none, IsOut, IsIn, Reads, Began, KeptWithin, MayBeWithin, InstanceAgrees, InstanceGiven, GivenByState, own_plain-emitted, fixed-emitted, subscriptions-emitted, own_instance-emitted, deliveries_plain-emitted, deliveries_instance-emitted}
 use Rattle.df_rules.proofs.Invariant.{IfThere, plain_holds}
-use Rattle.df_label.proofs.LabelFacts.{flows_to-trans}
 use Rattle.df_rules.proofs.SeenFacts.{Alike, SameSeen, kept_alike, echo_alike, kept_contents, echo_contents, given_alike, plain_news_alike, instance_news_alike}
 use Rattle.df_rules.proofs.Steps.{step_none, none_before, step_agrees, skip_agrees, is_out, is_in, made_agrees, made_skipped, own_back}
-use Rattle.df_unit.specs.Beginnings.{readable_at}
-use Rattle.df_unit.specs.Name.{same}
-use Rattle.df_unit.specs.OwnState.{OwnState, Fixed}
-use Rattle.df_unit.specs.declared.commit.Commit.{Commit}
-use Rattle.df_unit.specs.declared.commit.Given.{Given}
-use Rattle.df_unit.specs.declared.entry.Entry.{Entry}
-use Rattle.df_unit.specs.declared.entry.Entry.TheVariants.{Done, Emitted}
-use Rattle.df_unit.specs.declared.name.UnitName.{UnitName}
-use Rattle.df_unit.specs.declared.name.UnitName.TheVariants.{Root, Managed}
 
 module _ (R : Rules) (s : List OwnState) (laws : Laws R s) (l : Label) where
   -- the child that an entry makes

@@ -1,39 +1,9 @@
 -- The rows of the call table keep what is promised of emitted commits.
-use Rattle.std.proofs.Common.{inl, inr, ◌≡◌, ◌⊎◌, ℕ, List, [], ◌∷◌, Bool, true, false, not, ◌&&◌, refl, sym, subst, cond, Option, Some, None}
-use Rattle.std.specs.Prelude.{⊤}
-use Rattle.std.specs.List.{list_all}
-use Rattle.df_label.specs.Label.{flows_to}
-use Rattle.df_label.specs.TagSet.{contains, is_subset, with}
-use Rattle.df_label.specs.declared.label.Label.{Label}
-use Rattle.df_label.specs.declared.privilege.Privilege.{Privilege}
-use Rattle.df_part.specs.declared.edit.Spot.{Spot}
-use Rattle.df_part.specs.declared.part.Part.{Part}
-use Rattle.df_priv.specs.declared.need.Act.{Act}
-use Rattle.df_priv.specs.declared.need.Act.TheVariants.{Add, Del}
-use Rattle.df_priv.specs.declared.need.Half.{Half}
-use Rattle.df_rules.specs.Laws.{ReleaseLaws, IsChange}
-use Rattle.df_rules.specs.Start.{rows, roots}
-use Rattle.std.proofs.lemmas.Bool.{and_from}
-use Rattle.df_label.proofs.LabelFacts.{flows_to-join_right}
+use Rattle.df_rules.proofs.Names.{inl, inr, ◌≡◌, ◌⊎◌, ℕ, List, [], ◌∷◌, Bool, true, false, not, ◌&&◌, refl, sym, subst, cond, Option, Some, None, ⊤, list_all, flows_to, contains, is_subset, with, Label, Privilege, Spot, Part, Act, Add, Del, Half, ReleaseLaws, IsChange, rows, roots, and_from, flows_to-join_right, begin, raised, relabelled, Handle, handle_at, holds, IsKept, OwnState, reply, effect, after, changed, taken_in, is_accepted, is_instance, where_held, published, released, unwritable, refused_write, at_handle, first_given, is_nil, Call, Get, Publish, Release, ChangeOutLabel, ChangeInOut, Commit, Given, Effect, UnitName, Reply}
 use Rattle.df_rules.proofs.RowLaws.{first_is, second_is, roots_are, by_fixed, by_child}
-use Rattle.df_unit.specs.Beginnings.{begin}
-use Rattle.df_unit.specs.Drafts.{raised, relabelled}
-use Rattle.df_unit.specs.declared.handle.Handle.{Handle}
-use Rattle.df_unit.specs.Handles.{handle_at}
-use Rattle.df_priv.specs.Held.{holds}
 use Rattle.df_priv.specs.Needed.{needed}
 use Rattle.df_unit.proofs.KeptRows.{kept_root, kept_after, kept_begin, kept_child}
 use Rattle.df_unit.proofs.Members.{added_or_had}
-use Rattle.df_unit.specs.KeptFact.{IsKept}
-use Rattle.df_unit.specs.OwnState.{OwnState}
-use Rattle.df_unit.specs.Rows.{reply, effect, after, changed, taken_in, is_accepted, is_instance, where_held, published, released, unwritable, refused_write, at_handle, first_given, is_nil}
-use Rattle.df_unit.specs.declared.call.Call.{Call}
-use Rattle.df_unit.specs.declared.call.Call.TheVariants.{Get, Publish, Release, ChangeOutLabel, ChangeInOut}
-use Rattle.df_unit.specs.declared.commit.Commit.{Commit}
-use Rattle.df_unit.specs.declared.commit.Given.{Given}
-use Rattle.df_unit.specs.declared.entry.Effect.{Effect}
-use Rattle.df_unit.specs.declared.name.UnitName.{UnitName}
-use Rattle.df_unit.specs.declared.reply.Reply.{Reply}
 
 -- what is dropped and endorsed
 

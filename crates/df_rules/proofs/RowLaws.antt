@@ -1,23 +1,6 @@
 -- The rows of the call table keep the laws.
-use Rattle.std.proofs.Common.{◌≡◌, ℕ, zero, suc, List, [], ◌∷◌, Bool, true, false, refl, ap, subst, cond, Some, None}
-use Rattle.std.specs.Prelude.{◌==◌, slice_get}
-use Rattle.std.proofs.lemmas.Bool.{eqb-true}
-use Rattle.df_filter.specs.declared.clause.Clause.{Clause}
-use Rattle.df_label.specs.Label.{flows_to}
-use Rattle.df_label.specs.declared.label.Label.{Label}
-use Rattle.df_label.specs.declared.privilege.Privilege.{Privilege}
-use Rattle.df_rules.specs.Laws.{Laws}
-use Rattle.df_rules.specs.Start.{rows, roots, root_of}
-use Rattle.df_label.proofs.LabelFacts.{flows_to-refl, flows_to-join_left, flows_to-join_right}
-use Rattle.df_unit.specs.Beginnings.{fixes, fixed_of, readable_at, makes, child, child_input}
+use Rattle.df_rules.proofs.Names.{◌≡◌, ℕ, zero, suc, List, [], ◌∷◌, Bool, true, false, refl, ap, subst, cond, Some, None, ◌==◌, slice_get, eqb-true, Clause, flows_to, Label, Privilege, Laws, rows, roots, root_of, flows_to-refl, flows_to-join_left, flows_to-join_right, fixes, fixed_of, readable_at, makes, child, child_input, OwnState, Fixed, after, changed, half_changed, is_accepted, Call, SubscribeManaged, Get, ChangeInOut, Instantiate, Effect, UnitName, Reply}
 use Rattle.df_unit.proofs.KeptRows.{reads_changed}
-use Rattle.df_unit.specs.OwnState.{OwnState, Fixed}
-use Rattle.df_unit.specs.Rows.{after, changed, half_changed, is_accepted}
-use Rattle.df_unit.specs.declared.call.Call.{Call}
-use Rattle.df_unit.specs.declared.call.Call.TheVariants.{SubscribeManaged, Get, ChangeInOut, Instantiate}
-use Rattle.df_unit.specs.declared.entry.Effect.{Effect}
-use Rattle.df_unit.specs.declared.name.UnitName.{UnitName}
-use Rattle.df_unit.specs.declared.reply.Reply.{Reply}
 
 -- the reply and the effect of an answer
 

@@ -1,14 +1,5 @@
 -- The run of actors and calls is the one legal journal with them that no entry was emitted into.
-use Rattle.std.proofs.Common.{◌≡◌, List, [], ◌∷◌, refl, sym, ◌∙◌, ap}
-use Rattle.df_rules.specs.Legal.{Legal, IsUnaided, answered, calls_of, run}
-use Rattle.df_rules.specs.Rules.{Rules}
-use Rattle.df_unit.specs.OwnState.{OwnState}
-use Rattle.df_unit.specs.declared.call.Call.{Call}
-use Rattle.df_unit.specs.declared.entry.Effect.{Effect}
-use Rattle.df_unit.specs.declared.entry.Entry.{Entry}
-use Rattle.df_unit.specs.declared.entry.Entry.TheVariants.{Done, Emitted}
-use Rattle.df_unit.specs.declared.name.UnitName.{UnitName}
-use Rattle.df_unit.specs.declared.reply.Reply.{Reply}
+use Rattle.df_rules.proofs.Names.{◌≡◌, List, [], ◌∷◌, refl, sym, ◌∙◌, ap, Legal, IsUnaided, answered, calls_of, run, Rules, OwnState, Call, Effect, Entry, Done, Emitted, UnitName, Reply}
 
 module _ (R : Rules) (s : List OwnState) where
   pub run_legal : (calls : List (UnitName × Call)) → Legal R s (run R s calls)

@@ -1,31 +1,6 @@
 -- Two journals that look alike at a label give alike commits the same choices and deliveries there.
-use Rattle.std.proofs.Common.{◌≡◌, ℕ, List, [], ◌∷◌, ◌++◌, Bool, true, false, not, ◌&&◌, refl, sym, ◌∙◌, ap, cond, Option, Some, None}
-use Rattle.std.specs.List.{flat_map}
-use Rattle.std.proofs.lemmas.List.{append-nil}
-use Rattle.std.proofs.lemmas.List.Elements.{filter-append}
-use Rattle.df_filter.specs.declared.clause.Clause.{Clause}
-use Rattle.df_label.specs.Label.{flows_to}
-use Rattle.df_label.specs.declared.label.Label.{Label}
-use Rattle.df_part.specs.Contents.{apply, spared}
-use Rattle.df_part.specs.Part.{cut}
-use Rattle.df_part.specs.declared.edit.Spot.{Spot}
-use Rattle.df_part.specs.declared.part.Part.{Part}
-use Rattle.df_rules.specs.Choices.{gives}
-use Rattle.df_rules.specs.Commits.{committed, contents, cut_spots, cut_commit}
-use Rattle.df_rules.specs.Deliveries.{plain_news, instance_news, offer, was_handed}
-use Rattle.df_rules.specs.Own.{is_given}
-use Rattle.df_rules.specs.Purge.{echo, emitted}
+use Rattle.df_rules.proofs.Names.{◌≡◌, ℕ, List, [], ◌∷◌, ◌++◌, Bool, true, false, not, ◌&&◌, refl, sym, ◌∙◌, ap, cond, Option, Some, None, flat_map, append-nil, filter-append, Clause, flows_to, Label, apply, spared, cut, Spot, Part, gives, committed, contents, cut_spots, cut_commit, plain_news, instance_news, offer, was_handed, is_given, echo, emitted, flows_to-parts, and_parts, readable_at, same_event, OwnState, Fixed, is_nil, Commit, Given, Entry, EventName}
 use Rattle.df_rules.proofs.CutFacts.{cut_again, cut_spots_again, cut_below, cut-spared, cut-apply, gives_cut, gives_none, spared_nil}
-use Rattle.df_label.proofs.LabelFacts.{flows_to-parts}
-use Rattle.std.proofs.lemmas.Bool.{and_parts}
-use Rattle.df_unit.specs.Beginnings.{readable_at}
-use Rattle.df_unit.specs.Name.{same_event}
-use Rattle.df_unit.specs.OwnState.{OwnState, Fixed}
-use Rattle.df_unit.specs.Rows.{is_nil}
-use Rattle.df_unit.specs.declared.commit.Commit.{Commit}
-use Rattle.df_unit.specs.declared.commit.Given.{Given}
-use Rattle.df_unit.specs.declared.entry.Entry.{Entry}
-use Rattle.df_unit.specs.declared.name.EventName.{EventName}
 
 -- a commit that does nothing
 abbrev pub idle : EventName → Commit

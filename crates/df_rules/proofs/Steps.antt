@@ -1,23 +1,6 @@
 -- What one more entry does to a unit, whatever the unit is.
-use Rattle.std.proofs.Common.{◌≡◌, ◌⊎◌, inl, inr, List, ◌∷◌, Bool, true, false, refl, sym, ap, subst, cond, Option, Some, None}
-use Rattle.std.specs.Option.{option_map, option_and_then, option_or}
-use Rattle.df_label.specs.Label.{flows_to}
-use Rattle.df_label.specs.Tag.{maker_of}
-use Rattle.df_label.specs.declared.label.Label.{Label}
-use Rattle.df_rules.specs.Commits.{commit_of}
-use Rattle.df_rules.specs.Laws.{Laws}
-use Rattle.df_rules.specs.Own.{stepped, made_by, own_plain, own_instance, own, fixed, born}
-use Rattle.df_rules.specs.Purge.{is_within, stays}
-use Rattle.df_rules.specs.Rules.{Rules}
+use Rattle.df_rules.proofs.Names.{◌≡◌, ◌⊎◌, inl, inr, List, ◌∷◌, Bool, true, false, refl, sym, ap, subst, cond, Option, Some, None, option_map, option_and_then, option_or, flows_to, maker_of, Label, commit_of, Laws, stepped, made_by, own_plain, own_instance, own, fixed, born, is_within, stays, Rules, flows_to-trans, same_name-exact, same, OwnState, Entry, Done, Emitted, UnitName, Root, Managed}
 use Rattle.df_rules.proofs.Agreement.{Agrees, contaminated, agrees_refl, IsOut, IsIn}
-use Rattle.df_label.proofs.LabelFacts.{flows_to-trans}
-use Rattle.df_unit.proofs.SameFacts.{same_name-exact}
-use Rattle.df_unit.specs.Name.{same}
-use Rattle.df_unit.specs.OwnState.{OwnState}
-use Rattle.df_unit.specs.declared.entry.Entry.{Entry}
-use Rattle.df_unit.specs.declared.entry.Entry.TheVariants.{Done, Emitted}
-use Rattle.df_unit.specs.declared.name.UnitName.{UnitName}
-use Rattle.df_unit.specs.declared.name.UnitName.TheVariants.{Root, Managed}
 
 -- the state is the older one's, or the newer one's where there was none
 pub or_is : {A : Type 0} (x y : Option A) (a : A) → option_or x y ≡ Some a → (x ≡ Some a) ⊎ ((x ≡ None) × (y ≡ Some a))

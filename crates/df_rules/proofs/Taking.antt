@@ -1,30 +1,6 @@
 -- In a legal journal a unit's gets give it exactly its deliveries, in order.
-use Rattle.std.proofs.Common.{◌≡◌, ℕ, ◌+◌, List, [], ◌∷◌, ◌++◌, Bool, true, false, refl, sym, ◌∙◌, ap, subst, cond, Option, Some, None}
-use Rattle.std.specs.Prelude.{length, drop, slice_get}
-use Rattle.std.specs.Option.{option_map, option_and_then, option_or}
-use Rattle.std.proofs.lemmas.List.{append-nil, append_assoc, length-append}
-use Rattle.df_label.specs.Tag.{maker_of, number_of}
-use Rattle.df_rules.specs.Commits.{commit_of, given_in}
-use Rattle.df_rules.specs.Deliveries.{plain_news, instance_news, deliveries, deliveries_plain, deliveries_instance}
-use Rattle.df_rules.specs.Laws.{TakingLaws}
-use Rattle.df_rules.specs.Legal.{Legal, IsRight, left}
-use Rattle.df_rules.specs.Own.{stepped, made_by, own_plain, own, fixed, is_given, born}
-use Rattle.df_rules.specs.Received.{received, Receives}
-use Rattle.df_rules.specs.Rules.{Rules}
-use Rattle.df_rules.specs.Subscriptions.{subscriptions}
+use Rattle.df_rules.proofs.Names.{◌≡◌, ℕ, ◌+◌, List, [], ◌∷◌, ◌++◌, Bool, true, false, refl, sym, ◌∙◌, ap, subst, cond, Option, Some, None, length, drop, slice_get, option_map, option_and_then, option_or, append-nil, append_assoc, length-append, maker_of, number_of, commit_of, given_in, plain_news, instance_news, deliveries, deliveries_plain, deliveries_instance, TakingLaws, Legal, IsRight, left, stepped, made_by, own_plain, own, fixed, is_given, born, received, Receives, Rules, subscriptions, same_name-exact, same, OwnState, Fixed, Call, Commit, Given, Effect, Entry, Done, Emitted, UnitName, Root, Managed, Reply}
 use Rattle.df_rules.proofs.Invariant.{IfThere}
-use Rattle.df_unit.proofs.SameFacts.{same_name-exact}
-use Rattle.df_unit.specs.Name.{same}
-use Rattle.df_unit.specs.OwnState.{OwnState, Fixed}
-use Rattle.df_unit.specs.declared.call.Call.{Call}
-use Rattle.df_unit.specs.declared.commit.Commit.{Commit}
-use Rattle.df_unit.specs.declared.commit.Given.{Given}
-use Rattle.df_unit.specs.declared.entry.Effect.{Effect}
-use Rattle.df_unit.specs.declared.entry.Entry.{Entry}
-use Rattle.df_unit.specs.declared.entry.Entry.TheVariants.{Done, Emitted}
-use Rattle.df_unit.specs.declared.name.UnitName.{UnitName}
-use Rattle.df_unit.specs.declared.name.UnitName.TheVariants.{Root, Managed}
-use Rattle.df_unit.specs.declared.reply.Reply.{Reply}
 
 -- what is left of a list behind its beginning
 drop_behind : {X : Type 0} (xs ys : List X) → drop (length xs) (xs ++ ys) ≡ ys

@@ -1,30 +1,7 @@
 -- The rows of the call table take deliveries one by one.
-use Rattle.std.proofs.Common.{◌≡◌, ◌+◌, List, [], ◌∷◌, ◌++◌, Bool, true, false, ◌&&◌, refl, sym, ◌∙◌, ap, subst, cond, Option, Some, None}
-use Rattle.std.proofs.lemmas.List.{append-nil}
-use Rattle.df_label.specs.declared.label.Label.{Label}
-use Rattle.df_label.specs.declared.privilege.Privilege.{Privilege}
-use Rattle.df_rules.specs.Commits.{given_in}
-use Rattle.df_rules.specs.Deliveries.{deliveries}
-use Rattle.df_rules.specs.Laws.{TakingLaws}
-use Rattle.df_rules.specs.Legal.{Legal, answer_of, left}
-use Rattle.df_rules.specs.Own.{own}
-use Rattle.df_rules.specs.Received.{received}
-use Rattle.df_rules.specs.Start.{rows, roots}
+use Rattle.df_rules.proofs.Names.{◌≡◌, ◌+◌, List, [], ◌∷◌, ◌++◌, Bool, true, false, ◌&&◌, refl, sym, ◌∙◌, ap, subst, cond, Option, Some, None, append-nil, Label, Privilege, given_in, deliveries, TakingLaws, Legal, answer_of, left, own, received, rows, roots, Handle, handle_at, is_full, least_free, OwnState, reply, effect, after, changed, is_accepted, published, released, is_nil, handed, relabelled, Call, Get, Publish, Release, Given, Effect, Entry, Done, UnitName, Reply}
 use Rattle.df_rules.proofs.Taking.{gets_give_deliveries}
 use Rattle.df_rules.proofs.RowLaws.{first_is, second_is, roots_are, by_child}
-use Rattle.df_unit.specs.declared.handle.Handle.{Handle}
-use Rattle.df_unit.specs.Handles.{handle_at, is_full, least_free}
-use Rattle.df_unit.specs.OwnState.{OwnState}
-use Rattle.df_unit.specs.Rows.{reply, effect, after, changed, is_accepted, published, released, is_nil, handed}
-use Rattle.df_unit.specs.Drafts.{relabelled}
-use Rattle.df_unit.specs.declared.call.Call.{Call}
-use Rattle.df_unit.specs.declared.call.Call.TheVariants.{Get, Publish, Release}
-use Rattle.df_unit.specs.declared.commit.Given.{Given}
-use Rattle.df_unit.specs.declared.entry.Effect.{Effect}
-use Rattle.df_unit.specs.declared.entry.Entry.{Entry}
-use Rattle.df_unit.specs.declared.entry.Entry.TheVariants.{Done}
-use Rattle.df_unit.specs.declared.name.UnitName.{UnitName}
-use Rattle.df_unit.specs.declared.reply.Reply.{Reply}
 
 -- whether an effect hands something over
 abbrev is_gift : Effect → Bool

@@ -1,7 +1,10 @@
 -- Calls where they stand, as their readers find them.
-use Rattle.df_script_text.proofs.Names.{◌≡◌, ℕ, ◌-◌, ◌≤◌, List, [], ◌∷◌, ◌++◌, length, take, drop, Ok, sym, refl, ap, subst, ◌∙◌, append_assoc, Call, UnitName, Root, short_at, IsCall, IsUnit, unit_text, plain_kinds, unit_at, kinds_at, call_text, kinds_found, short_finds, unit_finds, IsCallAt, call_line, ScriptLine}
+use Rattle.df_script_text.proofs.Names.{◌≡◌, ℕ, ◌-◌, ◌≤◌, List, [], ◌∷◌, ◌++◌, length, take, drop, Ok, sym, refl, ap, subst, ◌∙◌, append_assoc, Call, UnitName, Root, IsCall, IsUnit, unit_text, unit_at, call_text, kinds_found, short_finds, unit_finds, IsCallAt, call_line, ScriptLine}
 use Rattle.df_journal_text.proofs.Between.{between, onward}
 use Rattle.df_journal_text.proofs.CallFounds.{plain_find}
+use Rattle.df_value_text.specs.ReadTag.{short_at}
+use Rattle.df_journal_text.specs.ReadCall.{plain_kinds}
+use Rattle.df_journal_text.specs.ReadWords.{kinds_at}
 
 -- this unit's name stands at the one place, up to the other
 abbrev UnitStands : List ℕ → ℕ → ℕ → UnitName → Type 0

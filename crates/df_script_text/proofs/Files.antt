@@ -1,8 +1,9 @@
 -- Scripts and their lines.
-use Rattle.df_script_text.proofs.Names.{◌≡◌, ℕ, ◌+◌, ◌<◌, ◌≤◌, ◌^◌, List, [], ◌∷◌, ◌++◌, length, take, drop, map, codes, decimal, get_or, refl, sym, ap, ◌∙◌, arith, append_assoc, length-append, length-drop, inl, inr, All, AllByRecursion, flat_map, take_at, All-cons, All-append, All-from_recursion, recursion_from_All, flat_map-append, IsLine, ended, lines_text, IsGrammar, RootStart, label_text, privilege_text, IsRoot, root_text, roots_text, start_text, IsScript, IsScriptLine, IsScriptText, script_line, script_text, call_line, head_lines, numbered, script_lines, ArePassed, AreRootsAt, IsCallLine, IsFirstAt, IsHeadLine, ScriptLine}
+use Rattle.df_script_text.proofs.Names.{◌≡◌, ℕ, ◌+◌, ◌<◌, ◌≤◌, ◌^◌, List, [], ◌∷◌, ◌++◌, length, take, drop, map, codes, decimal, get_or, refl, sym, ap, ◌∙◌, arith, append_assoc, length-append, length-drop, inl, inr, All, AllByRecursion, flat_map, All-cons, All-append, All-from_recursion, recursion_from_All, flat_map-append, IsLine, ended, lines_text, IsGrammar, RootStart, label_text, privilege_text, IsRoot, root_text, roots_text, start_text, IsScript, IsScriptLine, IsScriptText, script_line, script_text, call_line, head_lines, numbered, script_lines, ArePassed, AreRootsAt, IsCallLine, IsFirstAt, IsHeadLine, ScriptLine}
 use Rattle.df_script_text.proofs.Calls.{Avoids-call}
 use Rattle.df_script_text.proofs.Numbered.{numbered-each}
 use Rattle.df_script_text.proofs.Splits.{Avoids-text, Avoids-words, Avoids-line, AreWords-root, IsLine-word}
+use Rattle.std.proofs.lemmas.List.{take_at}
 
 -- the line `run`, and the first
 abbrev pub run : List ℕ

@@ -5,23 +5,24 @@ pub use Rattle.df_frozen.specs.Name.{is_letter, is_name, is_name_byte}
 pub use Rattle.df_journal_text.proofs.CallBacks.{call_back}
 pub use Rattle.df_journal_text.proofs.Founds.{Finds, finds_as, finds_behind, finds_then, finds_word, kinds_found, label_finds, privileges_finds, short_finds, unit_finds}
 pub use Rattle.df_journal_text.proofs.NameBacks.{unit_word}
-pub use Rattle.df_journal_text.proofs.StartBacks.{behind_back, start_back}
 pub use Rattle.df_journal_text.proofs.WordBacks.{braced, ends_spaced, label_word, line-rest, privileges_back, word_back}
 pub use Rattle.df_journal_text.specs.Call.{act_text, call_words, half_text}
 pub use Rattle.df_journal_text.specs.Fits.{IsCall, IsRoot, IsUnit}
 pub use Rattle.df_journal_text.specs.Large.{IsLargeCall, IsLargeCalled}
 pub use Rattle.df_journal_text.specs.Line.{spaced, word}
 pub use Rattle.df_journal_text.specs.Name.{unit_text}
-pub use Rattle.df_journal_text.specs.ReadCall.{call_at, plain_kinds}
 pub use Rattle.df_journal_text.specs.ReadName.{unit_at}
-pub use Rattle.df_journal_text.specs.ReadWords.{kinds_at, privileges_at, word_at}
 pub use Rattle.df_journal_text.specs.Start.{root_line, root_text, roots_text, start_text}
-pub use Rattle.df_journal_text.specs.code.Judging.{EndsCall, call_text}
-pub use Rattle.df_lines.proofs.FirstBad.{IsGrammar, first_bad, names_line}
+pub use Rattle.df_journal_text.specs.code.Judging.{EndsCall, IsNoLine, TellsLine, call_text}
+pub use Rattle.df_lines.proofs.FirstBad.{IsGrammar, first_bad, names_line, refused_syntax, refused_too_large}
 pub use Rattle.df_lines.specs.Lines.{IsLine, ended, lines_text}
+pub use Rattle.df_lines.specs.Refused.{NamesBadLine}
+pub use Rattle.df_lines.specs.declared.fault.FileFault.{FileFault}
 pub use Rattle.df_script_text.specs.Called.{IsCallAt}
-pub use Rattle.df_script_text.specs.Reader.{HasReadUpTo}
+pub use Rattle.df_script_text.specs.Common.{common_line, root_call}
+pub use Rattle.df_script_text.specs.Reader.{HasRead, HasReadUpTo, ReaderState}
 pub use Rattle.df_script_text.specs.Script.{IsScript, IsScriptLine, IsScriptText, script_line, script_text}
+pub use Rattle.df_script_text.specs.TooLarge.{IsTooLargeIn}
 pub use Rattle.df_script_text.specs.code.Lines.{call_line, head_lines, numbered, root_line_at, script_lines}
 pub use Rattle.df_script_text.specs.code.Stops.{ArePassed, AreRootsAt, IsCallLine, IsFirstAt, IsHeadLine, RootsStop, StopsAt, StopsCall, StopsFirst, TellsRoot, fault_of}
 pub use Rattle.df_script_text.specs.declared.line.ScriptLine.{ScriptLine}
@@ -31,13 +32,12 @@ pub use Rattle.df_unit.specs.declared.name.UnitName.{UnitName}
 pub use Rattle.df_unit.specs.declared.name.UnitName.TheVariants.{Managed, Root}
 pub use Rattle.df_value_text.specs.Fits.{AreBehind, AreEntries, AreNumbers, AreSpelled, AreTags, IsLabel, IsPrivilege, IsSpelled, IsTag, IsTagSet, IsValue}
 pub use Rattle.df_value_text.specs.Label.{label_text, path_text, privilege_text, right_text, tag_text, tags_text}
-pub use Rattle.df_value_text.specs.ReadTag.{begins_digit, short_at}
 pub use Rattle.df_value_text.specs.ReadWhole.{IsWhole}
-pub use Rattle.std.proofs.Common.{Bool, Err, List, None, Ok, Some, [], add-zero, ap, append-nil, append_assoc, arith, codes, cond, decimal, drop, eqb, false, get_or, inl, inr, length, length-append, length-drop, map, nat_eq, nat_lt, negsuc, pos, refl, subst, suc, sym, take, true, zero-add, ℕ, ℤ, ◌%◌, ◌++◌, ◌+◌, ◌-◌, ◌/◌, ◌<◌, ◌^◌, ◌||◌, ◌∙◌, ◌∷◌, ◌≡◌, ◌≤◌}
+pub use Rattle.std.proofs.Common.{Bool, Err, List, None, Ok, Some, [], add-zero, ap, append-nil, append_assoc, arith, codes, cond, decimal, drop, eqb, false, get_or, inl, inr, length, length-append, length-drop, map, nat_eq, nat_lt, negsuc, pos, refl, rules, subst, suc, sym, take, true, zero-add, ℕ, ℤ, ◌%◌, ◌++◌, ◌+◌, ◌-◌, ◌/◌, ◌<◌, ◌^◌, ◌||◌, ◌∙◌, ◌∷◌, ◌≡◌, ◌≤◌}
 pub use Rattle.std.proofs.lemmas.Bool.Decides.{nat_tests}
-pub use Rattle.std.proofs.lemmas.List.{map-append, take-append-le, take_all, take_at}
 pub use Rattle.std.proofs.lemmas.List.Concat.{flat_map-append}
 pub use Rattle.std.proofs.lemmas.List.Elements.{All-append, All-cons, All-from_recursion, All-nil, All-push, All-weaker, recursion_from_All}
 pub use Rattle.std.proofs.lemmas.List.Folds.{list_all-append}
+pub use Rattle.std.proofs.lemmas.Result.{IfErr-weaker, IfOk-weaker, err_from_is_err_and}
 pub use Rattle.std.specs.Fmt.{signed_decimal}
 pub use Rattle.std.specs.List.{All, AllByRecursion, flat_map, join_with_byte, list_all}

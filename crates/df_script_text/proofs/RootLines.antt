@@ -1,8 +1,10 @@
 -- The lines of roots, as they are read.
-use Rattle.df_script_text.proofs.Names.{◌≡◌, ℕ, List, [], ◌++◌, map, Ok, codes, decimal, refl, sym, ap, ◌∙◌, append-nil, recursion_from_All, Read, as_at, behind_at, then_at, RootStart, IsPrivilege, label_text, privilege_text, IsRoot, spaced, word, privileges_at, word_at, root_line, root_text, Finds, finds_as, finds_behind, finds_then, finds_word, label_finds, privileges_finds, behind_back, label_word, privileges_back, word_back, root_line_at}
+use Rattle.df_script_text.proofs.Names.{◌≡◌, ℕ, List, [], ◌++◌, map, Ok, codes, decimal, refl, sym, ap, ◌∙◌, append-nil, recursion_from_All, Read, as_at, behind_at, then_at, RootStart, IsPrivilege, label_text, privilege_text, IsRoot, spaced, word, root_line, root_text, Finds, finds_as, finds_behind, finds_then, finds_word, label_finds, privileges_finds, label_word, privileges_back, word_back, root_line_at}
 use Rattle.df_value_text.specs.ReadLabel.{label_at}
 use Rattle.df_journal_text.specs.ReadStart.{root_of}
 use Rattle.df_journal_text.proofs.Wholes.{WholeLine}
+use Rattle.df_journal_text.specs.ReadWords.{privileges_at, word_at}
+use Rattle.df_journal_text.proofs.StartBacks.{behind_back}
 
 -- what stands behind a root's number
 abbrev behind_number : RootStart → List ℕ

@@ -1,9 +1,11 @@
 -- Scripts that are spelled are read back, so a text is that of one script.
-use Rattle.df_script_text.proofs.Names.{◌≡◌, ℕ, ◌<◌, true, false, List, [], ◌∷◌, ◌++◌, length, Ok, codes, refl, sym, ap, subst, ◌∙◌, append_assoc, inr, flat_map, recursion_from_All, ok_is, RootStart, begins_digit, call_words, IsRoot, spaced, unit_text, start_text, call_back, unit_word, start_back, ends_spaced, line-rest, IsScript, IsScriptLine, script_line, script_text, ScriptLine}
+use Rattle.df_script_text.proofs.Names.{◌≡◌, ℕ, ◌<◌, true, false, List, [], ◌∷◌, ◌++◌, length, Ok, codes, refl, sym, ap, subst, ◌∙◌, append_assoc, inr, flat_map, recursion_from_All, ok_is, RootStart, call_words, IsRoot, spaced, unit_text, start_text, call_back, unit_word, ends_spaced, line-rest, IsScript, IsScriptLine, script_line, script_text, ScriptLine}
 use Rattle.std.proofs.lemmas.List.{append-nil}
 use Rattle.df_format.proofs.Backs.{Back, all_back}
 use Rattle.df_journal_text.proofs.JournalBacks.{digit_some, more_first, unit_first}
 use Rattle.df_script_text.specs.ReadScript.{script_at, script_line_at}
+use Rattle.df_value_text.specs.ReadTag.{begins_digit}
+use Rattle.df_journal_text.proofs.StartBacks.{start_back}
 
 -- ---- lines
 

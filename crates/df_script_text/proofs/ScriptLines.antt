@@ -1,9 +1,10 @@
 -- What the reader of a call's line answers: who makes it, the call, and nothing behind it.
-use Rattle.df_script_text.proofs.Names.{◌≡◌, ℕ, List, [], ◌∷◌, ◌++◌, Ok, refl, sym, ap, subst, append-nil, inl, Read, ok_is, call_words, IsCall, IsUnit, IsLargeCall, IsLargeCalled, unit_text, call_at, unit_at, EndsCall, call_text, call_back, unit_finds, unit_word, ends_spaced, IsScriptLine, script_line, ScriptLine}
+use Rattle.df_script_text.proofs.Names.{◌≡◌, ℕ, List, [], ◌∷◌, ◌++◌, Ok, refl, sym, ap, subst, append-nil, inl, Read, ok_is, call_words, IsCall, IsUnit, IsLargeCall, IsLargeCalled, unit_text, unit_at, EndsCall, call_text, call_back, unit_finds, unit_word, ends_spaced, IsScriptLine, script_line, ScriptLine}
 use Rattle.df_value_text.specs.code.WordEnd.{EndsWord}
 use Rattle.df_journal_text.specs.code.Judging.{ended}
 use Rattle.df_journal_text.proofs.CallTells.{call_apart}
 use Rattle.df_journal_text.proofs.Frames.{Frame, Parted, spelled_small}
+use Rattle.df_journal_text.specs.ReadCall.{call_at}
 
 -- what stands behind a call
 abbrev pub nothing : Unit {0} → List ℕ

@@ -1,18 +1,16 @@
 -- Where reading a script stops, there is its first bad line.
-use Rattle.df_script_text.proofs.Names.{◌≡◌, ℕ, ◌+◌, ◌<◌, ◌≤◌, List, [], ◌∷◌, ◌++◌, length, length-drop, take, drop, map, false, eqb, Some, None, Ok, Err, refl, sym, ap, subst, ◌∙◌, arith, append-nil, append_assoc, length-append, zero-add, All, map-append, flat_map-append, All-nil, All-push, recursion_from_All, IsLine, ended, lines_text, first_bad, names_line, IsRoot, IsLargeCalled, root_text, RootStart, HasReadUpTo, IsScript, IsScriptLine, IsScriptText, script_line, call_line, head_lines, numbered, script_lines, ArePassed, AreRootsAt, IsCallLine, IsFirstAt, IsHeadLine, RootsStop, StopsAt, StopsCall, StopsFirst, TellsRoot, fault_of, ScriptLine}
-use Rattle.df_lines.specs.Refused.{NamesBadLine}
+use Rattle.df_script_text.proofs.Names.{◌≡◌, ℕ, ◌+◌, ◌<◌, ◌≤◌, List, [], ◌∷◌, ◌++◌, length, length-drop, take, drop, map, false, eqb, Some, None, Ok, Err, refl, sym, ap, subst, ◌∙◌, arith, append-nil, append_assoc, length-append, zero-add, All, flat_map-append, All-nil, All-push, recursion_from_All, IsLine, ended, lines_text, first_bad, names_line, IsRoot, IsLargeCalled, root_text, RootStart, HasReadUpTo, IsScript, IsScriptLine, IsScriptText, script_line, call_line, head_lines, numbered, script_lines, ArePassed, AreRootsAt, IsCallLine, IsFirstAt, IsHeadLine, RootsStop, StopsAt, StopsCall, StopsFirst, TellsRoot, fault_of, ScriptLine, NamesBadLine, FileFault, IsTooLargeIn, IsNoLine}
 use Rattle.df_lines.specs.code.Faults.{IsBadPlace, NamesBadPlace, TellsLine, refusal}
 use Rattle.df_lines.specs.declared.refused.FileRefused.{FileRefused}
-use Rattle.df_lines.specs.declared.fault.FileFault.{FileFault}
 use Rattle.df_journal_text.specs.declared.line_fault.LineFault.{LineFault}
-use Rattle.df_script_text.specs.TooLarge.{IsTooLargeIn}
 use Rattle.df_lines.specs.declared.refused.FileRefused.TheVariants as refused
 use Rattle.df_lines.specs.declared.fault.FileFault.TheVariants as fault
-use Rattle.df_journal_text.specs.code.Judging.{IsNoLine, TellsLine as Told}
+use Rattle.df_journal_text.specs.code.Judging.{TellsLine as Told}
 use Rattle.df_journal_text.specs.declared.line_fault.LineFault.TheVariants as line_fault
 use Rattle.df_script_text.proofs.Files.{run, first, script_text-lines, AreLines-head, AreLines-script, next_head, no_run, next_call, front_is, roots_before, start_before, script_grammar}
 use Rattle.df_script_text.proofs.Numbered.{numbered-push}
 use Rattle.df_script_text.proofs.ScriptLines.{made_small}
+use Rattle.std.proofs.lemmas.List.{map-append}
 
 -- ---- loops
 

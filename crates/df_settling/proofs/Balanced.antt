@@ -1,9 +1,5 @@
 -- The trades of an order and what rests after it are together at most one more than rested before.
-use Rattle.std.proofs.Common.{◌≡◌, ◌⊎◌, inl, inr, ℕ, zero, suc, ◌+◌, ◌≤◌, List, [], ◌∷◌, ◌++◌, Bool, true, false, ◌∙◌, ap, cond, Option, Some, None, length, length-append, arith, fold, ℤ, pos}
-use Rattle.std.specs.Prelude.{◌-ℤ◌, int_lt}
-use Rattle.df_book.specs.Submitting.{Picked, Submitted, behind_one, best, better_of, if_left, is_better, lesser, matched, meets, met, rested, resting_after, submitted}
-use Rattle.df_book.specs.declared.order.Order.{Order}
-use Rattle.df_settling.specs.Trades.{trade_count}
+use Rattle.df_settling.proofs.Names.{◌≡◌, ◌⊎◌, inl, inr, ℕ, zero, suc, ◌+◌, ◌≤◌, List, [], ◌∷◌, ◌++◌, Bool, true, false, ◌∙◌, ap, cond, Option, Some, None, length, length-append, arith, fold, ℤ, pos, ◌-ℤ◌, int_lt, Picked, Submitted, behind_one, best, better_of, if_left, is_better, lesser, matched, meets, met, rested, resting_after, submitted, Order, trade_count}
 use Rattle.df_book.proofs.Planned.{none_left, unmatched}
 
 -- an order that is picked is one of the book

@@ -1,33 +1,7 @@
 -- The settling bound: each entry of the floor takes something of what all units together may still cost.
-use Rattle.std.proofs.Common.{◌≡◌, ℕ, suc, ◌+◌, ◌-◌, ◌*◌, ◌≤◌, List, [], ◌∷◌, Bool, true, false, refl, sym, ◌∙◌, ap, subst, cond, Option, Some, None, length, arith}
-use Rattle.df_config.specs.ConfigForm.{IsConfig}
-use Rattle.df_config.specs.declared.config.Config.{Config}
-use Rattle.df_config.specs.declared.pair.PairRow.{PairRow}
-use Rattle.df_config.specs.declared.trader.TraderRow.{TraderRow}
-use Rattle.df_part.specs.declared.edit.Spot.{Spot}
-use Rattle.df_part.specs.declared.part.Part.{Part}
-use Rattle.df_rules.specs.Commits.{commit_in}
-use Rattle.df_rules.specs.Deliveries.{deliveries}
-use Rattle.df_rules.specs.Follows.{Follows}
-use Rattle.df_rules.specs.Legal.{IsUnaided, Legal}
-use Rattle.df_rules.specs.Own.{own, root_at}
-use Rattle.df_rules.specs.Start.{rows}
-use Rattle.df_rules.specs.Subscriptions.{subscriptions}
-use Rattle.df_ticks.specs.declared.tick.Tick.{Tick}
-use Rattle.df_unit.specs.Name.{same}
-use Rattle.df_unit.specs.OwnState.{OwnState}
-use Rattle.df_unit.specs.declared.call.Call.{Call}
-use Rattle.df_unit.specs.declared.entry.Effect.{Effect}
-use Rattle.df_unit.specs.declared.entry.Entry.{Entry}
-use Rattle.df_unit.specs.declared.entry.Entry.TheVariants.{Done, Emitted}
-use Rattle.df_unit.specs.declared.name.UnitName.{UnitName}
-use Rattle.df_unit.specs.declared.name.UnitName.TheVariants.{Managed, Root}
-use Rattle.df_unit.specs.declared.reply.Reply.{Reply}
-use Rattle.df_unit.proofs.SameFacts.{same_name-exact}
-use Rattle.df_floor.specs.Brains.{floor_brains}
+use Rattle.df_settling.proofs.Names.{◌≡◌, ℕ, suc, ◌+◌, ◌-◌, ◌*◌, ◌≤◌, List, [], ◌∷◌, Bool, true, false, refl, sym, ◌∙◌, ap, subst, cond, Option, Some, None, length, arith, IsConfig, Config, PairRow, TraderRow, Spot, Part, commit_in, deliveries, Follows, IsUnaided, Legal, own, root_at, rows, subscriptions, Tick, same, OwnState, Call, Effect, Entry, Done, Emitted, UnitName, Managed, Root, Reply, same_name-exact, floor_brains, IsFloorJournal, first_states, floor_brain, monitor_count, settling_bound}
 use Rattle.df_floor_units.specs.declared.heard.Heard.TheVariants as heard
-use Rattle.df_settling.specs.Settling.{IsFloorJournal, first_states, floor_brain, monitor_count, settling_bound}
-use Rattle.df_settling.proofs.Entries.{no_weight}
+use Rattle.df_settling.proofs.Entries.{no_weight, Next, actor_step, name_refl, other_step, unborn_step}
 use Rattle.df_settling.proofs.Members.{FixedOk, InstancesOk, Inv, IsFresh, Lives, Member, RootsAlone, first_member, first_opening, first_state, gains, given_of, members, news, opens_first, player_at, plays, pot, priced_drop_all, root_member, the_mind, total_members, watcher, watcher_member}
 use Rattle.df_settling.proofs.Paid.{AllApart, event_paid, floor_worth}
 use Rattle.df_settling.proofs.Players.{Player, all_apart, monitor_players, players, role, trader_players, watching_players}
@@ -36,7 +10,6 @@ use Rattle.df_settling.proofs.Settles.{Does, actor_moves, fresh_commit, news_gai
 use Rattle.df_settling.proofs.Totals.{In, times_add, times_suc, total, total-append, total_mono, total_step, total_zero}
 use Rattle.df_settling.proofs.Unit.{event_cost, paid, priced, published_parts}
 use Rattle.df_settling.proofs.Worth.{watcher_tags, whole, worth}
-use Rattle.df_settling.proofs.Entries.{Next, actor_step, name_refl, other_step, unborn_step}
 use Rattle.df_settling.proofs.Only.{fixed_step, instances_step, roots_step}
 
 -- all units together

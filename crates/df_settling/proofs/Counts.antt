@@ -1,37 +1,5 @@
 -- Each unit of the floor keeps to the count of its kind.
-use Rattle.std.proofs.Common.{◌≡◌, ℕ, zero, suc, ◌+◌, ◌-◌, ◌*◌, ◌≤◌, ◌<◌, List, [], ◌∷◌, ◌++◌, Bool, true, false, true≢false, refl, sym, ◌∙◌, ap, subst, cond, Option, Some, None, length, arith, ne_eqb}
-use Rattle.std.specs.Prelude.{◌==◌, slice_get}
-use Rattle.std.specs.List.{flat_map}
-use Rattle.df_config.specs.ConfigForm.{IsConfig}
-use Rattle.df_config.specs.declared.config.Config.{Config}
-use Rattle.df_config.specs.declared.pair.PairRow.{PairRow}
-use Rattle.df_config.specs.declared.trader.TraderRow.{TraderRow}
-use Rattle.df_filter.specs.declared.clause.Clause.{Clause}
-use Rattle.df_rules.specs.Commits.{commit_in}
-use Rattle.df_rules.specs.Deliveries.{deliveries, deliveries_plain, plain_news}
-use Rattle.df_rules.specs.Follows.{Follows}
-use Rattle.df_rules.specs.Legal.{IsUnaided, Legal}
-use Rattle.df_rules.specs.Own.{own_plain}
-use Rattle.df_rules.specs.Start.{rows}
-use Rattle.df_rules.specs.Subscriptions.{subscriptions}
-use Rattle.df_part.specs.Contents.{apply}
-use Rattle.df_part.specs.Part.{cut}
-use Rattle.df_ticks.specs.declared.tick.Tick.{Tick}
-use Rattle.df_unit.specs.Name.{same}
-use Rattle.df_unit.specs.OwnState.{OwnState}
-use Rattle.df_unit.specs.Rows.{is_nil}
-use Rattle.df_unit.specs.declared.call.Call.{Call}
-use Rattle.df_unit.specs.declared.commit.Commit.{Commit}
-use Rattle.df_unit.specs.declared.commit.Given.{Given}
-use Rattle.df_unit.specs.declared.entry.Effect.{Effect}
-use Rattle.df_unit.specs.declared.entry.Entry.{Entry}
-use Rattle.df_unit.specs.declared.entry.Entry.TheVariants.{Done, Emitted}
-use Rattle.df_unit.specs.declared.name.UnitName.{UnitName}
-use Rattle.df_unit.specs.declared.name.UnitName.TheVariants.{Root}
-use Rattle.df_unit.specs.declared.reply.Reply.{Reply}
-use Rattle.df_floor.specs.Brains.{floor_brains}
-use Rattle.df_settling.specs.Counts.{KeepCounts, entries_of, fill_count, handed_to, match_count, root_name, trader_entries}
-use Rattle.df_settling.specs.Settling.{IsFloorJournal, first_states, floor_brain, monitor_count}
+use Rattle.df_settling.proofs.Names.{◌≡◌, ℕ, zero, suc, ◌+◌, ◌-◌, ◌*◌, ◌≤◌, ◌<◌, List, [], ◌∷◌, ◌++◌, Bool, true, false, true≢false, refl, sym, ◌∙◌, ap, subst, cond, Option, Some, None, length, arith, ne_eqb, ◌==◌, slice_get, flat_map, IsConfig, Config, PairRow, TraderRow, Clause, commit_in, deliveries, deliveries_plain, plain_news, Follows, IsUnaided, Legal, own_plain, rows, subscriptions, apply, cut, Tick, same, OwnState, is_nil, Call, Commit, Given, Effect, Entry, Done, Emitted, UnitName, Root, Reply, floor_brains, KeepCounts, entries_of, fill_count, handed_to, match_count, root_name, trader_entries, IsFloorJournal, first_states, floor_brain, monitor_count}
 use Rattle.df_settling.proofs.Bound.{World, actor_member, cost_of, first_pot, member_step, world}
 use Rattle.df_settling.proofs.Entries.{no_weight}
 use Rattle.df_settling.proofs.Members.{Inv, Lives, Member, deliveries_grow, members, news, plays, pot, root_member, the_mind, watcher, watcher_member}

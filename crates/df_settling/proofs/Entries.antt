@@ -1,28 +1,6 @@
 -- What an entry does to each unit of the floor.
-use Rattle.std.proofs.Common.{◌≡◌, inl, inr, ℕ, ◌+◌, ◌≤◌, List, [], ◌∷◌, ◌++◌, Bool, true, false, true≢false, refl, sym, ◌∙◌, ap, subst, cond, Option, Some, None, drop, arith}
-use Rattle.std.specs.Prelude.{option_to_list}
-use Rattle.std.specs.Option.{option_map, option_or}
-use Rattle.df_filter.specs.declared.clause.Clause.{Clause}
-use Rattle.df_rules.specs.Commits.{commit_in, commit_of, contents}
-use Rattle.df_rules.specs.Deliveries.{deliveries}
-use Rattle.df_rules.specs.Follows.{Start, replies_of, wanted}
-use Rattle.df_rules.specs.Own.{born, fixed, is_given, own, own_instance}
-use Rattle.df_rules.specs.Start.{rows}
-use Rattle.df_rules.specs.Subscriptions.{subscriptions}
+use Rattle.df_settling.proofs.Names.{◌≡◌, inl, inr, ℕ, ◌+◌, ◌≤◌, List, [], ◌∷◌, ◌++◌, Bool, true, false, true≢false, refl, sym, ◌∙◌, ap, subst, cond, Option, Some, None, drop, arith, option_to_list, option_map, option_or, Clause, commit_in, commit_of, contents, deliveries, Start, replies_of, wanted, born, fixed, is_given, own, own_instance, rows, subscriptions, same, Fixed, OwnState, after, subscribes, Call, Commit, Effect, Entry, Done, UnitName, Reply, same_name_decides, Mind, did, follow_of, moved, floor_brain}
 use Rattle.df_unit.specs.Beginnings.{begin}
-use Rattle.df_unit.specs.Name.{same}
-use Rattle.df_unit.specs.OwnState.{Fixed, OwnState}
-use Rattle.df_unit.specs.Rows.{after, subscribes}
-use Rattle.df_unit.specs.declared.call.Call.{Call}
-use Rattle.df_unit.specs.declared.commit.Commit.{Commit}
-use Rattle.df_unit.specs.declared.entry.Effect.{Effect}
-use Rattle.df_unit.specs.declared.entry.Entry.{Entry}
-use Rattle.df_unit.specs.declared.entry.Entry.TheVariants.{Done}
-use Rattle.df_unit.specs.declared.name.UnitName.{UnitName}
-use Rattle.df_unit.specs.declared.reply.Reply.{Reply}
-use Rattle.df_unit.proofs.SameFacts.{same_name_decides}
-use Rattle.df_floor_units.specs.Floor.{Mind, did, follow_of, moved}
-use Rattle.df_settling.specs.Settling.{floor_brain}
 use Rattle.df_settling.proofs.Members.{FixedOk, Inv, IsFresh, IsWatched, Lives, Member, deliveries_grow, events_of, given_of, mind_actor, mind_other, news, opens_first, own_actor, own_other, plays, pot, pot_grows, pot_of, subs_actor, subs_other, the_mind, watcher}
 use Rattle.df_settling.proofs.Players.{began}
 use Rattle.df_settling.proofs.Roles.{Role, Watcher, opening_by, role_of}

@@ -1,31 +1,6 @@
 -- What the calls that make an event do to what a unit may still do.
-use Rattle.std.proofs.Common.{◌≡◌, ◌≢◌, inr, ℕ, ◌+◌, ◌-◌, ◌*◌, ◌≤◌, ◌<◌, List, [], ◌∷◌, ◌++◌, Bool, true, false, true≢false, refl, sym, ◌∙◌, ap, cond, Option, Some, None, length, map, take, arith, append-nil, ltb-true, suc, suc-mul, add_comm, length-take-le}
-use Rattle.std.specs.Prelude.{nat_le, nat_lt}
+use Rattle.df_settling.proofs.Names.{◌≡◌, ◌≢◌, inr, ℕ, ◌+◌, ◌-◌, ◌*◌, ◌≤◌, ◌<◌, List, [], ◌∷◌, ◌++◌, Bool, true, false, true≢false, refl, sym, ◌∙◌, ap, cond, Option, Some, None, length, map, take, arith, append-nil, ltb-true, suc, suc-mul, add_comm, length-take-le, nat_le, nat_lt, length-map, map-append, Clause, Label, Draft, Part, left, new_part, raised, relabelled, changed_at, draft_of, handle_at, least_free, replaced, most_numbers, most_parts, OwnState, after, at_handle, effect, is_accepted, is_nil, published, reply, Call, AddPart, CreateEvent, Publish, Commit, Given, Effect, Handle, UnitName, Reply, Mind, adding, adds, told, wanted_at, parts_of, passed_heard, passed_kind, Heard, Kind, Stage}
 use Rattle.std.proofs.lemmas.Bool.{lt-leb}
-use Rattle.std.proofs.lemmas.List.{length-map, map-append}
-use Rattle.df_filter.specs.declared.clause.Clause.{Clause}
-use Rattle.df_label.specs.declared.label.Label.{Label}
-use Rattle.df_messages.specs.declared.draft.Draft.{Draft}
-use Rattle.df_part.specs.declared.part.Part.{Part}
-use Rattle.df_rules.specs.Legal.{left}
-use Rattle.df_unit.specs.Drafts.{new_part, raised, relabelled}
-use Rattle.df_unit.specs.Handles.{changed_at, draft_of, handle_at, least_free, replaced}
-use Rattle.df_unit.specs.Limits.{most_numbers, most_parts}
-use Rattle.df_unit.specs.OwnState.{OwnState}
-use Rattle.df_unit.specs.Rows.{after, at_handle, effect, is_accepted, is_nil, published, reply}
-use Rattle.df_unit.specs.declared.call.Call.{Call}
-use Rattle.df_unit.specs.declared.call.Call.TheVariants.{AddPart, CreateEvent, Publish}
-use Rattle.df_unit.specs.declared.commit.Commit.{Commit}
-use Rattle.df_unit.specs.declared.commit.Given.{Given}
-use Rattle.df_unit.specs.declared.entry.Effect.{Effect}
-use Rattle.df_unit.specs.declared.handle.Handle.{Handle}
-use Rattle.df_unit.specs.declared.name.UnitName.{UnitName}
-use Rattle.df_unit.specs.declared.reply.Reply.{Reply}
-use Rattle.df_floor_units.specs.Floor.{Mind, adding, adds, told, wanted_at}
-use Rattle.df_floor_units.specs.Telling.{parts_of, passed_heard, passed_kind}
-use Rattle.df_floor_units.specs.declared.heard.Heard.{Heard}
-use Rattle.df_floor_units.specs.declared.kind.Kind.{Kind}
-use Rattle.df_floor_units.specs.declared.stage.Stage.{Stage}
 use Rattle.df_floor_units.specs.declared.stage.Stage.TheVariants as stage
 use Rattle.df_settling.proofs.Roles.{Role, good_size, may_tell, role_of, role_passed, size_of, tells}
 use Rattle.df_settling.proofs.Roles as roles

@@ -1,20 +1,5 @@
 -- A small floor, run to its end: two traders, one of them contrary, with a monitor each.
-use Rattle.std.proofs.Common.{◌≡◌, ℕ, zero, suc, ◌+◌, List, [], ◌∷◌, ◌++◌, Bool, true, false, refl, cond, length, is_some, codes, pos}
-use Rattle.std.specs.List.{filter}
-use Rattle.df_config.specs.declared.config.Config.{Config}
-use Rattle.df_config.specs.declared.trader.TraderRow.{TraderRow}
-use Rattle.df_rules.specs.Own.{own}
-use Rattle.df_rules.specs.Start.{rows}
-use Rattle.df_ticks.specs.declared.tick.Tick.{Tick}
-use Rattle.df_unit.specs.Name.{same}
-use Rattle.df_unit.specs.declared.call.Call.{Call}
-use Rattle.df_unit.specs.declared.call.Call.TheVariants.{Get, Publish, Subscribe, SubscribeManaged}
-use Rattle.df_unit.specs.declared.entry.Entry.{Entry}
-use Rattle.df_unit.specs.declared.entry.Entry.TheVariants.{Done, Emitted}
-use Rattle.df_unit.specs.declared.name.UnitName.{UnitName}
-use Rattle.df_settling.specs.Counts.{entries_of, handed_to, instance_name, orders_resting, root_name, trades_made}
-use Rattle.df_settling.specs.Running.{asked, run_of}
-use Rattle.df_settling.specs.Settling.{first_states, settling_bound}
+use Rattle.df_settling.proofs.Names.{◌≡◌, ℕ, zero, suc, ◌+◌, List, [], ◌∷◌, ◌++◌, Bool, true, false, refl, cond, length, is_some, codes, pos, filter, Config, TraderRow, own, rows, Tick, same, Call, Get, Publish, Subscribe, SubscribeManaged, Entry, Done, Emitted, UnitName, entries_of, handed_to, instance_name, orders_resting, root_name, trades_made, asked, run_of, first_states, settling_bound}
 
 abbrev trader : ℕ → Bool → TraderRow
 trader quantity contrary = record { pairs = 0 ∷ []; quantity = pos quantity; slack = pos 5; contrary = contrary }

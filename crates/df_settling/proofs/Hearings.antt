@@ -1,26 +1,6 @@
 -- What gets, reads and drops do to what a unit may still do.
-use Rattle.std.proofs.Common.{◌≡◌, ◌≢◌, inr, ℕ, ◌+◌, ◌-◌, ◌*◌, ◌≤◌, ◌<◌, List, [], Bool, true, false, refl, ◌∙◌, ap, cond, Option, None, length, arith, append-nil, ltb-true, add-mul}
-use Rattle.df_filter.specs.declared.clause.Clause.{Clause}
-use Rattle.df_rules.specs.Legal.{left}
-use Rattle.df_unit.specs.Drafts.{shown, visible_named}
-use Rattle.df_unit.specs.Handles.{handle_at, view_of}
-use Rattle.df_unit.specs.OwnState.{OwnState}
-use Rattle.df_unit.specs.Rows.{after, at_handle, is_nil, reply}
-use Rattle.df_unit.specs.declared.call.Call.{Call}
-use Rattle.df_unit.specs.declared.call.Call.TheVariants.{DropEvent, Get, ReadPart}
-use Rattle.df_unit.specs.declared.commit.Given.{Given}
-use Rattle.df_unit.specs.declared.entry.Effect.{Effect}
-use Rattle.df_unit.specs.declared.handle.Handle.{Handle}
-use Rattle.df_unit.specs.declared.name.UnitName.{UnitName}
-use Rattle.df_unit.specs.declared.parts.PartRead.{PartRead}
-use Rattle.df_unit.specs.declared.reply.Reply.{Reply}
-use Rattle.df_floor_units.specs.Floor.{Mind, did, follow_of, handed, reading, reads, told, wanted_at}
-use Rattle.df_floor_units.specs.Hearing.{acted_heard, acted_kind, heard_of, reads_of}
-use Rattle.df_floor_units.specs.Telling.{parts_of}
-use Rattle.df_floor_units.specs.declared.heard.Heard.{Heard}
+use Rattle.df_settling.proofs.Names.{◌≡◌, ◌≢◌, inr, ℕ, ◌+◌, ◌-◌, ◌*◌, ◌≤◌, ◌<◌, List, [], Bool, true, false, refl, ◌∙◌, ap, cond, Option, None, length, arith, append-nil, ltb-true, add-mul, Clause, left, shown, visible_named, handle_at, view_of, OwnState, after, at_handle, is_nil, reply, Call, DropEvent, Get, ReadPart, Given, Effect, Handle, UnitName, PartRead, Reply, Mind, did, follow_of, handed, reading, reads, told, wanted_at, acted_heard, acted_kind, heard_of, reads_of, parts_of, Heard, Kind, Stage}
 use Rattle.df_floor_units.specs.declared.heard.Heard.TheVariants as heard
-use Rattle.df_floor_units.specs.declared.kind.Kind.{Kind}
-use Rattle.df_floor_units.specs.declared.stage.Stage.{Stage}
 use Rattle.df_floor_units.specs.declared.stage.Stage.TheVariants as stage
 use Rattle.df_settling.proofs.Roles.{Role, leads, leads_to, read_count, reads_are, resting, role_acted, role_of, to_tell}
 use Rattle.df_settling.proofs.Unit.{At, HasOpen, IsClosed, IsOpen, Later, Moves, Outcome, Stands, drafts, drop_more, event_cost, is_at, led_to, mind_of, now_open, now_set, owed, price, priced, reads_from, stands_handed, stands_reading, stands_stopped, stands_told, to_come}

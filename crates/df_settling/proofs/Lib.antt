@@ -1,3 +1,4 @@
+pub mod Names
 pub mod Totals
 pub mod Balanced
 pub mod Roles

@@ -1,39 +1,8 @@
 -- The units of a floor by name, and what stands of each of them after any journal of the floor.
-use Rattle.std.proofs.Common.{◌≡◌, ◌⊎◌, inl, inr, ℕ, zero, suc, ◌+◌, ◌-◌, ◌*◌, ◌≤◌, List, [], ◌∷◌, ◌++◌, Bool, true, false, not, refl, sym, ◌∙◌, ap, subst, cond, Option, Some, None, map, drop, length, append-nil, arith}
-use Rattle.std.specs.Prelude.{option_to_list, slice_get}
-use Rattle.std.specs.Option.{option_and_then, option_map, option_or}
-use Rattle.std.proofs.lemmas.Option.{slice_get-map}
-use Rattle.df_config.specs.declared.config.Config.{Config}
-use Rattle.df_filter.specs.declared.clause.Clause.{Clause}
-use Rattle.df_label.specs.Tag.{maker_of}
-use Rattle.df_label.specs.declared.label.Label.{Label}
+use Rattle.df_settling.proofs.Names.{◌≡◌, ◌⊎◌, inl, inr, ℕ, zero, suc, ◌+◌, ◌-◌, ◌*◌, ◌≤◌, List, [], ◌∷◌, ◌++◌, Bool, true, false, not, refl, sym, ◌∙◌, ap, subst, cond, Option, Some, None, map, drop, length, append-nil, arith, option_to_list, slice_get, option_and_then, option_map, option_or, slice_get-map, Config, Clause, maker_of, Label, Draft, commit_in, commit_of, contents, deliveries, deliveries_instance, deliveries_plain, instance_news, plain_news, Replied, Start, replies_of, wanted, born, fixed, made_by, own, own_instance, own_plain, root_at, stepped, root_of, roots, rows, subscriptions, begun, RootStart, Tick, same, Fixed, OwnState, after, subscribes, Call, Commit, Given, Effect, Entry, Done, Emitted, UnitName, Managed, Root, Reply, Mind, moved, first_states, floor_brain}
 use Rattle.df_label.proofs.TagSetFacts.{tag_eq-itself}
-use Rattle.df_messages.specs.declared.draft.Draft.{Draft}
-use Rattle.df_rules.specs.Commits.{commit_in, commit_of, contents}
-use Rattle.df_rules.specs.Deliveries.{deliveries, deliveries_instance, deliveries_plain, instance_news, plain_news}
-use Rattle.df_rules.specs.Follows.{Replied, Start, replies_of, wanted}
-use Rattle.df_rules.specs.Own.{born, fixed, made_by, own, own_instance, own_plain, root_at, stepped}
-use Rattle.df_rules.specs.Start.{root_of, roots, rows}
-use Rattle.df_rules.specs.Subscriptions.{subscriptions}
-use Rattle.df_start.specs.Begun.{begun}
-use Rattle.df_start.specs.declared.start.RootStart.{RootStart}
-use Rattle.df_ticks.specs.declared.tick.Tick.{Tick}
-use Rattle.df_unit.specs.Name.{same}
-use Rattle.df_unit.specs.OwnState.{Fixed, OwnState}
-use Rattle.df_unit.specs.Rows.{after, subscribes}
-use Rattle.df_unit.specs.declared.call.Call.{Call}
-use Rattle.df_unit.specs.declared.commit.Commit.{Commit}
-use Rattle.df_unit.specs.declared.commit.Given.{Given}
-use Rattle.df_unit.specs.declared.entry.Effect.{Effect}
-use Rattle.df_unit.specs.declared.entry.Entry.{Entry}
-use Rattle.df_unit.specs.declared.entry.Entry.TheVariants.{Done, Emitted}
-use Rattle.df_unit.specs.declared.name.UnitName.{UnitName}
-use Rattle.df_unit.specs.declared.name.UnitName.TheVariants.{Managed, Root}
-use Rattle.df_unit.specs.declared.reply.Reply.{Reply}
-use Rattle.df_floor_units.specs.Floor.{Mind, moved}
 use Rattle.df_floor_units.specs.declared.heard.Heard.TheVariants as heard
 use Rattle.df_floor_units.specs.declared.kind.Kind.TheVariants as kind
-use Rattle.df_settling.specs.Settling.{first_states, floor_brain}
 use Rattle.df_settling.proofs.Players.{Player, all_begin, began, players, role, root_by, rooted}
 use Rattle.df_settling.proofs.Roles.{Broker, Exchange, Good, Monitor, Regulator, Role, Trader, Watcher, label_of, may_tell, opening_by, out_label, role_of}
 use Rattle.df_settling.proofs.Totals.{In, total, total-append}

@@ -1,54 +1,13 @@
 -- Which units there are: the roots and the regulator's instance.
-use Rattle.std.proofs.Common.{◌≡◌, ◌≢◌, ◌⊎◌, inl, inr, ℕ, zero, suc, ◌+◌, List, [], ◌∷◌, ◌++◌, Bool, true, false, true≢false, refl, sym, ◌∙◌, ap, subst, cond, Option, Some, None, length, drop, get_or, eqb-true}
-use Rattle.std.specs.Prelude.{◌==◌, nat_le, slice_get}
-use Rattle.std.specs.Option.{option_and_then, option_or}
+use Rattle.df_settling.proofs.Names.{◌≡◌, ◌≢◌, ◌⊎◌, inl, inr, ℕ, zero, suc, ◌+◌, List, [], ◌∷◌, ◌++◌, Bool, true, false, true≢false, refl, sym, ◌∙◌, ap, subst, cond, Option, Some, None, length, drop, get_or, eqb-true, ◌==◌, nat_le, slice_get, option_and_then, option_or, IsConfig, Config, PairRow, TraderRow, Clause, maker_of, Label, public, Draft, commit_in, deliveries, Calls, Wait, Want, last_of, replies_of, state_after, left, born, fixed, is_given, made_by, own, own_instance, own_plain, stepped, rows, subscriptions, Tick, most_subs, same, Fixed, OwnState, is_instance, reply, Call, AddPart, CreateEvent, DropEvent, Get, Publish, ReadPart, SubscribeManaged, Commit, Given, Effect, Entry, Done, UnitName, Managed, Root, Reply, same_name-exact, Mind, adds, calls, reads, wanted_at, reads_of, opening, parts_of, Heard, Kind, Stage, first_states, floor_brain}
 use Rattle.df_brain.specs.Brain.{is_child_wanted, makes_child}
-use Rattle.df_config.specs.ConfigForm.{IsConfig}
-use Rattle.df_config.specs.declared.config.Config.{Config}
-use Rattle.df_config.specs.declared.pair.PairRow.{PairRow}
-use Rattle.df_config.specs.declared.trader.TraderRow.{TraderRow}
-use Rattle.df_filter.specs.declared.clause.Clause.{Clause}
-use Rattle.df_label.specs.Tag.{maker_of, number_of}
+use Rattle.df_label.specs.Tag.{number_of}
 use Rattle.df_label.specs.TagSet.{meet, union}
-use Rattle.df_label.specs.declared.label.Label.{Label}
-use Rattle.df_messages.specs.Drafts.{public}
-use Rattle.df_messages.specs.declared.draft.Draft.{Draft}
-use Rattle.df_rules.specs.Commits.{commit_in}
-use Rattle.df_rules.specs.Deliveries.{deliveries}
-use Rattle.df_rules.specs.Follows.{Calls, Wait, Want, last_of, replies_of, state_after}
-use Rattle.df_rules.specs.Legal.{left}
-use Rattle.df_rules.specs.Own.{born, fixed, is_given, made_by, own, own_instance, own_plain, stepped}
-use Rattle.df_rules.specs.Start.{rows}
-use Rattle.df_rules.specs.Subscriptions.{subscriptions}
 use Rattle.df_rules.proofs.RowLaws.{makes_is}
 use Rattle.df_rules.proofs.Steps.{or_is}
-use Rattle.df_ticks.specs.declared.tick.Tick.{Tick}
 use Rattle.df_unit.specs.Beginnings.{fixed_of, fixes, makes}
-use Rattle.df_unit.specs.Limits.{most_subs}
-use Rattle.df_unit.specs.Name.{same}
-use Rattle.df_unit.specs.OwnState.{Fixed, OwnState}
-use Rattle.df_unit.specs.Rows.{is_instance, reply}
-use Rattle.df_unit.specs.declared.call.Call.{Call}
-use Rattle.df_unit.specs.declared.call.Call.TheVariants.{AddPart, CreateEvent, DropEvent, Get, Publish, ReadPart, SubscribeManaged}
-use Rattle.df_unit.specs.declared.commit.Commit.{Commit}
-use Rattle.df_unit.specs.declared.commit.Given.{Given}
-use Rattle.df_unit.specs.declared.entry.Effect.{Effect}
-use Rattle.df_unit.specs.declared.entry.Entry.{Entry}
-use Rattle.df_unit.specs.declared.entry.Entry.TheVariants.{Done}
-use Rattle.df_unit.specs.declared.name.UnitName.{UnitName}
-use Rattle.df_unit.specs.declared.name.UnitName.TheVariants.{Managed, Root}
-use Rattle.df_unit.specs.declared.reply.Reply.{Reply}
-use Rattle.df_unit.proofs.SameFacts.{same_name-exact}
-use Rattle.df_floor_units.specs.Floor.{Mind, adds, calls, reads, wanted_at}
-use Rattle.df_floor_units.specs.Hearing.{reads_of}
-use Rattle.df_floor_units.specs.Opening.{opening}
-use Rattle.df_floor_units.specs.Telling.{parts_of}
 use Rattle.df_floor_units.specs.Units.{makes_no_unit}
-use Rattle.df_floor_units.specs.declared.heard.Heard.{Heard}
-use Rattle.df_floor_units.specs.declared.kind.Kind.{Kind}
-use Rattle.df_floor_units.specs.declared.stage.Stage.{Stage}
 use Rattle.df_floor_units.specs.declared.stage.Stage.TheVariants as stage
-use Rattle.df_settling.specs.Settling.{first_states, floor_brain}
 use Rattle.df_settling.proofs.Entries.{born_is, no_weight}
 use Rattle.df_settling.proofs.Members.{FixedOk, InstancesOk, Inv, IsFresh, IsWatched, Member, RootsAlone, member_kind, members, plays, stepped_was, the_mind, watcher}
 use Rattle.df_settling.proofs.Players.{Player, blank, broker, exchange, monitor_player, monitor_players, players, role, trader_player, trader_players, watching_players}

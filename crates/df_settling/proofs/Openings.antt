@@ -1,27 +1,10 @@
 -- What the calls with which a unit opens do to what it may still do.
-use Rattle.std.proofs.Common.{◌≡◌, ◌≢◌, ℕ, ◌+◌, ◌-◌, ◌≤◌, ◌<◌, List, [], ◌∷◌, ◌++◌, Bool, true, false, refl, sym, ◌∙◌, ap, subst, cond, Option, Some, None, length, drop, arith, append-nil, append_assoc, ltb-true, eq-eqb}
-use Rattle.std.specs.Prelude.{nat_le, option_to_list, slice_get}
-use Rattle.df_filter.specs.declared.clause.Clause.{Clause}
+use Rattle.df_settling.proofs.Names.{◌≡◌, ◌≢◌, ℕ, ◌+◌, ◌-◌, ◌≤◌, ◌<◌, List, [], ◌∷◌, ◌++◌, Bool, true, false, refl, sym, ◌∙◌, ap, subst, cond, Option, Some, None, length, drop, arith, append-nil, append_assoc, ltb-true, eq-eqb, nat_le, option_to_list, slice_get, Clause, left, most_subs, OwnState, after, effect, is_instance, reply, subscribed, subscribes, Call, ChangeOutLabel, Subscribe, SubscribeManaged, Given, Effect, UnitName, Reply, Goes, Mind, calls, did, follow_of, is_release, is_subscription, opened_next, told, wanted_at, opening, parts_of, Heard, Kind, Stage}
 use Rattle.df_priv.specs.Held.{holds}
 use Rattle.df_priv.specs.Needed.{needed}
 use Rattle.df_priv.specs.declared.need.Act.{Act}
 use Rattle.df_priv.specs.declared.need.Half.{Half}
-use Rattle.df_rules.specs.Legal.{left}
-use Rattle.df_unit.specs.Limits.{most_subs}
-use Rattle.df_unit.specs.OwnState.{OwnState}
-use Rattle.df_unit.specs.Rows.{after, effect, is_instance, reply, subscribed, subscribes}
-use Rattle.df_unit.specs.declared.call.Call.{Call}
-use Rattle.df_unit.specs.declared.call.Call.TheVariants.{ChangeOutLabel, Subscribe, SubscribeManaged}
-use Rattle.df_unit.specs.declared.commit.Given.{Given}
-use Rattle.df_unit.specs.declared.entry.Effect.{Effect}
-use Rattle.df_unit.specs.declared.name.UnitName.{UnitName}
-use Rattle.df_unit.specs.declared.reply.Reply.{Reply}
-use Rattle.df_floor_units.specs.Floor.{Goes, Mind, calls, did, follow_of, is_release, is_subscription, opened as opened_stage, opened_next, told, wanted_at}
-use Rattle.df_floor_units.specs.Opening.{opening}
-use Rattle.df_floor_units.specs.Telling.{parts_of}
-use Rattle.df_floor_units.specs.declared.heard.Heard.{Heard}
-use Rattle.df_floor_units.specs.declared.kind.Kind.{Kind}
-use Rattle.df_floor_units.specs.declared.stage.Stage.{Stage}
+use Rattle.df_floor_units.specs.Floor.{opened as opened_stage}
 use Rattle.df_floor_units.specs.declared.stage.Stage.TheVariants as stage
 use Rattle.df_settling.proofs.Roles.{Role, opening_by, opening_is, role_of}
 use Rattle.df_settling.proofs.Unit.{At, IsOpening, Later, Moves, Outcome, calls_from, drop_more, mind_of, stands_opened, subs_from, subs_of, to_come}

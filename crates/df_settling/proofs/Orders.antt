@@ -1,14 +1,8 @@
 -- The orders that the broker takes of its deliveries, and the trades and the book that they make.
-use Rattle.std.proofs.Common.{◌≡◌, ℕ, ◌+◌, ◌*◌, ◌≤◌, List, [], ◌∷◌, ◌++◌, Bool, true, false, refl, ◌∙◌, ap, cond, Option, Some, None, length, append-nil, length-append, arith, fold}
+use Rattle.df_settling.proofs.Names.{◌≡◌, ℕ, ◌+◌, ◌*◌, ◌≤◌, List, [], ◌∷◌, ◌++◌, Bool, true, false, refl, ◌∙◌, ap, cond, Option, Some, None, length, append-nil, length-append, arith, fold, resting_after, submitted, Order, Offer, Given, order_of, takes, if_taken, offer_shown, orders_taken, trade_count}
 use Rattle.std.proofs.lemmas.Grind.{flat_map-append}
 use Rattle.std.proofs.lemmas.List.Sums.{fold-append}
-use Rattle.df_book.specs.Submitting.{resting_after, submitted}
-use Rattle.df_book.specs.declared.order.Order.{Order}
-use Rattle.df_messages.specs.declared.message.Offer.{Offer}
-use Rattle.df_unit.specs.declared.commit.Given.{Given}
-use Rattle.df_floor_units.specs.Broking.{order_of, takes}
 use Rattle.df_floor_units.specs.declared.broker.Broker.{Broker}
-use Rattle.df_settling.specs.Trades.{if_taken, offer_shown, orders_taken, trade_count}
 use Rattle.df_settling.proofs.Balanced.{all_used_up}
 
 -- what rests after more orders

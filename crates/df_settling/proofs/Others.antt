@@ -1,22 +1,5 @@
 -- Nobody but the units of the floor has entries.
-use Rattle.std.proofs.Common.{◌≡◌, inl, inr, ℕ, suc, ◌+◌, ◌<◌, List, [], ◌∷◌, Bool, true, false, refl, ap, subst, cond, length, length-append, arith}
-use Rattle.std.proofs.lemmas.Option.{slice_get_within}
-use Rattle.df_config.specs.ConfigForm.{IsConfig}
-use Rattle.df_config.specs.declared.config.Config.{Config}
-use Rattle.df_config.specs.declared.pair.PairRow.{PairRow}
-use Rattle.df_config.specs.declared.trader.TraderRow.{TraderRow}
-use Rattle.df_rules.specs.Follows.{Follows}
-use Rattle.df_rules.specs.Legal.{IsUnaided, Legal}
-use Rattle.df_rules.specs.Start.{rows}
-use Rattle.df_ticks.specs.declared.tick.Tick.{Tick}
-use Rattle.df_unit.specs.Name.{same}
-use Rattle.df_unit.specs.declared.entry.Entry.{Entry}
-use Rattle.df_unit.specs.declared.entry.Entry.TheVariants.{Done, Emitted}
-use Rattle.df_unit.specs.declared.name.UnitName.{UnitName}
-use Rattle.df_unit.proofs.SameFacts.{same_name-exact}
-use Rattle.df_floor.specs.Brains.{floor_brains}
-use Rattle.df_settling.specs.Counts.{IsOfFloor, entries_of}
-use Rattle.df_settling.specs.Settling.{first_states, floor_brain, monitor_count}
+use Rattle.df_settling.proofs.Names.{◌≡◌, inl, inr, ℕ, suc, ◌+◌, ◌<◌, List, [], ◌∷◌, Bool, true, false, refl, ap, subst, cond, length, length-append, arith, slice_get_within, IsConfig, Config, PairRow, TraderRow, Follows, IsUnaided, Legal, rows, Tick, same, Entry, Done, Emitted, UnitName, same_name-exact, floor_brains, IsOfFloor, entries_of, first_states, floor_brain, monitor_count}
 use Rattle.df_settling.proofs.Bound.{actor_member, world}
 use Rattle.df_settling.proofs.Members.{Member, member_kind, members}
 use Rattle.df_settling.proofs.Players.{monitor_players, players, trader_players, watching_players}

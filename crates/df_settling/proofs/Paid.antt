@@ -1,17 +1,6 @@
 -- What an event is worth to all to whom it is handed is what its publisher is charged.
-use Rattle.std.proofs.Common.{◌≡◌, ℕ, ◌+◌, ◌*◌, ◌≤◌, ◌<◌, List, [], ◌∷◌, Bool, true, false, refl, sym, ◌∙◌, ap, subst, cond, arith, ℤ}
-use Rattle.df_book.specs.declared.trade.Trade.{Trade}
-use Rattle.df_config.specs.declared.config.Config.{Config}
-use Rattle.df_config.specs.declared.trader.TraderRow.{TraderRow}
+use Rattle.df_settling.proofs.Names.{◌≡◌, ℕ, ◌+◌, ◌*◌, ◌≤◌, ◌<◌, List, [], ◌∷◌, Bool, true, false, refl, sym, ◌∙◌, ap, subst, cond, arith, ℤ, Trade, Config, TraderRow, floor_tag, match_draft, offer_draft, tick_draft, trader_tag, warning_draft, Draft, Match, Offer, Part, Tick, trade_event, monitor_count}
 use Rattle.df_label.proofs.TagSetFacts.{tag_eq-Decides}
-use Rattle.df_messages.specs.Drafts.{floor_tag, match_draft, offer_draft, tick_draft, trader_tag, warning_draft}
-use Rattle.df_messages.specs.declared.draft.Draft.{Draft}
-use Rattle.df_messages.specs.declared.message.Match.{Match}
-use Rattle.df_messages.specs.declared.message.Offer.{Offer}
-use Rattle.df_part.specs.declared.part.Part.{Part}
-use Rattle.df_ticks.specs.declared.tick.Tick.{Tick}
-use Rattle.df_floor_units.specs.Broking.{trade_event}
-use Rattle.df_settling.specs.Settling.{monitor_count}
 use Rattle.df_settling.proofs.Players.{Player, all_summed, in_all, monitor_players, monitors_most, monitors_none, players, role, trader_players, traders_alike}
 use Rattle.df_settling.proofs.Roles.{Apart, Broker, Exchange, Good, Monitor, Regulator, Role, Trader, Watcher}
 use Rattle.df_settling.proofs.Totals.{In, total_mono}

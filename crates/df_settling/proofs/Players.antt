@@ -1,25 +1,9 @@
 -- The units of a floor: what each of them is, in the order of the roots.
-use Rattle.std.proofs.Common.{◌≡◌, inl, inr, ℕ, suc, ◌+◌, ◌*◌, ◌≤◌, ◌<◌, List, [], ◌∷◌, ◌++◌, refl, sym, ◌∙◌, ap, subst, Option, length, map, get_or, arith, pos}
-use Rattle.std.specs.Prelude.{All}
-use Rattle.std.proofs.lemmas.List.{map-append}
-use Rattle.std.proofs.lemmas.Option.{slice_get-get_or}
-use Rattle.df_config.specs.ConfigForm.{IsConfig, IsPair, IsTrader}
-use Rattle.df_config.specs.declared.config.Config.{Config}
-use Rattle.df_config.specs.declared.pair.PairRow.{PairRow}
-use Rattle.df_config.specs.declared.trader.TraderRow.{TraderRow}
-use Rattle.df_messages.specs.Drafts.{broker_tag, endorsed, public, regulator_tag, secret}
+use Rattle.df_settling.proofs.Names.{◌≡◌, inl, inr, ℕ, suc, ◌+◌, ◌*◌, ◌≤◌, ◌<◌, List, [], ◌∷◌, ◌++◌, refl, sym, ◌∙◌, ap, subst, Option, length, map, get_or, arith, pos, All, map-append, slice_get-get_or, IsConfig, IsPair, IsTrader, Config, PairRow, TraderRow, broker_tag, endorsed, public, regulator_tag, secret, RootStart, Tick, floor_brains, floor_start, monitor_root, plain_root, releasing_root, trader_root, number_of, Mind, begins, Kind, monitor_count}
 use Rattle.df_pairs.specs.Divergence.{fresh}
-use Rattle.df_start.specs.declared.start.RootStart.{RootStart}
-use Rattle.df_ticks.specs.declared.tick.Tick.{Tick}
 use Rattle.df_floor.specs.Brains as brains
-use Rattle.df_floor.specs.Brains.{floor_brains}
 use Rattle.df_floor.specs.Starting as starting
-use Rattle.df_floor.specs.Starting.{floor_start, monitor_root, plain_root, releasing_root, trader_root}
-use Rattle.df_floor_units.specs.Broking.{number_of}
-use Rattle.df_floor_units.specs.Floor.{Mind, begins}
-use Rattle.df_floor_units.specs.declared.kind.Kind.{Kind}
 use Rattle.df_floor_units.specs.declared.kind.Kind.TheVariants as kind
-use Rattle.df_settling.specs.Settling.{monitor_count}
 use Rattle.df_settling.proofs.Roles.{Apart, Broker, Exchange, Monitor, Regulator, Role, Trader, Watcher, role_of}
 use Rattle.df_settling.proofs.Totals.{In, times_add, times_suc, total, total-append}
 

@@ -1,28 +1,10 @@
 -- The parts that the units of a floor play, whatever they remember, and the events that a unit may still tell.
-use Rattle.std.proofs.Common.{◌≡◌, ◌≢◌, ℕ, zero, suc, ◌+◌, ◌-◌, ◌≤◌, ◌<◌, List, [], ◌∷◌, Bool, true, false, true≢false, refl, sym, ap, cond, ◌∙◌, Option, Some, None, length, arith, ℤ, ltb-true, lt-ltb}
-use Rattle.std.specs.Prelude.{nat_lt, slice_get}
+use Rattle.df_settling.proofs.Names.{◌≡◌, ◌≢◌, ℕ, zero, suc, ◌+◌, ◌-◌, ◌≤◌, ◌<◌, List, [], ◌∷◌, Bool, true, false, true≢false, refl, sym, ap, cond, ◌∙◌, Option, Some, None, length, arith, ℤ, ltb-true, lt-ltb, nat_lt, slice_get, slice_get_within, Trade, Label, broker_tag, endorsed, exchange_tag, floor_tag, match_draft, offer_draft, public, regulator_tag, secret, tick_draft, trader_tag, warning_draft, match_in, number_in, offer_in, parties_in, Draft, Match, Offer, Tick, Call, PartRead, submitted_to, order_of, takes, trade_event, trade_parts, acted_heard, acted_kind, first_of, heard_match, heard_of, heard_offer, heard_parties, heard_quote, heard_signal, heard_trade, quote_in, reads_of, signal_at, broker_opening, monitor_opening, opening, regulator_opening, trader_opening, watcher_opening, parts_of, passed_heard, passed_kind, passed_place, tick_parts, Heard, Kind}
 use Rattle.std.specs.Ordering.{int_eq}
-use Rattle.std.proofs.lemmas.Option.{slice_get_within}
-use Rattle.df_book.specs.declared.trade.Trade.{Trade}
-use Rattle.df_label.specs.declared.label.Label.{Label}
-use Rattle.df_messages.specs.Drafts.{broker_tag, endorsed, exchange_tag, floor_tag, match_draft, offer_draft, public, regulator_tag, secret, tick_draft, trader_tag, warning_draft}
-use Rattle.df_messages.specs.Messages.{match_in, number_in, offer_in, parties_in}
-use Rattle.df_messages.specs.declared.draft.Draft.{Draft}
-use Rattle.df_messages.specs.declared.message.Match.{Match}
-use Rattle.df_messages.specs.declared.message.Offer.{Offer}
 use Rattle.df_messages.specs.declared.message.Parties.{Parties}
 use Rattle.df_pairs.specs.declared.signal.Signal.{Signal}
-use Rattle.df_ticks.specs.declared.tick.Tick.{Tick}
-use Rattle.df_unit.specs.declared.call.Call.{Call}
-use Rattle.df_unit.specs.declared.parts.PartRead.{PartRead}
-use Rattle.df_floor_units.specs.Broking.{submitted_to, order_of, takes, trade_event, trade_parts}
-use Rattle.df_floor_units.specs.Hearing.{acted_heard, acted_kind, first_of, heard_match, heard_of, heard_offer, heard_parties, heard_quote, heard_signal, heard_trade, quote_in, reads_of, signal_at}
-use Rattle.df_floor_units.specs.Opening.{broker_opening, monitor_opening, opening, regulator_opening, trader_opening, watcher_opening}
-use Rattle.df_floor_units.specs.Telling.{parts_of, passed_heard, passed_kind, passed_place, tick_parts}
 use Rattle.df_floor_units.specs.declared.broker.Broker.{Broker as Books}
-use Rattle.df_floor_units.specs.declared.heard.Heard.{Heard}
 use Rattle.df_floor_units.specs.declared.heard.Heard.TheVariants as heard
-use Rattle.df_floor_units.specs.declared.kind.Kind.{Kind}
 use Rattle.df_floor_units.specs.declared.kind.Kind.TheVariants as kind
 use Rattle.df_settling.proofs.Balanced.{balanced}
 

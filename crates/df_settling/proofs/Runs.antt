@@ -1,20 +1,5 @@
 -- Units of a floor that are asked in any order make a journal of the floor.
-use Rattle.std.proofs.Common.{◌≡◌, ◌≢◌, inl, inr, List, [], ◌∷◌, refl, sym, ◌∙◌, Option, Some, None}
-use Rattle.df_config.specs.declared.config.Config.{Config}
-use Rattle.df_floor.specs.Brains.{floor_brains}
-use Rattle.df_floor_units.specs.Floor.{Mind}
-use Rattle.df_rules.specs.Deliveries.{deliveries}
-use Rattle.df_rules.specs.Follows.{Calls, Wait, Want, began_with, replies_of, wanted}
-use Rattle.df_rules.specs.Legal.{left}
-use Rattle.df_rules.specs.Own.{own}
-use Rattle.df_rules.specs.Start.{rows}
-use Rattle.df_ticks.specs.declared.tick.Tick.{Tick}
-use Rattle.df_unit.specs.OwnState.{OwnState}
-use Rattle.df_unit.specs.declared.commit.Given.{Given}
-use Rattle.df_unit.specs.declared.entry.Entry.{Entry}
-use Rattle.df_unit.specs.declared.name.UnitName.{UnitName}
-use Rattle.df_settling.specs.Running.{asked, asked_of, run_of, with_get, with_want}
-use Rattle.df_settling.specs.Settling.{IsFloorJournal, first_states, floor_brain}
+use Rattle.df_settling.proofs.Names.{◌≡◌, ◌≢◌, inl, inr, List, [], ◌∷◌, refl, sym, ◌∙◌, Option, Some, None, Config, floor_brains, Mind, deliveries, Calls, Wait, Want, began_with, replies_of, wanted, left, own, rows, Tick, OwnState, Given, Entry, UnitName, asked, asked_of, run_of, with_get, with_want, IsFloorJournal, first_states, floor_brain}
 
 some_left : (d : Given) (ds : List Given) → d ∷ ds ≢ []
 some_left d ds e = let z : ⊥ = cc in z

@@ -1,35 +1,8 @@
 -- After any journal of a floor the broker keeps to its count.
-use Rattle.std.proofs.Common.{◌≡◌, inl, inr, suc, ◌+◌, ◌*◌, ◌≤◌, List, [], ◌∷◌, ◌++◌, Bool, true, false, refl, sym, ◌∙◌, ap, subst, cond, Some, length, length-append, map, arith}
-use Rattle.df_config.specs.ConfigForm.{IsConfig}
-use Rattle.df_config.specs.declared.config.Config.{Config}
-use Rattle.df_rules.specs.Commits.{given_in}
-use Rattle.df_rules.specs.Deliveries.{deliveries}
-use Rattle.df_rules.specs.Follows.{Follows}
-use Rattle.df_rules.specs.Legal.{IsUnaided, Legal, left}
-use Rattle.df_rules.specs.Own.{own}
+use Rattle.df_settling.proofs.Names.{◌≡◌, inl, inr, suc, ◌+◌, ◌*◌, ◌≤◌, List, [], ◌∷◌, ◌++◌, Bool, true, false, refl, sym, ◌∙◌, ap, subst, cond, Some, length, length-append, map, arith, IsConfig, Config, given_in, deliveries, Follows, IsUnaided, Legal, left, own, rows, subscriptions, begun, Tick, same, OwnState, after, Call, Effect, Entry, Done, Emitted, UnitName, Reply, same_name-exact, floor_brains, floor_start, Mind, did, follow_of, entries_of, handed_to, orders_resting, root_name, trades_made, IsFloorJournal, first_states, floor_brain, first_broker}
 use Rattle.df_rules.specs.Received.{received}
-use Rattle.df_rules.specs.Start.{rows}
-use Rattle.df_rules.specs.Subscriptions.{subscriptions}
 use Rattle.df_rules.proofs.Taking.{gets_give_deliveries}
 use Rattle.df_rules.proofs.TakingRows.{row_taking_laws}
-use Rattle.df_start.specs.Begun.{begun}
-use Rattle.df_ticks.specs.declared.tick.Tick.{Tick}
-use Rattle.df_unit.specs.Name.{same}
-use Rattle.df_unit.specs.OwnState.{OwnState}
-use Rattle.df_unit.specs.Rows.{after}
-use Rattle.df_unit.specs.declared.call.Call.{Call}
-use Rattle.df_unit.specs.declared.entry.Effect.{Effect}
-use Rattle.df_unit.specs.declared.entry.Entry.{Entry}
-use Rattle.df_unit.specs.declared.entry.Entry.TheVariants.{Done, Emitted}
-use Rattle.df_unit.specs.declared.name.UnitName.{UnitName}
-use Rattle.df_unit.specs.declared.reply.Reply.{Reply}
-use Rattle.df_unit.proofs.SameFacts.{same_name-exact}
-use Rattle.df_floor.specs.Brains.{floor_brains}
-use Rattle.df_floor.specs.Starting.{floor_start}
-use Rattle.df_floor_units.specs.Floor.{Mind, did, follow_of}
-use Rattle.df_settling.specs.Counts.{entries_of, handed_to, orders_resting, root_name, trades_made}
-use Rattle.df_settling.specs.Settling.{IsFloorJournal, first_states, floor_brain}
-use Rattle.df_settling.specs.Trades.{first_broker}
 use Rattle.df_settling.proofs.Bound.{World, world}
 use Rattle.df_settling.proofs.Entries.{no_weight}
 use Rattle.df_settling.proofs.Members.{Member, first_state, members, mind_actor, mind_other, own_actor, own_other, state_at, the_mind}

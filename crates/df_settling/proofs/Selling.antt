@@ -1,41 +1,11 @@
 -- What each entry of the broker does to what it may have done: 3 entries for each delivery, and 6 for each trade.
-use Rattle.std.proofs.Common.{◌≡◌, ◌≢◌, ℕ, zero, suc, ◌+◌, ◌-◌, ◌*◌, ◌≤◌, List, [], ◌∷◌, ◌++◌, Bool, true, false, true≢false, refl, sym, ◌∙◌, ap, subst, cond, Option, Some, None, length, append-nil, arith, codes, ltb-true, pos}
-use Rattle.std.specs.Prelude.{nat_lt}
-use Rattle.df_book.specs.Submitting.{submitted}
-use Rattle.df_filter.specs.declared.clause.Clause.{Clause}
-use Rattle.df_label.specs.declared.label.Label.{Label}
-use Rattle.df_messages.specs.Drafts.{broker_tag, secret}
-use Rattle.df_messages.specs.Messages.{offer_in}
-use Rattle.df_messages.specs.declared.message.Offer.{Offer}
-use Rattle.df_part.specs.declared.part.Part.{Part}
-use Rattle.df_rules.specs.Commits.{given_in}
+use Rattle.df_settling.proofs.Names.{◌≡◌, ◌≢◌, ℕ, zero, suc, ◌+◌, ◌-◌, ◌*◌, ◌≤◌, List, [], ◌∷◌, ◌++◌, Bool, true, false, true≢false, refl, sym, ◌∙◌, ap, subst, cond, Option, Some, None, length, append-nil, arith, codes, ltb-true, pos, nat_lt, submitted, Clause, Label, broker_tag, secret, offer_in, Offer, Part, given_in, left, shown, visible_named, handle_at, view_of, OwnState, after, at_handle, effect, is_accepted, is_nil, published, reply, Call, AddPart, CreateEvent, DropEvent, Get, Publish, ReadPart, Subscribe, Given, Effect, Handle, UnitName, Reply, order_of, submitted_to, takes, Mind, adding, adds, did, follow_of, told, wanted_at, acted_heard, acted_kind, first_of, heard_offer, present, release_of, broker_parts, parts_of, passed_heard, Heard, Kind, Stage, if_taken, offer_shown}
 use Rattle.df_rules.specs.Follows as follows
-use Rattle.df_rules.specs.Legal.{left}
-use Rattle.df_unit.specs.Drafts.{shown, visible_named}
-use Rattle.df_unit.specs.Handles.{handle_at, view_of}
-use Rattle.df_unit.specs.OwnState.{OwnState}
-use Rattle.df_unit.specs.Rows.{after, at_handle, effect, is_accepted, is_nil, published, reply}
-use Rattle.df_unit.specs.declared.call.Call.{Call}
-use Rattle.df_unit.specs.declared.call.Call.TheVariants.{AddPart, CreateEvent, DropEvent, Get, Publish, ReadPart, Subscribe}
-use Rattle.df_unit.specs.declared.commit.Given.{Given}
-use Rattle.df_unit.specs.declared.entry.Effect.{Effect}
-use Rattle.df_unit.specs.declared.handle.Handle.{Handle}
-use Rattle.df_unit.specs.declared.name.UnitName.{UnitName}
-use Rattle.df_unit.specs.declared.reply.Reply.{Reply}
-use Rattle.df_floor_units.specs.Broking.{order_of, submitted_to, takes}
-use Rattle.df_floor_units.specs.Floor.{Mind, adding, adds, did, follow_of, told, wanted_at}
-use Rattle.df_floor_units.specs.Hearing.{acted_heard, acted_kind, first_of, heard_offer}
-use Rattle.df_floor_units.specs.Opening.{present, release_of}
-use Rattle.df_floor_units.specs.Telling.{broker_parts, parts_of, passed_heard}
 use Rattle.df_floor_units.specs.Trading.{counted}
 use Rattle.df_floor_units.specs.declared.broker.Broker.{Broker as Books}
-use Rattle.df_floor_units.specs.declared.heard.Heard.{Heard}
 use Rattle.df_floor_units.specs.declared.heard.Heard.TheVariants as heard
-use Rattle.df_floor_units.specs.declared.kind.Kind.{Kind}
 use Rattle.df_floor_units.specs.declared.kind.Kind.TheVariants as kind
-use Rattle.df_floor_units.specs.declared.stage.Stage.{Stage}
 use Rattle.df_floor_units.specs.declared.stage.Stage.TheVariants as stage
-use Rattle.df_settling.specs.Trades.{if_taken, offer_shown}
 use Rattle.df_settling.proofs.Orders.{most, most_grows, most_more, rests, rests_more}
 use Rattle.df_settling.proofs.Roles.{Broker, broker_tells, good_size, tells}
 use Rattle.df_settling.proofs.Unit.{At, IsClosed, IsOpen, drop_more, is_at, mind_of, now_open}

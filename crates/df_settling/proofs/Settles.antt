@@ -1,39 +1,6 @@
 -- What an entry of a unit brings to all units of the floor.
-use Rattle.std.proofs.Common.{◌≡◌, ◌≢◌, ◌⊎◌, inl, inr, ℕ, ◌+◌, ◌≤◌, List, [], ◌∷◌, Bool, true, false, ◌&&◌, not, refl, sym, ◌∙◌, ap, subst, cond, ◌++◌, Option, Some, None, arith, eqb-true}
-use Rattle.std.specs.Prelude.{◌==◌, option_to_list, slice_get}
-use Rattle.df_config.specs.ConfigForm.{IsConfig}
-use Rattle.df_config.specs.declared.config.Config.{Config}
-use Rattle.df_filter.specs.declared.clause.Clause.{Clause}
-use Rattle.df_part.specs.Contents.{apply, spared}
-use Rattle.df_part.specs.Part.{cut}
-use Rattle.df_part.specs.declared.edit.Spot.{Spot}
-use Rattle.df_part.specs.declared.part.Part.{Part}
-use Rattle.df_rules.specs.Choices.{gives}
-use Rattle.df_rules.specs.Commits.{commit_in, committed, contents}
-use Rattle.df_rules.specs.Deliveries.{deliveries, deliveries_instance, deliveries_plain, instance_news, plain_news, was_handed}
-use Rattle.df_rules.specs.Follows.{Calls, IsWanted, Wait, began_with, replies_of, wanted}
-use Rattle.df_rules.specs.Legal.{answer, answer_of, left}
-use Rattle.df_rules.specs.Own.{fixed, is_given, own, own_plain}
-use Rattle.df_rules.specs.Start.{rows}
-use Rattle.df_rules.specs.Subscriptions.{subscriptions}
-use Rattle.df_ticks.specs.declared.tick.Tick.{Tick}
+use Rattle.df_settling.proofs.Names.{◌≡◌, ◌≢◌, ◌⊎◌, inl, inr, ℕ, ◌+◌, ◌≤◌, List, [], ◌∷◌, Bool, true, false, ◌&&◌, not, refl, sym, ◌∙◌, ap, subst, cond, ◌++◌, Option, Some, None, arith, eqb-true, ◌==◌, option_to_list, slice_get, IsConfig, Config, Clause, apply, spared, cut, Spot, Part, gives, commit_in, committed, contents, deliveries, deliveries_instance, deliveries_plain, instance_news, plain_news, was_handed, Calls, IsWanted, Wait, began_with, replies_of, wanted, answer, answer_of, left, fixed, is_given, own, own_plain, rows, subscriptions, Tick, same, same_event, Fixed, OwnState, after, effect, reply, subscribes, Call, Get, Commit, Given, Effect, Entry, EventName, UnitName, Root, Reply, floor_brains, Mind, did, follow_of, first_states, floor_brain}
 use Rattle.df_unit.specs.Beginnings.{readable_at}
-use Rattle.df_unit.specs.Name.{same, same_event}
-use Rattle.df_unit.specs.OwnState.{Fixed, OwnState}
-use Rattle.df_unit.specs.Rows.{after, effect, reply, subscribes}
-use Rattle.df_unit.specs.declared.call.Call.{Call}
-use Rattle.df_unit.specs.declared.call.Call.TheVariants.{Get}
-use Rattle.df_unit.specs.declared.commit.Commit.{Commit}
-use Rattle.df_unit.specs.declared.commit.Given.{Given}
-use Rattle.df_unit.specs.declared.entry.Effect.{Effect}
-use Rattle.df_unit.specs.declared.entry.Entry.{Entry}
-use Rattle.df_unit.specs.declared.name.EventName.{EventName}
-use Rattle.df_unit.specs.declared.name.UnitName.{UnitName}
-use Rattle.df_unit.specs.declared.name.UnitName.TheVariants.{Root}
-use Rattle.df_unit.specs.declared.reply.Reply.{Reply}
-use Rattle.df_floor.specs.Brains.{floor_brains}
-use Rattle.df_floor_units.specs.Floor.{Mind, did, follow_of}
-use Rattle.df_settling.specs.Settling.{first_states, floor_brain}
 use Rattle.df_settling.proofs.Members.{FixedOk, Inv, IsFresh, IsWatched, Lives, Member, events_of, gains, in_of_get, member_kind, members, mind_at, news, plays, the_mind, watcher}
 use Rattle.df_settling.proofs.Paid.{AllApart}
 use Rattle.df_settling.proofs.Players.{all_think, began, players}

@@ -1,32 +1,5 @@
 -- Before the exchange's first entry no unit of the floor commits, so nothing is handed to any, and the regulator has no instance.
-use Rattle.std.proofs.Common.{◌≡◌, ◌⊎◌, inl, inr, ℕ, zero, suc, ◌+◌, ◌≤◌, List, [], ◌∷◌, ◌++◌, Bool, true, false, true≢false, ◌||◌, refl, sym, ◌∙◌, ap, subst, cond, Option, Some, None, append-nil, arith}
-use Rattle.std.specs.Prelude.{slice_get}
-use Rattle.std.specs.Option.{option_map, option_or}
-use Rattle.df_config.specs.ConfigForm.{IsConfig}
-use Rattle.df_config.specs.declared.config.Config.{Config}
-use Rattle.df_config.specs.declared.pair.PairRow.{PairRow}
-use Rattle.df_config.specs.declared.trader.TraderRow.{TraderRow}
-use Rattle.df_rules.specs.Commits.{commit_in}
-use Rattle.df_rules.specs.Deliveries.{deliveries}
-use Rattle.df_rules.specs.Follows.{Follows, has_entry}
-use Rattle.df_rules.specs.Legal.{IsUnaided, Legal}
-use Rattle.df_rules.specs.Own.{born, fixed, own, stepped}
-use Rattle.df_rules.specs.Start.{rows}
-use Rattle.df_ticks.specs.declared.tick.Tick.{Tick}
-use Rattle.df_unit.specs.Name.{same}
-use Rattle.df_unit.specs.OwnState.{Fixed, OwnState}
-use Rattle.df_unit.specs.Rows.{after}
-use Rattle.df_unit.specs.declared.call.Call.{Call}
-use Rattle.df_unit.specs.declared.commit.Given.{Given}
-use Rattle.df_unit.specs.declared.entry.Effect.{Effect}
-use Rattle.df_unit.specs.declared.entry.Entry.{Entry}
-use Rattle.df_unit.specs.declared.entry.Entry.TheVariants.{Done, Emitted}
-use Rattle.df_unit.specs.declared.name.UnitName.{UnitName}
-use Rattle.df_unit.specs.declared.name.UnitName.TheVariants.{Managed, Root}
-use Rattle.df_unit.specs.declared.reply.Reply.{Reply}
-use Rattle.df_floor.specs.Brains.{floor_brains}
-use Rattle.df_settling.specs.Counts.{root_name}
-use Rattle.df_settling.specs.Settling.{first_states, floor_brain}
+use Rattle.df_settling.proofs.Names.{◌≡◌, ◌⊎◌, inl, inr, ℕ, zero, suc, ◌+◌, ◌≤◌, List, [], ◌∷◌, ◌++◌, Bool, true, false, true≢false, ◌||◌, refl, sym, ◌∙◌, ap, subst, cond, Option, Some, None, append-nil, arith, slice_get, option_map, option_or, IsConfig, Config, PairRow, TraderRow, commit_in, deliveries, Follows, has_entry, IsUnaided, Legal, born, fixed, own, stepped, rows, Tick, same, Fixed, OwnState, after, Call, Given, Effect, Entry, Done, Emitted, UnitName, Managed, Root, Reply, floor_brains, root_name, first_states, floor_brain}
 use Rattle.df_settling.proofs.Bound.{World, actor_member, cost_of, first_pot, member_step, world}
 use Rattle.df_settling.proofs.Entries.{name_refl}
 use Rattle.df_settling.proofs.Members.{Member, deliveries_grow, given_of, in_of_get, member_kind, members, news, plays, pot, watcher}

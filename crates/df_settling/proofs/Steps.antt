@@ -1,17 +1,6 @@
 -- What each entry of a unit of the floor does to what it may still do, stage by stage.
-use Rattle.std.proofs.Common.{◌≡◌, ◌≢◌, ℕ, List, [], refl}
-use Rattle.df_filter.specs.declared.clause.Clause.{Clause}
+use Rattle.df_settling.proofs.Names.{◌≡◌, ◌≢◌, ℕ, List, [], refl, Clause, left, OwnState, Call, CreateEvent, DropEvent, Publish, Given, UnitName, wanted_at, Heard, Kind, Stage}
 use Rattle.df_rules.specs.Follows as follows
-use Rattle.df_rules.specs.Legal.{left}
-use Rattle.df_unit.specs.OwnState.{OwnState}
-use Rattle.df_unit.specs.declared.call.Call.{Call}
-use Rattle.df_unit.specs.declared.call.Call.TheVariants.{CreateEvent, DropEvent, Publish}
-use Rattle.df_unit.specs.declared.commit.Given.{Given}
-use Rattle.df_unit.specs.declared.name.UnitName.{UnitName}
-use Rattle.df_floor_units.specs.Floor.{wanted_at}
-use Rattle.df_floor_units.specs.declared.heard.Heard.{Heard}
-use Rattle.df_floor_units.specs.declared.kind.Kind.{Kind}
-use Rattle.df_floor_units.specs.declared.stage.Stage.{Stage}
 use Rattle.df_floor_units.specs.declared.stage.Stage.TheVariants as stage
 use Rattle.df_settling.proofs.Roles.{Role, role_of}
 use Rattle.df_settling.proofs.Unit.{At, Later, Outcome, mind_of}

@@ -1,15 +1,5 @@
 -- An entry that concerns no other unit, and one that stops the unit.
-use Rattle.std.proofs.Common.{◌≡◌, ℕ, ◌+◌, ◌≤◌, List, refl, sym, ap, subst, drop, arith}
-use Rattle.df_filter.specs.declared.clause.Clause.{Clause}
-use Rattle.df_unit.specs.OwnState.{OwnState}
-use Rattle.df_unit.specs.declared.call.Call.{Call}
-use Rattle.df_unit.specs.declared.commit.Given.{Given}
-use Rattle.df_unit.specs.declared.entry.Effect.{Effect}
-use Rattle.df_unit.specs.declared.name.UnitName.{UnitName}
-use Rattle.df_floor_units.specs.Floor.{Mind}
-use Rattle.df_floor_units.specs.declared.heard.Heard.{Heard}
-use Rattle.df_floor_units.specs.declared.kind.Kind.{Kind}
-use Rattle.df_floor_units.specs.declared.stage.Stage.{Stage}
+use Rattle.df_settling.proofs.Names.{◌≡◌, ℕ, ◌+◌, ◌≤◌, List, refl, sym, ap, subst, drop, arith, Clause, OwnState, Call, Given, Effect, UnitName, Mind, Heard, Kind, Stage}
 use Rattle.df_floor_units.specs.declared.stage.Stage.TheVariants as stage
 use Rattle.df_settling.proofs.Roles.{Role, role_of}
 use Rattle.df_settling.proofs.Unit.{At, IsClosed, Later, Moves, Outcome, Stands, drafts, mind_of, owed, priced, stands_stopped}

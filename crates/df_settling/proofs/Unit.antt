@@ -1,34 +1,10 @@
 -- What stands of a unit of the floor at each stage, and what it may still do without being handed more.
-use Rattle.std.proofs.Common.{◌≡◌, ◌⊎◌, inl, inr, ℕ, zero, suc, ◌+◌, ◌-◌, ◌*◌, ◌≤◌, ◌<◌, List, [], ◌∷◌, ◌++◌, Bool, true, false, refl, sym, ◌∙◌, ap, subst, cond, Option, Some, None, length, map, drop, take, arith, add-one, ltb-true, ltb-false, mul-le-mul_right}
-use Rattle.std.specs.Prelude.{nat_lt, option_to_list, slice_get, slice_set}
-use Rattle.df_filter.specs.declared.clause.Clause.{Clause}
-use Rattle.df_label.specs.declared.label.Label.{Label}
-use Rattle.df_messages.specs.declared.draft.Draft.{Draft}
-use Rattle.df_part.specs.declared.part.Part.{Part}
-use Rattle.df_rules.specs.Legal.{left}
-use Rattle.df_unit.specs.Drafts.{new_part, raised, relabel}
-use Rattle.df_unit.specs.Handles.{draft_of, handle_at, is_full, least_free, opened}
-use Rattle.df_unit.specs.OwnState.{OwnState}
-use Rattle.df_unit.specs.Rows.{after, effect, half_changed, reply, subscribes}
-use Rattle.df_unit.specs.declared.call.Call.{Call}
-use Rattle.df_unit.specs.declared.call.Call.TheVariants.{ChangeOutLabel, Subscribe, SubscribeManaged}
-use Rattle.df_unit.specs.declared.commit.Given.{Given}
-use Rattle.df_unit.specs.declared.entry.Effect.{Effect}
-use Rattle.df_unit.specs.declared.handle.Handle.{Handle}
-use Rattle.df_unit.specs.declared.name.EventName.{EventName}
-use Rattle.df_unit.specs.declared.name.UnitName.{UnitName}
-use Rattle.df_unit.specs.declared.reply.Reply.{Reply}
-use Rattle.df_floor_units.specs.Floor.{Mind, adding, did, follow_of, handed, opened as opened_stage, reading, told}
-use Rattle.df_floor_units.specs.Hearing.{acted_heard, acted_kind, reads_of}
-use Rattle.df_floor_units.specs.Opening.{present}
-use Rattle.df_floor_units.specs.Telling.{parts_of, passed_heard, passed_kind}
-use Rattle.df_floor_units.specs.declared.heard.Heard.{Heard}
-use Rattle.df_floor_units.specs.declared.kind.Kind.{Kind}
-use Rattle.df_floor_units.specs.declared.stage.Stage.{Stage}
+use Rattle.df_settling.proofs.Names.{◌≡◌, ◌⊎◌, inl, inr, ℕ, zero, suc, ◌+◌, ◌-◌, ◌*◌, ◌≤◌, ◌<◌, List, [], ◌∷◌, ◌++◌, Bool, true, false, refl, sym, ◌∙◌, ap, subst, cond, Option, Some, None, length, map, drop, take, arith, add-one, ltb-true, ltb-false, mul-le-mul_right, nat_lt, option_to_list, slice_get, slice_set, Clause, Label, Draft, Part, left, new_part, raised, relabel, draft_of, handle_at, is_full, least_free, opened, OwnState, after, effect, half_changed, reply, subscribes, Call, ChangeOutLabel, Subscribe, SubscribeManaged, Given, Effect, Handle, EventName, UnitName, Reply, Mind, adding, did, follow_of, handed, reading, told, acted_heard, acted_kind, reads_of, present, parts_of, passed_heard, passed_kind, Heard, Kind, Stage}
+use Rattle.std.specs.Prelude.{codes}
+use Rattle.df_floor_units.specs.Floor.{opened as opened_stage}
 use Rattle.df_floor_units.specs.declared.stage.Stage.TheVariants as stage
 use Rattle.df_settling.proofs.Roles.{Good, Leads, Regulator, Role, leads_to, may_tell, opening_by, opening_is, out_label, read_count, resting, role_of, size_of, tells}
 use Rattle.df_settling.proofs.Totals.{total}
-use Rattle.std.specs.Prelude.{codes}
 
 -- the output label after calls of an opening
 abbrev pub outed : Label → List Call → Label

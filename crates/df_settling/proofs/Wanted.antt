@@ -1,21 +1,7 @@
 -- What a unit wants, and what a get gives it.
-use Rattle.std.proofs.Common.{◌≡◌, ◌≢◌, ◌⊎◌, inl, inr, ℕ, ◌+◌, List, [], ◌∷◌, Bool, true, refl, sym, ◌∙◌, ap, subst, cond, drop, arith, ltb-true, lt-ltb}
-use Rattle.std.specs.Prelude.{nat_lt}
+use Rattle.df_settling.proofs.Names.{◌≡◌, ◌≢◌, ◌⊎◌, inl, inr, ℕ, ◌+◌, List, [], ◌∷◌, Bool, true, refl, sym, ◌∙◌, ap, subst, cond, drop, arith, ltb-true, lt-ltb, nat_lt, left, least_free, OwnState, effect, first_given, is_accepted, reply, Call, Get, Given, Effect, UnitName, Reply, wanted_at, Heard, Kind, Stage}
 use Rattle.df_rules.specs.Follows as follows
-use Rattle.df_rules.specs.Legal.{left}
-use Rattle.df_unit.specs.Handles.{least_free}
-use Rattle.df_unit.specs.OwnState.{OwnState}
-use Rattle.df_unit.specs.Rows.{effect, first_given, handed as handed_reply, is_accepted, reply}
-use Rattle.df_unit.specs.declared.call.Call.{Call}
-use Rattle.df_unit.specs.declared.call.Call.TheVariants.{Get}
-use Rattle.df_unit.specs.declared.commit.Given.{Given}
-use Rattle.df_unit.specs.declared.entry.Effect.{Effect}
-use Rattle.df_unit.specs.declared.name.UnitName.{UnitName}
-use Rattle.df_unit.specs.declared.reply.Reply.{Reply}
-use Rattle.df_floor_units.specs.Floor.{wanted_at}
-use Rattle.df_floor_units.specs.declared.heard.Heard.{Heard}
-use Rattle.df_floor_units.specs.declared.kind.Kind.{Kind}
-use Rattle.df_floor_units.specs.declared.stage.Stage.{Stage}
+use Rattle.df_unit.specs.Rows.{handed as handed_reply}
 use Rattle.df_settling.proofs.Unit.{IsClosed, drop_next, first_free, mind_of, not_full}
 
 -- the first delivery that is left

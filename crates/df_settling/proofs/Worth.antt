@@ -1,36 +1,12 @@
 -- What an event of a unit of the floor is worth to those to whom it is handed.
-use Rattle.std.proofs.Common.{◌≡◌, ◌≢◌, ℕ, ◌+◌, ◌*◌, ◌≤◌, List, [], ◌∷◌, ◌++◌, Bool, true, false, true≢false, ◌&&◌, ◌||◌, not, refl, sym, ◌∙◌, ap, subst, cond, Some, arith, ℤ}
+use Rattle.df_settling.proofs.Names.{◌≡◌, ◌≢◌, ℕ, ◌+◌, ◌*◌, ◌≤◌, List, [], ◌∷◌, ◌++◌, Bool, true, false, true≢false, ◌&&◌, ◌||◌, not, refl, sym, ◌∙◌, ap, subst, cond, Some, arith, ℤ, filter, flat_map, list_all, list_any, Trade, Clause, tag_eq, Label, floor_tag, match_draft, offer_draft, regulator_tag, tick_draft, trader_tag, warning_draft, Draft, Match, Offer, apply, cut, Part, gives, matches, serves, contents, offer, plain_news, was_handed, Tick, OwnState, is_nil, Commit, Given, Entry, EventName, trade_event, present}
 use Rattle.std.specs.Prelude.{codes}
-use Rattle.std.specs.List.{filter, flat_map, list_all, list_any}
 use Rattle.std.specs.Str.{bytes_eq}
 use Rattle.std.proofs.lemmas.Slice.Eq.{bytes_eq-Decides}
-use Rattle.df_book.specs.declared.trade.Trade.{Trade}
 use Rattle.df_filter.specs.Clause.{test_holds}
-use Rattle.df_filter.specs.declared.clause.Clause.{Clause}
 use Rattle.df_label.specs.Label.{flows_to}
-use Rattle.df_label.specs.Tag.{tag_eq}
 use Rattle.df_label.specs.TagSet.{tag_set_eq}
-use Rattle.df_label.specs.declared.label.Label.{Label}
 use Rattle.df_label.proofs.TagSetFacts.{is_subset-refl, tag_set_eq-Decides, union-included_right}
-use Rattle.df_messages.specs.Drafts.{floor_tag, match_draft, offer_draft, regulator_tag, tick_draft, trader_tag, warning_draft}
-use Rattle.df_messages.specs.declared.draft.Draft.{Draft}
-use Rattle.df_messages.specs.declared.message.Match.{Match}
-use Rattle.df_messages.specs.declared.message.Offer.{Offer}
-use Rattle.df_part.specs.Contents.{apply}
-use Rattle.df_part.specs.Part.{cut}
-use Rattle.df_part.specs.declared.part.Part.{Part}
-use Rattle.df_rules.specs.Choices.{gives, matches, serves}
-use Rattle.df_rules.specs.Commits.{contents}
-use Rattle.df_rules.specs.Deliveries.{offer, plain_news, was_handed}
-use Rattle.df_ticks.specs.declared.tick.Tick.{Tick}
-use Rattle.df_unit.specs.OwnState.{OwnState}
-use Rattle.df_unit.specs.Rows.{is_nil}
-use Rattle.df_unit.specs.declared.commit.Commit.{Commit}
-use Rattle.df_unit.specs.declared.commit.Given.{Given}
-use Rattle.df_unit.specs.declared.entry.Entry.{Entry}
-use Rattle.df_unit.specs.declared.name.EventName.{EventName}
-use Rattle.df_floor_units.specs.Broking.{trade_event}
-use Rattle.df_floor_units.specs.Opening.{present}
 use Rattle.df_settling.proofs.Roles.{Apart, Broker, Exchange, Good, Monitor, Regulator, Role, Trader, Watcher, label_of}
 use Rattle.df_settling.proofs.Totals.{total, total-append}
 use Rattle.df_settling.proofs.Unit.{price, priced, published_parts, subs_of, watched_filter}

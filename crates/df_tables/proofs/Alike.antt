@@ -1,31 +1,6 @@
 -- Journals that differ in one unit's own state alone, and what the tables tell of them.
-use Rattle.std.proofs.Common.{◌≡◌, ℕ, Bool, true, false, List, Option, Some, None, if◌then◌else◌, option_map, drop, length, refl, ap, sym, subst, ◌∙◌, arith}
-use Rattle.df_label.specs.declared.label.Label.{Label}
-use Rattle.df_label.specs.declared.privilege.Privilege.{Privilege}
-use Rattle.df_local.specs.code.LocalState.{LocalState}
-use Rattle.df_rules.specs.Commits.{contents}
-use Rattle.df_rules.specs.Deliveries.{deliveries, was_handed}
-use Rattle.df_rules.specs.Legal.{Legal}
-use Rattle.df_rules.specs.Own.{fixed, own}
-use Rattle.df_rules.specs.Rules.{Rules}
-use Rattle.df_rules.specs.Start.{rows, roots}
-use Rattle.df_rules.specs.Subscriptions.{subscriptions}
-use Rattle.df_unit.specs.Name.{same}
-use Rattle.df_unit.specs.OwnState.{OwnState}
-use Rattle.df_unit.specs.declared.commit.Given.{Given}
-use Rattle.df_unit.specs.declared.entry.Entry.{Entry}
-use Rattle.df_unit.specs.declared.name.EventName.{EventName}
-use Rattle.df_unit.specs.declared.name.UnitName.{UnitName}
-use Rattle.df_unit.specs.declared.name.UnitName.TheVariants.{Managed, Root}
-use Rattle.df_unit.proofs.SameFacts.{same_name-exact}
-use Rattle.df_tables.specs.Agree.{Agrees, FilterIndex, IsSeat, ManagedState, is_marked, is_told, subscribed_at}
-use Rattle.df_tables.specs.Board.{TellsOf, managed_of}
-use Rattle.df_tables.specs.Events.{event_place}
-use Rattle.df_tables.specs.Runs.{IsSwapped, with_own}
-use Rattle.df_tables.specs.Table.{find, moved_at, place_of}
-use Rattle.df_tables.specs.declared.board.Board.{Board}
-use Rattle.df_tables.specs.declared.events.EventRow.{EventRow}
-use Rattle.df_tables.specs.declared.units.Unit.{Unit}
+use Rattle.df_tables.proofs.Names.{◌≡◌, ℕ, Bool, true, false, List, Option, Some, None, if◌then◌else◌, option_map, drop, length, refl, ap, sym, subst, ◌∙◌, arith, Label, Privilege, LocalState, contents, deliveries, was_handed, Legal, fixed, own, Rules, rows, roots, subscriptions, same, OwnState, Given, Entry, EventName, UnitName, Managed, Root, same_name-exact, Agrees, FilterIndex, IsSeat, ManagedState, is_marked, is_told, subscribed_at, TellsOf, managed_of, event_place, IsSwapped, find, moved_at, place_of, Board, EventRow, Unit}
+use Rattle.df_tables.specs.Runs.{with_own}
 use Rattle.df_tables.proofs.Finds.{find-moved}
 use Rattle.df_tables.proofs.Booked.{no_fewer, same_managed, told_more}
 use Rattle.df_tables.proofs.Order.{names-moved, same_length}

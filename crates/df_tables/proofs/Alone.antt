@@ -1,30 +1,10 @@
 -- A call that a unit makes of its own state alone, in the tables.
-use Rattle.std.proofs.Common.{◌≡◌, ℕ, ◌<◌, true, false, List, get_or, length, set, slice_get, Option, None, Some, Result, Ok, Err, IfOk, OnErr, refl, ap, sym, subst, ◌∙◌}
-use Rattle.std.proofs.lemmas.List.{append-nil, get_or_default, set-get_or}
-use Rattle.df_filter.specs.declared.clause.Clause.{Clause}
+use Rattle.df_tables.proofs.Names.{◌≡◌, ℕ, ◌<◌, true, false, List, get_or, length, set, slice_get, Option, None, Some, Result, Ok, Err, IfOk, OnErr, refl, ap, sym, subst, ◌∙◌, append-nil, get_or_default, set-get_or, Clause, MakesBriefly, accepted_reply, brief_call, IsMadeAlone, is_alone, row_answer, LocalState, rows, Call, ChangeInOut, Instantiate, Subscribe, SubscribeManaged, Effect, UnitName, Reply, Label, NoMemory, FilterIndex, IsWhole, IsBoard, IsMade, IsMovedBoard, IsRenewed, MakesAlone, answer_from, place_on, row_by, IsAnsweredAt, IsMadeAt, modify, AreLabels, inputs, child_by, is_in_out, managed_sub_by, moved_row, names_of, place_of, Board, EventRow, Unit}
 use Rattle.std.specs.Option.{option_map}
-use Rattle.df_local.specs.Brief.{MakesBriefly, accepted_reply, brief_call}
-use Rattle.df_local.specs.Locally.{IsMadeAlone, is_alone, MakesAlone as MakesAloneOf, row_answer}
+use Rattle.df_local.specs.Locally.{MakesAlone as MakesAloneOf}
 use Rattle.df_local.specs.declared.brief.Accepted.{Accepted}
 use Rattle.df_local.specs.declared.brief.Brief.{Brief}
-use Rattle.df_local.specs.code.LocalState.{LocalState}
-use Rattle.df_rules.specs.Start.{rows}
-use Rattle.df_unit.specs.declared.call.Call.{Call}
-use Rattle.df_unit.specs.declared.call.Call.TheVariants.{ChangeInOut, Instantiate, Subscribe, SubscribeManaged}
-use Rattle.df_unit.specs.declared.entry.Effect.{Effect}
-use Rattle.df_unit.specs.declared.name.UnitName.{UnitName}
-use Rattle.df_unit.specs.declared.reply.Reply.{Reply}
-use Rattle.df_label.specs.declared.label.Label.{Label}
-use Rattle.df_memory.specs.declared.NoMemory.{NoMemory}
-use Rattle.df_tables.specs.Agree.{FilterIndex, IsWhole}
-use Rattle.df_tables.specs.Board.{IsBoard, IsMade, IsMovedBoard, IsRenewed, MakesAlone, answer_from, place_on, row_by}
-use Rattle.df_tables.specs.Hand.{IsAnsweredAt, IsMadeAt, modify}
-use Rattle.df_tables.specs.Labels.{AreLabels, inputs}
-use Rattle.df_tables.specs.Moves.{child_by, is_in_out, made_by, managed_sub_by}
-use Rattle.df_tables.specs.Table.{moved_row, names_of, place_of}
-use Rattle.df_tables.specs.declared.board.Board.{Board}
-use Rattle.df_tables.specs.declared.events.EventRow.{EventRow}
-use Rattle.df_tables.specs.declared.units.Unit.{Unit}
+use Rattle.df_tables.specs.Moves.{made_by}
 use Rattle.df_tables.proofs.Booked.{booked_plain, found, kept_renewed, place_in, row_is}
 use Rattle.df_tables.proofs.Each.{set_modify}
 use Rattle.df_tables.proofs.Moved.{board_other}

@@ -1,21 +1,5 @@
 -- In the beginning the tables agree with the empty journal.
-use Rattle.std.proofs.Common.{◌≡◌, ℕ, zero, suc, ◌+◌, ◌==◌, List, [], ◌∷◌, Option, Some, None, Bool, true, false, ◌&&◌, if◌then◌else◌, map, slice_get, refl, ap, sym, subst, ◌∙◌, arith, eq-eqb, nat_eq, All}
-use Rattle.std.proofs.lemmas.List.Elements.{All-cons, All-nil}
-use Rattle.df_index.specs.Due.{Pair}
-use Rattle.df_label.specs.declared.label.Label.{Label}
-use Rattle.df_label.specs.declared.privilege.Privilege.{Privilege}
-use Rattle.df_rules.specs.Deliveries.{deliveries, was_handed}
-use Rattle.df_rules.specs.Own.{own}
-use Rattle.df_rules.specs.Start.{rows, roots, root_of}
-use Rattle.df_unit.specs.Name.{same}
-use Rattle.df_unit.specs.declared.name.UnitName.{UnitName}
-use Rattle.df_unit.specs.declared.name.UnitName.TheVariants.{Root, Managed}
-use Rattle.df_unit.specs.declared.name.EventName.{EventName}
-use Rattle.df_tables.specs.Agree.{Agrees, IsSeat, is_marked, subscribed_at}
-use Rattle.df_tables.specs.Events.{event_place}
-use Rattle.df_tables.specs.Hand.{IsCalm}
-use Rattle.df_tables.specs.Table.{find, first_row, place_of, rows_from}
-use Rattle.df_tables.specs.declared.units.Unit.{Unit}
+use Rattle.df_tables.proofs.Names.{◌≡◌, ℕ, zero, suc, ◌+◌, ◌==◌, List, [], ◌∷◌, Option, Some, None, Bool, true, false, ◌&&◌, if◌then◌else◌, map, slice_get, refl, ap, sym, subst, ◌∙◌, arith, eq-eqb, nat_eq, All, All-cons, All-nil, Pair, Label, Privilege, deliveries, was_handed, own, rows, roots, root_of, same, UnitName, Root, Managed, EventName, Agrees, IsSeat, is_marked, subscribed_at, event_place, IsCalm, find, first_row, place_of, rows_from, Unit}
 
 abbrev Starts : Type 0
 Starts = List (Label × List Privilege)

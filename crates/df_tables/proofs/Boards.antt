@@ -1,34 +1,6 @@
 -- Tables that fit each other still do after a change of a row.
-use Rattle.std.proofs.Common.{◌≡◌, inl, inr, ℕ, zero, suc, ◌+◌, ◌≤◌, ◌<◌, ◌==◌, ◌&&◌, ◌||◌, Bool, true, false, if◌then◌else◌, List, [], ◌∷◌, ◌++◌, length, map, get_or, set, Option, Some, None, refl, ap, sym, subst, ◌∙◌, arith, All, length-append}
-use Rattle.std.proofs.lemmas.Bool.{eqb-true}
-use Rattle.std.proofs.lemmas.List.{append-nil, get_or_default, length-map}
-use Rattle.std.proofs.lemmas.List.Elements.{All-head, All-push, All-tail}
-use Rattle.df_filter.specs.declared.clause.Clause.{Clause}
-use Rattle.df_index.specs.Due.{Pair, has_pair}
+use Rattle.df_tables.proofs.Names.{◌≡◌, inl, inr, ℕ, zero, suc, ◌+◌, ◌≤◌, ◌<◌, ◌==◌, ◌&&◌, ◌||◌, Bool, true, false, if◌then◌else◌, List, [], ◌∷◌, ◌++◌, length, map, get_or, set, Option, Some, None, refl, ap, sym, subst, ◌∙◌, arith, All, length-append, eqb-true, append-nil, get_or_default, length-map, All-head, All-push, All-tail, Clause, Pair, has_pair, Subscription, Label, Part, rows, Call, Commit, Given, Effect, EventName, UnitName, Reply, AreApart, FilterIndex, IsWhole, enrols, IsBoard, IsMovedBoard, IsOpenedBoard, IsReady, IsOpened, blank, IsCalm, IsNews, modify, news_at, with_news, with_state, AreLabels, inputs, LineState, is_in_out, moved_at, moved_row, names_of, place_of, taken, Board, Ready, EventRow, Unit}
 use Rattle.df_index.specs.IndexState as index
-use Rattle.df_index.specs.declared.subscription.Subscription.{Subscription}
-use Rattle.df_label.specs.declared.label.Label.{Label}
-use Rattle.df_part.specs.declared.part.Part.{Part}
-use Rattle.df_rules.specs.Start.{rows}
-use Rattle.df_unit.specs.declared.call.Call.{Call}
-use Rattle.df_unit.specs.declared.commit.Commit.{Commit}
-use Rattle.df_unit.specs.declared.commit.Given.{Given}
-use Rattle.df_unit.specs.declared.entry.Effect.{Effect}
-use Rattle.df_unit.specs.declared.name.EventName.{EventName}
-use Rattle.df_unit.specs.declared.name.UnitName.{UnitName}
-use Rattle.df_unit.specs.declared.reply.Reply.{Reply}
-use Rattle.df_tables.specs.Agree.{AreApart, FilterIndex, IsWhole, enrols}
-use Rattle.df_tables.specs.Board.{IsBoard, IsMovedBoard, IsOpenedBoard, IsReady}
-use Rattle.df_tables.specs.Events.{IsOpened, blank}
-use Rattle.df_tables.specs.Hand.{IsCalm, IsNews, modify, news_at, with_news, with_state}
-use Rattle.df_tables.specs.Labels.{AreLabels, inputs}
-use Rattle.df_tables.specs.Line.{LineState}
-use Rattle.df_tables.specs.Moves.{is_in_out}
-use Rattle.df_tables.specs.Table.{moved_at, moved_row, names_of, place_of, taken}
-use Rattle.df_tables.specs.declared.board.Board.{Board}
-use Rattle.df_tables.specs.declared.commits.Ready.{Ready}
-use Rattle.df_tables.specs.declared.events.EventRow.{EventRow}
-use Rattle.df_tables.specs.declared.units.Unit.{Unit}
 use Rattle.df_tables.proofs.Each.{at_modify, length-modify, set_modify}
 use Rattle.df_tables.proofs.Handed.{at_map}
 use Rattle.df_tables.proofs.Inputs.{after_keeps}

@@ -1,48 +1,8 @@
 -- The tables tell of one more entry, once they are as the code makes them.
-use Rattle.std.proofs.Common.{◌≡◌, ℕ, zero, suc, ◌≤◌, ◌<◌, Bool, false, All, List, [], ◌∷◌, ◌++◌, get_or, length, Option, Some, None, refl, ap, sym, subst, ◌∙◌, arith}
-use Rattle.std.specs.Option.{option_or}
-use Rattle.std.proofs.lemmas.List.{append-nil}
-use Rattle.std.proofs.lemmas.Option.{slice_get-get_or}
-use Rattle.df_filter.specs.declared.clause.Clause.{Clause}
-use Rattle.df_index.specs.Due.{Pair}
-use Rattle.df_index.specs.declared.subscription.Subscription.{Subscription}
+use Rattle.df_tables.proofs.Names.{◌≡◌, ℕ, zero, suc, ◌≤◌, ◌<◌, Bool, false, All, List, [], ◌∷◌, ◌++◌, get_or, length, Option, Some, None, refl, ap, sym, subst, ◌∙◌, arith, option_or, append-nil, slice_get-get_or, Clause, Pair, Subscription, AreNumbered, kept_in, ManagedSubscription, Label, Privilege, Part, commit_in, answer, fixed_by, own, own_plain, Rules, rows, roots, row_taking_laws, same, OwnState, subscribes, Call, ChangeInOut, Instantiate, Subscribe, SubscribeManaged, Commit, Given, Effect, Entry, Done, EventName, UnitName, Root, Reply, Sub, same_name-exact, Agrees, AreWithin, FilterIndex, IsSeat, IsWhole, ManagedState, enrols, is_marked, subscribed_at, IsBooked, IsKept, IsMovedBoard, IsOpenedBoard, IsRenewed, TellsOf, answer_from, answer_on, managed_by, managed_of, place_on, row_by, row_on, event_place, IsAnsweredAt, IsNews, modify, news_at, IsAnswered, child_by, is_in_out, managed_sub_by, find, moved_at, moved_row, place_of, Board, EventRow, Unit}
 use Rattle.df_instances.specs.Marks as marks
-use Rattle.df_instances.specs.Named.{AreNumbered, kept_in}
-use Rattle.df_instances.specs.declared.subscription.ManagedSubscription.{ManagedSubscription}
-use Rattle.df_label.specs.declared.label.Label.{Label}
-use Rattle.df_label.specs.declared.privilege.Privilege.{Privilege}
-use Rattle.df_part.specs.declared.part.Part.{Part}
-use Rattle.df_rules.specs.Commits.{commit_in}
-use Rattle.df_rules.specs.Legal.{answer}
-use Rattle.df_rules.specs.Own.{fixed_by, own, own_plain}
-use Rattle.df_rules.specs.Rules.{Rules}
-use Rattle.df_rules.specs.Start.{rows, roots}
-use Rattle.df_rules.proofs.TakingRows.{row_taking_laws}
-use Rattle.df_unit.specs.Name.{same}
-use Rattle.df_unit.specs.OwnState.{OwnState}
-use Rattle.df_unit.specs.Rows.{subscribes}
-use Rattle.df_unit.specs.declared.call.Call.{Call}
-use Rattle.df_unit.specs.declared.call.Call.TheVariants.{ChangeInOut, Instantiate, Subscribe, SubscribeManaged}
-use Rattle.df_unit.specs.declared.commit.Commit.{Commit}
-use Rattle.df_unit.specs.declared.commit.Given.{Given}
-use Rattle.df_unit.specs.declared.entry.Effect.{Effect}
-use Rattle.df_unit.specs.declared.entry.Entry.{Entry}
-use Rattle.df_unit.specs.declared.entry.Entry.TheVariants.{Done}
-use Rattle.df_unit.specs.declared.name.EventName.{EventName}
-use Rattle.df_unit.specs.declared.name.UnitName.{UnitName}
-use Rattle.df_unit.specs.declared.name.UnitName.TheVariants.{Root}
-use Rattle.df_unit.specs.declared.reply.Reply.{Reply}
-use Rattle.df_unit.specs.declared.reply.Reply.TheVariants.{Sub, Unit as Made}
-use Rattle.df_unit.proofs.SameFacts.{same_name-exact}
-use Rattle.df_tables.specs.Agree.{Agrees, AreWithin, FilterIndex, IsSeat, IsWhole, ManagedState, enrols, is_marked, subscribed_at}
-use Rattle.df_tables.specs.Board.{IsBooked, IsKept, IsMovedBoard, IsOpenedBoard, IsRenewed, TellsOf, answer_from, answer_on, managed_by, managed_of, place_on, row_by, row_on}
-use Rattle.df_tables.specs.Events.{event_place}
-use Rattle.df_tables.specs.Hand.{IsAnsweredAt, IsNews, modify, news_at}
-use Rattle.df_tables.specs.Moves.{IsAnswered, child_by, is_in_out, made_by, managed_sub_by}
-use Rattle.df_tables.specs.Table.{find, moved_at, moved_row, place_of}
-use Rattle.df_tables.specs.declared.board.Board.{Board}
-use Rattle.df_tables.specs.declared.events.EventRow.{EventRow}
-use Rattle.df_tables.specs.declared.units.Unit.{Unit}
+use Rattle.df_unit.specs.declared.reply.Reply.TheVariants.{Unit as Made}
+use Rattle.df_tables.specs.Moves.{made_by}
 use Rattle.df_tables.proofs.Boards.{enrolled_more, modify-moved, opened_longer}
 use Rattle.df_tables.proofs.Built.{childless_makes_none, unmanaged_makes_none}
 use Rattle.df_tables.proofs.Each.{length-modify}

@@ -1,34 +1,6 @@
 -- The receivers of both kinds bring each row what the commit brings to its unit.
-use Rattle.std.proofs.Common.{◌≡◌, ◌↔◌, ℕ, Bool, true, false, not, ◌&&◌, List, [], ◌∷◌, ◌++◌, if◌then◌else◌, map, refl, get_or, slice_get, Option, Some, ap, sym, ◌∙◌}
-use Rattle.std.specs.List.{Contains}
-use Rattle.std.specs.List.Sorted.{IsStrictlySortedBy}
-use Rattle.std.proofs.lemmas.List.{append-nil}
-use Rattle.std.proofs.lemmas.Option.{slice_get-get_or}
-use Rattle.df_index.specs.Due.{Pair, pair_cmp}
-use Rattle.df_index.specs.IndexState.{IsReceiver}
-use Rattle.df_label.specs.declared.label.Label.{Label}
-use Rattle.df_label.specs.declared.privilege.Privilege.{Privilege}
-use Rattle.df_part.specs.Contents.{apply}
-use Rattle.df_part.specs.declared.part.Part.{Part}
-use Rattle.df_rules.specs.Choices.{matches}
-use Rattle.df_rules.specs.Commits.{contents}
-use Rattle.df_rules.specs.Deliveries.{deliveries_instance, was_handed}
-use Rattle.df_rules.specs.Own.{fixed, is_given, own, own_instance}
-use Rattle.df_rules.specs.Start.{rows, roots}
+use Rattle.df_tables.proofs.Names.{◌≡◌, ◌↔◌, ℕ, Bool, true, false, not, ◌&&◌, List, [], ◌∷◌, ◌++◌, if◌then◌else◌, map, refl, get_or, slice_get, Option, Some, ap, sym, ◌∙◌, Contains, IsStrictlySortedBy, append-nil, slice_get-get_or, Pair, pair_cmp, IsReceiver, Label, Privilege, apply, Part, matches, contents, deliveries_instance, was_handed, fixed, is_given, own, own_instance, rows, roots, OwnState, Commit, Given, Entry, UnitName, Root, Managed, Agrees, AreApart, FilterIndex, ManagedState, subscribed_at, subscriptions_at, event_place, IsNews, given_to, news_at, pairs_of, inputs, parts_of, place_of, EventRow, Unit}
 use Rattle.df_rules.proofs.Instances.{subscribes_to_nothing}
-use Rattle.df_unit.specs.OwnState.{OwnState}
-use Rattle.df_unit.specs.declared.commit.Commit.{Commit}
-use Rattle.df_unit.specs.declared.commit.Given.{Given}
-use Rattle.df_unit.specs.declared.entry.Entry.{Entry}
-use Rattle.df_unit.specs.declared.name.UnitName.{UnitName}
-use Rattle.df_unit.specs.declared.name.UnitName.TheVariants.{Root, Managed}
-use Rattle.df_tables.specs.Agree.{Agrees, AreApart, FilterIndex, ManagedState, subscribed_at, subscriptions_at}
-use Rattle.df_tables.specs.Events.{event_place}
-use Rattle.df_tables.specs.Hand.{IsNews, given_to, news_at, pairs_of}
-use Rattle.df_tables.specs.Labels.{inputs}
-use Rattle.df_tables.specs.Table.{parts_of, place_of}
-use Rattle.df_tables.specs.declared.events.EventRow.{EventRow}
-use Rattle.df_tables.specs.declared.units.Unit.{Unit}
 use Rattle.df_tables.proofs.Places.{at_some}
 use Rattle.df_tables.proofs.Steps.{news_of}
 use Rattle.df_tables.proofs.Tells.{row_at}

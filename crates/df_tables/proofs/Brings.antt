@@ -1,31 +1,8 @@
 -- The receivers at a unit's place are those to which the definitions hand the event.
-use Rattle.std.proofs.Common.{◌≡◌, ◌↔◌, ℕ, suc, ◌<◌, Bool, true, false, not, ◌&&◌, ◌||◌, if◌then◌else◌, List, [], ◌∷◌, ◌++◌, map, length, get_or, slice_get, Option, Some, refl, ap, sym, subst, ◌∙◌, arith, eq-eqb}
+use Rattle.df_tables.proofs.Names.{◌≡◌, ◌↔◌, ℕ, suc, ◌<◌, Bool, true, false, not, ◌&&◌, ◌||◌, if◌then◌else◌, List, [], ◌∷◌, ◌++◌, map, length, get_or, slice_get, Option, Some, refl, ap, sym, subst, ◌∙◌, arith, eq-eqb, nat_cmp_is, nat_cmp_total, unsigned_ties, AllByRecursion, AllPairs, Contains, filter, flat_map, list_any, is_eq, nat_cmp, ordering_then, Ordering, Less, Equal, Greater, and_from, and_parts, eqb-true, Any-from_list_any, list_any_at, Clause, IsDue, Pair, adds_readable, has_pair, is_due, is_due_at, pair_cmp, Subscription, IsAscending, IsBelow, contains_by, Label, cut, readable, Spot, Part, matches, offer, was_handed, ComesBefore, is_nil, Given, EventName, subscriptions_at, given_to, news_at, pairs_of}
 use Rattle.std.specs.Prelude.{◌==◌}
-use Rattle.std.specs.Cmp.{nat_cmp_is, nat_cmp_total, unsigned_ties}
-use Rattle.std.specs.List.{AllByRecursion, AllPairs, Contains, filter, flat_map, list_any}
 use Rattle.std.specs.List.Sorted.{IsStrictlySortedBy}
-use Rattle.std.specs.Ordering.{is_eq, nat_cmp, ordering_then}
-use Rattle.std.specs.declared.cmp.Ordering.{Ordering}
-use Rattle.std.specs.declared.cmp.Ordering.TheVariants.{Less, Equal, Greater}
-use Rattle.std.proofs.lemmas.Bool.{and_from, and_parts, eqb-true}
-use Rattle.std.proofs.lemmas.List.Folds.{Any-from_list_any, list_any_at}
-use Rattle.df_filter.specs.declared.clause.Clause.{Clause}
-use Rattle.df_index.specs.Due.{IsDue, Pair, adds_readable, has_pair, is_due, is_due_at, pair_cmp}
-use Rattle.df_index.specs.declared.subscription.Subscription.{Subscription}
-use Rattle.df_label.specs.Ascending.{IsAscending, IsBelow, contains_by}
-use Rattle.df_label.specs.declared.label.Label.{Label}
 use Rattle.df_label.proofs.SetFacts.{IsExactOrder, same_elements}
-use Rattle.df_part.specs.Part.{cut, readable}
-use Rattle.df_part.specs.declared.edit.Spot.{Spot}
-use Rattle.df_part.specs.declared.part.Part.{Part}
-use Rattle.df_rules.specs.Choices.{matches}
-use Rattle.df_rules.specs.Deliveries.{offer, was_handed}
-use Rattle.df_rules.specs.Subscriptions.{ComesBefore}
-use Rattle.df_unit.specs.Rows.{is_nil}
-use Rattle.df_unit.specs.declared.commit.Given.{Given}
-use Rattle.df_unit.specs.declared.name.EventName.{EventName}
-use Rattle.df_tables.specs.Agree.{subscriptions_at}
-use Rattle.df_tables.specs.Hand.{given_to, news_at, pairs_of}
 use Rattle.df_tables.proofs.Brought.{none_pass}
 
 abbrev Sub : Type 0

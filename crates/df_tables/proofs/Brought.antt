@@ -1,7 +1,5 @@
 -- What a commit brings to a unit.
-use Rattle.std.proofs.Common.{◌≡◌, List, [], ◌∷◌, Bool, true, false, not, ◌||◌, if◌then◌else◌, refl}
-use Rattle.std.specs.List.{filter, list_any}
-use Rattle.df_unit.specs.Rows.{is_nil}
+use Rattle.df_tables.proofs.Names.{◌≡◌, List, [], ◌∷◌, Bool, true, false, not, ◌||◌, if◌then◌else◌, refl, filter, list_any, is_nil}
 
 -- nothing passes a test where no element does
 pub none_pass : {A : Type 0} (p : A → Bool) (xs : List A) → not (list_any p xs) ≡ is_nil (filter p xs)

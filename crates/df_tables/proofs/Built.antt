@@ -1,12 +1,6 @@
 -- Which calls make neither managed subscriptions nor units.
-use Rattle.std.proofs.Common.{◌≡◌, None, refl}
-use Rattle.df_rules.specs.Start.{rows}
-use Rattle.df_unit.specs.declared.call.Call.{Call}
-use Rattle.df_unit.specs.declared.call.Call.TheVariants.{Instantiate, SubscribeManaged}
-use Rattle.df_unit.specs.declared.reply.Reply.{Reply}
-use Rattle.df_unit.specs.declared.reply.Reply.TheVariants.{Sub, Unit}
-use Rattle.df_tables.specs.Agree.{MakesNoManaged, MakesNoUnit}
-use Rattle.df_tables.specs.Moves.{child_by, managed_sub_by}
+use Rattle.df_tables.proofs.Names.{◌≡◌, None, refl, rows, Call, Instantiate, SubscribeManaged, Reply, Sub, MakesNoManaged, MakesNoUnit, child_by, managed_sub_by}
+use Rattle.df_unit.specs.declared.reply.Reply.TheVariants.{Unit}
 
 pub unmanaged_makes_none : (c : Call) (r : Reply) → managed_sub_by c r ≡ None → MakesNoManaged rows c r
 unmanaged_makes_none (SubscribeManaged filter) (Sub n) e = absurd (let z : ⊥ = cc in z)

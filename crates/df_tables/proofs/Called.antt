@@ -1,36 +1,8 @@
 -- What a commit brings to instances: to one that exists, by its row, and to one that it makes.
-use Rattle.std.proofs.Common.{◌≡◌, ℕ, zero, suc, ◌<◌, ◌==◌, Bool, true, false, not, ◌&&◌, if◌then◌else◌, List, [], ◌∷◌, ◌++◌, get_or, length, map, Option, Some, None, refl, ap, sym, subst, ◌∙◌, arith}
+use Rattle.df_tables.proofs.Names.{◌≡◌, ℕ, zero, suc, ◌<◌, ◌==◌, Bool, true, false, not, ◌&&◌, if◌then◌else◌, List, [], ◌∷◌, ◌++◌, get_or, length, map, Option, Some, None, refl, ap, sym, subst, ◌∙◌, arith, Contains, get_or_default, map-append, Clause, Pair, IsReceiver, Subscription, Label, Privilege, apply, cut, Spot, Part, contents, deliveries_instance, instance_news, was_handed, Legal, born, fixed, is_given, own_instance, rows, roots, readable_at, Fixed, OwnState, Commit, Given, Entry, EventName, Managed, FilterIndex, IsSeat, subscriptions_at, instance_row, given_to, news_at, pairs_of, Unit}
 use Rattle.std.specs.Prelude.{◌↔◌}
-use Rattle.std.specs.List.{Contains}
-use Rattle.std.proofs.lemmas.List.{get_or_default, map-append}
-use Rattle.df_filter.specs.declared.clause.Clause.{Clause}
-use Rattle.df_index.specs.Due.{Pair}
 use Rattle.df_index.specs.Filter.{matches}
-use Rattle.df_index.specs.IndexState.{IsReceiver}
-use Rattle.df_index.specs.declared.subscription.Subscription.{Subscription}
-use Rattle.df_label.specs.declared.label.Label.{Label}
-use Rattle.df_label.specs.declared.privilege.Privilege.{Privilege}
-use Rattle.df_part.specs.Contents.{apply}
-use Rattle.df_part.specs.Part.{cut}
-use Rattle.df_part.specs.declared.edit.Spot.{Spot}
-use Rattle.df_part.specs.declared.part.Part.{Part}
-use Rattle.df_rules.specs.Commits.{contents}
-use Rattle.df_rules.specs.Deliveries.{deliveries_instance, instance_news, was_handed}
-use Rattle.df_rules.specs.Legal.{Legal}
-use Rattle.df_rules.specs.Own.{born, fixed, is_given, own_instance}
-use Rattle.df_rules.specs.Start.{rows, roots}
 use Rattle.df_rules.proofs.Instances.{keeps_to_its_name}
-use Rattle.df_unit.specs.Beginnings.{readable_at}
-use Rattle.df_unit.specs.OwnState.{Fixed, OwnState}
-use Rattle.df_unit.specs.declared.commit.Commit.{Commit}
-use Rattle.df_unit.specs.declared.commit.Given.{Given}
-use Rattle.df_unit.specs.declared.entry.Entry.{Entry}
-use Rattle.df_unit.specs.declared.name.EventName.{EventName}
-use Rattle.df_unit.specs.declared.name.UnitName.TheVariants.{Managed}
-use Rattle.df_tables.specs.Agree.{FilterIndex, IsSeat, subscriptions_at}
-use Rattle.df_tables.specs.Births.{instance_row}
-use Rattle.df_tables.specs.Hand.{given_to, news_at, pairs_of}
-use Rattle.df_tables.specs.declared.units.Unit.{Unit}
 use Rattle.df_tables.proofs.Steps.{news_of}
 
 module _ (starts : List (Label × List Privilege)) (past : List Entry) (k : Commit) (after : List Part) (is : after ≡ apply k.edit (contents past k.event)) (o : List ℕ) (n : ℕ) (t : List (List ℕ)) where

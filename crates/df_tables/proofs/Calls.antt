@@ -1,42 +1,13 @@
 -- Which instances the tables call, by their names.
-use Rattle.std.proofs.Common.{◌≡◌, ℕ, ◌≤◌, ◌<◌, ◌==◌, ◌||◌, Bool, true, false, if◌then◌else◌, List, [], ◌∷◌, ◌++◌, Option, Some, None, get_or, length, nat_eq, option_map, slice_get, All, refl, ap, sym, subst, ◌∙◌, arith, eq-eqb}
-use Rattle.std.specs.Prelude.{is_none}
-use Rattle.std.specs.Cmp.Lexicographic.{pointwise}
-use Rattle.std.specs.List.{find, flat_map, list_any, position_or_len}
+use Rattle.df_tables.proofs.Names.{◌≡◌, ℕ, ◌≤◌, ◌<◌, ◌==◌, ◌||◌, Bool, true, false, if◌then◌else◌, List, [], ◌∷◌, ◌++◌, Option, Some, None, get_or, length, nat_eq, option_map, slice_get, All, refl, ap, sym, subst, ◌∙◌, arith, eq-eqb, is_none, pointwise, flat_map, list_any, position_or_len, option_or, nat_cmp, ordering_then, Ordering, Less, Equal, and_from, and_parts, both_ways, eqb-true, false_from_ne_true, ne_eqb, append-nil, All-append, All-cons, All-from_recursion, All-head, All-nil, All-tail, find_at, list_any_none, bytes_eq-Decides, Pair, instance_cmp, AreNumbered, has_name, is_named_at, is_of, kept_in, Instance, ManagedSubscription, record_of, Part, readable_at, same, Fixed, EventName, UnitName, Managed, Root, same_name-exact, same_name_decides, instance_row, birth_of, births_by, pair_at, pair_of, pairs_by, given_to, pairs_of, place_of, Unit}
+use Rattle.std.specs.List.{find}
 use Rattle.std.specs.List.Sorted.{IsStrictlySortedBy}
-use Rattle.std.specs.Option.{option_or}
-use Rattle.std.specs.Ordering.{nat_cmp, ordering_then}
-use Rattle.std.specs.declared.cmp.Ordering.{Ordering}
-use Rattle.std.specs.declared.cmp.Ordering.TheVariants.{Less, Equal}
-use Rattle.std.proofs.lemmas.Bool.{and_from, and_parts, both_ways, eqb-true, false_from_ne_true, ne_eqb}
 use Rattle.std.proofs.lemmas.Cmp.{nat_cmp_total, tied_itself}
-use Rattle.std.proofs.lemmas.List.{append-nil}
-use Rattle.std.proofs.lemmas.List.Elements.{All-append, All-cons, All-from_recursion, All-head, All-nil, All-tail}
-use Rattle.std.proofs.lemmas.List.Folds.{find_at, list_any_none}
-use Rattle.std.proofs.lemmas.Slice.Eq.{bytes_eq-Decides}
-use Rattle.df_index.specs.Due.{Pair}
-use Rattle.df_instances.specs.Chosen.{instance_cmp}
 use Rattle.df_instances.specs.Marks as marks
-use Rattle.df_instances.specs.Named.{AreNumbered, has_name, is_named_at, is_of, kept_in}
-use Rattle.df_instances.specs.declared.instances.Instance.{Instance}
-use Rattle.df_instances.specs.declared.subscription.ManagedSubscription.{ManagedSubscription}
 use Rattle.df_instances.proofs.Named.{none_passes}
 use Rattle.df_label.specs.TagSet.{tag_set_cmp}
 use Rattle.df_label.proofs.TagSetFacts.{tag_set_cmp_exact}
-use Rattle.df_local.specs.Births.{record_of}
-use Rattle.df_part.specs.declared.part.Part.{Part}
-use Rattle.df_unit.specs.Beginnings.{readable_at}
-use Rattle.df_unit.specs.Name.{same}
-use Rattle.df_unit.specs.OwnState.{Fixed}
-use Rattle.df_unit.specs.declared.name.EventName.{EventName}
-use Rattle.df_unit.specs.declared.name.UnitName.{UnitName}
-use Rattle.df_unit.specs.declared.name.UnitName.TheVariants.{Managed, Root}
-use Rattle.df_unit.proofs.SameFacts.{same_name-exact, same_name_decides}
-use Rattle.df_tables.specs.Births.{instance_row}
-use Rattle.df_tables.specs.Calls.{birth_of, births_by, pair_at, pair_of, pairs_by}
-use Rattle.df_tables.specs.Hand.{given_to, pairs_of}
-use Rattle.df_tables.specs.Table.{find as row_of, place_of}
-use Rattle.df_tables.specs.declared.units.Unit.{Unit}
+use Rattle.df_tables.specs.Table.{find as row_of}
 use Rattle.df_tables.proofs.Called.{pairs_of-append}
 use Rattle.df_tables.proofs.Fresh.{AreDistinct, AreOthers, AreUnplaced}
 use Rattle.df_tables.proofs.Newborn.{find-append}

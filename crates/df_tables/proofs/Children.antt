@@ -1,43 +1,6 @@
 -- An entry that makes a child: the tables tell of it, once they have its row.
-use Rattle.std.proofs.Common.{◌≡◌, ℕ, suc, ◌-◌, ◌≤◌, ◌==◌, Bool, true, false, if◌then◌else◌, List, [], ◌∷◌, ◌++◌, get_or, length, take, Option, Some, None, refl, ap, sym, subst, ◌∙◌, arith, eq-eqb, length-append}
-use Rattle.std.specs.Prelude.{is_none}
-use Rattle.std.specs.Option.{option_and_then}
-use Rattle.std.proofs.lemmas.Bool.{eqb-true}
-use Rattle.std.proofs.lemmas.List.{append-nil}
-use Rattle.std.proofs.Math.Seq.{take-append_seam}
-use Rattle.std.proofs.Math.Seq.{get_or-append_seam}
+use Rattle.df_tables.proofs.Names.{◌≡◌, ℕ, suc, ◌-◌, ◌≤◌, ◌==◌, Bool, true, false, if◌then◌else◌, List, [], ◌∷◌, ◌++◌, get_or, length, take, Option, Some, None, refl, ap, sym, subst, ◌∙◌, arith, eq-eqb, length-append, is_none, option_and_then, eqb-true, append-nil, take-append_seam, get_or-append_seam, maker_of, number_of, Clause, Subscription, Label, Privilege, deliveries, fixed, own, own_plain, rows, roots, row_taking_laws, child, same, OwnState, reply, Call, Instantiate, Effect, Entry, Done, UnitName, Root, Managed, Reply, same_name-exact, same_name_decides, Agrees, FilterIndex, IsSeat, IsWhole, child_row, if_new, IsBooked, IsChildBoard, managed_of, IsAnsweredAt, modify, IsAnswered, child_by, find, moved_at, moved_row, place_of, Board, EventRow, Unit}
 use Rattle.df_instances.specs.Marks as marks
-use Rattle.df_label.specs.Tag.{maker_of, number_of}
-use Rattle.df_filter.specs.declared.clause.Clause.{Clause}
-use Rattle.df_index.specs.declared.subscription.Subscription.{Subscription}
-use Rattle.df_label.specs.declared.label.Label.{Label}
-use Rattle.df_label.specs.declared.privilege.Privilege.{Privilege}
-use Rattle.df_rules.specs.Deliveries.{deliveries}
-use Rattle.df_rules.specs.Own.{fixed, own, own_plain}
-use Rattle.df_rules.specs.Start.{rows, roots}
-use Rattle.df_rules.proofs.TakingRows.{row_taking_laws}
-use Rattle.df_unit.specs.Beginnings.{child}
-use Rattle.df_unit.specs.Name.{same}
-use Rattle.df_unit.specs.OwnState.{OwnState}
-use Rattle.df_unit.specs.Rows.{reply}
-use Rattle.df_unit.specs.declared.call.Call.{Call}
-use Rattle.df_unit.specs.declared.call.Call.TheVariants.{Instantiate}
-use Rattle.df_unit.specs.declared.entry.Effect.{Effect}
-use Rattle.df_unit.specs.declared.entry.Entry.{Entry}
-use Rattle.df_unit.specs.declared.entry.Entry.TheVariants.{Done}
-use Rattle.df_unit.specs.declared.name.UnitName.{UnitName}
-use Rattle.df_unit.specs.declared.name.UnitName.TheVariants.{Root, Managed}
-use Rattle.df_unit.specs.declared.reply.Reply.{Reply}
-use Rattle.df_unit.proofs.SameFacts.{same_name-exact, same_name_decides}
-use Rattle.df_tables.specs.Agree.{Agrees, FilterIndex, IsSeat, IsWhole}
-use Rattle.df_tables.specs.Births.{child_row, if_new}
-use Rattle.df_tables.specs.Board.{IsBooked, IsChildBoard, managed_of}
-use Rattle.df_tables.specs.Hand.{IsAnsweredAt, modify}
-use Rattle.df_tables.specs.Moves.{IsAnswered, child_by}
-use Rattle.df_tables.specs.Table.{find, moved_at, moved_row, place_of}
-use Rattle.df_tables.specs.declared.board.Board.{Board}
-use Rattle.df_tables.specs.declared.events.EventRow.{EventRow}
-use Rattle.df_tables.specs.declared.units.Unit.{Unit}
 use Rattle.df_tables.proofs.Boards.{modify-moved}
 use Rattle.df_tables.proofs.Booked.{child_at, child_some, found, no_fewer, place_in, right, told_more, unrecorded}
 use Rattle.df_tables.proofs.Newborn.{modify-append}

@@ -1,42 +1,6 @@
 -- The tables after one more entry that has a commit.
-use Rattle.std.proofs.Common.{◌≡◌, ℕ, ◌+◌, ◌≤◌, ◌<◌, ◌==◌, ◌&&◌, ◌||◌, List, [], ◌∷◌, ◌++◌, Option, Some, None, Bool, true, false, not, if◌then◌else◌, length, map, option_map, refl, ap, sym, subst, ◌∙◌, arith, All}
-use Rattle.std.specs.Prelude.{option_to_list}
-use Rattle.std.specs.Option.{option_and_then, option_or}
-use Rattle.std.proofs.lemmas.List.{append-nil}
-use Rattle.std.proofs.lemmas.List.Folds.{list_any-append}
-use Rattle.df_filter.specs.declared.clause.Clause.{Clause}
-use Rattle.df_index.specs.Due.{Pair, has_pair}
+use Rattle.df_tables.proofs.Names.{◌≡◌, ℕ, ◌+◌, ◌≤◌, ◌<◌, ◌==◌, ◌&&◌, ◌||◌, List, [], ◌∷◌, ◌++◌, Option, Some, None, Bool, true, false, not, if◌then◌else◌, length, map, option_map, refl, ap, sym, subst, ◌∙◌, arith, All, option_to_list, option_and_then, option_or, append-nil, list_any-append, Clause, Pair, has_pair, Label, apply, Part, commit_of, committed, contents, deliveries, was_handed, TakingLaws, IsRight, answer, answer_of, born, fixed, fixed_by, own, own_plain, stepped, Rules, subscribed_by, subscriptions, same, same_event, OwnState, is_nil, Call, Commit, Given, Effect, Entry, Done, Emitted, EventName, UnitName, Root, Managed, Reply, same_name-exact, same_event_decides, Agrees, FilterIndex, IsSeat, MakesNoManaged, ManagedState, is_marked, is_told, subscribed_at, event_place, news_at, with_news, find, names_of, parts_of, place_of, moved_at, moved_row, EventRow, Unit}
 use Rattle.df_index.specs.IndexState as index
-use Rattle.df_label.specs.declared.label.Label.{Label}
-use Rattle.df_part.specs.Contents.{apply}
-use Rattle.df_part.specs.declared.part.Part.{Part}
-use Rattle.df_rules.specs.Commits.{commit_of, committed, contents}
-use Rattle.df_rules.specs.Deliveries.{deliveries, was_handed}
-use Rattle.df_rules.specs.Laws.{TakingLaws}
-use Rattle.df_rules.specs.Legal.{IsRight, answer, answer_of}
-use Rattle.df_rules.specs.Own.{born, fixed, fixed_by, own, own_plain, stepped}
-use Rattle.df_rules.specs.Rules.{Rules}
-use Rattle.df_rules.specs.Subscriptions.{subscribed_by, subscriptions}
-use Rattle.df_unit.specs.Name.{same, same_event}
-use Rattle.df_unit.specs.OwnState.{OwnState}
-use Rattle.df_unit.specs.Rows.{is_nil}
-use Rattle.df_unit.specs.declared.call.Call.{Call}
-use Rattle.df_unit.specs.declared.commit.Commit.{Commit}
-use Rattle.df_unit.specs.declared.commit.Given.{Given}
-use Rattle.df_unit.specs.declared.entry.Effect.{Effect}
-use Rattle.df_unit.specs.declared.entry.Entry.{Entry}
-use Rattle.df_unit.specs.declared.entry.Entry.TheVariants.{Done, Emitted}
-use Rattle.df_unit.specs.declared.name.EventName.{EventName}
-use Rattle.df_unit.specs.declared.name.UnitName.{UnitName}
-use Rattle.df_unit.specs.declared.name.UnitName.TheVariants.{Root, Managed}
-use Rattle.df_unit.specs.declared.reply.Reply.{Reply}
-use Rattle.df_unit.proofs.SameFacts.{same_name-exact, same_event_decides}
-use Rattle.df_tables.specs.Agree.{Agrees, FilterIndex, IsSeat, MakesNoManaged, ManagedState, is_marked, is_told, subscribed_at}
-use Rattle.df_tables.specs.Events.{event_place}
-use Rattle.df_tables.specs.Hand.{news_at, with_news}
-use Rattle.df_tables.specs.Table.{find, names_of, parts_of, place_of, moved_at, moved_row}
-use Rattle.df_tables.specs.declared.events.EventRow.{EventRow}
-use Rattle.df_tables.specs.declared.units.Unit.{Unit}
 use Rattle.df_tables.proofs.Finds.{find-map, find-moved}
 use Rattle.df_tables.proofs.Newborn.{find-append, marked_born, place_by-append, subscribed_born}
 use Rattle.df_tables.proofs.Order.{names-map, names-moved}

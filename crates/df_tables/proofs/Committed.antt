@@ -1,52 +1,7 @@
 -- After a commit that is handed to receivers of both kinds the tables tell of it.
-use Rattle.std.proofs.Common.{◌≡◌, ◌↔◌, ℕ, ◌+◌, ◌≤◌, ◌<◌, ◌==◌, ◌&&◌, ◌||◌, All, Bool, true, false, not, if◌then◌else◌, List, [], ◌∷◌, ◌++◌, get_or, length, map, slice_get, Option, Some, None, refl, ap, sym, subst, ◌∙◌, arith}
-use Rattle.std.specs.List.{Contains}
-use Rattle.std.specs.List.Sorted.{IsStrictlySortedBy}
-use Rattle.std.proofs.lemmas.Bool.{ne_eqb}
-use Rattle.std.proofs.lemmas.Option.{slice_get-get_or}
-use Rattle.df_index.specs.Due.{Pair, has_pair, pair_cmp}
+use Rattle.df_tables.proofs.Names.{◌≡◌, ◌↔◌, ℕ, ◌+◌, ◌≤◌, ◌<◌, ◌==◌, ◌&&◌, ◌||◌, All, Bool, true, false, not, if◌then◌else◌, List, [], ◌∷◌, ◌++◌, get_or, length, map, slice_get, Option, Some, None, refl, ap, sym, subst, ◌∙◌, arith, Contains, IsStrictlySortedBy, ne_eqb, slice_get-get_or, Pair, has_pair, pair_cmp, IsReceiver, AreChosen, instance_cmp, has_place, AreNumbered, Instance, ManagedSubscription, maker_of, number_of, Label, Privilege, apply, Part, matches, commit_of, contents, deliveries, answer, born, fixed, made_by, own, own_plain, rows, roots, row_taking_laws, same, same_event, OwnState, is_nil, subscribes, Call, Commit, Given, Effect, Entry, Done, Emitted, EventName, UnitName, Managed, Root, Reply, Agrees, AreApart, AreWithin, FilterIndex, IsSeat, MakesNoManaged, MakesNoUnit, managed_by, births_by, pairs_by, places_by, places_from, event_place, IsNews, news_at, with_news, inputs, find, moved_at, moved_row, parts_of, place_of, EventRow, Unit}
 use Rattle.df_index.specs.IndexState as index
-use Rattle.df_index.specs.IndexState.{IsReceiver}
-use Rattle.df_instances.specs.Chosen.{AreChosen, instance_cmp}
 use Rattle.df_instances.specs.Marks as marks
-use Rattle.df_instances.specs.Marks.{has_place}
-use Rattle.df_instances.specs.Named.{AreNumbered}
-use Rattle.df_instances.specs.declared.instances.Instance.{Instance}
-use Rattle.df_instances.specs.declared.subscription.ManagedSubscription.{ManagedSubscription}
-use Rattle.df_label.specs.Tag.{maker_of, number_of}
-use Rattle.df_label.specs.declared.label.Label.{Label}
-use Rattle.df_label.specs.declared.privilege.Privilege.{Privilege}
-use Rattle.df_part.specs.Contents.{apply}
-use Rattle.df_part.specs.declared.part.Part.{Part}
-use Rattle.df_rules.specs.Choices.{matches}
-use Rattle.df_rules.specs.Commits.{commit_of, contents}
-use Rattle.df_rules.specs.Deliveries.{deliveries}
-use Rattle.df_rules.specs.Legal.{answer}
-use Rattle.df_rules.specs.Own.{born, fixed, made_by, own, own_plain}
-use Rattle.df_rules.specs.Start.{rows, roots}
-use Rattle.df_rules.proofs.TakingRows.{row_taking_laws}
-use Rattle.df_unit.specs.Name.{same, same_event}
-use Rattle.df_unit.specs.OwnState.{OwnState}
-use Rattle.df_unit.specs.Rows.{is_nil, subscribes}
-use Rattle.df_unit.specs.declared.call.Call.{Call}
-use Rattle.df_unit.specs.declared.commit.Commit.{Commit}
-use Rattle.df_unit.specs.declared.commit.Given.{Given}
-use Rattle.df_unit.specs.declared.entry.Effect.{Effect}
-use Rattle.df_unit.specs.declared.entry.Entry.{Entry}
-use Rattle.df_unit.specs.declared.entry.Entry.TheVariants.{Done, Emitted}
-use Rattle.df_unit.specs.declared.name.EventName.{EventName}
-use Rattle.df_unit.specs.declared.name.UnitName.{UnitName}
-use Rattle.df_unit.specs.declared.name.UnitName.TheVariants.{Managed, Root}
-use Rattle.df_unit.specs.declared.reply.Reply.{Reply}
-use Rattle.df_tables.specs.Agree.{Agrees, AreApart, AreWithin, FilterIndex, IsSeat, MakesNoManaged, MakesNoUnit}
-use Rattle.df_tables.specs.Board.{managed_by}
-use Rattle.df_tables.specs.Calls.{births_by, pairs_by, places_by, places_from}
-use Rattle.df_tables.specs.Events.{event_place}
-use Rattle.df_tables.specs.Hand.{IsNews, news_at, with_news}
-use Rattle.df_tables.specs.Labels.{inputs}
-use Rattle.df_tables.specs.Table.{find, moved_at, moved_row, parts_of, place_of}
-use Rattle.df_tables.specs.declared.events.EventRow.{EventRow}
-use Rattle.df_tables.specs.declared.units.Unit.{Unit}
 use Rattle.df_tables.proofs.Booked.{place_in}
 use Rattle.df_tables.proofs.Both.{news_both}
 use Rattle.df_tables.proofs.Called.{called_births}

@@ -1,37 +1,8 @@
 -- An entry that makes a managed subscription: what it keeps, and its number.
-use Rattle.std.proofs.Common.{◌≡◌, ℕ, ◌≤◌, ◌==◌, ◌&&◌, Bool, true, false, if◌then◌else◌, List, [], ◌∷◌, ◌++◌, Option, Some, None, nat_eq, option_map, refl, ap, sym, subst, ◌∙◌, arith}
-use Rattle.std.specs.Prelude.{nat_le}
-use Rattle.std.specs.Cmp.Lexicographic.{pointwise}
-use Rattle.std.specs.Option.{option_and_then, option_or}
-use Rattle.std.proofs.lemmas.Bool.{ne_eqb}
-use Rattle.std.proofs.lemmas.Slice.Eq.{bytes_eq-Decides}
-use Rattle.df_filter.specs.declared.clause.Clause.{Clause}
-use Rattle.df_instances.specs.Named.{AreNumbered, is_of, kept_in}
-use Rattle.df_instances.specs.declared.subscription.ManagedSubscription.{ManagedSubscription}
+use Rattle.df_tables.proofs.Names.{◌≡◌, ℕ, ◌≤◌, ◌==◌, ◌&&◌, Bool, true, false, if◌then◌else◌, List, [], ◌∷◌, ◌++◌, Option, Some, None, nat_eq, option_map, refl, ap, sym, subst, ◌∙◌, arith, nat_le, pointwise, option_and_then, option_or, ne_eqb, bytes_eq-Decides, Clause, AreNumbered, is_of, kept_in, ManagedSubscription, maker_of, record_of, deliveries, Legal, answer, answer_of, left, fixed, fixed_by, made_by, own_plain, root_at, rows, fixed_of, fixes, same, Fixed, OwnState, after, is_instance, reply, Call, SubscribeManaged, Given, Effect, Entry, Done, Emitted, UnitName, Root, Reply, Sub, same_name-exact}
 use Rattle.df_instances.proofs.Numbered.{AreNumbered-push, kept_in-push}
-use Rattle.df_label.specs.Tag.{maker_of}
-use Rattle.df_local.specs.Births.{record_of}
-use Rattle.df_rules.specs.Deliveries.{deliveries}
-use Rattle.df_rules.specs.Legal.{Legal, answer, answer_of, left}
-use Rattle.df_rules.specs.Own.{fixed, fixed_by, made_by, own_plain, root_at}
-use Rattle.df_rules.specs.Start.{rows}
 use Rattle.df_rules.proofs.Growth.{grown_after}
-use Rattle.df_unit.specs.Beginnings.{fixed_of, fixes}
 use Rattle.df_unit.specs.Limits.{most_subs}
-use Rattle.df_unit.specs.Name.{same}
-use Rattle.df_unit.specs.OwnState.{Fixed, OwnState}
-use Rattle.df_unit.specs.Rows.{after, is_instance, reply}
-use Rattle.df_unit.specs.declared.call.Call.{Call}
-use Rattle.df_unit.specs.declared.call.Call.TheVariants.{SubscribeManaged}
-use Rattle.df_unit.specs.declared.commit.Given.{Given}
-use Rattle.df_unit.specs.declared.entry.Effect.{Effect}
-use Rattle.df_unit.specs.declared.entry.Entry.{Entry}
-use Rattle.df_unit.specs.declared.entry.Entry.TheVariants.{Done, Emitted}
-use Rattle.df_unit.specs.declared.name.UnitName.{UnitName}
-use Rattle.df_unit.specs.declared.name.UnitName.TheVariants.{Root}
-use Rattle.df_unit.specs.declared.reply.Reply.{Reply}
-use Rattle.df_unit.specs.declared.reply.Reply.TheVariants.{Sub}
-use Rattle.df_unit.proofs.SameFacts.{same_name-exact}
 use Rattle.df_tables.proofs.Subscribing.{next_number}
 
 or_none : {A : Type 0} (o : Option A) → option_or o None ≡ o

@@ -1,34 +1,6 @@
 -- The receivers that the index finds are those to whom the definitions hand the event.
-use Rattle.std.proofs.Common.{◌≡◌, ◌↔◌, ℕ, List, [], if◌then◌else◌, slice_get, Option, Some, option_map, ap, sym, ◌∙◌}
-use Rattle.std.specs.List.{Contains, flat_map}
-use Rattle.std.specs.List.Sorted.{IsStrictlySortedBy}
-use Rattle.std.proofs.lemmas.Option.{slice_get-map}
-use Rattle.df_index.specs.Due.{Pair, pair_cmp}
-use Rattle.df_index.specs.IndexState.{IsReceiver, handed_at}
-use Rattle.df_label.specs.declared.label.Label.{Label}
-use Rattle.df_label.specs.declared.privilege.Privilege.{Privilege}
-use Rattle.df_part.specs.Contents.{apply}
-use Rattle.df_part.specs.Part.{cut}
-use Rattle.df_part.specs.declared.part.Part.{Part}
-use Rattle.df_rules.specs.Choices.{matches}
-use Rattle.df_rules.specs.Commits.{contents}
-use Rattle.df_rules.specs.Deliveries.{deliveries_plain, offer, plain_news}
-use Rattle.df_rules.specs.Own.{own_plain}
-use Rattle.df_rules.specs.Start.{rows, roots}
-use Rattle.df_rules.specs.Subscriptions.{subscriptions}
+use Rattle.df_tables.proofs.Names.{◌≡◌, ◌↔◌, ℕ, List, [], if◌then◌else◌, slice_get, Option, Some, option_map, ap, sym, ◌∙◌, Contains, flat_map, IsStrictlySortedBy, slice_get-map, Pair, pair_cmp, IsReceiver, handed_at, Label, Privilege, apply, cut, Part, matches, contents, deliveries_plain, offer, plain_news, own_plain, rows, roots, subscriptions, OwnState, is_nil, Commit, Entry, Root, Agrees, AreApart, FilterIndex, ManagedState, is_marked, subscribed_at, event_place, news_at, inputs, parts_of, place_of, EventRow, Unit}
 use Rattle.df_rules.proofs.Numbers.{numbers_ascend}
-use Rattle.df_unit.specs.OwnState.{OwnState}
-use Rattle.df_unit.specs.Rows.{is_nil}
-use Rattle.df_unit.specs.declared.commit.Commit.{Commit}
-use Rattle.df_unit.specs.declared.entry.Entry.{Entry}
-use Rattle.df_unit.specs.declared.name.UnitName.TheVariants.{Root}
-use Rattle.df_tables.specs.Agree.{Agrees, AreApart, FilterIndex, ManagedState, is_marked, subscribed_at}
-use Rattle.df_tables.specs.Events.{event_place}
-use Rattle.df_tables.specs.Hand.{news_at}
-use Rattle.df_tables.specs.Labels.{inputs}
-use Rattle.df_tables.specs.Table.{parts_of, place_of}
-use Rattle.df_tables.specs.declared.events.EventRow.{EventRow}
-use Rattle.df_tables.specs.declared.units.Unit.{Unit}
 use Rattle.df_tables.proofs.Brings.{news_is}
 
 module _ (starts : List (Label × List Privilege)) (past : List Entry) (us : List Unit) (evs : List EventRow) (x : FilterIndex) (m : ManagedState) (agree : Agrees rows (roots starts) past us evs x m) (apart : AreApart us) (k : Commit) (j : ℕ) (after : List Part) (ps : List Pair) (labels : List Label)

@@ -1,9 +1,6 @@
 -- Rows changed one after another.
-use Rattle.std.proofs.Common.{◌≡◌, ℕ, zero, suc, ◌+◌, ◌<◌, List, [], ◌∷◌, ◌++◌, false, if◌then◌else◌, length, get_or, set, take, refl, ap, sym, ◌∙◌, arith}
+use Rattle.df_tables.proofs.Names.{◌≡◌, ℕ, zero, suc, ◌+◌, ◌<◌, List, [], ◌∷◌, ◌++◌, false, if◌then◌else◌, length, get_or, set, take, refl, ap, sym, ◌∙◌, arith, take_more, Pair, each, modify}
 use Rattle.std.specs.Prelude.{◌==◌}
-use Rattle.std.proofs.lemmas.List.{take_more}
-use Rattle.df_index.specs.Due.{Pair}
-use Rattle.df_tables.specs.Hand.{each, modify}
 
 pub set_modify : {X : Type 0} (k : ℕ) (f : X → X) (d : X) (xs : List X) → set xs k (f (get_or xs k d)) ≡ modify k f xs
 set_modify k f d [] = refl

@@ -1,37 +1,6 @@
 -- After an entry that makes a managed subscription the tables tell of it.
-use Rattle.std.proofs.Common.{◌≡◌, ℕ, ◌<◌, All, List, [], ◌∷◌, ◌++◌, get_or, length, Option, Some, None, refl, ap, sym, subst, ◌∙◌, arith}
-use Rattle.std.specs.Option.{option_or}
-use Rattle.std.proofs.lemmas.List.{append-nil}
-use Rattle.df_filter.specs.declared.clause.Clause.{Clause}
-use Rattle.df_index.specs.declared.subscription.Subscription.{Subscription}
+use Rattle.df_tables.proofs.Names.{◌≡◌, ℕ, ◌<◌, All, List, [], ◌∷◌, ◌++◌, get_or, length, Option, Some, None, refl, ap, sym, subst, ◌∙◌, arith, option_or, append-nil, Clause, Subscription, AreNumbered, kept_in, ManagedSubscription, Label, Privilege, record_of, fixed_by, own, own_plain, rows, roots, row_taking_laws, fixed_of, Call, SubscribeManaged, Effect, Entry, Done, UnitName, Root, Reply, Sub, Agrees, IsWhole, enrols, IsEnrolled, IsBooked, IsMovedBoard, TellsOf, managed_of, IsAnsweredAt, IsAnswered, managed_sub_by, moved_at, moved_row, place_of, Board, EventRow, Unit}
 use Rattle.df_instances.specs.Marks as marks
-use Rattle.df_instances.specs.Named.{AreNumbered, kept_in}
-use Rattle.df_instances.specs.declared.subscription.ManagedSubscription.{ManagedSubscription}
-use Rattle.df_label.specs.declared.label.Label.{Label}
-use Rattle.df_label.specs.declared.privilege.Privilege.{Privilege}
-use Rattle.df_local.specs.Births.{record_of}
-use Rattle.df_rules.specs.Own.{fixed_by, own, own_plain}
-use Rattle.df_rules.specs.Start.{rows, roots}
-use Rattle.df_rules.proofs.TakingRows.{row_taking_laws}
-use Rattle.df_unit.specs.Beginnings.{fixed_of}
-use Rattle.df_unit.specs.declared.call.Call.{Call}
-use Rattle.df_unit.specs.declared.call.Call.TheVariants.{SubscribeManaged}
-use Rattle.df_unit.specs.declared.entry.Effect.{Effect}
-use Rattle.df_unit.specs.declared.entry.Entry.{Entry}
-use Rattle.df_unit.specs.declared.entry.Entry.TheVariants.{Done}
-use Rattle.df_unit.specs.declared.name.UnitName.{UnitName}
-use Rattle.df_unit.specs.declared.name.UnitName.TheVariants.{Root}
-use Rattle.df_unit.specs.declared.reply.Reply.{Reply}
-use Rattle.df_unit.specs.declared.reply.Reply.TheVariants.{Sub}
-use Rattle.df_tables.specs.Agree.{Agrees, IsWhole, enrols}
-use Rattle.df_tables.specs.Births.{IsEnrolled}
-use Rattle.df_tables.specs.Board.{IsBooked, IsMovedBoard, TellsOf, managed_of}
-use Rattle.df_tables.specs.Hand.{IsAnsweredAt}
-use Rattle.df_tables.specs.Moves.{IsAnswered, managed_sub_by}
-use Rattle.df_tables.specs.Table.{moved_at, moved_row, place_of}
-use Rattle.df_tables.specs.declared.board.Board.{Board}
-use Rattle.df_tables.specs.declared.events.EventRow.{EventRow}
-use Rattle.df_tables.specs.declared.units.Unit.{Unit}
 use Rattle.df_tables.proofs.Boards.{enrolled_more, modify-moved}
 use Rattle.df_tables.proofs.Booked.{childless_births, found, no_fewer, place_in, right, within_more}
 use Rattle.df_tables.proofs.Counted.{kept_more, numbered_more}

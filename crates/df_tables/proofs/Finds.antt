@@ -1,15 +1,5 @@
 -- What is found in a changed table.
-use Rattle.std.proofs.Common.{◌≡◌, ℕ, suc, List, [], ◌∷◌, Option, Some, None, Bool, true, false, if◌then◌else◌, map, option_map, is_some, ◌||◌, refl, ap, sym, ◌∙◌}
-use Rattle.df_label.specs.Ascending.{contains_by}
-use Rattle.df_unit.specs.Name.{same}
-use Rattle.df_unit.specs.UnitOrder.{unit_cmp}
-use Rattle.df_unit.specs.UnitOrderLaws.{unit_cmp_ties}
-use Rattle.df_unit.specs.declared.name.UnitName.{UnitName}
-use Rattle.df_unit.proofs.SameFacts.{same_name-exact, same_name_decides}
-use Rattle.df_roll.specs.Roll.{names_in, seat_of}
-use Rattle.df_roll.specs.declared.seat.Seat.{Seat}
-use Rattle.df_tables.specs.Table.{find, moved_at, place_of}
-use Rattle.df_tables.specs.declared.units.Unit.{Unit}
+use Rattle.df_tables.proofs.Names.{◌≡◌, ℕ, suc, List, [], ◌∷◌, Option, Some, None, Bool, true, false, if◌then◌else◌, map, option_map, is_some, ◌||◌, refl, ap, sym, ◌∙◌, contains_by, same, unit_cmp, unit_cmp_ties, UnitName, same_name-exact, same_name_decides, names_in, seat_of, Seat, find, moved_at, place_of, Unit}
 
 -- a seat is found exactly where the seats have the name
 pub seat_some : (n : UnitName) (ss : List Seat) → contains_by unit_cmp (names_in ss) n ≡ is_some (seat_of n ss)

@@ -1,11 +1,5 @@
 -- The places of rows, seated one by one.
-use Rattle.std.proofs.Common.{◌≡◌, ℕ, suc, ◌+◌, ◌≤◌, Bool, true, false, if◌then◌else◌, List, [], ◌∷◌, drop, length, Option, Some, None, option_map, refl, ap, sym, ◌∙◌, arith}
-use Rattle.std.proofs.lemmas.List.{at_drop_all}
-use Rattle.std.specs.Option.{option_or}
-use Rattle.df_unit.specs.Name.{same}
-use Rattle.df_unit.specs.declared.name.UnitName.{UnitName}
-use Rattle.df_tables.specs.Table.{place_of}
-use Rattle.df_tables.specs.declared.units.Unit.{Unit}
+use Rattle.df_tables.proofs.Names.{◌≡◌, ℕ, suc, ◌+◌, ◌≤◌, Bool, true, false, if◌then◌else◌, List, [], ◌∷◌, drop, length, Option, Some, None, option_map, refl, ap, sym, ◌∙◌, arith, at_drop_all, option_or, same, UnitName, place_of, Unit}
 
 -- the place of a unit's row, where the first row has the place k
 abbrev pub place_from : ℕ → UnitName → List Unit → Option ℕ

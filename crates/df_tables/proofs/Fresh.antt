@@ -1,14 +1,6 @@
 -- Rows that come to exist together: each unless its unit has one.
-use Rattle.std.proofs.Common.{◌≡◌, ℕ, ◌+◌, Bool, true, false, if◌then◌else◌, List, [], ◌∷◌, ◌++◌, Option, Some, None, option_map, length, refl, ap, sym, ◌∙◌}
-use Rattle.std.specs.Prelude.{⊤, is_none}
-use Rattle.std.specs.Option.{option_or}
-use Rattle.std.proofs.lemmas.List.{append-nil, append_assoc}
-use Rattle.df_unit.specs.Name.{same}
-use Rattle.df_unit.specs.declared.name.UnitName.{UnitName}
-use Rattle.df_unit.proofs.SameFacts.{same_name-exact, same_name_decides}
-use Rattle.df_tables.specs.Births.{all_new}
-use Rattle.df_tables.specs.Table.{names_of, place_of}
-use Rattle.df_tables.specs.declared.units.Unit.{Unit}
+use Rattle.df_tables.proofs.Names.{◌≡◌, ℕ, ◌+◌, Bool, true, false, if◌then◌else◌, List, [], ◌∷◌, ◌++◌, Option, Some, None, option_map, length, refl, ap, sym, ◌∙◌, ⊤, is_none, option_or, append-nil, same, UnitName, same_name-exact, same_name_decides, all_new, names_of, place_of, Unit}
+use Rattle.std.proofs.lemmas.List.{append_assoc}
 use Rattle.df_tables.proofs.Newborn.{place_by-append}
 use Rattle.df_tables.proofs.Seats.{place_of-names}
 

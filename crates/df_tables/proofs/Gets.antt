@@ -1,24 +1,6 @@
 -- A get, in the tables.
-use Rattle.std.proofs.Common.{◌≡◌, ℕ, ◌<◌, Bool, true, false, List, [], ◌∷◌, get_or, set, length, Option, None, Some, Result, Ok, Err, IfOk, OnErr, if◌then◌else◌, refl, ap, sym, subst, ◌∙◌}
-use Rattle.std.proofs.lemmas.List.{get_or_default}
-use Rattle.df_local.specs.Locally.{row_answer}
-use Rattle.df_memory.specs.declared.NoMemory.{NoMemory}
-use Rattle.df_local.specs.code.LocalState.{LocalState}
-use Rattle.df_local.specs.declared.answer.Answer.{Answer}
-use Rattle.df_rules.specs.Commits.{commit_in}
-use Rattle.df_rules.specs.Start.{rows}
-use Rattle.df_unit.specs.Rows.{first_given, handed, is_accepted}
-use Rattle.df_unit.specs.declared.call.Call.TheVariants.{Get}
-use Rattle.df_unit.specs.declared.commit.Given.{Given}
-use Rattle.df_unit.specs.declared.entry.Effect.{Effect}
+use Rattle.df_tables.proofs.Names.{◌≡◌, ℕ, ◌<◌, Bool, true, false, List, [], ◌∷◌, get_or, set, length, Option, None, Some, Result, Ok, Err, IfOk, OnErr, if◌then◌else◌, refl, ap, sym, subst, ◌∙◌, get_or_default, row_answer, NoMemory, LocalState, Answer, commit_in, rows, first_given, handed, is_accepted, Get, Given, Effect, UnitName, Reply, IsBoard, IsMade, IsMovedBoard, answer_from, place_on, IsGiven, IsGivenAt, moved_row, Board, Unit}
 use Rattle.df_unit.specs.declared.entry.Effect.TheVariants as effect
-use Rattle.df_unit.specs.declared.name.UnitName.{UnitName}
-use Rattle.df_unit.specs.declared.reply.Reply.{Reply}
-use Rattle.df_tables.specs.Board.{IsBoard, IsMade, IsMovedBoard, answer_from, place_on}
-use Rattle.df_tables.specs.Hand.{IsGiven, IsGivenAt}
-use Rattle.df_tables.specs.Table.{moved_row}
-use Rattle.df_tables.specs.declared.board.Board.{Board}
-use Rattle.df_tables.specs.declared.units.Unit.{Unit}
 use Rattle.df_tables.proofs.Alone.{IsBesideRows, board_alone, moved_beside}
 use Rattle.df_tables.proofs.Booked.{booked_plain, found, place_in, row_is}
 use Rattle.df_tables.proofs.Each.{set_modify}

@@ -1,19 +1,6 @@
 -- What receivers were handed, row by row.
-use Rattle.std.proofs.Common.{◌≡◌, ℕ, zero, suc, ◌<◌, List, [], ◌∷◌, ◌++◌, Bool, true, false, if◌then◌else◌, map, length, get_or, take, refl, ap, sym, subst, ◌∙◌, arith, All, append_assoc}
+use Rattle.df_tables.proofs.Names.{◌≡◌, ℕ, zero, suc, ◌<◌, List, [], ◌∷◌, ◌++◌, Bool, true, false, if◌then◌else◌, map, length, get_or, take, refl, ap, sym, subst, ◌∙◌, arith, All, append_assoc, append-nil, length-map, same_lists, Pair, LocalState, Part, Call, Given, Effect, EventName, Reply, IsAnsweredAt, IsCalm, IsNews, each, given_to, modify, moved_by, news_at, pairs_of, quiet_row, settled_row, staged_row, with_news, LineState, settled, IsAnswered, Unit}
 use Rattle.std.specs.Prelude.{◌==◌}
-use Rattle.std.proofs.lemmas.List.{append-nil, length-map, same_lists}
-use Rattle.df_index.specs.Due.{Pair}
-use Rattle.df_local.specs.code.LocalState.{LocalState}
-use Rattle.df_part.specs.declared.part.Part.{Part}
-use Rattle.df_unit.specs.declared.call.Call.{Call}
-use Rattle.df_unit.specs.declared.commit.Given.{Given}
-use Rattle.df_unit.specs.declared.entry.Effect.{Effect}
-use Rattle.df_unit.specs.declared.name.EventName.{EventName}
-use Rattle.df_unit.specs.declared.reply.Reply.{Reply}
-use Rattle.df_tables.specs.Hand.{IsAnsweredAt, IsCalm, IsNews, each, given_to, modify, moved_by, news_at, pairs_of, quiet_row, settled_row, staged_row, with_news}
-use Rattle.df_tables.specs.Line.{LineState, settled}
-use Rattle.df_tables.specs.Moves.{IsAnswered}
-use Rattle.df_tables.specs.declared.units.Unit.{Unit}
 use Rattle.df_tables.proofs.Each.{at_each, at_modify, length-each, length-modify, turned}
 
 -- a row with these deliveries left and staged

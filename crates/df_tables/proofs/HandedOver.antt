@@ -1,43 +1,7 @@
 -- After a commit that was handed to all to whom it is to be handed the tables tell of it.
-use Rattle.std.proofs.Common.{◌≡◌, ℕ, ◌+◌, ◌≤◌, ◌==◌, ◌&&◌, ◌||◌, All, false, List, ◌∷◌, ◌++◌, length, map, Option, Some, None, refl, ap, sym, subst, ◌∙◌, arith, length-append}
-use Rattle.std.proofs.lemmas.List.Elements.{All-append}
-use Rattle.df_index.specs.Due.{Pair}
+use Rattle.df_tables.proofs.Names.{◌≡◌, ℕ, ◌+◌, ◌≤◌, ◌==◌, ◌&&◌, ◌||◌, All, false, List, ◌∷◌, ◌++◌, length, map, Option, Some, None, refl, ap, sym, subst, ◌∙◌, arith, length-append, All-append, Pair, AreChosen, has_place, is_ready, AreNumbered, Instance, ManagedSubscription, Label, Privilege, apply, Part, contents, answer, own, rows, roots, OwnState, subscribes, Call, Commit, Given, Effect, Entry, Done, Emitted, UnitName, Reply, Agrees, IsWhole, MakesNoManaged, MakesNoUnit, all_new, rows_in, IsBooked, IsEmitted, IsHandedBoard, IsReady, TellsOf, managed_by, managed_of, receivers_of, births_by, pairs_by, places_by, IsAnsweredAt, IsNews, modify, with_news, with_state, inputs, IsAnswered, child_by, managed_sub_by, moved_at, moved_row, names_of, place_of, Board, Ready, Unit}
 use Rattle.df_index.specs.IndexState as index
-use Rattle.df_instances.specs.Chosen.{AreChosen}
 use Rattle.df_instances.specs.Marks as marks
-use Rattle.df_instances.specs.Marks.{has_place, is_ready}
-use Rattle.df_instances.specs.Named.{AreNumbered}
-use Rattle.df_instances.specs.declared.instances.Instance.{Instance}
-use Rattle.df_instances.specs.declared.subscription.ManagedSubscription.{ManagedSubscription}
-use Rattle.df_label.specs.declared.label.Label.{Label}
-use Rattle.df_label.specs.declared.privilege.Privilege.{Privilege}
-use Rattle.df_part.specs.Contents.{apply}
-use Rattle.df_part.specs.declared.part.Part.{Part}
-use Rattle.df_rules.specs.Commits.{contents}
-use Rattle.df_rules.specs.Legal.{answer}
-use Rattle.df_rules.specs.Own.{own}
-use Rattle.df_rules.specs.Start.{rows, roots}
-use Rattle.df_unit.specs.OwnState.{OwnState}
-use Rattle.df_unit.specs.Rows.{subscribes}
-use Rattle.df_unit.specs.declared.call.Call.{Call}
-use Rattle.df_unit.specs.declared.commit.Commit.{Commit}
-use Rattle.df_unit.specs.declared.commit.Given.{Given}
-use Rattle.df_unit.specs.declared.entry.Effect.{Effect}
-use Rattle.df_unit.specs.declared.entry.Entry.{Entry}
-use Rattle.df_unit.specs.declared.entry.Entry.TheVariants.{Done, Emitted}
-use Rattle.df_unit.specs.declared.name.UnitName.{UnitName}
-use Rattle.df_unit.specs.declared.reply.Reply.{Reply}
-use Rattle.df_tables.specs.Agree.{Agrees, IsWhole, MakesNoManaged, MakesNoUnit}
-use Rattle.df_tables.specs.Births.{all_new, rows_in}
-use Rattle.df_tables.specs.Board.{IsBooked, IsEmitted, IsHandedBoard, IsReady, TellsOf, managed_by, managed_of, receivers_of}
-use Rattle.df_tables.specs.Calls.{births_by, pairs_by, places_by}
-use Rattle.df_tables.specs.Hand.{IsAnsweredAt, IsNews, modify, with_news, with_state}
-use Rattle.df_tables.specs.Labels.{inputs}
-use Rattle.df_tables.specs.Moves.{IsAnswered, child_by, managed_sub_by}
-use Rattle.df_tables.specs.Table.{moved_at, moved_row, names_of, place_of}
-use Rattle.df_tables.specs.declared.board.Board.{Board}
-use Rattle.df_tables.specs.declared.commits.Ready.{Ready}
-use Rattle.df_tables.specs.declared.units.Unit.{Unit}
 use Rattle.df_tables.proofs.Boards.{far_unbooked, modify-moved, names-modify, receivers_within, whole_opened}
 use Rattle.df_tables.proofs.Booked.{commits_none, found, kept_opened, makes, modify_same, right}
 use Rattle.df_tables.proofs.Built.{childless_makes_none, unmanaged_makes_none}

@@ -1,13 +1,5 @@
 -- Only one call changes the label at which a unit reads.
-use Rattle.std.proofs.Common.{◌≡◌, Bool, true, false, if◌then◌else◌, refl}
-use Rattle.df_unit.specs.OwnState.{OwnState}
-use Rattle.df_unit.specs.Rows.{after, changed, is_accepted}
-use Rattle.df_unit.specs.declared.call.Call.{Call}
-use Rattle.df_unit.specs.declared.call.Call.TheVariants.{ChangeInOut, Get}
-use Rattle.df_unit.specs.declared.entry.Effect.{Effect}
-use Rattle.df_unit.specs.declared.name.UnitName.{UnitName}
-use Rattle.df_unit.specs.declared.reply.Reply.{Reply}
-use Rattle.df_tables.specs.Moves.{is_in_out}
+use Rattle.df_tables.proofs.Names.{◌≡◌, Bool, true, false, if◌then◌else◌, refl, OwnState, after, changed, is_accepted, Call, ChangeInOut, Get, Effect, UnitName, Reply, is_in_out}
 
 changed_keeps : (n : UnitName) (st : OwnState) (c : Call) (f : Effect) → is_in_out c ≡ false → (changed n st c f).input ≡ st.input
 changed_keeps n st (ChangeInOut half act tag) f h = absurd (let z : ⊥ = cc in z)

@@ -1,43 +1,8 @@
 -- The instances that the tables call are those to which the journal hands the event.
-use Rattle.std.proofs.Common.{◌≡◌, ℕ, ◌+◌, ◌<◌, ◌&&◌, ◌||◌, Bool, true, false, not, if◌then◌else◌, List, [], ◌∷◌, ◌++◌, Option, Some, None, length, option_map, refl, ap, sym, subst, ◌∙◌}
-use Rattle.std.specs.List.{list_any}
-use Rattle.std.specs.List.Sorted.{IsStrictlySortedBy}
-use Rattle.std.specs.Option.{option_or}
-use Rattle.df_index.specs.Due.{Pair}
-use Rattle.df_instances.specs.Chosen.{AreChosen, instance_cmp}
+use Rattle.df_tables.proofs.Names.{◌≡◌, ℕ, ◌+◌, ◌<◌, ◌&&◌, ◌||◌, Bool, true, false, not, if◌then◌else◌, List, [], ◌∷◌, ◌++◌, Option, Some, None, length, option_map, refl, ap, sym, subst, ◌∙◌, list_any, IsStrictlySortedBy, option_or, Pair, AreChosen, instance_cmp, has_place, AreNumbered, has_name, Instance, ManagedSubscription, Label, Privilege, apply, cut, Part, contents, deliveries_instance, instance_news, was_handed, fixed, is_given, own, rows, roots, readable_at, same, Fixed, is_nil, Commit, Given, Entry, UnitName, Managed, Root, Agrees, FilterIndex, is_told, all_new, instance_row, managed_by, births_by, pairs_by, places_by, places_from, event_place, given_to, pairs_of, names_of, place_of, EventRow, Unit}
 use Rattle.df_instances.specs.Marks as marks
-use Rattle.df_instances.specs.Marks.{has_place}
-use Rattle.df_instances.specs.Named.{AreNumbered, has_name}
-use Rattle.df_instances.specs.declared.instances.Instance.{Instance}
-use Rattle.df_instances.specs.declared.subscription.ManagedSubscription.{ManagedSubscription}
 use Rattle.df_instances.proofs.Named.{chosen_by_name}
-use Rattle.df_label.specs.declared.label.Label.{Label}
-use Rattle.df_label.specs.declared.privilege.Privilege.{Privilege}
-use Rattle.df_part.specs.Contents.{apply}
-use Rattle.df_part.specs.Part.{cut}
-use Rattle.df_part.specs.declared.part.Part.{Part}
-use Rattle.df_rules.specs.Commits.{contents}
-use Rattle.df_rules.specs.Deliveries.{deliveries_instance, instance_news, was_handed}
-use Rattle.df_rules.specs.Own.{fixed, is_given, own}
-use Rattle.df_rules.specs.Start.{rows, roots}
-use Rattle.df_unit.specs.Beginnings.{readable_at}
-use Rattle.df_unit.specs.Name.{same}
-use Rattle.df_unit.specs.OwnState.{Fixed}
-use Rattle.df_unit.specs.Rows.{is_nil}
-use Rattle.df_unit.specs.declared.commit.Commit.{Commit}
-use Rattle.df_unit.specs.declared.commit.Given.{Given}
-use Rattle.df_unit.specs.declared.entry.Entry.{Entry}
-use Rattle.df_unit.specs.declared.name.UnitName.{UnitName}
-use Rattle.df_unit.specs.declared.name.UnitName.TheVariants.{Managed, Root}
-use Rattle.df_tables.specs.Agree.{Agrees, FilterIndex, is_told}
-use Rattle.df_tables.specs.Births.{all_new, instance_row}
-use Rattle.df_tables.specs.Board.{managed_by}
-use Rattle.df_tables.specs.Calls.{births_by, pairs_by, places_by, places_from}
-use Rattle.df_tables.specs.Events.{event_place}
-use Rattle.df_tables.specs.Hand.{given_to, pairs_of}
-use Rattle.df_tables.specs.Table.{find as row_of, names_of, place_of}
-use Rattle.df_tables.specs.declared.events.EventRow.{EventRow}
-use Rattle.df_tables.specs.declared.units.Unit.{Unit}
+use Rattle.df_tables.specs.Table.{find as row_of}
 use Rattle.df_tables.proofs.Both.{called_pairs}
 use Rattle.df_tables.proofs.Called.{called_news, row_if}
 use Rattle.df_tables.proofs.Fresh.{all_come, unplaced_like}

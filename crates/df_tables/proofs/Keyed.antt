@@ -1,24 +1,9 @@
 -- Keys, and one more place, by its key.
-use Rattle.std.proofs.Common.{◌≡◌, ℕ, Bool, true, false, if◌then◌else◌, [], ◌∷◌, set, Option, Some, None, refl, ap, sym, ◌∙◌, subst}
-use Rattle.std.proofs.lemmas.Bool.{eqb-true, and_parts}
-use Rattle.std.proofs.lemmas.Option.{same_Some}
+use Rattle.df_tables.proofs.Names.{◌≡◌, ℕ, Bool, true, false, if◌then◌else◌, [], ◌∷◌, set, Option, Some, None, refl, ap, sym, ◌∙◌, subst, eqb-true, and_parts, same_Some, both_tied, unsigned_ties, Vec, option_or, nat_cmp, same, same_event, unit_cmp, unit_cmp_ties, EventName, UnitName, Root, Managed, same_name-exact, Others, Near, Strays, key_by, key_of, numbers_cmp, root_number, same_key, slot, slot_in, root_event, Key}
 use Rattle.std.specs.BTreeMap as tree
-use Rattle.std.specs.Cmp.{both_tied, unsigned_ties}
-use Rattle.std.specs.Global.{Vec}
-use Rattle.std.specs.Option.{option_or}
-use Rattle.std.specs.Ordering.{nat_cmp}
 use Rattle.std.specs.Prelude.{◌==◌, ◌&&◌, slice_get}
-use Rattle.df_unit.specs.Name.{same, same_event}
-use Rattle.df_unit.specs.UnitOrder.{unit_cmp}
-use Rattle.df_unit.specs.UnitOrderLaws.{unit_cmp_ties}
-use Rattle.df_unit.specs.declared.name.EventName.{EventName}
-use Rattle.df_unit.specs.declared.name.UnitName.{UnitName}
-use Rattle.df_unit.specs.declared.name.UnitName.TheVariants.{Root, Managed}
-use Rattle.df_unit.proofs.SameFacts.{same_name-exact}
-use Rattle.df_tables.specs.EventPlaces.{Others, Near, Strays, key_by, key_of, numbers_cmp, place_by, root_number, same_key, slot, slot_in}
-use Rattle.df_tables.specs.Events.{root_event}
+use Rattle.df_tables.specs.EventPlaces.{place_by}
 use Rattle.df_tables.proofs.Slots.{slot_set}
-use Rattle.df_tables.specs.declared.event_places.Key.{Key}
 use Rattle.df_tables.specs.declared.event_places.Key.TheVariants.{Numbered, Named}
 
 -- the unit of a root's number

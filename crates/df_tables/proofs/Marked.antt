@@ -1,13 +1,5 @@
 -- Which places are marked when a commit is handed to instances.
-use Rattle.std.proofs.Common.{◌≡◌, ℕ, zero, suc, ◌+◌, ◌≤◌, ◌<◌, ◌==◌, ◌||◌, Bool, true, false, not, if◌then◌else◌, List, [], ◌∷◌, length, map, refl, ap, ◌∙◌, arith, eq-eqb}
-use Rattle.std.proofs.lemmas.Bool.{ne_eqb}
-use Rattle.std.proofs.lemmas.List.Folds.{list_any-append}
-use Rattle.df_index.specs.Due.{Pair}
-use Rattle.df_instances.specs.Marks.{has_place}
-use Rattle.df_unit.specs.Rows.{is_nil}
-use Rattle.df_tables.specs.Calls.{places_by, places_from}
-use Rattle.df_tables.specs.Hand.{pairs_of}
-use Rattle.df_tables.specs.declared.units.Unit.{Unit}
+use Rattle.df_tables.proofs.Names.{◌≡◌, ℕ, zero, suc, ◌+◌, ◌≤◌, ◌<◌, ◌==◌, ◌||◌, Bool, true, false, not, if◌then◌else◌, List, [], ◌∷◌, length, map, refl, ap, ◌∙◌, arith, eq-eqb, ne_eqb, list_any-append, Pair, has_place, is_nil, places_by, places_from, pairs_of, Unit}
 
 -- a place is one of the pairs' where they have a pair there
 pub places_of : (q : ℕ) (ps : List Pair) → has_place (map (λ (p : Pair). p.0) ps) q ≡ not (is_nil (pairs_of q ps))

@@ -1,17 +1,5 @@
 -- The tables fit each other after an entry without a commit.
-use Rattle.std.proofs.Common.{◌≡◌, ℕ, ◌<◌, false, List, get_or, length, Option, Some, refl, ap, sym, subst, ◌∙◌}
-use Rattle.df_filter.specs.declared.clause.Clause.{Clause}
-use Rattle.df_label.specs.declared.label.Label.{Label}
-use Rattle.df_rules.specs.Start.{rows}
-use Rattle.df_unit.specs.declared.call.Call.{Call}
-use Rattle.df_unit.specs.declared.entry.Effect.{Effect}
-use Rattle.df_unit.specs.declared.reply.Reply.{Reply}
-use Rattle.df_tables.specs.Board.{IsBoard, IsMovedBoard}
-use Rattle.df_tables.specs.Labels.{AreLabels, inputs}
-use Rattle.df_tables.specs.Moves.{is_in_out}
-use Rattle.df_tables.specs.Table.{moved_row, names_of}
-use Rattle.df_tables.specs.declared.board.Board.{Board}
-use Rattle.df_tables.specs.declared.units.Unit.{Unit}
+use Rattle.df_tables.proofs.Names.{◌≡◌, ℕ, ◌<◌, false, List, get_or, length, Option, Some, refl, ap, sym, subst, ◌∙◌, Clause, Label, rows, Call, Effect, Reply, IsBoard, IsMovedBoard, AreLabels, inputs, is_in_out, moved_row, names_of, Board, Unit}
 use Rattle.df_tables.proofs.Boards.{inputs-modify, labels_stale, names-modify, whole_moved}
 use Rattle.df_tables.proofs.Order.{roll_like}
 use Rattle.df_tables.proofs.Inputs.{after_keeps}

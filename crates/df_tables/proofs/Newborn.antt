@@ -1,31 +1,6 @@
 -- The tables with one more row.
-use Rattle.std.proofs.Common.{◌≡◌, ℕ, zero, suc, ◌+◌, ◌≤◌, ◌<◌, ◌==◌, Bool, true, false, if◌then◌else◌, List, [], ◌∷◌, ◌++◌, length, get_or, set, Option, Some, None, option_map, refl, ap, sym, subst, ◌∙◌, arith, All, length-append}
-use Rattle.std.specs.Prelude.{is_none}
-use Rattle.std.specs.Option.{option_or}
-use Rattle.std.proofs.lemmas.List.{append-nil, get_or_append_left, length-set, map-append, set-append_left}
-use Rattle.std.proofs.Math.Seq.{get_or-append_seam}
-use Rattle.std.proofs.lemmas.Bool.{eqb-true, eqb-false}
-use Rattle.std.proofs.lemmas.List.Elements.{All-head, All-push, All-tail}
-use Rattle.df_filter.specs.declared.clause.Clause.{Clause}
-use Rattle.df_index.specs.Due.{Pair}
+use Rattle.df_tables.proofs.Names.{◌≡◌, ℕ, zero, suc, ◌+◌, ◌≤◌, ◌<◌, ◌==◌, Bool, true, false, if◌then◌else◌, List, [], ◌∷◌, ◌++◌, length, get_or, set, Option, Some, None, option_map, refl, ap, sym, subst, ◌∙◌, arith, All, length-append, is_none, option_or, append-nil, get_or_append_left, length-set, map-append, set-append_left, get_or-append_seam, eqb-true, eqb-false, All-head, All-push, All-tail, Clause, Pair, Subscription, Label, same, UnitName, same_name-exact, same_name_decides, seat_of, Seat, AreApart, FilterIndex, IsWhole, ManagedState, is_marked, is_told, subscribed_at, subscriptions_at, if_new, IsBoard, IsRollOf, place_by, IsCalm, modify, AreLabels, inputs, find, place_of, Board, EventRow, Unit}
 use Rattle.df_index.specs.IndexState as index
-use Rattle.df_index.specs.declared.subscription.Subscription.{Subscription}
-use Rattle.df_label.specs.declared.label.Label.{Label}
-use Rattle.df_unit.specs.Name.{same}
-use Rattle.df_unit.specs.declared.name.UnitName.{UnitName}
-use Rattle.df_unit.proofs.SameFacts.{same_name-exact, same_name_decides}
-use Rattle.df_roll.specs.Roll.{seat_of}
-use Rattle.df_roll.specs.declared.seat.Seat.{Seat}
-use Rattle.df_tables.specs.Agree.{AreApart, FilterIndex, IsWhole, ManagedState, is_marked, is_told, subscribed_at, subscriptions_at}
-use Rattle.df_tables.specs.Births.{if_new}
-use Rattle.df_tables.specs.Board.{IsBoard, IsRollOf}
-use Rattle.df_tables.specs.Events.{place_by}
-use Rattle.df_tables.specs.Hand.{IsCalm, modify}
-use Rattle.df_tables.specs.Labels.{AreLabels, inputs}
-use Rattle.df_tables.specs.Table.{find, place_of}
-use Rattle.df_tables.specs.declared.board.Board.{Board}
-use Rattle.df_tables.specs.declared.events.EventRow.{EventRow}
-use Rattle.df_tables.specs.declared.units.Unit.{Unit}
 use Rattle.df_tables.proofs.Opened.{end_none, end_some}
 
 -- places and rows behind others

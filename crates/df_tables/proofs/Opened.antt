@@ -1,15 +1,6 @@
 -- The rows of events, and one more of them.
-use Rattle.std.proofs.Common.{◌≡◌, inl, inr, ℕ, zero, suc, ◌<◌, Bool, true, false, if◌then◌else◌, List, [], ◌∷◌, ◌++◌, length, set, get_or, Option, Some, None, option_map, refl, ap, sym, subst, ◌∙◌, arith}
-use Rattle.df_part.specs.declared.part.Part.{Part}
-use Rattle.df_unit.specs.Name.{same_event}
-use Rattle.df_unit.specs.declared.name.EventName.{EventName}
-use Rattle.df_unit.proofs.SameFacts.{same_event_decides}
-use Rattle.df_tables.specs.EventPlaces.{key_of, place_at, same_key}
-use Rattle.df_tables.specs.Events.{IsOpened, IsPlaced, blank, event_place, place_by}
-use Rattle.df_tables.specs.Table.{parts_of}
+use Rattle.df_tables.proofs.Names.{◌≡◌, inl, inr, ℕ, zero, suc, ◌<◌, Bool, true, false, if◌then◌else◌, List, [], ◌∷◌, ◌++◌, length, set, get_or, Option, Some, None, option_map, refl, ap, sym, subst, ◌∙◌, arith, Part, same_event, EventName, same_event_decides, key_of, place_at, same_key, IsOpened, IsPlaced, blank, event_place, place_by, parts_of, Key, EventRow}
 use Rattle.df_tables.specs.declared.event_places.EventPlaces.{EventPlaces}
-use Rattle.df_tables.specs.declared.event_places.Key.{Key}
-use Rattle.df_tables.specs.declared.events.EventRow.{EventRow}
 use Rattle.df_tables.proofs.Keyed.{keys_tie}
 use Rattle.df_tables.proofs.Places.{put_end}
 

@@ -1,24 +1,6 @@
 -- The order of the rows, in the beginning and after an entry.
-use Rattle.std.proofs.Common.{◌≡◌, ℕ, ◌+◌, ◌<◌, List, [], ◌∷◌, Bool, true, false, if◌then◌else◌, get_or, length, map, refl, ap, sym, ◌∙◌, arith}
+use Rattle.df_tables.proofs.Names.{◌≡◌, ℕ, ◌+◌, ◌<◌, List, [], ◌∷◌, Bool, true, false, if◌then◌else◌, get_or, length, map, refl, ap, sym, ◌∙◌, arith, length-map, nat_cmp_is, ordering_then, Ordering, Less, Equal, IsBelow, Label, Privilege, same, unit_cmp, UnitName, Root, seat_of, Seat, AreApart, IsRollOf, IsInOrder, moved_at, names_of, place_of, rows_from, Unit}
 use Rattle.std.proofs.Math.ListN.{get_or-map}
-use Rattle.std.proofs.lemmas.List.{length-map}
-use Rattle.std.specs.Cmp.{nat_cmp_is}
-use Rattle.std.specs.Ordering.{ordering_then}
-use Rattle.std.specs.declared.cmp.Ordering.{Ordering}
-use Rattle.std.specs.declared.cmp.Ordering.TheVariants.{Less, Equal}
-use Rattle.df_label.specs.Ascending.{IsBelow}
-use Rattle.df_label.specs.declared.label.Label.{Label}
-use Rattle.df_label.specs.declared.privilege.Privilege.{Privilege}
-use Rattle.df_unit.specs.Name.{same}
-use Rattle.df_unit.specs.UnitOrder.{unit_cmp}
-use Rattle.df_unit.specs.declared.name.UnitName.{UnitName}
-use Rattle.df_unit.specs.declared.name.UnitName.TheVariants.{Root}
-use Rattle.df_roll.specs.Roll.{seat_of}
-use Rattle.df_roll.specs.declared.seat.Seat.{Seat}
-use Rattle.df_tables.specs.Agree.{AreApart}
-use Rattle.df_tables.specs.Board.{IsRollOf}
-use Rattle.df_tables.specs.Table.{IsInOrder, moved_at, names_of, place_of, rows_from}
-use Rattle.df_tables.specs.declared.units.Unit.{Unit}
 use Rattle.df_tables.proofs.Seats.{place_of-names}
 
 -- no change of rows that keeps their names changes the names

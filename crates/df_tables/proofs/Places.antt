@@ -1,14 +1,5 @@
 -- The place of the first row that passes a test, and what stands there.
-use Rattle.std.proofs.Common.{◌≡◌, ℕ, suc, Bool, true, false, if◌then◌else◌, List, [], ◌∷◌, ◌++◌, set, get_or, refl, ap, sym, ◌∙◌, subst, Option, Some, None, option_map}
-use Rattle.df_part.specs.declared.part.Part.{Part}
-use Rattle.df_unit.specs.Name.{same, same_event}
-use Rattle.df_unit.specs.declared.name.EventName.{EventName}
-use Rattle.df_unit.specs.declared.name.UnitName.{UnitName}
-use Rattle.df_unit.proofs.SameFacts.{same_event_decides}
-use Rattle.df_tables.specs.Events.{place_by}
-use Rattle.df_tables.specs.Table.{find, moved_at, parts_of}
-use Rattle.df_tables.specs.declared.events.EventRow.{EventRow}
-use Rattle.df_tables.specs.declared.units.Unit.{Unit}
+use Rattle.df_tables.proofs.Names.{◌≡◌, ℕ, suc, Bool, true, false, if◌then◌else◌, List, [], ◌∷◌, ◌++◌, set, get_or, refl, ap, sym, ◌∙◌, subst, Option, Some, None, option_map, Part, same, same_event, EventName, UnitName, same_event_decides, place_by, find, moved_at, parts_of, EventRow, Unit}
 
 -- units
 

@@ -1,49 +1,7 @@
 -- The units to which a commit is handed are those of its receivers' rows and those that come by it.
-use Rattle.std.proofs.Common.{◌≡◌, ◌↔◌, ℕ, ◌==◌, ◌||◌, Bool, true, false, not, if◌then◌else◌, List, [], ◌∷◌, ◌++◌, get_or, length, map, slice_get, Option, Some, None, refl, ap, sym, subst, ◌∙◌, arith, eq-eqb, ◌&&◌}
-use Rattle.std.specs.Prelude.{is_some, nat_lt, option_to_list}
-use Rattle.std.specs.List.{Contains, list_any}
-use Rattle.std.specs.List.Sorted.{IsStrictlySortedBy}
-use Rattle.std.proofs.lemmas.Bool.{eqb-true, le-ltb, lt-ltb, ne_eqb}
-use Rattle.std.proofs.lemmas.List.{append-nil, length-append}
-use Rattle.std.proofs.lemmas.List.Folds.{list_any-append}
-use Rattle.std.proofs.lemmas.Option.{get_or_from_slice_get, slice_get-get_or, slice_get_within}
-use Rattle.df_index.specs.Due.{Pair, pair_cmp}
-use Rattle.df_index.specs.IndexState.{IsReceiver}
-use Rattle.df_instances.specs.Chosen.{AreChosen, instance_cmp}
-use Rattle.df_instances.specs.Named.{AreNumbered}
-use Rattle.df_instances.specs.declared.instances.Instance.{Instance}
-use Rattle.df_instances.specs.declared.subscription.ManagedSubscription.{ManagedSubscription}
-use Rattle.df_label.specs.declared.label.Label.{Label}
-use Rattle.df_label.specs.declared.privilege.Privilege.{Privilege}
-use Rattle.df_part.specs.Contents.{apply}
-use Rattle.df_part.specs.declared.part.Part.{Part}
-use Rattle.df_rules.specs.Choices.{matches}
-use Rattle.df_rules.specs.Commits.{contents}
-use Rattle.df_rules.specs.Deliveries.{deliveries, deliveries_instance, instance_news, was_handed}
-use Rattle.df_rules.specs.Own.{fixed, is_given}
-use Rattle.df_rules.specs.Start.{rows, roots}
-use Rattle.df_unit.specs.Name.{same}
-use Rattle.df_unit.specs.OwnState.{Fixed, OwnState}
-use Rattle.df_unit.specs.Rows.{is_nil}
-use Rattle.df_unit.specs.declared.commit.Commit.{Commit}
-use Rattle.df_unit.specs.declared.commit.Given.{Given}
-use Rattle.df_unit.specs.declared.entry.Entry.{Entry}
-use Rattle.df_unit.specs.declared.entry.Entry.TheVariants.{Emitted}
-use Rattle.df_unit.specs.declared.name.UnitName.{UnitName}
-use Rattle.df_unit.specs.declared.name.UnitName.TheVariants.{Managed, Root}
-use Rattle.df_unit.proofs.SameFacts.{same_name-exact}
-use Rattle.df_tables.specs.Agree.{Agrees, AreApart, FilterIndex}
-use Rattle.df_tables.specs.Births.{rows_in}
-use Rattle.df_tables.specs.Board.{AreReceivers, IsBoard, IsOpenedBoard, IsReady, is_brought, managed_by, receivers_of}
-use Rattle.df_tables.specs.Calls.{births_by, name_at, names_at, pairs_by}
-use Rattle.df_tables.specs.Events.{event_place}
-use Rattle.df_tables.specs.Hand.{given_to, pairs_of}
-use Rattle.df_tables.specs.Labels.{inputs}
-use Rattle.df_tables.specs.Table.{find, names_of, parts_of, place_of}
-use Rattle.df_tables.specs.declared.board.Board.{Board}
-use Rattle.df_tables.specs.declared.commits.Ready.{Ready}
-use Rattle.df_tables.specs.declared.events.EventRow.{EventRow}
-use Rattle.df_tables.specs.declared.units.Unit.{Unit}
+use Rattle.df_tables.proofs.Names.{◌≡◌, ◌↔◌, ℕ, ◌==◌, ◌||◌, Bool, true, false, not, if◌then◌else◌, List, [], ◌∷◌, ◌++◌, get_or, length, map, slice_get, Option, Some, None, refl, ap, sym, subst, ◌∙◌, arith, eq-eqb, ◌&&◌, nat_lt, option_to_list, Contains, list_any, IsStrictlySortedBy, eqb-true, le-ltb, lt-ltb, ne_eqb, append-nil, list_any-append, get_or_from_slice_get, slice_get-get_or, slice_get_within, Pair, pair_cmp, IsReceiver, AreChosen, instance_cmp, AreNumbered, Instance, ManagedSubscription, Label, Privilege, apply, Part, matches, contents, deliveries, deliveries_instance, instance_news, was_handed, fixed, is_given, rows, roots, same, Fixed, OwnState, is_nil, Commit, Given, Entry, Emitted, UnitName, Managed, Root, same_name-exact, Agrees, AreApart, FilterIndex, rows_in, AreReceivers, IsBoard, IsOpenedBoard, IsReady, is_brought, managed_by, receivers_of, births_by, name_at, names_at, pairs_by, event_place, given_to, pairs_of, inputs, find, names_of, parts_of, place_of, Board, Ready, EventRow, Unit}
+use Rattle.std.specs.Prelude.{is_some}
+use Rattle.std.proofs.lemmas.List.{length-append}
 use Rattle.df_tables.proofs.Boards.{whole_opened}
 use Rattle.df_tables.proofs.Booked.{brought, kept_opened, place_in}
 use Rattle.df_tables.proofs.Brings.{both_ways}

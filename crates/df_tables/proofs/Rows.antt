@@ -1,22 +1,5 @@
 -- The row of a unit after an entry.
-use Rattle.std.proofs.Common.{◌≡◌, ℕ, ◌+◌, ◌≤◌, zero, suc, List, [], ◌∷◌, ◌++◌, None, length, drop, refl, ap, sym, ◌∙◌, arith, length-append, add-one}
-use Rattle.std.proofs.Math.Seq.{drop-nil}
-use Rattle.std.proofs.lemmas.List.{drop-append-le}
-use Rattle.df_rules.specs.Commits.{commit_in}
-use Rattle.df_rules.specs.Laws.{TakingLaws}
-use Rattle.df_rules.specs.Legal.{left}
-use Rattle.df_rules.specs.Rules.{Rules}
-use Rattle.df_unit.specs.OwnState.{OwnState}
-use Rattle.df_unit.specs.declared.call.Call.{Call}
-use Rattle.df_unit.specs.declared.commit.Commit.{Commit}
-use Rattle.df_unit.specs.declared.commit.Given.{Given}
-use Rattle.df_unit.specs.declared.entry.Effect.{Effect}
-use Rattle.df_unit.specs.declared.name.UnitName.{UnitName}
-use Rattle.df_unit.specs.declared.reply.Reply.{Reply}
-use Rattle.df_tables.specs.Agree.{IsRow}
-use Rattle.df_tables.specs.Hand.{with_news}
-use Rattle.df_tables.specs.Table.{moved_row}
-use Rattle.df_tables.specs.declared.units.Unit.{Unit}
+use Rattle.df_tables.proofs.Names.{◌≡◌, ℕ, ◌+◌, ◌≤◌, zero, suc, List, [], ◌∷◌, ◌++◌, None, length, drop, refl, ap, sym, ◌∙◌, arith, length-append, add-one, drop-nil, drop-append-le, commit_in, TakingLaws, left, Rules, OwnState, Call, Commit, Given, Effect, UnitName, Reply, IsRow, with_news, moved_row, Unit}
 
 drop-one : {X : Type 0} (k : ℕ) (xs : List X) → drop 1 (drop k xs) ≡ drop (k + 1) xs
 drop-one zero [] = refl

@@ -1,18 +1,6 @@
 -- Rows that stand in the order of units are apart.
-use Rattle.std.proofs.Common.{◌≡◌, ℕ, zero, suc, ◌<◌, List, [], ◌∷◌, get_or, length, Some, refl, ap, subst, ◌∙◌, arith}
-use Rattle.std.specs.Cmp.{tied_itself}
-use Rattle.std.specs.Ordering.{is_eq}
-use Rattle.std.specs.declared.cmp.Ordering.TheVariants.{Less, Equal}
-use Rattle.df_label.specs.Ascending.{IsBelow}
-use Rattle.df_unit.specs.Name.{same}
-use Rattle.df_unit.specs.UnitOrder.{unit_cmp}
-use Rattle.df_unit.specs.UnitOrderLaws.{unit_cmp_ties, unit_cmp_total}
-use Rattle.df_unit.specs.declared.name.UnitName.{UnitName}
+use Rattle.df_tables.proofs.Names.{◌≡◌, ℕ, zero, suc, ◌<◌, List, [], ◌∷◌, get_or, length, Some, refl, ap, subst, ◌∙◌, arith, tied_itself, is_eq, Less, Equal, IsBelow, same, unit_cmp, unit_cmp_ties, unit_cmp_total, UnitName, AreApart, place_by, IsInOrder, names_of, Unit}
 use Rattle.df_unit.proofs.OrderFacts.{unit_cmp_exact}
-use Rattle.df_tables.specs.Agree.{AreApart}
-use Rattle.df_tables.specs.Events.{place_by}
-use Rattle.df_tables.specs.Table.{IsInOrder, names_of}
-use Rattle.df_tables.specs.declared.units.Unit.{Unit}
 
 below_at : (n : UnitName) (us : List Unit) (k : ℕ) (d : Unit) → IsBelow unit_cmp n (names_of us) → k < length us → unit_cmp n (get_or us k d).local.unit ≡ Less
 below_at n [] k d b h = absurd (omega arith)

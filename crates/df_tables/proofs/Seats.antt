@@ -1,26 +1,5 @@
 -- Where units and events stand in the tables, and what stands there.
-use Rattle.std.proofs.Common.{◌≡◌, ℕ, suc, ◌==◌, ◌&&◌, ◌||◌, Bool, true, false, if◌then◌else◌, List, [], ◌∷◌, ◌++◌, get_or, map, Option, Some, None, option_map, refl, ap, sym, subst, ◌∙◌, arith}
-use Rattle.std.proofs.lemmas.Bool.{eqb-true}
-use Rattle.df_filter.specs.declared.clause.Clause.{Clause}
-use Rattle.df_index.specs.Due.{Pair, has_pair}
-use Rattle.df_index.specs.declared.subscription.Subscription.{Subscription}
-use Rattle.df_label.specs.declared.label.Label.{Label}
-use Rattle.df_part.specs.declared.part.Part.{Part}
-use Rattle.df_rules.specs.Deliveries.{deliveries, was_handed}
-use Rattle.df_rules.specs.Own.{own}
-use Rattle.df_rules.specs.Rules.{Rules}
-use Rattle.df_unit.specs.Name.{same, same_event}
-use Rattle.df_unit.specs.OwnState.{OwnState}
-use Rattle.df_unit.specs.declared.entry.Entry.{Entry}
-use Rattle.df_unit.specs.declared.name.EventName.{EventName}
-use Rattle.df_unit.specs.declared.name.UnitName.{UnitName}
-use Rattle.df_unit.proofs.SameFacts.{same_name-exact, same_event_decides}
-use Rattle.df_tables.specs.Agree.{IsSeat, enrols, subscriptions_at}
-use Rattle.df_tables.specs.Events.{event_place, place_by}
-use Rattle.df_tables.specs.Hand.{given_to, news_at, pairs_of}
-use Rattle.df_tables.specs.Table.{find, names_of, place_of}
-use Rattle.df_tables.specs.declared.events.EventRow.{EventRow}
-use Rattle.df_tables.specs.declared.units.Unit.{Unit}
+use Rattle.df_tables.proofs.Names.{◌≡◌, ℕ, suc, ◌==◌, ◌&&◌, ◌||◌, Bool, true, false, if◌then◌else◌, List, [], ◌∷◌, ◌++◌, get_or, map, Option, Some, None, option_map, refl, ap, sym, subst, ◌∙◌, arith, eqb-true, Clause, Pair, has_pair, Subscription, Label, Part, deliveries, was_handed, own, Rules, same, same_event, OwnState, Entry, EventName, UnitName, same_name-exact, same_event_decides, IsSeat, enrols, subscriptions_at, event_place, place_by, given_to, news_at, pairs_of, find, names_of, place_of, EventRow, Unit}
 use Rattle.df_tables.proofs.Places.{at_none, at_some}
 
 -- what stands at the place passes the test

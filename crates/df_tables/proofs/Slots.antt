@@ -1,12 +1,7 @@
 -- Tables of slots, and what changes in them.
-use Rattle.std.proofs.Common.{◌≡◌, ℕ, zero, suc, ◌≤◌, Bool, true, false, if◌then◌else◌, List, [], ◌∷◌, ◌++◌, length, set, Option, Some, None, refl, ap, sym, ◌∙◌}
+use Rattle.df_tables.proofs.Names.{◌≡◌, ℕ, zero, suc, ◌≤◌, Bool, true, false, if◌then◌else◌, List, [], ◌∷◌, ◌++◌, length, set, Option, Some, None, refl, ap, sym, ◌∙◌, get_or_past, same_Some, Vec, option_and_then, Near, slot, slot_in}
 use Rattle.std.proofs.Math.Dec.{eqb-zero-suc, eqb-suc-zero, eqb-suc-suc}
-use Rattle.std.proofs.lemmas.List.{get_or_past}
-use Rattle.std.proofs.lemmas.Option.{same_Some}
 use Rattle.std.specs.Prelude.{◌==◌, slice_get}
-use Rattle.std.specs.Global.{Vec}
-use Rattle.std.specs.Option.{option_and_then}
-use Rattle.df_tables.specs.EventPlaces.{Near, slot, slot_in}
 
 -- no slot is behind the last
 pub slot_past : (near : Near) (r n : ℕ) (v : Vec (Option ℕ)) → slice_get near r ≡ Some v → length v.items ≤ n → slot_in near r n ≡ None

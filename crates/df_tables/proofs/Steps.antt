@@ -1,41 +1,6 @@
 -- The tables after one more entry.
-use Rattle.std.proofs.Common.{◌≡◌, inl, inr, ℕ, ◌+◌, ◌≤◌, ◌<◌, ◌==◌, ◌&&◌, ◌||◌, List, [], ◌∷◌, ◌++◌, Option, Some, None, Bool, true, false, not, if◌then◌else◌, length, map, option_map, refl, ap, sym, subst, ◌∙◌, arith, All, eq-eqb}
-use Rattle.std.specs.Prelude.{option_to_list}
-use Rattle.std.specs.Option.{option_and_then, option_or}
-use Rattle.std.proofs.lemmas.List.{append-nil}
-use Rattle.df_filter.specs.declared.clause.Clause.{Clause}
-use Rattle.df_index.specs.Due.{Pair}
+use Rattle.df_tables.proofs.Names.{◌≡◌, inl, inr, ℕ, ◌+◌, ◌≤◌, ◌<◌, ◌==◌, ◌&&◌, ◌||◌, List, [], ◌∷◌, ◌++◌, Option, Some, None, Bool, true, false, not, if◌then◌else◌, length, map, option_map, refl, ap, sym, subst, ◌∙◌, arith, All, eq-eqb, option_to_list, option_and_then, option_or, append-nil, Clause, Pair, maker_of, number_of, apply, cut, commit_in, commit_of, committed, contents, deliveries, deliveries_instance, deliveries_plain, instance_news, plain_news, was_handed, TakingLaws, answer, answer_of, born, fixed, fixed_by, is_given, made_by, own, own_plain, stepped, Rules, subscriptions, same, same_event, readable_at, Fixed, OwnState, is_nil, Call, Commit, Given, Effect, Entry, Done, EventName, UnitName, Root, Managed, Reply, same_name-exact, same_event_decides, Agrees, FilterIndex, IsSeat, MakesNoManaged, MakesNoUnit, ManagedState, enrols, is_marked, is_told, subscribed_at, subscriptions_at, IsOpened, event_place, find, names_of, place_of, moved_at, moved_row, EventRow, Unit}
 use Rattle.df_index.specs.IndexState as index
-use Rattle.df_label.specs.Tag.{maker_of, number_of}
-use Rattle.df_part.specs.Contents.{apply}
-use Rattle.df_part.specs.Part.{cut}
-use Rattle.df_rules.specs.Commits.{commit_in, commit_of, committed, contents}
-use Rattle.df_rules.specs.Deliveries.{deliveries, deliveries_instance, deliveries_plain, instance_news, plain_news, was_handed}
-use Rattle.df_rules.specs.Laws.{TakingLaws}
-use Rattle.df_rules.specs.Legal.{answer, answer_of}
-use Rattle.df_rules.specs.Own.{born, fixed, fixed_by, is_given, made_by, own, own_plain, stepped}
-use Rattle.df_rules.specs.Rules.{Rules}
-use Rattle.df_rules.specs.Subscriptions.{subscriptions}
-use Rattle.df_unit.specs.Name.{same, same_event}
-use Rattle.df_unit.specs.Beginnings.{readable_at}
-use Rattle.df_unit.specs.OwnState.{Fixed, OwnState}
-use Rattle.df_unit.specs.Rows.{is_nil}
-use Rattle.df_unit.specs.declared.call.Call.{Call}
-use Rattle.df_unit.specs.declared.commit.Commit.{Commit}
-use Rattle.df_unit.specs.declared.commit.Given.{Given}
-use Rattle.df_unit.specs.declared.entry.Effect.{Effect}
-use Rattle.df_unit.specs.declared.entry.Entry.{Entry}
-use Rattle.df_unit.specs.declared.entry.Entry.TheVariants.{Done}
-use Rattle.df_unit.specs.declared.name.EventName.{EventName}
-use Rattle.df_unit.specs.declared.name.UnitName.{UnitName}
-use Rattle.df_unit.specs.declared.name.UnitName.TheVariants.{Root, Managed}
-use Rattle.df_unit.specs.declared.reply.Reply.{Reply}
-use Rattle.df_unit.proofs.SameFacts.{same_name-exact, same_event_decides}
-use Rattle.df_tables.specs.Agree.{Agrees, FilterIndex, IsSeat, MakesNoManaged, MakesNoUnit, ManagedState, enrols, is_marked, is_told, subscribed_at, subscriptions_at}
-use Rattle.df_tables.specs.Events.{IsOpened, event_place}
-use Rattle.df_tables.specs.Table.{find, names_of, place_of, moved_at, moved_row}
-use Rattle.df_tables.specs.declared.events.EventRow.{EventRow}
-use Rattle.df_tables.specs.declared.units.Unit.{Unit}
 use Rattle.df_tables.proofs.Finds.{find-moved}
 use Rattle.df_tables.proofs.Newborn.{find-append, marked_born, place_by-append, subscribed_born, told_born, told_same}
 use Rattle.df_tables.proofs.Opened.{opened_parts, place_more}

@@ -1,16 +1,7 @@
 -- An answered call makes the subscription that its reply numbers.
-use Rattle.std.proofs.Common.{◌≡◌, ℕ, List, Bool, true, false, if◌then◌else◌, refl, ap, ◌∙◌, eq-eqb}
+use Rattle.df_tables.proofs.Names.{◌≡◌, ℕ, List, Bool, true, false, if◌then◌else◌, refl, ap, ◌∙◌, eq-eqb, Clause, OwnState, subscribes, Call, Subscribe, Effect, Reply, Sub, IsAnswered, Unit}
 use Rattle.std.specs.Prelude.{◌==◌}
-use Rattle.df_filter.specs.declared.clause.Clause.{Clause}
-use Rattle.df_unit.specs.OwnState.{OwnState}
-use Rattle.df_unit.specs.Rows.{subscribes}
-use Rattle.df_unit.specs.declared.call.Call.{Call}
-use Rattle.df_unit.specs.declared.call.Call.TheVariants.{Subscribe}
-use Rattle.df_unit.specs.declared.entry.Effect.{Effect}
-use Rattle.df_unit.specs.declared.reply.Reply.{Reply}
-use Rattle.df_unit.specs.declared.reply.Reply.TheVariants.{Sub}
-use Rattle.df_tables.specs.Moves.{IsAnswered, made_by}
-use Rattle.df_tables.specs.declared.units.Unit.{Unit}
+use Rattle.df_tables.specs.Moves.{made_by}
 
 -- the number of a subscription that is answered is the unit's next
 pub next_number : (b c : Bool) (m n : ℕ) (r : Reply) → (if b then Reply.NotInManaged else if c then Reply.TooManySubs else Sub m) ≡ Sub n → n ≡ m

@@ -1,20 +1,6 @@
 -- The tables fit each other after a unit was given another own state.
-use Rattle.std.proofs.Common.{◌≡◌, ℕ, List, Option, Some, get_or, set, refl, ap, sym, subst, ◌∙◌}
-use Rattle.df_label.specs.declared.label.Label.{Label}
-use Rattle.df_local.specs.code.LocalState.{LocalState}
-use Rattle.df_unit.specs.Name.{same}
-use Rattle.df_unit.specs.declared.name.UnitName.{UnitName}
-use Rattle.df_unit.proofs.SameFacts.{same_name-exact}
-use Rattle.df_roll.specs.Roll.{RollState}
-use Rattle.df_tables.specs.Agree.{FilterIndex, IsWhole}
-use Rattle.df_tables.specs.Board.{IsBoard}
-use Rattle.df_tables.specs.Hand.{modify}
-use Rattle.df_tables.specs.Labels.{AreLabels, inputs}
-use Rattle.df_tables.specs.Runs.{IsSwapped, ReadsAs, with_own}
-use Rattle.df_tables.specs.Table.{find, moved_at, names_of, place_of}
-use Rattle.df_tables.specs.declared.board.Board.{Board}
-use Rattle.df_tables.specs.declared.events.EventRow.{EventRow}
-use Rattle.df_tables.specs.declared.units.Unit.{Unit}
+use Rattle.df_tables.proofs.Names.{◌≡◌, ℕ, List, Option, Some, get_or, set, refl, ap, sym, subst, ◌∙◌, Label, LocalState, same, UnitName, same_name-exact, RollState, FilterIndex, IsWhole, IsBoard, modify, AreLabels, inputs, IsSwapped, ReadsAs, find, moved_at, names_of, place_of, Board, EventRow, Unit}
+use Rattle.df_tables.specs.Runs.{with_own}
 use Rattle.df_tables.proofs.Boards.{inputs-modify, modify-moved, whole_modified}
 use Rattle.df_tables.proofs.Order.{names-moved, roll_like}
 use Rattle.df_tables.proofs.Places.{at_some}

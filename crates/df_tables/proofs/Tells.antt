@@ -1,25 +1,5 @@
 -- What the tables tell of units and of answers.
-use Rattle.std.proofs.Common.{◌≡◌, List, Option, Some, None, is_some, refl, ap, sym, subst, ◌∙◌}
-use Rattle.df_label.specs.Ascending.{contains_by}
-use Rattle.df_rules.specs.Deliveries.{deliveries}
-use Rattle.df_rules.specs.Legal.{answer, answer_of}
-use Rattle.df_rules.specs.Own.{exists, own}
-use Rattle.df_rules.specs.Rules.{Rules}
-use Rattle.df_unit.specs.OwnState.{OwnState}
-use Rattle.df_unit.specs.UnitOrder.{unit_cmp}
-use Rattle.df_unit.specs.declared.call.Call.{Call}
-use Rattle.df_unit.specs.declared.commit.Given.{Given}
-use Rattle.df_unit.specs.declared.entry.Effect.{Effect}
-use Rattle.df_unit.specs.declared.entry.Entry.{Entry}
-use Rattle.df_unit.specs.declared.name.UnitName.{UnitName}
-use Rattle.df_unit.specs.declared.reply.Reply.{Reply}
-use Rattle.df_roll.specs.Roll.{names_in}
-use Rattle.df_roll.specs.declared.seat.Seat.{Seat}
-use Rattle.df_tables.specs.Agree.{Agrees, FilterIndex, IsRow, IsSeat, ManagedState}
-use Rattle.df_tables.specs.Board.{IsRollOf}
-use Rattle.df_tables.specs.Table.{find}
-use Rattle.df_tables.specs.declared.events.EventRow.{EventRow}
-use Rattle.df_tables.specs.declared.units.Unit.{Unit}
+use Rattle.df_tables.proofs.Names.{◌≡◌, List, Option, Some, None, is_some, refl, ap, sym, subst, ◌∙◌, contains_by, deliveries, answer, answer_of, exists, own, Rules, OwnState, unit_cmp, Call, Given, Effect, Entry, UnitName, Reply, names_in, Seat, Agrees, FilterIndex, IsRow, IsSeat, ManagedState, IsRollOf, find, EventRow, Unit}
 use Rattle.df_tables.proofs.Finds.{place_some, seat_some}
 
 module _ (R : Rules) (s : List OwnState) (past : List Entry) (us : List Unit) (evs : List EventRow) (x : FilterIndex) (m : ManagedState) (agree : Agrees R s past us evs x m) (a : UnitName) where

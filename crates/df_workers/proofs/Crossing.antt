@@ -1,4 +1,5 @@
 -- A worker may go to another thread where its brains may, and threads may share them. So they may share what they work with.
+use Rattle.df_workers.proofs.Names.{IsSend, IsSync, sendable, shr_sync}
 use mathlib.Core.List.{List, [], ◌∷◌}
 use mir.Syntax.{static}
 use base.Fml.{Lft}
@@ -6,7 +7,6 @@ use denote.RattleType.{RattleType}
 use denote.Ref.{NamedLft, ShrRef}
 use denote.Struct.Field.{u64-field}
 use denote.Struct.Tuple.{TupleAt, type_at}
-use denote.Param.Send.{IsSend, IsSync, sendable, shr_sync}
 use Rattle.df_brain.specs.declared.brain.Brain as Brain
 use Rattle.df_crew.specs.contracts.crew.Crew as Crew
 use Rattle.df_crew.specs.contracts.journaled.CrewJournaled.TheImpl as crew

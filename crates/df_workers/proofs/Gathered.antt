@@ -1,27 +1,12 @@
 -- What came of all workers of a round together.
-use Rattle.std.proofs.Common.{◌≡◌, ◌⊎◌, inl, inr, take, drop, ℕ, zero, suc, ◌%◌, ◌<◌, List, [], ◌∷◌, ◌++◌, true, false, refl, sym, ◌∙◌, ap, subst, Option, Some, None, length, arith, append-nil, append_assoc}
-use Rattle.std.specs.Prelude.{All, is_some, reverse, slice_get, slice_index_or}
+use Rattle.df_workers.proofs.Names.{◌≡◌, ◌⊎◌, inl, inr, take, drop, ℕ, zero, suc, ◌%◌, ◌<◌, List, [], ◌∷◌, ◌++◌, true, false, refl, sym, ◌∙◌, ap, subst, Option, Some, None, length, arith, append-nil, append_assoc, is_some, reverse, slice_get, slice_index_or, reverse-append, IsPrefix, core_at, Origin, prefix_refl, prefix_trans, DeskId, IsFree, PassState, Brain, OwnState, Entry, UnitName, AreServed, HaveRun, IsServed, AreServedOf, Grew, HasWorked, UnlessOver, came_then, is_over, CameOf, Each, HasCame, HaveWorked, IsHired, IsRound, Came, Still, Moved, Full, NoMemory}
+use Rattle.std.specs.Prelude.{All}
 use Rattle.std.proofs.lemmas.Option.{get_or_from_slice_get, slice_get-get_or}
-use Rattle.std.proofs.lemmas.List.{reverse-append}
-use mathlib.Core.List.{IsPrefix}
 use Rattle.df_crew.proofs.Rolls.{placed}
-use Rattle.df_crew.specs.Seen.{core_at}
-use Rattle.df_crew.specs.declared.origin.Origin.{Origin}
-use Rattle.df_desk.proofs.Prefixes.{prefix_refl, prefix_trans}
-use Rattle.df_desk.specs.Pass.{DeskId, IsFree, PassState}
 use Rattle.df_machine.specs.Journal.{IsRoll, firsts}
-use Rattle.df_rules.specs.Follows.{Brain}
 use Rattle.df_rules.specs.Own.{exists, own}
 use Rattle.df_rules.specs.Start.{rows}
 use Rattle.df_rules.proofs.Growth.{grown_after, own_grows}
-use Rattle.df_unit.specs.OwnState.{OwnState}
-use Rattle.df_unit.specs.declared.entry.Entry.{Entry}
-use Rattle.df_unit.specs.declared.name.UnitName.{UnitName}
-use Rattle.df_workers.specs.Serving.{AreServed, HaveRun, IsServed}
-use Rattle.df_workers.specs.code.Came.{AreServedOf, Grew, HasWorked, UnlessOver, came_then, is_over}
-use Rattle.df_workers.specs.code.Gathered.{CameOf, Each, HasCame, HaveWorked, IsHired, IsRound}
-use Rattle.df_workers.specs.declared.came.Came.{Came}
-use Rattle.df_workers.specs.declared.came.Came.TheVariants.{Still, Moved, Full, NoMemory}
 use Rattle.df_workers.specs.declared.worker.Worker.{Worker}
 use Rattle.df_workers.proofs.Prefixed.{served_before, served_behind}
 use Rattle.df_workers.proofs.Serving.{grew_before, grew_behind, unless_is, unless_then}

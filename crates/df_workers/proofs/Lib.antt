@@ -1,3 +1,4 @@
+pub mod Names
 pub mod Prefixed
 mod Others
 mod Turned

@@ -1,16 +1,5 @@
 -- Where a turn is stale, its unit has made an entry.
-use Rattle.std.proofs.Common.{◌≡◌, List, Bool, true, false, refl, subst}
-use mathlib.Core.List.{IsPrefix}
-use Rattle.df_booking.specs.Booked.{IsCurrent}
-use Rattle.df_crew.proofs.Others.{begun_current, current_kept, local_named}
-use Rattle.df_crew.specs.Locally.{IsBegun}
-use Rattle.df_crew.specs.Seen.{core_at, crew_at}
-use Rattle.df_crew.specs.declared.origin.Origin.{Origin}
-use Rattle.df_rules.specs.Follows.{Brain, has_entry}
-use Rattle.df_turn.specs.Locally.{TurnState}
-use Rattle.df_unit.specs.declared.entry.Entry.{Entry}
-use Rattle.df_unit.specs.declared.name.UnitName.{UnitName}
-use Rattle.df_workers.specs.Serving.{HasMoved}
+use Rattle.df_workers.proofs.Names.{◌≡◌, List, Bool, true, false, refl, subst, IsPrefix, IsCurrent, begun_current, current_kept, local_named, IsBegun, core_at, crew_at, Origin, Brain, has_entry, TurnState, Entry, UnitName, HasMoved}
 
 module _ {B : Type 0} (brain : Brain B) (o : Origin B) (t : TurnState B) where
   -- where a turn is stale, its unit has an entry behind the journal in which it began

@@ -1,13 +1,5 @@
 -- Who was served between two journals was served between longer ones.
-use Rattle.std.proofs.Common.{◌≡◌, inl, inr, ◌≤◌, List, ◌++◌, sym, ◌∙◌, ap, length, arith, append_assoc, length-append}
-use mathlib.Core.List.{IsPrefix}
-use Rattle.df_crew.proofs.HasEntry.{entry_before, entry_behind}
-use Rattle.df_crew.specs.declared.origin.Origin.{Origin}
-use Rattle.df_desk.proofs.Prefixes.{prefix_trans}
-use Rattle.df_rules.specs.Follows.{Brain}
-use Rattle.df_unit.specs.declared.entry.Entry.{Entry}
-use Rattle.df_unit.specs.declared.name.UnitName.{UnitName}
-use Rattle.df_workers.specs.Serving.{HasMoved, IsServed}
+use Rattle.df_workers.proofs.Names.{◌≡◌, inl, inr, ◌≤◌, List, ◌++◌, sym, ◌∙◌, ap, length, arith, append_assoc, length-append, IsPrefix, entry_before, entry_behind, Origin, prefix_trans, Brain, Entry, UnitName, HasMoved, IsServed}
 
 module _ (u : UnitName) where
   pub moved_before : (a b c : List Entry) → IsPrefix a b → HasMoved u b c → HasMoved u a c

@@ -1,21 +1,5 @@
 -- What came of the steps of a unit, and of the units of a worker, so far.
-use Rattle.std.proofs.Common.{◌≡◌, ◌⊎◌, inl, inr, ℕ, ◌+◌, ◌%◌, ◌<◌, ◌≤◌, List, true, false, refl, sym, ap, subst, Some, length, arith}
-use Rattle.std.specs.Prelude.{slice_get}
-use mathlib.Core.List.{IsPrefix}
-use Rattle.df_crew.specs.Locally.{IsBegun}
-use Rattle.df_crew.specs.Seen.{core_at}
-use Rattle.df_crew.specs.declared.origin.Origin.{Origin}
-use Rattle.df_desk.proofs.Prefixes.{prefix_refl, prefix_trans}
-use Rattle.df_desk.specs.Pass.{DeskId, IsFree, PassState}
-use Rattle.df_rules.specs.Follows.{Brain}
-use Rattle.df_turn.specs.Locally.{TurnState}
-use Rattle.df_unit.specs.declared.entry.Entry.{Entry}
-use Rattle.df_unit.specs.declared.name.UnitName.{UnitName}
-use Rattle.df_workers.specs.Serving.{HasMoved, IsServed}
-use Rattle.df_workers.specs.code.Came.{Grew, IsFirst, IsNext, UnlessOver, came_then, is_over}
-use Rattle.df_workers.specs.declared.came.Came.{Came}
-use Rattle.df_workers.specs.declared.came.Came.TheVariants.{Still, Moved, Full, NoMemory}
-use Rattle.df_workers.specs.declared.step.Next.TheVariants.{Goes, Ends}
+use Rattle.df_workers.proofs.Names.{◌≡◌, ◌⊎◌, inl, inr, ℕ, ◌+◌, ◌%◌, ◌<◌, ◌≤◌, List, true, false, refl, sym, ap, subst, Some, length, arith, slice_get, IsPrefix, IsBegun, core_at, Origin, prefix_refl, prefix_trans, DeskId, IsFree, PassState, Brain, TurnState, Entry, UnitName, HasMoved, IsServed, Grew, IsFirst, IsNext, UnlessOver, came_then, is_over, Came, Still, Moved, Full, NoMemory, Goes, Ends}
 use Rattle.df_workers.proofs.Prefixed.{moved_before, prefix_length, served_before, served_behind}
 
 pub grew_before : (max : ℕ) (c : Came) (x y z : List Entry) → IsPrefix x y → Grew max c y z → Grew max c x z

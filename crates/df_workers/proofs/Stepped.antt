@@ -1,34 +1,14 @@
 -- What follows a step.
-use Rattle.std.proofs.Common.{◌≡◌, inl, inr, ℕ, ◌<◌, ◌≤◌, List, Bool, true, false, refl, sym, ◌∙◌, ap, subst, cond, Option, Some, None, Result, Ok, Err, length, arith}
-use Rattle.std.specs.Prelude.{◌==◌, IfOk, nat_le}
+use Rattle.df_workers.proofs.Names.{◌≡◌, inl, inr, ℕ, ◌<◌, ◌≤◌, List, Bool, true, false, refl, sym, ◌∙◌, ap, subst, cond, Option, Some, None, Result, Ok, Err, length, arith, ◌==◌, IfOk, nat_le, nat_tests, IsPrefix, IsCurrent, IsBegun, IsResting, core_at, crew_at, Origin, IsBooked, IsCounted, Brain, TurnState, OwnState, Entry, UnitName, HasMoved, IsServed, IsFirst, IsNext, next_by, next_of, next_turn, Came, Still, Moved, Full, NoMemory, Goes, Ends, begun_current, local_named}
 use Rattle.std.specs.Option.{option_map}
-use Rattle.std.proofs.lemmas.Bool.Decides.{nat_tests}
-use mathlib.Core.List.{IsPrefix}
-use Rattle.df_booking.specs.Booked.{IsCurrent}
 use Rattle.df_crew.specs.Booking.{IsRefused}
-use Rattle.df_crew.specs.Locally.{IsBegun}
-use Rattle.df_crew.specs.Resting.{IsResting}
-use Rattle.df_crew.specs.Seen.{core_at, crew_at}
 use Rattle.df_crew.specs.declared.crew.BookCause.{BookCause}
 use Rattle.df_crew.specs.declared.crew.BookCause.TheVariants.{Stale}
 use Rattle.df_crew.specs.declared.crew.BookCause.TheVariants as why
-use Rattle.df_crew.specs.declared.origin.Origin.{Origin}
-use Rattle.df_hub.specs.Steps.{IsBooked, IsCounted}
 use Rattle.df_hub.specs.declared.hub.Stepped.{Stepped}
 use Rattle.df_local.specs.code.LocalState.{LocalState}
 use Rattle.df_memory.specs.declared.NoMemory as label
-use Rattle.df_rules.specs.Follows.{Brain}
-use Rattle.df_turn.specs.Locally.{TurnState}
-use Rattle.df_unit.specs.OwnState.{OwnState}
-use Rattle.df_unit.specs.declared.entry.Entry.{Entry}
-use Rattle.df_unit.specs.declared.name.UnitName.{UnitName}
-use Rattle.df_workers.specs.Serving.{HasMoved, IsServed}
-use Rattle.df_workers.specs.code.Came.{IsFirst, IsNext, next_by, next_of, next_turn}
-use Rattle.df_workers.specs.declared.came.Came.{Came}
-use Rattle.df_workers.specs.declared.came.Came.TheVariants.{Still, Moved, Full, NoMemory}
 use Rattle.df_workers.specs.declared.step.Next.{Next}
-use Rattle.df_workers.specs.declared.step.Next.TheVariants.{Goes, Ends}
-use Rattle.df_crew.proofs.Others.{begun_current, local_named}
 use Rattle.df_workers.proofs.Others.{stale_moved}
 use Rattle.df_workers.proofs.Prefixed.{moved_before, moved_behind, prefix_length}
 use Rattle.df_workers.proofs.Turned.{booked_behind, booked_moved, booked_rests}

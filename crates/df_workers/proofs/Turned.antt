@@ -1,27 +1,13 @@
 -- What a booked turn does for its unit: it has an entry, or the unit had nothing to do.
-use Rattle.std.proofs.Common.{◌≡◌, ◌⊎◌, inl, inr, ℕ, zero, suc, ◌<◌, ◌≤◌, List, [], ◌∷◌, ◌++◌, Bool, true, false, ◌||◌, refl, sym, ◌∙◌, ap, subst, cond, Option, Some, None, length, arith, append_assoc}
-use Rattle.std.specs.Prelude.{is_some, reverse}
-use Rattle.std.proofs.lemmas.List.{length-reverse, reverse-append, reverse-reverse}
-use mathlib.Core.List.{IsPrefix}
-use Rattle.df_booking.specs.Booked.{booked}
+use Rattle.df_workers.proofs.Names.{◌≡◌, ◌⊎◌, inl, inr, ℕ, zero, suc, ◌<◌, ◌≤◌, List, [], ◌∷◌, ◌++◌, Bool, true, false, ◌||◌, refl, sym, ◌∙◌, ap, subst, cond, Option, Some, None, length, arith, append_assoc, is_some, reverse, length-reverse, reverse-append, reverse-reverse, IsPrefix, booked, IsResting, core_at, crew_at, seen_of, Origin, IsBooked, Brain, Calls, Last, Wait, Want, has_entry, TurnState, most_local, Entry, UnitName, HasMoved, entry_behind, entry_reverse}
 use Rattle.df_booking.specs.CrewState.{CrewState, want_in}
 use Rattle.df_booking.specs.Turns.{asked, asked_by, is_local_want, turn_of, turned}
 use Rattle.df_booking.proofs.Entries.{same_self}
 use Rattle.df_crew.proofs.Growing.{more_booked}
 use Rattle.df_crew.proofs.Seen.{more_seen}
 use Rattle.df_crew.proofs.Still.{at_rest}
-use Rattle.df_crew.specs.Resting.{IsResting}
-use Rattle.df_crew.specs.Seen.{core_at, crew_at, seen_of}
-use Rattle.df_crew.specs.declared.origin.Origin.{Origin}
-use Rattle.df_hub.specs.Steps.{IsBooked}
 use Rattle.df_machine.specs.Journal.{State, appended, has_delivery_in}
-use Rattle.df_rules.specs.Follows.{Brain, Calls, Last, Wait, Want, has_entry}
-use Rattle.df_turn.specs.Locally.{TurnState, most_local}
 use Rattle.df_unit.specs.declared.call.Call.{Call}
-use Rattle.df_unit.specs.declared.entry.Entry.{Entry}
-use Rattle.df_unit.specs.declared.name.UnitName.{UnitName}
-use Rattle.df_workers.specs.Serving.{HasMoved}
-use Rattle.df_crew.proofs.HasEntry.{entry_behind, entry_reverse}
 
 -- nothing was appended, or entries of which one is the unit's; the newest stand first
 record Moves (u : UnitName) (old new : List Entry) : Type 0 where

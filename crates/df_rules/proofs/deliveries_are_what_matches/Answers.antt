@@ -1,5 +1,5 @@
+use Rattle.df_rules.proofs.Names.{rows, roots}
 use Rattle.df_rules.proofs.Matching.{called_for, handed_by_then}
-use Rattle.df_rules.specs.Start.{rows, roots}
 use Rattle.df_rules.proofs.deliveries_are_what_matches.Goals as goal
 
 pub returns-clause-each : goal.returns-clause-each

@@ -1,5 +1,5 @@
+use Rattle.df_rules.proofs.Names.{rows, roots}
 use Rattle.df_rules.proofs.Growth.{deliveries_grow}
-use Rattle.df_rules.specs.Start.{rows, roots}
 use Rattle.df_rules.proofs.deliveries_grow.Goals as goal
 
 pub returns : goal.returns

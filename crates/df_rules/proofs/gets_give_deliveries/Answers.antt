@@ -1,6 +1,6 @@
+use Rattle.df_rules.proofs.Names.{rows, roots}
 use Rattle.df_rules.proofs.Taking.{gets_give_deliveries, absent_receives_nothing}
 use Rattle.df_rules.proofs.TakingRows.{row_taking_laws, nothing_after_all}
-use Rattle.df_rules.specs.Start.{rows, roots}
 use Rattle.df_rules.proofs.gets_give_deliveries.Goals as goal
 
 pub returns-clause-units : goal.returns-clause-units

@@ -1,5 +1,5 @@
+use Rattle.df_rules.proofs.Names.{roots}
 use Rattle.df_rules.proofs.Instances.{keeps_to_its_name, subscribes_to_nothing}
-use Rattle.df_rules.specs.Start.{roots}
 use Rattle.df_rules.proofs.instances_keep_to_their_names.Goals as goal
 
 pub returns-clause-state : goal.returns-clause-state

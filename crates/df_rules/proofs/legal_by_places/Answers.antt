@@ -1,5 +1,5 @@
+use Rattle.df_rules.proofs.Names.{rows, roots}
 use Rattle.df_rules.proofs.Places.{legal_at, legal_by_places}
-use Rattle.df_rules.specs.Start.{rows, roots}
 use Rattle.df_rules.proofs.legal_by_places.Goals as goal
 
 pub returns-clause-each : goal.returns-clause-each

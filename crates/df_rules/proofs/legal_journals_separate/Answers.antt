@@ -1,11 +1,9 @@
-use Rattle.std.proofs.Common.{◌∷◌}
+use Rattle.df_rules.proofs.Names.{◌∷◌, rows, roots, Done}
 use Rattle.df_rules.proofs.Exercised.{exercised}
 use Rattle.df_rules.proofs.Places.{legal_before}
 use Rattle.df_rules.proofs.PurgeKeeps.{purge_keeps, purge_legal}
 use Rattle.df_rules.proofs.ReleaseLaws.{row_release_laws}
 use Rattle.df_rules.proofs.RowLaws.{row_laws}
-use Rattle.df_rules.specs.Start.{rows, roots}
-use Rattle.df_unit.specs.declared.entry.Entry.TheVariants.{Done}
 use Rattle.df_rules.proofs.legal_journals_separate.Goals as goal
 
 pub returns : goal.returns

@@ -1,7 +1,7 @@
+use Rattle.df_rules.proofs.Names.{rows, roots}
 use Rattle.df_rules.proofs.Exercised.{exercised}
 use Rattle.df_rules.proofs.ReleaseLaws.{row_release_laws}
 use Rattle.df_rules.proofs.RowLaws.{row_laws}
-use Rattle.df_rules.specs.Start.{rows, roots}
 use Rattle.df_rules.proofs.purge_exercises.Goals as goal
 
 pub returns : goal.returns

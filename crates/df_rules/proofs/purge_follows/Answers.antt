@@ -1,7 +1,7 @@
+use Rattle.df_rules.proofs.Names.{rows, roots}
 use Rattle.df_rules.proofs.FollowsAgain.{purge_follows}
 use Rattle.df_rules.proofs.RowLaws.{row_laws}
 use Rattle.df_rules.specs.Follows.{brain_of}
-use Rattle.df_rules.specs.Start.{rows, roots}
 use Rattle.df_rules.proofs.purge_follows.Goals as goal
 
 pub returns : goal.returns

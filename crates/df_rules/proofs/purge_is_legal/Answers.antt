@@ -1,6 +1,6 @@
+use Rattle.df_rules.proofs.Names.{rows, roots}
 use Rattle.df_rules.proofs.PurgeKeeps.{purge_legal}
 use Rattle.df_rules.proofs.RowLaws.{row_laws}
-use Rattle.df_rules.specs.Start.{rows, roots}
 use Rattle.df_rules.proofs.purge_is_legal.Goals as goal
 
 pub returns : goal.returns

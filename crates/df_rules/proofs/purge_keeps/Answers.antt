@@ -1,6 +1,6 @@
+use Rattle.df_rules.proofs.Names.{rows, roots}
 use Rattle.df_rules.proofs.PurgeKeeps.{purge_keeps}
 use Rattle.df_rules.proofs.RowLaws.{row_laws}
-use Rattle.df_rules.specs.Start.{rows, roots}
 use Rattle.df_rules.proofs.purge_keeps.Goals as goal
 
 pub returns : goal.returns

@@ -1,5 +1,5 @@
+use Rattle.df_rules.proofs.Names.{rows, roots}
 use Rattle.df_rules.proofs.Runs.{run_legal, run_unaided, calls_of-run, is_run}
-use Rattle.df_rules.specs.Start.{rows, roots}
 use Rattle.df_rules.proofs.runs_are_legal.Goals as goal
 
 pub returns-clause-legal : goal.returns-clause-legal

@@ -1,5 +1,5 @@
+use Rattle.df_rules.proofs.Names.{roots}
 use Rattle.df_rules.proofs.Numbers.{numbers_ascend, numbers_counted}
-use Rattle.df_rules.specs.Start.{roots}
 use Rattle.df_rules.proofs.subscriptions_are_numbered.Goals as goal
 
 pub returns-clause-order : goal.returns-clause-order

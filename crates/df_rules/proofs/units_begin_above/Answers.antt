@@ -1,5 +1,5 @@
+use Rattle.df_rules.proofs.Names.{roots}
 use Rattle.df_rules.proofs.Above.{instance_above, child_is_above}
-use Rattle.df_rules.specs.Start.{roots}
 use Rattle.df_rules.proofs.units_begin_above.Goals as goal
 
 pub returns-clause-instances : goal.returns-clause-instances

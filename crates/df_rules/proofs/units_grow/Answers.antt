@@ -1,5 +1,5 @@
+use Rattle.df_rules.proofs.Names.{rows, roots}
 use Rattle.df_rules.proofs.Growth.{grown_after, own_grows}
-use Rattle.df_rules.specs.Start.{rows, roots}
 use Rattle.df_rules.proofs.units_grow.Goals as goal
 
 pub returns : goal.returns

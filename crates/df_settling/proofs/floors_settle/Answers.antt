@@ -1,4 +1,4 @@
-use Rattle.std.proofs.Common.{arith}
+use Rattle.df_settling.proofs.Names.{arith}
 use Rattle.df_settling.proofs.Bound.{settles}
 use Rattle.df_settling.proofs.floors_settle.Goals as goal
 

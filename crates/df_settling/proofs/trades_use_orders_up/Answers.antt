@@ -1,4 +1,4 @@
-use Rattle.std.proofs.Common.{arith}
+use Rattle.df_settling.proofs.Names.{arith}
 use Rattle.df_settling.proofs.Balanced.{all_used_up, balanced}
 use Rattle.df_settling.proofs.trades_use_orders_up.Goals as goal
 

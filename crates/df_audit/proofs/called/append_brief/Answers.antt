@@ -1,10 +1,5 @@
-use Rattle.std.proofs.Common.{Option, sym, subst, ◌∙◌}
+use Rattle.df_audit.proofs.Names.{Option, sym, subst, ◌∙◌, Answer, IsStep, Call, Effect, AppendsCall, effect_in}
 use Rattle.df_local.specs.Brief.{accepted_reply}
-use Rattle.df_local.specs.declared.answer.Answer.{Answer}
-use Rattle.df_machine.specs.Tables.{IsStep}
-use Rattle.df_unit.specs.declared.call.Call.{Call}
-use Rattle.df_unit.specs.declared.entry.Effect.{Effect}
-use Rattle.df_audit.specs.code.Calling.{AppendsCall, effect_in}
 use Rattle.df_audit.proofs.Calls.{appends_call, read_again}
 use Rattle.df_audit.proofs.called.append_brief.Goals as goal
 

@@ -1,8 +1,4 @@
-use Rattle.std.proofs.Common.{Option, sym, subst, ◌∙◌}
-use Rattle.std.proofs.lemmas.Result.{on_ok_weaker}
-use Rattle.df_local.specs.declared.answer.Answer.{Answer}
-use Rattle.df_unit.specs.declared.entry.Effect.{Effect}
-use Rattle.df_audit.specs.code.Calling.{AppendsCall, effect_in}
+use Rattle.df_audit.proofs.Names.{Option, sym, subst, ◌∙◌, on_ok_weaker, Answer, Effect, AppendsCall, effect_in}
 use Rattle.df_audit.proofs.Calls.{appends_call, note_in, read_again}
 use Rattle.df_audit.proofs.called.append_call.Goals as goal
 

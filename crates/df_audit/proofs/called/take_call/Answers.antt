@@ -1,6 +1,4 @@
-use Rattle.std.proofs.Common.{ℕ, ap, arith, drop, length, length-append, refl, ◌∙◌}
-use Rattle.df_replay.specs.Noted.{past_of}
-use Rattle.df_audit.specs.code.Calling.{effect_in, stays_in}
+use Rattle.df_audit.proofs.Names.{ℕ, ap, arith, drop, length, length-append, refl, ◌∙◌, past_of, effect_in, stays_in}
 use Rattle.df_audit.proofs.Calls.{call_fits, takes_call}
 use Rattle.df_audit.proofs.called.take_call.Goals as goal
 

@@ -1,4 +1,4 @@
-use Rattle.df_journal_file.specs.Either.{journal_in}
+use Rattle.df_audit.proofs.Names.{journal_in}
 use Rattle.df_audit.proofs.check.check_whole.Goals as goal
 
 pub returns-in-Ok-checked-clause-tells : goal.returns-in-Ok-checked-clause-tells

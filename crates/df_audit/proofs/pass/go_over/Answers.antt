@@ -1,4 +1,4 @@
-use Rattle.std.proofs.Common.{[], ◌∷◌, ◌++◌}
+use Rattle.df_audit.proofs.Names.{[], ◌∷◌, ◌++◌}
 use Rattle.df_audit.proofs.Passes.{ended_right, fewer_left}
 use Rattle.df_audit.proofs.pass.go_over.Goals as goal
 

@@ -1,7 +1,4 @@
-use Rattle.std.proofs.Common.{List, length, ◌-◌}
-use Rattle.df_start.specs.declared.start.RootStart.{RootStart}
-use Rattle.df_unit.specs.declared.entry.Noted.{Noted}
-use Rattle.df_audit.specs.code.Passing.{IsSoFar}
+use Rattle.df_audit.proofs.Names.{List, length, ◌-◌, RootStart, Noted, IsSoFar}
 use Rattle.df_audit.proofs.pass.go_over.Given as goal
 
 -- the entries that were read are right, and what is wanted of them is made

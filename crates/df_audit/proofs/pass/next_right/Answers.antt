@@ -1,8 +1,4 @@
-use Rattle.std.proofs.Common.{sym}
-use Rattle.std.proofs.lemmas.Result.{IfOk-weaker}
-use Rattle.df_machine.specs.Journal.{State}
-use Rattle.df_replay.specs.Noted.{past_of}
-use Rattle.df_audit.specs.code.Passing.{TakesKept}
+use Rattle.df_audit.proofs.Names.{sym, IfOk-weaker, State, past_of, TakesKept}
 use Rattle.df_audit.proofs.Passes.{comes_kept}
 use Rattle.df_audit.proofs.pass.next_right.Goals as goal
 

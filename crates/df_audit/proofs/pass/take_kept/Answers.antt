@@ -1,4 +1,4 @@
-use Rattle.std.proofs.lemmas.Result.{IfOk-weaker, on_ok_weaker}
+use Rattle.df_audit.proofs.Names.{IfOk-weaker, on_ok_weaker}
 use Rattle.df_audit.proofs.Passes.{judged_kept}
 use Rattle.df_audit.proofs.pass.take_kept.Goals as goal
 

@@ -1,8 +1,4 @@
-use Rattle.std.proofs.Common.{◌≡◌, [], ◌∷◌, true, sym, subst}
-use Rattle.std.proofs.lemmas.Result.{IfOk-weaker}
-use Rattle.df_journal_file.specs.Cursor.{CursorState}
-use Rattle.df_unit.specs.declared.name.UnitName.TheVariants.{Root}
-use Rattle.df_audit.specs.code.Passing.{IsSoFar, TakesOne}
+use Rattle.df_audit.proofs.Names.{◌≡◌, [], ◌∷◌, true, sym, subst, IfOk-weaker, CursorState, Root, IsSoFar, TakesOne}
 use Rattle.df_audit.proofs.pass.take_line.Goals as goal
 
 pub returns : goal.returns

@@ -1,6 +1,4 @@
-use Rattle.std.proofs.Common.{[], ◌∷◌, sym}
-use Rattle.std.proofs.lemmas.Result.{IfOk-weaker}
-use Rattle.df_unit.specs.declared.name.UnitName.TheVariants.{Root}
+use Rattle.df_audit.proofs.Names.{[], ◌∷◌, sym, IfOk-weaker, Root}
 use Rattle.df_audit.proofs.Calls.{read_common}
 use Rattle.df_audit.proofs.pass.take_next.Goals as goal
 

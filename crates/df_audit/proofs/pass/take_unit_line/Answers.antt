@@ -1,7 +1,4 @@
-use Rattle.std.proofs.Common.{◌≡◌, true, sym, subst}
-use Rattle.std.proofs.lemmas.Result.{IfOk-weaker}
-use Rattle.df_journal_file.specs.Cursor.{CursorState}
-use Rattle.df_audit.specs.code.Passing.{IsSoFar, TakesOne}
+use Rattle.df_audit.proofs.Names.{◌≡◌, true, sym, subst, IfOk-weaker, CursorState, IsSoFar, TakesOne}
 use Rattle.df_audit.proofs.pass.take_unit_line.Goals as goal
 
 pub returns : goal.returns

@@ -1,4 +1,4 @@
-use Rattle.std.proofs.Common.{refl}
+use Rattle.df_audit.proofs.Names.{refl}
 use Rattle.df_audit.proofs.Passes.{purge_made}
 use Rattle.df_audit.proofs.right.purge_text.Goals as goal
 

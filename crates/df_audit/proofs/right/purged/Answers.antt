@@ -1,11 +1,4 @@
-use Rattle.std.proofs.Common.{◌≡◌, List, IfOk, subst}
-use Rattle.df_machine.specs.Journal.{firsts}
-use Rattle.df_rules.specs.Purge.{purge}
-use Rattle.df_rules.specs.Start.{rows}
-use Rattle.df_unit.specs.declared.entry.Noted.{Noted}
-use Rattle.df_replay.specs.Noted.{AreRight, noted, past_of}
-use Rattle.df_journal_text.specs.Start.{journal_text}
-use Rattle.df_journal_file.specs.Either.{journal_in}
+use Rattle.df_audit.proofs.Names.{◌≡◌, List, IfOk, subst, firsts, purge, rows, Noted, AreRight, noted, past_of, journal_text, journal_in}
 use Rattle.df_audit.specs.declared.right.Noting.TheVariants as noting
 use Rattle.df_audit.proofs.Told.{knows, purge_ok}
 use Rattle.df_audit.proofs.right.purged.Goals as goal

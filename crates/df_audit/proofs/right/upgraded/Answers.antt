@@ -1,7 +1,4 @@
-use Rattle.std.proofs.Common.{◌≡◌, List, IfOk, subst}
-use Rattle.df_unit.specs.declared.entry.Noted.{Noted}
-use Rattle.df_journal_text.specs.Start.{journal_text}
-use Rattle.df_journal_file.specs.Either.{journal_in}
+use Rattle.df_audit.proofs.Names.{◌≡◌, List, IfOk, subst, Noted, journal_text, journal_in}
 use Rattle.df_audit.specs.declared.right.Noting.TheVariants as noting
 use Rattle.df_audit.proofs.Told.{knows, upgrade_ok}
 use Rattle.df_audit.proofs.right.upgraded.Goals as goal

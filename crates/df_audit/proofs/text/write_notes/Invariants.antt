@@ -1,6 +1,4 @@
-use Rattle.std.proofs.Common.{◌≡◌, ◌++◌, take}
-use Rattle.std.specs.List.{flat_map}
-use Rattle.df_journal_text.specs.Entry.{noted_text}
+use Rattle.df_audit.proofs.Names.{◌≡◌, ◌++◌, take, flat_map, noted_text}
 use Rattle.df_audit.proofs.text.write_notes.Given as goal
 
 -- the entries so far are written

@@ -1,4 +1,4 @@
-use Rattle.std.proofs.Common.{◌≡◌, map, take}
+use Rattle.df_audit.proofs.Names.{◌≡◌, map, take}
 use Rattle.df_audit.proofs.why.bare.Given as goal
 
 -- copied so far

@@ -1,8 +1,4 @@
-use Rattle.std.proofs.Common.{List, IfOk, sym, subst}
-use Rattle.df_unit.specs.declared.entry.Noted.{Noted}
-use Rattle.df_replay.specs.Noted.{AreRight}
-use Rattle.df_audit.specs.code.Picking.{ExplainsNoted}
-use Rattle.df_journal_file.specs.Either.{journal_in}
+use Rattle.df_audit.proofs.Names.{List, IfOk, sym, subst, Noted, AreRight, ExplainsNoted, journal_in}
 use Rattle.df_audit.specs.declared.right.Noting.TheVariants as noting
 use Rattle.df_audit.proofs.Told.{knows}
 use Rattle.df_audit.proofs.Grounds.{why_ok}

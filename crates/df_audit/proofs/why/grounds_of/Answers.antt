@@ -1,4 +1,4 @@
-use Rattle.std.proofs.Common.{length}
+use Rattle.df_audit.proofs.Names.{length}
 use Rattle.df_audit.proofs.Grounds.{are_within}
 use Rattle.df_audit.proofs.why.grounds_of.Goals as goal
 

@@ -1,8 +1,4 @@
-use Rattle.std.proofs.Common.{◌≡◌, ◌++◌, take}
-use Rattle.std.specs.List.{flat_map}
-use Rattle.df_journal_text.specs.Entry.{noted_text}
-use Rattle.df_journal_text.specs.Start.{head_text}
-use Rattle.df_why.specs.Grounds.{at_places}
+use Rattle.df_audit.proofs.Names.{◌≡◌, ◌++◌, take, flat_map, noted_text, head_text, at_places}
 use Rattle.df_audit.proofs.why.text_at.Given as goal
 
 -- the entries at the places so far are written

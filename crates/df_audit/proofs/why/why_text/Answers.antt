@@ -1,4 +1,4 @@
-use Rattle.df_journal_file.specs.Either.{journal_in}
+use Rattle.df_audit.proofs.Names.{journal_in}
 use Rattle.df_audit.proofs.why.why_text.Goals as goal
 
 pub returns-in-Ok-explained-clause-tells : goal.returns-in-Ok-explained-clause-tells

@@ -1,11 +1,4 @@
-use Rattle.std.proofs.Common.{Some, ◌≡◌, subst, take}
-use Rattle.df_machine.specs.Journal.{State}
-use Rattle.df_machine.specs.Tables.{AgreesWith}
-use Rattle.df_unit.specs.declared.entry.Noted.{Noted}
-use Rattle.df_replay.specs.Noted.{past_of}
-use Rattle.df_replay.specs.Replay.{replayed}
-use Rattle.df_check.specs.CheckNoted.{TellsOtherNoted, noted_for}
-use Rattle.df_check.specs.declared.noted.NotedVerdict.TheVariants.{Wrong}
+use Rattle.df_check.proofs.Names.{Some, ◌≡◌, subst, take, State, AgreesWith, Noted, past_of, replayed, TellsOtherNoted, noted_for, Wrong}
 use Rattle.df_check.proofs.JudgedNoted.{first_wrong, so_far_more, valid_is}
 use Rattle.df_check.proofs.noted.check_noted.Goals as goal
 

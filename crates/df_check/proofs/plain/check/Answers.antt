@@ -1,9 +1,4 @@
-use Rattle.std.proofs.Common.{Some, ◌≡◌, reverse, subst, take}
-use Rattle.df_machine.specs.Journal.{State}
-use Rattle.df_machine.specs.Tables.{AgreesWith}
-use Rattle.df_unit.specs.declared.entry.Entry.{Entry}
-use Rattle.df_replay.specs.Replay.{entry_for, replayed}
-use Rattle.df_check.specs.Check.{TellsOther}
+use Rattle.df_check.proofs.Names.{Some, ◌≡◌, reverse, subst, take, State, AgreesWith, Entry, entry_for, replayed, TellsOther}
 use Rattle.df_check.specs.declared.plain.Verdict.TheVariants.{Wrong}
 use Rattle.df_check.proofs.Judged.{first_wrong, so_far_more, valid_is}
 use Rattle.df_check.proofs.plain.check.Goals as goal

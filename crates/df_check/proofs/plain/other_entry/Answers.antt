@@ -1,5 +1,4 @@
-use Rattle.std.proofs.Common.{ap}
-use Rattle.df_unit.specs.declared.entry.Noted.{Noted}
+use Rattle.df_check.proofs.Names.{ap, Noted}
 use Rattle.df_check.proofs.plain.other_entry.Goals as goal
 
 pub returns-in-Same-clause-made : goal.returns-in-Same-clause-made

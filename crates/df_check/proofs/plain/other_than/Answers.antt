@@ -1,6 +1,4 @@
-use Rattle.std.proofs.Common.{ap, slice_get}
-use Rattle.df_machine.specs.Journal.{State}
-use Rattle.df_replay.specs.Replay.{entry_for}
+use Rattle.df_check.proofs.Names.{ap, slice_get, State, entry_for}
 use Rattle.df_check.proofs.plain.other_than.Goals as goal
 
 pub newest_if_other-requires : goal.newest_if_other-requires

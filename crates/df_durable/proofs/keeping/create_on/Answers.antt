@@ -1,8 +1,4 @@
-use Rattle.std.proofs.Common.{◌≡◌, ℕ, List, [], ◌∷◌, length, ◌∙◌, ap, arith, subst}
-use Rattle.std.specs.Prelude.{IfSome}
-use Rattle.df_disk.specs.Records.{IsAtRest}
-use Rattle.df_image.specs.Image.{start_record}
-use Rattle.df_durable.specs.declared.keeping.KeptCore.{KeptCore}
+use Rattle.df_durable.proofs.Names.{◌≡◌, ℕ, List, [], ◌∷◌, length, ◌∙◌, ap, arith, subst, IfSome, IsAtRest, start_record, KeptCore}
 use Rattle.df_durable.proofs.Keepings.{first_on_disk, first_tells, start_leaves}
 use Rattle.df_durable.proofs.keeping.create_on.Goals as goal
 

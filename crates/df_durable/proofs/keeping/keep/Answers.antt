@@ -1,4 +1,4 @@
-use Rattle.std.proofs.Common.{◌∙◌}
+use Rattle.df_durable.proofs.Names.{◌∙◌}
 use Rattle.df_durable.proofs.keeping.keep.Goals as goal
 
 pub returns-in-Ok-clause-any_moment : goal.returns-in-Ok-clause-any_moment

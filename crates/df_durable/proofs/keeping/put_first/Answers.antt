@@ -1,6 +1,4 @@
-use Rattle.std.proofs.Common.{ℕ, [], ◌∷◌, length, subst, zero-add}
-use Rattle.std.specs.Prelude.{OnOk}
-use Rattle.df_disk.specs.Records.{IsAtRest}
+use Rattle.df_durable.proofs.Names.{ℕ, [], ◌∷◌, length, subst, zero-add, OnOk, IsAtRest}
 use Rattle.df_durable.proofs.Keepings.{if_told_ok}
 use Rattle.df_durable.proofs.keeping.put_first.Goals as goal
 

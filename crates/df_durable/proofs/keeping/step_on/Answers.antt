@@ -1,5 +1,4 @@
-use Rattle.std.proofs.Common.{◌∙◌}
-use Rattle.df_durable.specs.declared.keeping.KeptCore.{KeptCore}
+use Rattle.df_durable.proofs.Names.{◌∙◌, KeptCore}
 use Rattle.df_durable.proofs.Keepings.{step_failed, step_leaves, step_on_disk, step_tells}
 use Rattle.df_durable.proofs.keeping.step_on.Goals as goal
 

@@ -1,5 +1,4 @@
-use Rattle.std.proofs.Common.{◌-◌, length}
-use Rattle.df_image.specs.Front.{IsFront}
+use Rattle.df_durable.proofs.Names.{◌-◌, length, IsFront}
 use Rattle.df_durable.proofs.opening.core_of.Given as goal
 
 abbrev pub invariant-records : goal.invariant-records

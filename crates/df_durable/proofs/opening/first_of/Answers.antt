@@ -1,6 +1,4 @@
-use Rattle.std.proofs.Common.{◌+◌, ◌<◌, ◌^◌, ℕ, List, length, arith, ap, sym, subst}
-use Rattle.df_image.specs.Front.{IsFront}
-use Rattle.df_image.specs.Image.{State}
+use Rattle.df_durable.proofs.Names.{◌+◌, ◌<◌, ◌^◌, ℕ, List, length, arith, ap, sym, subst, IsFront, State}
 use Rattle.df_image.specs.Reading.{TellsStart}
 use Rattle.df_image.proofs.Fronts.{first_broken, first_front, first_wrong}
 use Rattle.df_durable.proofs.opening.first_of.Goals as goal

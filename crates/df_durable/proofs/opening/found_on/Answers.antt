@@ -1,7 +1,4 @@
-use Rattle.std.proofs.Common.{◌≡◌, ◌<◌, ◌^◌, ℕ, List, length, Err, refl, sym, subst}
-use Rattle.std.specs.Prelude.{IfSome}
-use Rattle.df_durable.specs.Opening.{IfRead, IsOf}
-use Rattle.df_durable.specs.declared.cause.OpenCause.{OpenCause}
+use Rattle.df_durable.proofs.Names.{◌≡◌, ◌<◌, ◌^◌, ℕ, List, length, Err, refl, sym, subst, IfSome, IfRead, IsOf, OpenCause}
 use Rattle.df_durable.proofs.Openings.{found_told, nothing_read, nothing_told, opened_on_disk, read_so, settled_still, short_told}
 use Rattle.df_durable.proofs.opening.found_on.Goals as goal
 

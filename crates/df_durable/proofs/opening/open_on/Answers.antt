@@ -1,8 +1,5 @@
-use Rattle.std.proofs.Common.{◌<◌, ◌^◌, ℕ, List, Option, length, subst, sym}
-use Rattle.std.specs.Prelude.{IfSome}
-use Rattle.df_disk.specs.Disk.{IsSettled}
+use Rattle.df_durable.proofs.Names.{◌<◌, ◌^◌, ℕ, List, Option, length, subst, sym, IfSome, IsSettled, IfRead, IsOf}
 use Rattle.df_disk.proofs.Moments.{recedes, recedes_on}
-use Rattle.df_durable.specs.Opening.{IfRead, IsOf}
 use Rattle.df_durable.proofs.opening.open_on.Goals as goal
 
 pub found_on-requires : goal.found_on-requires

@@ -1,4 +1,4 @@
-use Rattle.std.proofs.Common.{subst}
+use Rattle.df_durable.proofs.Names.{subst}
 use Rattle.df_image.specs.Reading.{TellsEntry}
 use Rattle.df_durable.proofs.Takes.{taken}
 use Rattle.df_durable.proofs.opening.take_entry.Goals as goal

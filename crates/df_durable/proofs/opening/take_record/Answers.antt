@@ -1,5 +1,4 @@
-use Rattle.std.proofs.Common.{◌<◌, ◌^◌, ℕ, List, length, length-drop, arith, ap, subst}
-use Rattle.df_image.specs.Front.{TakesEntry}
+use Rattle.df_durable.proofs.Names.{◌<◌, ◌^◌, ℕ, List, length, length-drop, arith, ap, subst, TakesEntry}
 use Rattle.df_image.proofs.Fronts.{front_broken, front_closed, front_more, front_wrong}
 use Rattle.df_durable.proofs.opening.take_record.Goals as goal
 

@@ -1,7 +1,5 @@
-use Rattle.std.proofs.Common.{Option, ◌++◌, ap, ◌∙◌}
-use Rattle.std.proofs.lemmas.Result.{on_ok_weaker}
+use Rattle.df_floor_run.proofs.Names.{Option, ◌++◌, ap, ◌∙◌, on_ok_weaker, entry_text}
 use Rattle.df_label.specs.declared.label.Label.{Label}
-use Rattle.df_journal_text.specs.Entry.{entry_text}
 use Rattle.df_replay.proofs.Comparing.{on_ok_always}
 use Rattle.df_floor_run.proofs.journal.append_entry.Goals as goal
 

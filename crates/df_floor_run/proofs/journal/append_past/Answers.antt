@@ -1,12 +1,4 @@
-use Rattle.std.proofs.Common.{List, ◌≡◌, ◌++◌, reverse, subst, sym, take}
-use Rattle.df_journal_text.specs.Entry.{noted_text}
-use Rattle.df_machine.specs.Journal.{State, firsts}
-use Rattle.df_machine.specs.Tables.{AgreesWith}
-use Rattle.df_rules.specs.Legal.{Legal}
-use Rattle.df_rules.specs.Start.{rows}
-use Rattle.df_unit.specs.declared.entry.Entry.{Entry}
-use Rattle.df_replay.specs.Noted.{noted_in}
-use Rattle.df_replay.specs.Replay.{replayed}
+use Rattle.df_floor_run.proofs.Names.{List, ◌≡◌, ◌++◌, reverse, subst, sym, take, noted_text, State, firsts, AgreesWith, Legal, rows, Entry, noted_in, replayed}
 use Rattle.df_floor_run.proofs.Told.{told_more}
 use Rattle.df_floor_run.proofs.journal.append_past.Goals as goal
 

@@ -1,6 +1,4 @@
-use Rattle.std.proofs.lemmas.Result.{IfOk-weaker}
-use Rattle.df_floor_run.specs.Load.{IsLoadText}
-use Rattle.df_floor_run.specs.code.Running.{TellsReport}
+use Rattle.df_floor_run.proofs.Names.{IfOk-weaker, IsLoadText, TellsReport}
 use Rattle.df_floor_run.proofs.Whole.{load_text}
 use Rattle.df_floor_run.proofs.load.run_load.Goals as goal
 

@@ -1,6 +1,4 @@
-use Rattle.std.proofs.lemmas.Result.{IfOk-weaker}
-use Rattle.df_floor_run.specs.FloorRun.{IsFloorRun}
-use Rattle.df_floor_run.specs.code.Running.{TellsRun}
+use Rattle.df_floor_run.proofs.Names.{IfOk-weaker, IsFloorRun, TellsRun}
 use Rattle.df_floor_run.specs.declared.run.FloorRun.{FloorRun}
 use Rattle.df_floor_run.proofs.Whole.{floor_run}
 use Rattle.df_floor_run.proofs.run.run_floor.Goals as goal

@@ -1,5 +1,4 @@
-use Rattle.std.proofs.Common.{List, ap, sym, ◌∙◌, length}
-use Rattle.df_floor.proofs.Paired.{paired}
+use Rattle.df_floor_run.proofs.Names.{List, ap, sym, ◌∙◌, length, paired}
 use Rattle.df_floor_run.proofs.running.fresh_crew.Goals as goal
 
 pub start-requires : goal.start-requires

@@ -1,5 +1,4 @@
-use Rattle.std.proofs.lemmas.Result.{IfOk-weaker}
-use Rattle.df_floor_run.specs.code.Running.{TellsWorked}
+use Rattle.df_floor_run.proofs.Names.{IfOk-weaker, TellsWorked}
 use Rattle.df_floor_run.proofs.Works.{worked_run}
 use Rattle.df_floor_run.proofs.workers.run_floor_by.Goals as goal
 

@@ -1,9 +1,4 @@
-use Rattle.std.proofs.Common.{◌≡◌, List, subst, sym, ◌∙◌}
-use Rattle.std.specs.Prelude.{Err, IfOk, Ok, Result}
-use mathlib.Core.List.{IsPrefix}
-use Rattle.df_crew.specs.Growing.{IsMore}
-use Rattle.df_crew.specs.Seen.{origin_of, seen_of}
-use Rattle.df_unit.specs.declared.entry.Entry.{Entry}
+use Rattle.df_floor_run.proofs.Names.{◌≡◌, List, subst, sym, ◌∙◌, Err, IfOk, Ok, Result, IsPrefix, IsMore, origin_of, seen_of, Entry}
 use Rattle.df_floor_run.proofs.Works.{more_of}
 use Rattle.df_floor_run.proofs.workers.serve.Goals as goal
 

@@ -1,5 +1,4 @@
-use denote.Param.Send.{sendable}
-use Rattle.std.proofs.Crossing.{crosses}
+use Rattle.df_floor_run.proofs.Names.{sendable, crosses}
 use Rattle.df_floor_run.proofs.Crossing.{floor_brain_send, floor_brain_sync}
 use Rattle.df_floor_run.proofs.workers.serve_hub.Goals as goal
 

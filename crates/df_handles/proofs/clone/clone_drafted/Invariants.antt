@@ -1,5 +1,4 @@
-use Rattle.std.proofs.Common.{◌≡◌, ◌++◌, take}
-use Rattle.df_unit.specs.Drafts.{cloned}
+use Rattle.df_handles.proofs.Names.{◌≡◌, ◌++◌, take, cloned}
 use Rattle.df_handles.proofs.clone.clone_drafted.Given as goal
 
 abbrev pub invariant-loop-part : goal.invariant-loop-part

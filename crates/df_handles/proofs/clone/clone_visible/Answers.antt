@@ -1,6 +1,4 @@
-use Rattle.std.proofs.Common.{◌≡◌, List, ◌++◌, OnOk, subst}
-use Rattle.df_part.specs.declared.part.Part.{Part}
-use Rattle.df_unit.specs.Drafts.{cloned}
+use Rattle.df_handles.proofs.Names.{◌≡◌, List, ◌++◌, OnOk, subst, Part, cloned}
 use Rattle.df_handles.proofs.Views.{visible_once}
 use Rattle.df_handles.proofs.clone.clone_visible.Goals as goal
 

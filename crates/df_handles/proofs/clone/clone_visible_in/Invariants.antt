@@ -1,6 +1,4 @@
-use Rattle.std.proofs.Common.{◌≡◌, ◌++◌, take}
-use Rattle.df_unit.specs.Drafts.{cloned}
-use Rattle.df_handles.specs.code.Views.{visible_in}
+use Rattle.df_handles.proofs.Names.{◌≡◌, ◌++◌, take, cloned, visible_in}
 use Rattle.df_handles.proofs.clone.clone_visible_in.Given as goal
 
 abbrev pub invariant-loop-part : goal.invariant-loop-part

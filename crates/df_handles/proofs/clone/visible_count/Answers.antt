@@ -1,5 +1,4 @@
-use Rattle.std.proofs.Common.{◌≡◌, List, length, subst}
-use Rattle.df_part.specs.declared.part.Part.{Part}
+use Rattle.df_handles.proofs.Names.{◌≡◌, List, length, subst, Part}
 use Rattle.df_handles.proofs.Views.{visible_once}
 use Rattle.df_handles.proofs.clone.visible_count.Goals as goal
 

@@ -1,5 +1,4 @@
-use Rattle.std.proofs.Common.{◌≡◌, ◌≤◌, length, take}
-use Rattle.df_handles.specs.code.Views.{visible_in}
+use Rattle.df_handles.proofs.Names.{◌≡◌, ◌≤◌, length, take, visible_in}
 use Rattle.df_handles.proofs.clone.visible_count_in.Given as goal
 
 abbrev pub invariant-loop-part : goal.invariant-loop-part

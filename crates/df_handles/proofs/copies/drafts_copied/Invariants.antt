@@ -1,4 +1,4 @@
-use Rattle.std.proofs.Common.{◌≡◌, take}
+use Rattle.df_handles.proofs.Names.{◌≡◌, take}
 use Rattle.df_handles.proofs.copies.drafts_copied.Given as goal
 
 abbrev pub invariant-loop-part : goal.invariant-loop-part

@@ -1,5 +1,4 @@
-use Rattle.std.proofs.Common.{◌≡◌, map, take}
-use Rattle.df_unit.specs.Drafts.{attach, spot}
+use Rattle.df_handles.proofs.Names.{◌≡◌, map, take, attach, spot}
 use Rattle.df_handles.proofs.edits.attached.Given as goal
 
 abbrev pub invariant-loop-part : goal.invariant-loop-part

@@ -1,8 +1,4 @@
-use Rattle.std.proofs.Common.{◌∙◌, ap, sym, arith}
-use Rattle.df_part.specs.Contents.{is_at}
-use Rattle.df_part.specs.declared.part.Part.{Part}
-use Rattle.df_unit.specs.Drafts.{spot}
-use Rattle.df_handles.specs.Visible.{is_visible}
+use Rattle.df_handles.proofs.Names.{◌∙◌, ap, sym, arith, is_at, Part, spot, is_visible}
 use Rattle.df_handles.proofs.Views.{seen_here}
 use Rattle.df_handles.proofs.edits.has_seen.Goals as goal
 

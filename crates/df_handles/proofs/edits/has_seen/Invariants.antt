@@ -1,6 +1,4 @@
-use Rattle.std.proofs.Common.{◌≡◌, drop}
-use Rattle.df_unit.specs.Drafts.{spot}
-use Rattle.df_handles.specs.code.Views.{has_seen}
+use Rattle.df_handles.proofs.Names.{◌≡◌, drop, spot, has_seen}
 use Rattle.df_handles.proofs.edits.has_seen.Given as goal
 
 abbrev pub invariant-loop-part : goal.invariant-loop-part

@@ -1,7 +1,4 @@
-use Rattle.std.proofs.Common.{◌≡◌, not, take}
-use Rattle.std.specs.List.{filter}
-use Rattle.df_part.specs.Contents.{is_at}
-use Rattle.df_unit.specs.Drafts.{spot}
+use Rattle.df_handles.proofs.Names.{◌≡◌, not, take, filter, is_at, spot}
 use Rattle.df_handles.proofs.edits.undrafted.Given as goal
 
 abbrev pub invariant-loop-part : goal.invariant-loop-part

@@ -1,4 +1,4 @@
-use Rattle.std.proofs.Common.{◌≡◌, take}
+use Rattle.df_handles.proofs.Names.{◌≡◌, take}
 use Rattle.df_handles.proofs.parts.copies_of.Given as goal
 
 abbrev pub invariant-loop-spot : goal.invariant-loop-spot

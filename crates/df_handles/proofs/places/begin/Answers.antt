@@ -1,8 +1,4 @@
-use Rattle.std.proofs.Common.{◌≡◌, ap, ◌∙◌, arith}
-use Rattle.std.proofs.lemmas.List.{length-map}
-use Rattle.std.proofs.lemmas.Result.{on_ok_weaker}
-use Rattle.df_unit.specs.Handles.{least_free}
-use Rattle.df_handles.specs.code.Slot.{all_shown, begun, shown}
+use Rattle.df_handles.proofs.Names.{◌≡◌, ap, ◌∙◌, arith, length-map, on_ok_weaker, least_free, all_shown, begun, shown}
 use Rattle.df_handles.proofs.OpenHandles.{opened_end}
 use Rattle.df_handles.proofs.Slots.{opened_shown}
 use Rattle.df_handles.proofs.places.begin.Goals as goal

@@ -1,6 +1,4 @@
-use Rattle.std.proofs.Common.{set, ap, ◌∙◌}
-use Rattle.std.proofs.lemmas.List.{map-set}
-use Rattle.df_handles.specs.code.Slot.{shown, all_shown}
+use Rattle.df_handles.proofs.Names.{set, ap, ◌∙◌, map-set, shown, all_shown}
 use Rattle.df_handles.proofs.places.close.Goals as goal
 
 pub returns-then-place-len : goal.returns-then-place-len

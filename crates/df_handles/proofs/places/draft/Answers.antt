@@ -1,6 +1,4 @@
-use Rattle.std.proofs.Common.{arith}
-use Rattle.std.proofs.lemmas.Result.{on_ok_weaker, on_err_weaker}
-use Rattle.df_handles.specs.code.Slot.{drafted_in}
+use Rattle.df_handles.proofs.Names.{arith, on_ok_weaker, on_err_weaker, drafted_in}
 use Rattle.df_handles.proofs.Slots.{kept_shown, changed_shown}
 use Rattle.df_handles.proofs.places.draft.Goals as goal
 

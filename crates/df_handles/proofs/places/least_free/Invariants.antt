@@ -1,6 +1,4 @@
-use Rattle.std.proofs.Common.{◌≡◌, ◌+◌, drop}
-use Rattle.df_unit.specs.Handles.{least_free}
-use Rattle.df_handles.specs.code.Slot.{all_shown}
+use Rattle.df_handles.proofs.Names.{◌≡◌, ◌+◌, drop, least_free, all_shown}
 use Rattle.df_handles.proofs.places.least_free.Given as goal
 
 abbrev pub invariant-loop-h : goal.invariant-loop-h

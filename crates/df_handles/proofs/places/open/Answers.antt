@@ -1,6 +1,4 @@
-use Rattle.std.proofs.Common.{◌≡◌, ap, ◌∙◌, arith}
-use Rattle.df_unit.specs.Handles.{least_free}
-use Rattle.df_handles.specs.code.Slot.{all_shown}
+use Rattle.df_handles.proofs.Names.{◌≡◌, ap, ◌∙◌, arith, least_free, all_shown}
 use Rattle.df_handles.proofs.Slots.{opened_shown, opened_pushed}
 use Rattle.df_handles.proofs.places.open.Goals as goal
 

@@ -1,6 +1,4 @@
-use Rattle.std.proofs.Common.{◌≡◌, ◌+◌, ◌≤◌, drop}
-use Rattle.df_unit.specs.Handles.{open_count}
-use Rattle.df_handles.specs.code.Slot.{all_shown}
+use Rattle.df_handles.proofs.Names.{◌≡◌, ◌+◌, ◌≤◌, drop, open_count, all_shown}
 use Rattle.df_handles.proofs.places.open_count.Given as goal
 
 abbrev pub invariant-loop-slot : goal.invariant-loop-slot

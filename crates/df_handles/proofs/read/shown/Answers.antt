@@ -1,4 +1,4 @@
-use Rattle.std.proofs.Common.{◌≡◌, List, subst}
+use Rattle.df_handles.proofs.Names.{◌≡◌, List, subst}
 use Rattle.std.specs.Prelude.{IfOk}
 use Rattle.df_unit.specs.declared.parts.PartRead.{PartRead}
 use Rattle.df_handles.proofs.Views.{shown_once}

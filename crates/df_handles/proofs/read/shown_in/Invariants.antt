@@ -1,5 +1,4 @@
-use Rattle.std.proofs.Common.{◌≡◌, take}
-use Rattle.df_handles.specs.code.Views.{shown_in}
+use Rattle.df_handles.proofs.Names.{◌≡◌, take, shown_in}
 use Rattle.df_handles.proofs.read.shown_in.Given as goal
 
 abbrev pub invariant-loop-part : goal.invariant-loop-part

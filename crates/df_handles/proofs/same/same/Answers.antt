@@ -1,4 +1,4 @@
-use Rattle.std.proofs.Common.{sym, ◌∙◌, arith}
+use Rattle.df_handles.proofs.Names.{sym, ◌∙◌, arith}
 use Rattle.std.proofs.lemmas.Bool.{true≢false}
 use Rattle.df_handles.proofs.Slots.{shown_at, shown_more}
 use Rattle.df_handles.proofs.same.same.Goals as goal

@@ -1,5 +1,4 @@
-use Rattle.std.proofs.Common.{◌≡◌, take}
-use Rattle.df_handles.specs.code.Slot.{all_shown}
+use Rattle.df_handles.proofs.Names.{◌≡◌, take, all_shown}
 use Rattle.df_handles.proofs.same.same.Given as goal
 
 abbrev pub invariant-loop-i : goal.invariant-loop-i

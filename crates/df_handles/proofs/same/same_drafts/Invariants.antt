@@ -1,4 +1,4 @@
-use Rattle.std.proofs.Common.{◌≡◌, take}
+use Rattle.df_handles.proofs.Names.{◌≡◌, take}
 use Rattle.df_handles.proofs.same.same_drafts.Given as goal
 
 abbrev pub invariant-loop-i : goal.invariant-loop-i

@@ -1,4 +1,4 @@
-use Rattle.std.proofs.Common.{◌++◌, ◌∙◌, ap}
+use Rattle.df_image.proofs.Names.{◌++◌, ◌∙◌, ap}
 use Rattle.df_image.proofs.Readings.{entry_read, if_none, last_told}
 use Rattle.df_image.proofs.reading.last_of.Goals as goal
 

@@ -1,5 +1,4 @@
-use Rattle.std.proofs.Common.{refl, sym, ◌∙◌, ap}
-use Rattle.df_image.specs.Image.{start_record}
+use Rattle.df_image.proofs.Names.{refl, sym, ◌∙◌, ap, start_record}
 use Rattle.df_image.proofs.Readings.{if_none, start_read}
 use Rattle.df_image.proofs.reading.start_of.Goals as goal
 

@@ -1,4 +1,4 @@
-use Rattle.std.proofs.Common.{◌≡◌, take}
+use Rattle.df_image.proofs.Names.{◌≡◌, take}
 use Rattle.df_image.proofs.records.same_roots.Given as goal
 
 abbrev pub invariant-loop-i : goal.invariant-loop-i

@@ -1,4 +1,4 @@
-use Rattle.std.proofs.lemmas.Result.{err_from_is_err_and}
+use Rattle.df_journal_text.proofs.Names.{err_from_is_err_and}
 use Rattle.df_journal_text.proofs.CallTells.{add_stands, added_found, added_no_spot, added_no_value, plain_fails, plain_tells}
 use Rattle.df_journal_text.proofs.call_reader.read_call_at.Goals as goal
 

@@ -1,6 +1,4 @@
-use Rattle.std.proofs.Common.{◌≡◌, ◌++◌, take}
-use Rattle.std.specs.List.{flat_map}
-use Rattle.df_journal_text.specs.Entry.{read_line}
+use Rattle.df_journal_text.proofs.Names.{◌≡◌, ◌++◌, take, flat_map, read_line}
 use Rattle.df_journal_text.proofs.effect.append_reads.Given as goal
 
 abbrev pub invariant-loop-part : goal.invariant-loop-part

@@ -1,6 +1,4 @@
-use Rattle.std.proofs.Common.{◌≡◌, ◌++◌, take}
-use Rattle.std.specs.List.{flat_map}
-use Rattle.df_journal_text.specs.Entry.{spot_line}
+use Rattle.df_journal_text.proofs.Names.{◌≡◌, ◌++◌, take, flat_map, spot_line}
 use Rattle.df_journal_text.proofs.effect.append_spots.Given as goal
 
 abbrev pub invariant-loop-spot : goal.invariant-loop-spot

@@ -1,7 +1,4 @@
-use Rattle.std.proofs.Common.{List, ℕ, ◌++◌, ap, ◌∙◌}
-use Rattle.df_unit.specs.declared.reply.Reply.TheVariants.{Handle}
-use Rattle.df_journal_text.specs.Entry.{note_text}
-use Rattle.df_journal_text.specs.code.Outcome.{answer_text}
+use Rattle.df_journal_text.proofs.Names.{List, ℕ, ◌++◌, ap, ◌∙◌, Handle, note_text, answer_text}
 use Rattle.df_journal_text.proofs.Quiet.{handled}
 use Rattle.df_journal_text.proofs.entry.append_handled.Goals as goal
 

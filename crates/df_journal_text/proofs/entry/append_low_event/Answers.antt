@@ -1,5 +1,4 @@
-use Rattle.std.proofs.Common.{List, ℕ, ◌+◌, [], ◌∷◌, ◌++◌, codes, decimal, sym, ap, ◌∙◌}
-use Rattle.std.proofs.lemmas.Fmt.{decimal_digit}
+use Rattle.df_journal_text.proofs.Names.{List, ℕ, ◌+◌, [], ◌∷◌, ◌++◌, codes, decimal, sym, ap, ◌∙◌, decimal_digit}
 use Rattle.df_journal_text.proofs.entry.append_low_event.Goals as goal
 
 pub returns : goal.returns

@@ -1,6 +1,4 @@
-use Rattle.std.proofs.Common.{◌≡◌, ◌++◌, take, map}
-use Rattle.df_value_text.specs.Label.{privilege_text}
-use Rattle.df_journal_text.specs.Line.{spaced}
+use Rattle.df_journal_text.proofs.Names.{◌≡◌, ◌++◌, take, map, privilege_text, spaced}
 use Rattle.df_journal_text.proofs.line.append_privilege_words.Given as goal
 
 abbrev pub invariant-loop-privilege : goal.invariant-loop-privilege

@@ -1,5 +1,4 @@
-use Rattle.df_journal_text.proofs.Names.{◌∙◌, sym, ap, ended}
-use Rattle.std.proofs.lemmas.Result.{err_from_is_err_and}
+use Rattle.df_journal_text.proofs.Names.{◌∙◌, sym, ap, ended, err_from_is_err_and}
 use Rattle.df_journal_text.proofs.Frames.{front_failed, middle_failed, tail_failed, tail_read}
 use Rattle.df_journal_text.proofs.LineTells.{called, called_line, called_parts}
 use Rattle.df_journal_text.proofs.line_reader.read_call_line.Goals as goal

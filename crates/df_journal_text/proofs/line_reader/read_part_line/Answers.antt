@@ -1,5 +1,4 @@
-use Rattle.df_journal_text.proofs.Names.{◌∙◌, sym, ap, Part, ended}
-use Rattle.std.proofs.lemmas.Result.{err_from_is_err_and}
+use Rattle.df_journal_text.proofs.Names.{◌∙◌, sym, ap, Part, ended, err_from_is_err_and}
 use Rattle.df_journal_text.proofs.Frames.{front_failed, middle_failed, tail_failed, tail_read}
 use Rattle.df_journal_text.proofs.LineTells.{part_frame, part_parts, part_text}
 use Rattle.df_journal_text.proofs.line_reader.read_part_line.Goals as goal

@@ -1,6 +1,4 @@
-use Rattle.std.proofs.Common.{drop, sym, ◌∙◌}
-use Rattle.std.proofs.lemmas.Result.{err_from_is_err_and}
-use Rattle.df_value_text.proofs.Loops.{fails_by}
+use Rattle.df_journal_text.proofs.Names.{drop, sym, ◌∙◌, err_from_is_err_and, fails_by}
 use Rattle.df_journal_text.proofs.Units.{instance_read, instance_stops, root_read}
 use Rattle.df_journal_text.proofs.name_reader.unit_at.Goals as goal
 

@@ -1,5 +1,4 @@
-use Rattle.std.proofs.Common.{List, [], ℕ, ◌++◌, codes, sym, ap, arith}
-use Rattle.std.proofs.lemmas.Fmt.{decimal_digit}
+use Rattle.df_journal_text.proofs.Names.{List, [], ℕ, ◌++◌, codes, sym, ap, arith, decimal_digit}
 use Rattle.df_journal_text.proofs.note.first_handle.Goals as goal
 
 pub returns : goal.returns

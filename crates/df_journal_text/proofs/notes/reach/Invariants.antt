@@ -1,4 +1,4 @@
-use Rattle.std.proofs.Common.{◌≤◌, vec_len}
+use Rattle.df_journal_text.proofs.Names.{◌≤◌, vec_len}
 use Rattle.df_journal_text.proofs.notes.reach.Given as goal
 
 abbrev pub invariant-loop : goal.invariant-loop

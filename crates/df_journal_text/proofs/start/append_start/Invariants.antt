@@ -1,5 +1,4 @@
-use Rattle.std.proofs.Common.{◌≡◌, ◌++◌, drop}
-use Rattle.df_journal_text.specs.Start.{roots_text}
+use Rattle.df_journal_text.proofs.Names.{◌≡◌, ◌++◌, drop, roots_text}
 use Rattle.df_journal_text.proofs.start.append_start.Given as goal
 
 abbrev pub invariant-loop-i : goal.invariant-loop-i

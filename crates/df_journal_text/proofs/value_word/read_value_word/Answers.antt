@@ -1,4 +1,4 @@
-use Rattle.std.proofs.lemmas.Result.{err_from_is_err_and}
+use Rattle.df_journal_text.proofs.Names.{err_from_is_err_and}
 use Rattle.df_journal_text.proofs.ValueTells.{found_tells, no_space, refused_tells}
 use Rattle.df_journal_text.proofs.value_word.read_value_word.Goals as goal
 

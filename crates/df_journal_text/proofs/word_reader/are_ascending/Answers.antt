@@ -1,5 +1,4 @@
-use Rattle.std.proofs.Common.{◌-◌, sym, arith}
-use Rattle.std.proofs.lemmas.Bool.{true≢false}
+use Rattle.df_journal_text.proofs.Names.{◌-◌, sym, arith, true≢false}
 use Rattle.df_journal_text.proofs.Orders.{ascending_more, not_ascending}
 use Rattle.df_journal_text.proofs.word_reader.are_ascending.Goals as goal
 

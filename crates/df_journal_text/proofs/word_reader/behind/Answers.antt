@@ -1,4 +1,4 @@
-use Rattle.std.proofs.Common.{drop, sym, ◌∙◌}
+use Rattle.df_journal_text.proofs.Names.{drop, sym, ◌∙◌}
 use Rattle.df_journal_text.proofs.Between.{all_behind, begins_at, begins_not}
 use Rattle.df_journal_text.proofs.word_reader.behind.Goals as goal
 

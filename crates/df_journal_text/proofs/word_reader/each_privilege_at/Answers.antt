@@ -1,6 +1,4 @@
-use Rattle.std.proofs.Common.{drop, sym, ◌∙◌}
-use Rattle.std.proofs.lemmas.Result.{err_from_is_err_and}
-use Rattle.df_value_text.proofs.Loops.{fails_by}
+use Rattle.df_journal_text.proofs.Names.{drop, sym, ◌∙◌, err_from_is_err_and, fails_by}
 use Rattle.df_journal_text.proofs.Loops.{all_done, all_failed, all_read, front_nil}
 use Rattle.df_journal_text.proofs.Words.{several_privileges}
 use Rattle.df_journal_text.proofs.word_reader.each_privilege_at.Goals as goal

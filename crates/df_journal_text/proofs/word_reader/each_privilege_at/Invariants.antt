@@ -1,5 +1,4 @@
-use Rattle.df_journal_text.proofs.Names.{◌≡◌, ◌≤◌, [], length, drop, with_front, each_privilege_at}
-use Rattle.std.proofs.Common.{◌-◌}
+use Rattle.df_journal_text.proofs.Names.{◌≡◌, ◌≤◌, [], length, drop, with_front, each_privilege_at, ◌-◌}
 use Rattle.df_journal_text.proofs.word_reader.each_privilege_at.Given as goal
 
 -- what is left is read as all was to be

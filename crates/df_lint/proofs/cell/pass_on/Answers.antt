@@ -1,8 +1,5 @@
-use Rattle.std.proofs.Common.{◌≡◌, refl, sym, ◌∙◌, ap, ◌<◌, length, true, false, arith}
-use Rattle.std.specs.Prelude.{slice_set}
-use Rattle.std.proofs.lemmas.List.{length-set}
+use Rattle.df_lint.proofs.Names.{◌≡◌, refl, sym, ◌∙◌, ap, ◌<◌, length, true, false, arith, slice_set, length-set, cell_at, passed}
 use Rattle.df_lint.proofs.Cells.{grows_kept, grows_now, pass_more, read_at, same_more}
-use Rattle.df_lint.specs.code.Cells.{cell_at, passed}
 use Rattle.df_lint.proofs.cell.pass_on.Goals.{then-gives, else-gives}
 use Rattle.df_lint.proofs.cell.pass_on.Goals as goal
 

@@ -1,5 +1,4 @@
-use Rattle.std.proofs.Common.{◌≡◌, true, false, length, take}
-use Rattle.df_lint.specs.code.Cells.{Grows, pass_row}
+use Rattle.df_lint.proofs.Names.{◌≡◌, true, false, length, take, Grows, pass_row}
 use Rattle.df_lint.proofs.cell.pass_on.Given as goal
 
 abbrev pub invariant-loop-place : goal.invariant-loop-place

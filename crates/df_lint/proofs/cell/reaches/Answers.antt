@@ -1,4 +1,4 @@
-use Rattle.std.proofs.Common.{sym, arith}
+use Rattle.df_lint.proofs.Names.{sym, arith}
 use Rattle.df_lint.proofs.Cells.{bar_found, no_bar_from}
 use Rattle.df_lint.proofs.cell.reaches.Goals as goal
 

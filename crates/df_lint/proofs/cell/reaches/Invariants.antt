@@ -1,5 +1,4 @@
-use Rattle.std.proofs.Common.{◌≡◌, ℕ, ◌<◌, false}
-use Rattle.df_lint.specs.code.Cells.{cell_at, is_bar}
+use Rattle.df_lint.proofs.Names.{◌≡◌, ℕ, ◌<◌, false, cell_at, is_bar}
 use Rattle.df_lint.proofs.cell.reaches.Given as goal
 
 abbrev pub invariant-loop-place : goal.invariant-loop-place

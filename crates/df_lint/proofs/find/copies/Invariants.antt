@@ -1,4 +1,4 @@
-use Rattle.std.proofs.Common.{◌≡◌, take}
+use Rattle.df_lint.proofs.Names.{◌≡◌, take}
 use Rattle.df_lint.proofs.find.copies.Given as goal
 
 abbrev pub invariant-loop-root : goal.invariant-loop-root

@@ -1,17 +1,6 @@
-use Rattle.std.proofs.Common.{◌≡◌, ℕ, ◌<◌, List, length, map, ap, subst, sym, ◌∙◌}
-use Rattle.std.specs.Prelude.{slice_index_or}
-use Rattle.df_family.proofs.BoundJournal.{never}
-use Rattle.df_label.specs.Ascending.{IsAscending}
-use Rattle.df_label.specs.Tag.{tag_cmp}
-use Rattle.df_start.specs.Begun.{begun}
-use Rattle.df_start.specs.declared.start.RootStart.{RootStart}
+use Rattle.df_lint.proofs.Names.{◌≡◌, ℕ, ◌<◌, List, length, map, ap, subst, sym, ◌∙◌, slice_index_or, never, IsAscending, tag_cmp, begun, RootStart, AreTagsOf, cells_at, first_cells, IsTable, rows_of, IsSpread}
 use Rattle.df_lint.proofs.CellRows.{length-rows_of}
 use Rattle.df_lint.proofs.Least.{first_privileges, first_table, rows_are_least}
-use Rattle.df_lint.specs.Tags.{AreTagsOf}
-use Rattle.df_lint.specs.code.Cells.{cells_at}
-use Rattle.df_lint.specs.code.First.{first_cells}
-use Rattle.df_lint.specs.code.Rows.{IsTable, rows_of}
-use Rattle.df_lint.specs.code.Spread.{IsSpread}
 use Rattle.df_lint.proofs.find.lint.Goals as goal
 
 tags_kept : (roots seen : List RootStart) (tags : List (List ℕ)) → seen ≡ roots → AreTagsOf (map begun seen) tags → AreTagsOf (map begun roots) tags

@@ -1,5 +1,4 @@
-use Rattle.std.proofs.Common.{◌≡◌, map, take}
-use Rattle.df_lint.specs.code.First.{first_cell}
+use Rattle.df_lint.proofs.Names.{◌≡◌, map, take, first_cell}
 use Rattle.df_lint.proofs.first.first_row.Given as goal
 
 abbrev pub invariant-loop-tag : goal.invariant-loop-tag

@@ -1,8 +1,4 @@
-use Rattle.std.proofs.Common.{◌≡◌, ℕ, ◌<◌, length}
-use Rattle.std.specs.Prelude.{slice_index_or}
-use Rattle.df_start.specs.declared.start.RootStart.{RootStart}
-use Rattle.df_lint.specs.code.Cells.{cells_at}
-use Rattle.df_lint.specs.code.First.{first_cells}
+use Rattle.df_lint.proofs.Names.{◌≡◌, ℕ, ◌<◌, length, slice_index_or, RootStart, cells_at, first_cells}
 use Rattle.df_lint.proofs.first.first_rows.Given as goal
 
 abbrev pub invariant-loop-number : goal.invariant-loop-number

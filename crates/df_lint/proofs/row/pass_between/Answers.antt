@@ -1,6 +1,4 @@
-use Rattle.std.proofs.Common.{◌∙◌, List, ap}
-use Rattle.df_lint.specs.code.Cells.{pass_row}
-use Rattle.df_lint.specs.declared.cell.Cell.{Cell}
+use Rattle.df_lint.proofs.Names.{◌∙◌, List, ap, pass_row, Cell}
 use Rattle.df_lint.proofs.CellRows.{taken_out, nothing_out}
 use Rattle.df_lint.proofs.row.pass_between.Goals as goal
 

@@ -1,5 +1,4 @@
-use Rattle.std.proofs.Common.{ℕ, List, ap, subst, sym, ◌∙◌, arith}
-use Rattle.std.specs.List.{Contains}
+use Rattle.df_lint.proofs.Names.{ℕ, List, ap, subst, sym, ◌∙◌, arith, Contains}
 use Rattle.df_lint.proofs.Attaching.{givers_more, givers_same}
 use Rattle.df_lint.proofs.Growing.{places_only}
 use Rattle.df_lint.proofs.spread.givers.Goals as goal

@@ -1,6 +1,4 @@
-use Rattle.std.proofs.Common.{◌≡◌, ℕ, ◌<◌, true}
-use Rattle.std.specs.List.{Contains, list_any}
-use Rattle.df_lint.specs.code.Cells.{attaches, cells_at}
+use Rattle.df_lint.proofs.Names.{◌≡◌, ℕ, ◌<◌, true, Contains, list_any, attaches, cells_at}
 use Rattle.df_lint.proofs.spread.givers.Given as goal
 
 abbrev pub invariant-loop-place : goal.invariant-loop-place

@@ -1,5 +1,5 @@
+use Rattle.df_lint.proofs.Names.{rows_of}
 use Rattle.df_lint.proofs.Growing.{settle_push}
-use Rattle.df_lint.specs.code.Rows.{rows_of}
 use Rattle.df_lint.proofs.spread.settle.Goals as goal
 
 pub returns-in_ok-push-clause-settles : goal.returns-in_ok-push-clause-settles

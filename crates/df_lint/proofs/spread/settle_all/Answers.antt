@@ -1,7 +1,6 @@
-use Rattle.std.proofs.Common.{◌∙◌, arith}
+use Rattle.df_lint.proofs.Names.{◌∙◌, arith, rows_of}
 use Rattle.df_lint.proofs.CellRows.{length-rows_of}
 use Rattle.df_lint.proofs.Growing.{extends_more, extends_none, seen_more}
-use Rattle.df_lint.specs.code.Rows.{rows_of}
 use Rattle.df_lint.proofs.spread.settle_all.Goals as goal
 
 pub loop-other-init : goal.loop-other-init

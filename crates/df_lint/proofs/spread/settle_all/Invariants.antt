@@ -1,5 +1,4 @@
-use Rattle.df_lint.specs.code.Rows.{IsTable, rows_of}
-use Rattle.df_lint.specs.code.Spread.{Extends, IsSeenBy}
+use Rattle.df_lint.proofs.Names.{IsTable, rows_of, Extends, IsSeenBy}
 use Rattle.df_lint.proofs.spread.settle_all.Given as goal
 
 abbrev pub invariant-loop-other : goal.invariant-loop-other

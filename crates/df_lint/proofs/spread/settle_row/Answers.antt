@@ -1,4 +1,4 @@
-use Rattle.std.proofs.Common.{sym, ◌∙◌}
+use Rattle.df_lint.proofs.Names.{sym, ◌∙◌}
 use Rattle.df_lint.proofs.CellRows.{all_given, as_many, is_gained, none_given, row_put, table_put}
 use Rattle.df_lint.proofs.spread.settle_row.Goals as goal
 

@@ -1,8 +1,4 @@
-use Rattle.std.proofs.Common.{inl, ◌≡◌, ℕ, ◌<◌, List, [], ◌∷◌, ◌++◌, Option, option_to_list, ap, sym, subst, ◌∙◌, length, arith}
-use Rattle.std.specs.List.{Contains}
-use Rattle.std.proofs.lemmas.List.Elements.{Contains-append_left, Contains-push}
-use Rattle.df_lint.specs.code.Rows.{rows_of}
-use Rattle.df_lint.specs.code.Spread.{IsSeen}
+use Rattle.df_lint.proofs.Names.{inl, ◌≡◌, ℕ, ◌<◌, List, [], ◌∷◌, ◌++◌, Option, option_to_list, ap, sym, subst, ◌∙◌, length, arith, Contains, Contains-append_left, Contains-push, rows_of, IsSeen}
 use Rattle.df_lint.proofs.Attaching.{seen_first}
 use Rattle.df_lint.proofs.Growing.{all_over_rows, rows_within, seen_popped, settled_at_end, nothing_left}
 use Rattle.df_lint.proofs.spread.spread.Goals as goal

@@ -1,10 +1,5 @@
-use Rattle.std.proofs.Common.{◌≡◌, ℕ, ◌<◌, length, true}
-use Rattle.std.specs.List.{Contains}
-use Rattle.df_family.specs.May.{Relation}
+use Rattle.df_lint.proofs.Names.{◌≡◌, ℕ, ◌<◌, length, true, Contains, Relation, Privilege, IsTable, row_at, rows_of, AreWithin, HasRows, IsSeen, PassesOn, work}
 use Rattle.df_label.specs.Privileges.{contains as contains_privilege}
-use Rattle.df_label.specs.declared.privilege.Privilege.{Privilege}
-use Rattle.df_lint.specs.code.Rows.{IsTable, row_at, rows_of}
-use Rattle.df_lint.specs.code.Spread.{AreWithin, HasRows, IsSeen, PassesOn, work}
 use Rattle.df_lint.proofs.Growing.{all_over_rows}
 use Rattle.df_lint.proofs.spread.spread.Given as goal
 

@@ -1,9 +1,5 @@
-use Rattle.std.proofs.Common.{◌≡◌, [], Err, true, false, ap, sym, ◌∙◌}
-use Rattle.std.specs.Prelude.{slice_index_or}
-use Rattle.std.specs.Ordering.{is_eq}
-use Rattle.df_label.specs.Tag.{tag_cmp}
+use Rattle.df_lint.proofs.Names.{◌≡◌, [], Err, true, false, ap, sym, ◌∙◌, slice_index_or, is_eq, tag_cmp, tag_cmp_exact, tag_eq-exact}
 use Rattle.df_label.proofs.PlaceFacts.{searched}
-use Rattle.df_label.proofs.TagSetFacts.{tag_cmp_exact, tag_eq-exact}
 use Rattle.df_lint.proofs.tags.place_of.Goals as goal
 
 pub returns-in-Ok-clause-tag : goal.returns-in-Ok-clause-tag

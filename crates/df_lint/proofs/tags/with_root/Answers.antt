@@ -1,10 +1,5 @@
-use Rattle.std.proofs.Common.{◌≡◌, List, take, ap, ◌∙◌}
-use Rattle.std.specs.List.{list_any}
+use Rattle.df_lint.proofs.Names.{◌≡◌, List, take, ap, ◌∙◌, list_any, take_all, tag_eq, contains, Privilege}
 use Rattle.std.specs.Prelude.{◌||◌}
-use Rattle.std.proofs.lemmas.List.{take_all}
-use Rattle.df_label.specs.Tag.{tag_eq}
-use Rattle.df_label.specs.TagSet.{contains}
-use Rattle.df_label.specs.declared.privilege.Privilege.{Privilege}
 use Rattle.df_lint.proofs.Steps.{tag_more, tags_joined}
 use Rattle.df_lint.proofs.tags.with_root.Goals as goal
 

@@ -1,7 +1,4 @@
-use Rattle.std.proofs.Common.{◌≡◌, ◌||◌, ℕ, List, take}
-use Rattle.std.specs.List.{list_any}
-use Rattle.df_label.specs.Tag.{tag_eq}
-use Rattle.df_label.specs.TagSet.{contains}
+use Rattle.df_lint.proofs.Names.{◌≡◌, ◌||◌, ℕ, List, take, list_any, tag_eq, contains}
 use Rattle.df_lint.proofs.tags.with_root.Given as goal
 
 abbrev pub invariant-loop-p : goal.invariant-loop-p

@@ -1,7 +1,6 @@
+use Rattle.df_lint.proofs.Names.{tag_lines, row_of}
 use Rattle.df_label.specs.Privileges.{contains as contains_privilege}
 use Rattle.df_lint.proofs.Lines.{tags_all, tags_more}
-use Rattle.df_lint.specs.LintText.{tag_lines}
-use Rattle.df_lint.specs.code.Cells.{row_of}
 use Rattle.df_lint.proofs.text.append_row.Goals as goal
 
 pub loop-place-preserved : goal.loop-place-preserved

@@ -1,8 +1,5 @@
-use Rattle.std.proofs.Common.{◌≡◌, ◌++◌, take}
-use Rattle.std.specs.List.{flat_map}
+use Rattle.df_lint.proofs.Names.{◌≡◌, ◌++◌, take, flat_map, tag_lines, row_of}
 use Rattle.df_label.specs.Privileges.{contains as contains_privilege}
-use Rattle.df_lint.specs.LintText.{tag_lines}
-use Rattle.df_lint.specs.code.Cells.{row_of}
 use Rattle.df_lint.proofs.text.append_row.Given as goal
 
 abbrev pub invariant-loop-place : goal.invariant-loop-place

@@ -1,8 +1,6 @@
-use Rattle.std.proofs.Common.{◌∙◌, ap, length, sym}
+use Rattle.df_lint.proofs.Names.{◌∙◌, ap, length, sym, row_of, rows_of}
 use Rattle.df_lint.proofs.CellRows.{read_row, row_at_of}
 use Rattle.df_lint.proofs.Lines.{rows_more}
-use Rattle.df_lint.specs.code.Cells.{row_of}
-use Rattle.df_lint.specs.code.Rows.{rows_of}
 use Rattle.df_lint.proofs.text.append_rows.Goals as goal
 
 pub append_row-requires-clause-many : goal.append_row-requires-clause-many

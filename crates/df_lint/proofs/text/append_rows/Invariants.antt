@@ -1,6 +1,4 @@
-use Rattle.std.proofs.Common.{◌≡◌, ◌++◌}
-use Rattle.df_lint.specs.LintText.{lint_lines}
-use Rattle.df_lint.specs.code.Rows.{found, rows_of}
+use Rattle.df_lint.proofs.Names.{◌≡◌, ◌++◌, lint_lines, found, rows_of}
 use Rattle.df_lint.proofs.text.append_rows.Given as goal
 
 abbrev pub invariant-loop-root : goal.invariant-loop-root

@@ -1,8 +1,5 @@
-use Rattle.std.proofs.Common.{ℕ, List, Bool}
-use Rattle.df_label.specs.declared.privilege.Right.{Right}
-use Rattle.df_label.specs.declared.privilege.Right.TheVariants.{Plus, Minus, PlusAuth, MinusAuth}
+use Rattle.df_lint.proofs.Names.{ℕ, List, Bool, Right, Plus, Minus, PlusAuth, MinusAuth, lint_line}
 use Rattle.df_lint.proofs.Lines.{four_lines}
-use Rattle.df_lint.specs.LintText.{lint_line}
 use Rattle.df_lint.proofs.text.append_tag.Goals as goal
 
 pub returns : goal.returns

@@ -1,4 +1,4 @@
-use Rattle.std.proofs.Common.{sym, ◌∙◌}
+use Rattle.df_live.proofs.Names.{sym, ◌∙◌}
 use Rattle.df_live.proofs.Answered.{step_written}
 use Rattle.df_live.proofs.Taking.{if_done, if_failed}
 use Rattle.df_live.proofs.answer.answer.Goals as goal

@@ -1,6 +1,5 @@
-use Rattle.std.proofs.Common.{◌<◌, length, refl, rules, subst, sym}
+use Rattle.df_live.proofs.Names.{◌<◌, length, refl, rules, subst, sym, RefusesCall}
 use Rattle.df_script_text.proofs.ScriptLines.{made_small}
-use Rattle.df_live.specs.code.Stops.{RefusesCall}
 use Rattle.df_live.specs.declared.lines.Taken.TheVariants as taken
 use Rattle.df_live.proofs.calls.end_call.Goals as goal
 

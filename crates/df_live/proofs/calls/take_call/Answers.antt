@@ -1,6 +1,4 @@
-use Rattle.std.proofs.Common.{IfErr, IfOk, List, ℕ, subst}
-use Rattle.std.proofs.lemmas.Result.{IfErr-weaker, IfOk-weaker, err_from_is_err_and}
-use Rattle.df_live.specs.code.Stops.{IsBadCall, ReadsCall, RefusesCall}
+use Rattle.df_live.proofs.Names.{IfErr, IfOk, List, ℕ, subst, IfErr-weaker, IfOk-weaker, err_from_is_err_and, IsBadCall, ReadsCall, RefusesCall}
 use Rattle.df_live.proofs.Taking.{stops_call, stops_untaken, takes_call}
 use Rattle.df_live.proofs.calls.take_call.Goals as goal
 

@@ -1,5 +1,4 @@
-use Rattle.std.proofs.Common.{◌≡◌, ◌+◌, ◌<◌, ◌^◌, rules}
-use Rattle.df_journal_text.specs.Start.{root_text}
+use Rattle.df_live.proofs.Names.{◌≡◌, ◌+◌, ◌<◌, ◌^◌, rules, root_text}
 use Rattle.df_journal_text.proofs.Frames.{unended}
 use Rattle.df_live.specs.declared.lines.Taken.TheVariants as taken
 use Rattle.df_live.proofs.head.root_in.Goals as goal

@@ -1,6 +1,4 @@
-use Rattle.std.proofs.Common.{◌≡◌, IfErr, List, OnOk, ℕ, codes, subst}
-use Rattle.std.proofs.lemmas.Result.{IfErr-weaker, err_from_is_err_and, on_ok_weaker}
-use Rattle.df_live.specs.code.Stops.{IsBadHead, IsTakenAs, RefusesHead}
+use Rattle.df_live.proofs.Names.{◌≡◌, IfErr, List, OnOk, ℕ, codes, subst, IfErr-weaker, err_from_is_err_and, on_ok_weaker, IsBadHead, IsTakenAs, RefusesHead}
 use Rattle.df_live.proofs.Taking.{stops_head, stops_untaken, taken_as}
 use Rattle.df_live.proofs.head.take_first.Goals as goal
 

@@ -1,8 +1,4 @@
-use Rattle.std.proofs.Common.{Err, Result, ap, subst, sym, ◌∙◌}
-use Rattle.df_live.specs.code.Stops.{StopsTaking}
-use Rattle.df_live.specs.declared.lines.NotTaken.{NotTaken}
-use Rattle.df_live.specs.declared.lines.Taken.{Taken}
-use Rattle.df_live.specs.declared.status.LiveStatus.{LiveStatus}
+use Rattle.df_live.proofs.Names.{Err, Result, ap, subst, sym, ◌∙◌, StopsTaking, NotTaken, Taken, LiveStatus}
 use Rattle.df_live.proofs.Taking.{stops_taking}
 use Rattle.df_live.proofs.head.take_line.Goals as goal
 

@@ -1,7 +1,4 @@
-use Rattle.std.proofs.Common.{IfErr, IfOk, List, ℕ, ◌+◌, subst}
-use Rattle.std.proofs.lemmas.Result.{IfErr-weaker, IfOk-weaker, err_from_is_err_and}
-use Rattle.df_script_text.specs.code.Stops.{IsHeadLine}
-use Rattle.df_live.specs.code.Stops.{IsBadHead, ReadsRoot, RefusesHead}
+use Rattle.df_live.proofs.Names.{IfErr, IfOk, List, ℕ, ◌+◌, subst, IfErr-weaker, IfOk-weaker, err_from_is_err_and, IsHeadLine, IsBadHead, ReadsRoot, RefusesHead}
 use Rattle.df_live.proofs.Taking.{stops_head, stops_untaken, takes_root}
 use Rattle.df_live.proofs.head.take_root.Goals as goal
 

@@ -1,7 +1,4 @@
-use Rattle.std.proofs.Common.{[], ◌++◌, ◌∷◌, ◌≡◌, List, arith, length, subst, sym, ◌∙◌}
-use Rattle.std.proofs.lemmas.Result.{err_from_is_err_and}
-use Rattle.df_start.specs.declared.start.RootStart.{RootStart}
-use Rattle.df_live.specs.code.Stops.{TakesStart}
+use Rattle.df_live.proofs.Names.{[], ◌++◌, ◌∷◌, ◌≡◌, List, arith, length, subst, sym, ◌∙◌, err_from_is_err_and, RootStart, TakesStart}
 use Rattle.df_live.proofs.Heads.{stops_first, stops_kept, stops_root, takes_more, takes_start}
 use Rattle.df_live.proofs.Taking.{if_pushed}
 use Rattle.df_live.proofs.head.take_start.Goals as goal

@@ -1,8 +1,4 @@
-use Rattle.std.proofs.Common.{◌^◌, ◌-◌, ◌≤◌, length}
-use Rattle.std.specs.Io.KnownBytes.{Consumes}
-use Rattle.df_journal_text.specs.Fits.{AreRoots}
-use Rattle.df_lines.specs.Lines.{lines_text}
-use Rattle.df_script_text.specs.code.Lines.{head_lines}
+use Rattle.df_live.proofs.Names.{◌^◌, ◌-◌, ◌≤◌, length, Consumes, AreRoots, lines_text, head_lines}
 use Rattle.df_live.proofs.head.take_start.Given as goal
 
 -- the lines of the roots so far were taken

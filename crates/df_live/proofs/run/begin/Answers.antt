@@ -1,5 +1,4 @@
-use Rattle.std.proofs.Common.{ap, arith, length, sym, ◌∙◌}
-use Rattle.std.proofs.lemmas.Result.{err_from_is_err_and}
+use Rattle.df_live.proofs.Names.{ap, arith, length, sym, ◌∙◌, err_from_is_err_and}
 use Rattle.df_live.proofs.Answered.{start_answered, start_broken, start_unanswered, stops_head_stops}
 use Rattle.df_live.proofs.Taking.{if_done, if_failed}
 use Rattle.df_live.proofs.run.begin.Goals as goal

@@ -1,6 +1,4 @@
-use Rattle.std.proofs.Common.{[], ◌++◌, ◌∷◌, arith, length-append}
-use Rattle.std.proofs.lemmas.Result.{err_from_is_err_and}
-use Rattle.df_steps.specs.Steps.{journal_of}
+use Rattle.df_live.proofs.Names.{[], ◌++◌, ◌∷◌, arith, length-append, err_from_is_err_and, journal_of}
 use Rattle.df_live.proofs.Answered.{all_answered, call_answered, stops_answer_stops, stops_last, stops_line_stops}
 use Rattle.df_live.proofs.run.live.Goals as goal
 

@@ -1,7 +1,4 @@
-use Rattle.std.proofs.Common.{List, ◌≡◌, ◌+◌, ◌^◌, ◌-◌, ◌≤◌, length}
-use Rattle.df_script_text.specs.declared.line.ScriptLine.{ScriptLine}
-use Rattle.df_start.specs.declared.start.RootStart.{RootStart}
-use Rattle.df_live.specs.code.Stops.{HasAnswered}
+use Rattle.df_live.proofs.Names.{List, ◌≡◌, ◌+◌, ◌^◌, ◌-◌, ◌≤◌, length, ScriptLine, RootStart, HasAnswered}
 use Rattle.df_live.proofs.run.live.Given as goal
 
 -- the calls that were taken are answered, and the next line is that behind them

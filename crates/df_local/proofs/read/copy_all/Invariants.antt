@@ -1,4 +1,4 @@
-use Rattle.std.proofs.Common.{◌≡◌, ◌++◌, take}
+use Rattle.df_local.proofs.Names.{◌≡◌, ◌++◌, take}
 use Rattle.df_local.proofs.read.copy_all.Given as goal
 
 abbrev pub invariant-loop-p : goal.invariant-loop-p

@@ -1,5 +1,4 @@
-use Rattle.std.proofs.Common.{◌≡◌, take}
-use Rattle.df_local.specs.code.Shown.{privileges_of}
+use Rattle.df_local.proofs.Names.{◌≡◌, take, privileges_of}
 use Rattle.df_local.proofs.read.privileges_of.Given as goal
 
 abbrev pub invariant-loop-part : goal.invariant-loop-part

@@ -1,4 +1,4 @@
-use Rattle.std.proofs.Common.{◌≡◌, take}
+use Rattle.df_purge.proofs.Names.{◌≡◌, take}
 use Rattle.df_part.specs.Part.{cut}
 use Rattle.df_purge.proofs.echo.shown_parts.Given as goal
 

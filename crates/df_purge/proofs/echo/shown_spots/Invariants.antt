@@ -1,5 +1,4 @@
-use Rattle.std.proofs.Common.{◌≡◌, take}
-use Rattle.df_rules.specs.Commits.{cut_spots}
+use Rattle.df_purge.proofs.Names.{◌≡◌, take, cut_spots}
 use Rattle.df_purge.proofs.echo.shown_spots.Given as goal
 
 abbrev pub invariant-loop-spot : goal.invariant-loop-spot

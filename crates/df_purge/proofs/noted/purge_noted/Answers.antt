@@ -1,7 +1,4 @@
-use Rattle.std.proofs.Common.{ap, ◌∙◌}
-use Rattle.std.specs.List.{flat_map}
-use Rattle.std.proofs.lemmas.List.{take_all}
-use Rattle.df_purge.specs.code.Left.{left_noted}
+use Rattle.df_purge.proofs.Names.{ap, ◌∙◌, flat_map, take_all, left_noted}
 use Rattle.df_purge.proofs.ByNotes.{purged_by_notes}
 use Rattle.df_purge.proofs.noted.purge_noted.Goals as goal
 

@@ -1,6 +1,4 @@
-use Rattle.std.proofs.Common.{◌≡◌, take}
-use Rattle.std.specs.List.{flat_map}
-use Rattle.df_purge.specs.code.Left.{left_noted}
+use Rattle.df_purge.proofs.Names.{◌≡◌, take, flat_map, left_noted}
 use Rattle.df_purge.proofs.noted.purge_noted.Given as goal
 
 -- what stays so far

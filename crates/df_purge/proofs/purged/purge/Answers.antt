@@ -1,12 +1,5 @@
-use Rattle.std.proofs.Common.{◌≡◌, ◌++◌, reverse, subst, take}
-use Rattle.df_machine.specs.Journal.{State}
-use Rattle.df_machine.specs.Tables.{AgreesWith}
-use Rattle.df_rules.specs.Purge.{left_of}
-use Rattle.df_replay.specs.Noted.{contamination_of}
-use Rattle.df_replay.specs.Replay.{replayed}
-use Rattle.df_unit.specs.declared.entry.Entry.{Entry}
+use Rattle.df_purge.proofs.Names.{◌≡◌, ◌++◌, reverse, subst, take, State, AgreesWith, left_of, contamination_of, replayed, Entry, is_noted_within}
 use Rattle.df_purge.proofs.SoFar.{by_privileges, left_keeps, left_legal, so_far_all, so_far_more}
-use Rattle.df_purge.specs.code.Left.{is_noted_within}
 use Rattle.df_purge.proofs.purged.purge.Goals as goal
 
 pub repeat-requires : goal.repeat-requires

@@ -1,5 +1,4 @@
-use Rattle.std.proofs.Common.{◌≡◌, ℕ, ◌+◌, List, ◌++◌, reverse, vec_capacity, vec_len}
-use Rattle.df_roll.specs.declared.seat.Seat.{Seat}
+use Rattle.df_roll.proofs.Names.{◌≡◌, ℕ, ◌+◌, List, ◌++◌, reverse, vec_capacity, vec_len, Seat}
 use Rattle.df_roll.proofs.chunk.pour.Given as goal
 
 -- so many seats of a full row are moved

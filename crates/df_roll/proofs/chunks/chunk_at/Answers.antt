@@ -1,7 +1,4 @@
-use Rattle.std.proofs.Common.{rules, List, ◌-◌, arith}
-use Rattle.std.proofs.lemmas.Fn.{always_returns_same}
-use Rattle.df_roll.specs.Chunks.{first_cmp}
-use Rattle.df_roll.specs.declared.seat.Seat.{Seat}
+use Rattle.df_roll.proofs.Names.{rules, List, ◌-◌, arith, always_returns_same, first_cmp, Seat}
 use Rattle.df_roll.proofs.Spots.{partition, spot_before, spot_first, spot_found}
 use Rattle.df_roll.proofs.chunks.chunk_at.Goals as goal
 

@@ -1,10 +1,4 @@
-use Rattle.std.proofs.Common.{◌≤◌, List, length, ap, sym, subst, ◌∙◌}
-use Rattle.std.specs.Prelude.{is_some}
-use Rattle.std.specs.List.{insert}
-use Rattle.df_label.specs.Ascending.{IsAscending}
-use Rattle.df_unit.specs.UnitOrder.{unit_cmp}
-use Rattle.df_roll.specs.Roll.{names_in, seat_of}
-use Rattle.df_roll.specs.declared.seat.Seat.{Seat}
+use Rattle.df_roll.proofs.Names.{◌≤◌, List, length, ap, sym, subst, ◌∙◌, is_some, insert, IsAscending, unit_cmp, names_in, seat_of, Seat}
 use Rattle.df_roll.proofs.Spots.{IsSpot, between_all, chunk_ordered, seat_of-joined}
 use Rattle.df_roll.proofs.chunks.gap_at.Goals as goal
 

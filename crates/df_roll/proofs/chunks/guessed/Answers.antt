@@ -1,5 +1,4 @@
-use Rattle.std.proofs.Common.{◌≡◌, ◌-◌, ◌*◌, ◌<◌, List, Some, get_or, length, ap, sym, subst, ◌∙◌, arith}
-use Rattle.df_roll.specs.declared.seat.Seat.{Seat}
+use Rattle.df_roll.proofs.Names.{◌≡◌, ◌-◌, ◌*◌, ◌<◌, List, Some, get_or, length, ap, sym, subst, ◌∙◌, arith, Seat}
 use Rattle.df_roll.proofs.Spots.{seat_there}
 use Rattle.df_roll.proofs.chunks.guessed.Goals as goal
 

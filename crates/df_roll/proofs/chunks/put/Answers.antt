@@ -1,6 +1,4 @@
-use Rattle.std.proofs.Common.{List, ap, ◌∙◌}
-use Rattle.std.specs.List.{insert}
-use Rattle.df_roll.specs.declared.seat.Seat.{Seat}
+use Rattle.df_roll.proofs.Names.{List, ap, ◌∙◌, insert, Seat}
 use Rattle.df_roll.proofs.Joining.{put_in_room}
 use Rattle.df_roll.proofs.chunks.put.Goals as goal
 

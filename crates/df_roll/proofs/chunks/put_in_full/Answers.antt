@@ -1,7 +1,4 @@
-use Rattle.std.proofs.Common.{List, ap, sym, subst, ◌∙◌, arith}
-use Rattle.std.specs.List.{insert}
-use Rattle.df_roll.specs.Chunks.{IsPut}
-use Rattle.df_roll.specs.declared.seat.Seat.{Seat}
+use Rattle.df_roll.proofs.Names.{List, ap, sym, subst, ◌∙◌, arith, insert, IsPut, Seat}
 use Rattle.df_roll.proofs.Joining.{put_in_two}
 use Rattle.df_roll.proofs.chunks.put_in_full.Goals as goal
 

@@ -1,8 +1,4 @@
-use Rattle.std.proofs.Common.{List, ap, sym, subst, ◌∙◌}
-use Rattle.df_label.specs.Ascending.{IsAscending}
-use Rattle.df_unit.specs.UnitOrder.{unit_cmp}
-use Rattle.df_roll.specs.Roll.{names_in, seat_of}
-use Rattle.df_roll.specs.declared.seat.Seat.{Seat}
+use Rattle.df_roll.proofs.Names.{List, ap, sym, subst, ◌∙◌, IsAscending, unit_cmp, names_in, seat_of, Seat}
 use Rattle.df_roll.proofs.Spots.{IsSpot, chunk_ordered, seat_of-joined}
 use Rattle.df_roll.proofs.chunks.searched_place.Goals as goal
 

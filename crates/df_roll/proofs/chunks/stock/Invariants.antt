@@ -1,4 +1,4 @@
-use Rattle.std.proofs.Common.{◌≤◌, vec_len}
+use Rattle.df_roll.proofs.Names.{◌≤◌, vec_len}
 use Rattle.df_roll.proofs.chunks.stock.Given as goal
 
 abbrev pub invariant-loop : goal.invariant-loop

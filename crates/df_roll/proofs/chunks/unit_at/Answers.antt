@@ -1,8 +1,4 @@
-use Rattle.std.proofs.Common.{List, ◌++◌, ◌+◌, drop, ap, sym, ◌∙◌, arith}
-use Rattle.std.specs.Prelude.{slice_get}
-use Rattle.df_roll.specs.Chunks.{joined}
-use Rattle.df_roll.specs.Roll.{names_in}
-use Rattle.df_roll.specs.declared.seat.Seat.{Seat}
+use Rattle.df_roll.proofs.Names.{List, ◌++◌, ◌+◌, drop, ap, sym, ◌∙◌, arith, slice_get, joined, names_in, Seat}
 use Rattle.df_roll.proofs.Joining.{unit_behind, unit_next, unit_within}
 use Rattle.df_roll.proofs.chunks.unit_at.Goals as goal
 

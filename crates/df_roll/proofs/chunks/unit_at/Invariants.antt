@@ -1,7 +1,4 @@
-use Rattle.std.proofs.Common.{◌≡◌, drop}
-use Rattle.std.specs.Prelude.{slice_get}
-use Rattle.df_roll.specs.Chunks.{joined}
-use Rattle.df_roll.specs.Roll.{names_in}
+use Rattle.df_roll.proofs.Names.{◌≡◌, drop, slice_get, joined, names_in}
 use Rattle.df_roll.proofs.chunks.unit_at.Given as goal
 
 -- the unit is that at the place in what is left

@@ -1,7 +1,4 @@
-use Rattle.std.proofs.Common.{rules}
-use Rattle.std.proofs.lemmas.Fn.{always_returns_same}
-use Rattle.df_unit.specs.UnitOrder.{unit_cmp}
-use Rattle.df_roll.specs.declared.seat.Seat.{Seat}
+use Rattle.df_roll.proofs.Names.{rules, always_returns_same, unit_cmp, Seat}
 use Rattle.df_roll.proofs.Seating.{searched}
 use Rattle.df_roll.proofs.seat.seat_at.Goals as goal
 

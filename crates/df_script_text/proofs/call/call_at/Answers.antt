@@ -1,4 +1,4 @@
-use Rattle.df_script_text.specs.declared.line.ScriptLine.{ScriptLine}
+use Rattle.df_script_text.proofs.Names.{ScriptLine}
 use Rattle.df_script_text.proofs.Called.{call_found, call_onward, unit_stands}
 use Rattle.df_script_text.proofs.call.call_at.Goals as goal
 

@@ -1,4 +1,4 @@
-use Rattle.df_script_text.specs.Common.{common_line}
+use Rattle.df_script_text.proofs.Names.{common_line}
 use Rattle.df_script_text.proofs.Called.{call_found, call_onward, plain_stands, root_stands}
 use Rattle.df_script_text.proofs.call.common_call_at.Goals as goal
 

@@ -1,4 +1,4 @@
-use Rattle.df_script_text.specs.Common.{root_call}
+use Rattle.df_script_text.proofs.Names.{root_call}
 use Rattle.df_script_text.proofs.Called.{call_found, call_onward, root_stands}
 use Rattle.df_script_text.proofs.call.root_call_at.Goals as goal
 

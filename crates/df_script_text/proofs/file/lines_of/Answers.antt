@@ -1,10 +1,4 @@
-use Rattle.std.proofs.Common.{List, ℕ, sym, subst, ◌∙◌}
-use Rattle.std.proofs.lemmas.Result.{err_from_is_err_and}
-use Rattle.df_lines.specs.Refused.{NamesBadLine}
-use Rattle.df_script_text.specs.Reader.{HasRead}
-use Rattle.df_script_text.specs.Script.{IsScriptText}
-use Rattle.df_script_text.specs.TooLarge.{IsTooLargeIn}
-use Rattle.df_script_text.specs.declared.line.ScriptLine.{ScriptLine}
+use Rattle.df_script_text.proofs.Names.{List, ℕ, sym, subst, ◌∙◌, err_from_is_err_and, NamesBadLine, HasRead, IsScriptText, IsTooLargeIn, ScriptLine}
 use Rattle.df_script_text.proofs.file.lines_of.Goals as goal
 
 pub returns-in_err-read-clause-refused : goal.returns-in_err-read-clause-refused

@@ -1,6 +1,4 @@
-use Rattle.std.proofs.Common.{◌≡◌, ◌-◌, List, [], length}
-use Rattle.df_start.specs.declared.start.RootStart.{RootStart}
-use Rattle.df_script_text.specs.Reader.{HasRead}
+use Rattle.df_script_text.proofs.Names.{◌≡◌, ◌-◌, List, [], length, RootStart, HasRead}
 use Rattle.df_script_text.proofs.file.lines_of.Given as goal
 
 -- these bytes are read, and the lines so far were

@@ -1,7 +1,4 @@
-use Rattle.std.proofs.Common.{Err}
-use Rattle.df_lines.proofs.FirstBad.{refused_syntax, refused_too_large}
-use Rattle.df_script_text.specs.Script.{IsScriptText}
-use Rattle.df_script_text.specs.TooLarge.{IsTooLargeIn}
+use Rattle.df_script_text.proofs.Names.{Err, refused_syntax, refused_too_large, IsScriptText, IsTooLargeIn}
 use Rattle.df_script_text.proofs.ScriptBacks.{only_script}
 use Rattle.df_script_text.proofs.Stops.{only_refused}
 use Rattle.df_script_text.proofs.file.read_script.Goals as goal

@@ -1,7 +1,4 @@
-use Rattle.std.proofs.Common.{List, ℕ, subst, Err}
-use Rattle.df_journal_text.specs.Large.{IsLargeCalled}
-use Rattle.df_journal_text.specs.code.Judging.{TellsLine}
-use Rattle.df_script_text.specs.Script.{IsScriptLine, script_line}
+use Rattle.df_script_text.proofs.Names.{List, ℕ, subst, Err, IsLargeCalled, TellsLine, IsScriptLine, script_line}
 use Rattle.df_script_text.proofs.Stops.{open_call, open_unread}
 use Rattle.df_script_text.proofs.line.open_fault.Goals as goal
 

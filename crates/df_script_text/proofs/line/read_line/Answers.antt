@@ -1,5 +1,4 @@
-use Rattle.std.proofs.Common.{◌∙◌, sym, ap, Ok, refl}
-use Rattle.std.proofs.lemmas.Result.{err_from_is_err_and}
+use Rattle.df_script_text.proofs.Names.{◌∙◌, sym, ap, Ok, refl, err_from_is_err_and}
 use Rattle.df_journal_text.specs.code.Judging.{ended}
 use Rattle.df_journal_text.specs.declared.line_fault.LineFault.TheVariants as fault
 use Rattle.df_journal_text.proofs.Frames.{front_failed, middle_failed, tail_failed, tail_read}

@@ -1,4 +1,4 @@
-use Rattle.std.proofs.Common.{◌≡◌, codes, refl}
+use Rattle.df_script_text.proofs.Names.{◌≡◌, codes, refl}
 use Rattle.df_script_text.proofs.Stops.{open_stop}
 use Rattle.df_script_text.proofs.reader.first_at.Goals as goal
 

@@ -1,4 +1,4 @@
-use Rattle.std.proofs.lemmas.Result.{IfErr-weaker, IfOk-weaker, err_from_is_err_and}
+use Rattle.df_script_text.proofs.Names.{IfErr-weaker, IfOk-weaker, err_from_is_err_and}
 use Rattle.df_script_text.proofs.Stops.{first_stop, roots_stop, start_read}
 use Rattle.df_script_text.proofs.reader.start_at.Goals as goal
 

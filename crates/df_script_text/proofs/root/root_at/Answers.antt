@@ -1,5 +1,4 @@
-use Rattle.std.proofs.Common.{◌≡◌, codes, drop, refl, rules}
-use Rattle.df_script_text.specs.code.Stops.{IsHeadLine}
+use Rattle.df_script_text.proofs.Names.{◌≡◌, codes, drop, refl, rules, IsHeadLine}
 use Rattle.df_script_text.proofs.Stops.{open_stop, run_at}
 use Rattle.df_script_text.proofs.root.root_at.Goals as goal
 

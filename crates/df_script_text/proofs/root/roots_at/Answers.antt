@@ -1,4 +1,4 @@
-use Rattle.std.proofs.Common.{◌≡◌, length, arith}
+use Rattle.df_script_text.proofs.Names.{◌≡◌, length, arith}
 use Rattle.df_script_text.proofs.Stops.{roots_more}
 use Rattle.df_script_text.proofs.root.roots_at.Goals as goal
 

@@ -1,5 +1,4 @@
-use Rattle.std.proofs.Common.{◌-◌, length}
-use Rattle.df_script_text.specs.code.Stops.{ArePassed}
+use Rattle.df_script_text.proofs.Names.{◌-◌, length, ArePassed}
 use Rattle.df_script_text.proofs.root.roots_at.Given as goal
 
 -- the roots so far stand in front of the place

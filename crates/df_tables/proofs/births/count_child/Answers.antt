@@ -1,11 +1,4 @@
-use Rattle.std.proofs.Common.{ap, get_or, set, ◌∙◌}
-use Rattle.df_local.specs.code.LocalState.{LocalState}
-use Rattle.df_rules.specs.Start.{rows}
-use Rattle.df_unit.specs.declared.call.Call.TheVariants.{Instantiate}
-use Rattle.df_unit.specs.declared.entry.Effect.{Effect}
-use Rattle.df_unit.specs.declared.reply.Reply.{Reply}
-use Rattle.df_tables.specs.Table.{moved_row}
-use Rattle.df_tables.specs.declared.units.Unit.{Unit}
+use Rattle.df_tables.proofs.Names.{ap, get_or, set, ◌∙◌, LocalState, rows, Instantiate, Effect, Reply, moved_row, Unit}
 use Rattle.df_tables.proofs.Each.{set_modify}
 use Rattle.df_tables.proofs.births.count_child.Goals as goal
 

@@ -1,6 +1,4 @@
-use Rattle.std.proofs.Common.{All, sym, subst}
-use Rattle.std.proofs.lemmas.List.Elements.{All-push}
-use Rattle.df_tables.specs.Births.{IsNewborn}
+use Rattle.df_tables.proofs.Names.{All, sym, subst, All-push, IsNewborn}
 use Rattle.df_tables.proofs.calling.add_row.Goals as goal
 
 pub returns-clause-newborn : goal.returns-clause-newborn

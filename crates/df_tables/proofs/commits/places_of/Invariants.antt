@@ -1,4 +1,4 @@
-use Rattle.std.proofs.Common.{◌≡◌, map, take}
+use Rattle.df_tables.proofs.Names.{◌≡◌, map, take}
 use Rattle.df_tables.proofs.commits.places_of.Given as goal
 
 abbrev pub invariant-loop-pair : goal.invariant-loop-pair

@@ -1,8 +1,4 @@
-use Rattle.std.proofs.Common.{◌≡◌, ◌+◌, ◌++◌, ◌∷◌, [], List, ℕ, zero, suc, ◌<◌, drop, length, ap, sym, ◌∙◌, arith, append_assoc}
-use Rattle.std.proofs.lemmas.List.{append-nil, drop_all}
-use Rattle.df_tables.specs.Births.{rows_in}
-use Rattle.df_tables.specs.Calls.{places_from}
-use Rattle.df_tables.specs.declared.births.Newborn.{Newborn}
+use Rattle.df_tables.proofs.Names.{◌≡◌, ◌+◌, ◌++◌, ◌∷◌, [], List, ℕ, zero, suc, ◌<◌, drop, length, ap, sym, ◌∙◌, arith, append_assoc, append-nil, drop_all, rows_in, places_from, Newborn}
 use Rattle.df_tables.proofs.commits.put_places.Goals as goal
 
 step : (to : List ℕ) (n i : ℕ) (bs : List Newborn) → i < length bs → (to ++ n ∷ []) ++ places_from (n + 1) (rows_in (drop (suc i) bs)) ≡ to ++ places_from n (rows_in (drop i bs))

@@ -1,6 +1,4 @@
-use Rattle.std.proofs.Common.{◌≡◌, ◌+◌, ◌++◌, drop}
-use Rattle.df_tables.specs.Births.{rows_in}
-use Rattle.df_tables.specs.Calls.{places_from}
+use Rattle.df_tables.proofs.Names.{◌≡◌, ◌+◌, ◌++◌, drop, rows_in, places_from}
 use Rattle.df_tables.proofs.commits.put_places.Given as goal
 
 abbrev pub invariant-loop : goal.invariant-loop

@@ -1,6 +1,4 @@
-use Rattle.std.proofs.Common.{◌≤◌, length, refl, arith}
-use Rattle.std.proofs.lemmas.Bool.{ltb-false}
-use Rattle.std.proofs.lemmas.Option.{slice_get_read, slice_get_past}
+use Rattle.df_tables.proofs.Names.{◌≤◌, length, refl, arith, ltb-false, slice_get_read, slice_get_past}
 use Rattle.df_tables.proofs.Slots.{slot_nowhere, slot_past}
 use Rattle.df_tables.proofs.event_places.is_near.Goals as goal
 

@@ -1,5 +1,4 @@
-use Rattle.std.proofs.Common.{◌<◌, length, refl, arith}
-use Rattle.std.proofs.lemmas.Option.{slice_get_read}
+use Rattle.df_tables.proofs.Names.{◌<◌, length, refl, arith, slice_get_read}
 use Rattle.df_tables.proofs.Slots.{slot_same}
 use Rattle.df_tables.proofs.event_places.reach.Goals as goal
 

@@ -1,6 +1,4 @@
-use Rattle.std.proofs.Common.{◌≡◌, ◌+◌, ◌-◌, ℕ}
-use Rattle.std.specs.Prelude.{vec_len}
-use Rattle.df_tables.specs.EventPlaces.{slot_in}
+use Rattle.df_tables.proofs.Names.{◌≡◌, ◌+◌, ◌-◌, ℕ, vec_len, slot_in}
 use Rattle.df_tables.proofs.event_places.widen.Given as goal
 
 abbrev pub invariant-tables : goal.invariant-tables

@@ -1,5 +1,4 @@
-use Rattle.std.proofs.Common.{◌∙◌, ap}
-use Rattle.df_tables.specs.Hand.{each, settled_row}
+use Rattle.df_tables.proofs.Names.{◌∙◌, ap, each, settled_row}
 use Rattle.df_tables.proofs.Handed.{calm_stays, handed_out}
 use Rattle.df_tables.proofs.handing.hand_out.Goals as goal
 

@@ -1,8 +1,4 @@
-use Rattle.std.proofs.Common.{◌∙◌, ap, sym, subst, List}
-use Rattle.df_local.specs.code.LocalState.{LocalState}
-use Rattle.df_unit.specs.Rows.{after}
-use Rattle.df_tables.specs.Hand.{IsAnsweredAt, each, modify, quiet_row, settled_row, with_state}
-use Rattle.df_tables.specs.declared.units.Unit.{Unit}
+use Rattle.df_tables.proofs.Names.{◌∙◌, ap, sym, subst, List, LocalState, after, IsAnsweredAt, each, modify, quiet_row, settled_row, with_state, Unit}
 use Rattle.df_tables.proofs.Handed.{all_staged, answered_still, calm_stays, handed}
 use Rattle.df_tables.proofs.handing.hand_over.Goals as goal
 

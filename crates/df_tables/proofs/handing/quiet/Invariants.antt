@@ -1,5 +1,4 @@
-use Rattle.std.proofs.Common.{◌≡◌, take}
-use Rattle.df_tables.specs.Hand.{each, quiet_row}
+use Rattle.df_tables.proofs.Names.{◌≡◌, take, each, quiet_row}
 use Rattle.df_tables.proofs.handing.quiet.Given as goal
 
 abbrev pub invariant-loop-receiver : goal.invariant-loop-receiver

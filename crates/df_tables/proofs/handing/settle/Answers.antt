@@ -1,7 +1,4 @@
-use Rattle.std.proofs.Common.{ap, arith, get_or}
-use Rattle.df_tables.specs.Hand.{settled_row}
-use Rattle.df_tables.specs.Line.{LineState}
-use Rattle.df_tables.specs.declared.units.Unit.{Unit}
+use Rattle.df_tables.proofs.Names.{ap, arith, get_or, settled_row, LineState, Unit}
 use Rattle.df_tables.proofs.Each.{each_step}
 use Rattle.df_tables.proofs.handing.settle.Goals as goal
 

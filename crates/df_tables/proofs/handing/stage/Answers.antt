@@ -1,7 +1,4 @@
-use Rattle.std.proofs.Common.{◌∙◌, ap, arith, get_or, set, Result, Ok, Err, OnErr}
-use Rattle.std.proofs.lemmas.List.{set-get_or}
-use Rattle.df_tables.specs.Hand.{each, quiet_row, staged_row}
-use Rattle.df_tables.specs.declared.units.Unit.{Unit}
+use Rattle.df_tables.proofs.Names.{◌∙◌, ap, arith, get_or, set, Result, Ok, Err, OnErr, set-get_or, each, quiet_row, staged_row, Unit}
 use Rattle.df_tables.proofs.Each.{each_step}
 use Rattle.df_tables.proofs.Handed.{half_way}
 use Rattle.df_tables.proofs.handing.stage.Goals as goal

@@ -1,5 +1,4 @@
-use Rattle.std.proofs.Common.{◌≡◌, take}
-use Rattle.df_tables.specs.Hand.{each, staged_row}
+use Rattle.df_tables.proofs.Names.{◌≡◌, take, each, staged_row}
 use Rattle.df_tables.proofs.handing.stage.Given as goal
 
 abbrev pub invariant-loop-receiver : goal.invariant-loop-receiver

@@ -1,8 +1,4 @@
-use Rattle.std.proofs.Common.{◌∙◌, ap, set, get_or}
-use Rattle.std.proofs.lemmas.Result.{on_ok_weaker}
-use Rattle.df_local.specs.code.LocalState.{LocalState}
-use Rattle.df_tables.specs.Hand.{with_state}
-use Rattle.df_tables.specs.declared.units.Unit.{Unit}
+use Rattle.df_tables.proofs.Names.{◌∙◌, ap, set, get_or, on_ok_weaker, LocalState, with_state, Unit}
 use Rattle.df_tables.proofs.Each.{set_modify}
 use Rattle.df_tables.proofs.handing.take_commit.Goals as goal
 

@@ -1,13 +1,4 @@
-use Rattle.std.proofs.Common.{◌≡◌, ◌∙◌, ap, set, get_or}
-use Rattle.df_local.specs.Locally.{counted, with_own}
-use Rattle.df_local.specs.code.LocalState.{LocalState}
-use Rattle.df_rules.specs.Start.{rows}
-use Rattle.df_unit.specs.declared.call.Call.TheVariants.{SubscribeManaged}
-use Rattle.df_unit.specs.declared.entry.Effect.{Effect}
-use Rattle.df_unit.specs.declared.reply.Reply.{Reply}
-use Rattle.df_unit.specs.declared.reply.Reply.TheVariants.{Sub}
-use Rattle.df_tables.specs.Table.{moved_row}
-use Rattle.df_tables.specs.declared.units.Unit.{Unit}
+use Rattle.df_tables.proofs.Names.{◌≡◌, ◌∙◌, ap, set, get_or, counted, with_own, LocalState, rows, SubscribeManaged, Effect, Reply, Sub, moved_row, Unit}
 use Rattle.df_tables.proofs.Each.{set_modify}
 use Rattle.df_tables.proofs.managing.count_at.Goals as goal
 

@@ -1,4 +1,4 @@
-use Rattle.std.proofs.lemmas.Result.{IfOk-weaker}
+use Rattle.df_tables.proofs.Names.{IfOk-weaker}
 use Rattle.df_tables.proofs.Gets.{given_at}
 use Rattle.df_tables.proofs.moves.give_at.Goals as goal
 

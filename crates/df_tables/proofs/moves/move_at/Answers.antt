@@ -1,8 +1,4 @@
-use Rattle.std.proofs.Common.{◌∙◌, ap, set}
-use Rattle.std.proofs.lemmas.Result.{on_ok_weaker}
-use Rattle.df_rules.specs.Start.{rows}
-use Rattle.df_tables.specs.Table.{moved_row}
-use Rattle.df_tables.specs.declared.units.Unit.{Unit}
+use Rattle.df_tables.proofs.Names.{◌∙◌, ap, set, on_ok_weaker, rows, moved_row, Unit}
 use Rattle.df_tables.proofs.Each.{set_modify}
 use Rattle.df_tables.proofs.moves.move_at.Goals as goal
 

@@ -1,6 +1,4 @@
-use Rattle.std.proofs.Common.{◌≡◌, take}
-use Rattle.df_tables.specs.Board.{receivers_of}
-use Rattle.df_tables.specs.Calls.{names_at}
+use Rattle.df_tables.proofs.Names.{◌≡◌, take, receivers_of, names_at}
 use Rattle.df_tables.proofs.receivers.names_in.Given as goal
 
 abbrev pub invariant-loop-receiver : goal.invariant-loop-receiver

@@ -1,10 +1,4 @@
-use Rattle.std.proofs.Common.{◌++◌, List, Option, ap, sym, ◌∙◌}
-use Rattle.std.specs.Prelude.{option_to_list}
-use Rattle.std.proofs.lemmas.List.{append-nil}
-use Rattle.std.proofs.lemmas.Option.{slice_get_past}
-use Rattle.df_unit.specs.declared.name.UnitName.{UnitName}
-use Rattle.df_tables.specs.Table.{names_of}
-use Rattle.df_tables.specs.declared.units.Unit.{Unit}
+use Rattle.df_tables.proofs.Names.{◌++◌, List, Option, ap, sym, ◌∙◌, option_to_list, append-nil, slice_get_past, UnitName, names_of, Unit}
 use Rattle.df_tables.proofs.receivers.put_name.Goals as goal
 
 pub returns-in-None : goal.returns-in-None

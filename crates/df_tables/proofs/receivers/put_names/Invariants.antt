@@ -1,6 +1,4 @@
-use Rattle.std.proofs.Common.{◌≡◌, ◌++◌, take}
-use Rattle.df_tables.specs.Births.{rows_in}
-use Rattle.df_tables.specs.Table.{names_of}
+use Rattle.df_tables.proofs.Names.{◌≡◌, ◌++◌, take, rows_in, names_of}
 use Rattle.df_tables.proofs.receivers.put_names.Given as goal
 
 abbrev pub invariant-loop-one : goal.invariant-loop-one

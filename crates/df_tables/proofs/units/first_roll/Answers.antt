@@ -1,5 +1,4 @@
-use Rattle.std.proofs.Common.{arith}
-use Rattle.df_roll.specs.Roll.{seat_of}
+use Rattle.df_tables.proofs.Names.{arith, seat_of}
 use Rattle.df_tables.proofs.FirstRoll.{all_told}
 use Rattle.df_tables.proofs.units.first_roll.Goals as goal
 

@@ -1,7 +1,4 @@
-use Rattle.std.proofs.Common.{◌≡◌, drop}
-use Rattle.std.specs.Option.{option_or}
-use Rattle.df_unit.specs.declared.name.UnitName.{UnitName}
-use Rattle.df_roll.specs.Roll.{seat_of}
+use Rattle.df_tables.proofs.Names.{◌≡◌, drop, option_or, UnitName, seat_of}
 use Rattle.df_tables.proofs.FirstRoll.{place_from}
 use Rattle.df_tables.proofs.units.first_roll.Given as goal
 

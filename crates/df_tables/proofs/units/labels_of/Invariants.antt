@@ -1,5 +1,4 @@
-use Rattle.std.proofs.Common.{◌≡◌, take}
-use Rattle.df_tables.specs.Labels.{inputs}
+use Rattle.df_tables.proofs.Names.{◌≡◌, take, inputs}
 use Rattle.df_tables.proofs.units.labels_of.Given as goal
 
 abbrev pub invariant-loop-unit : goal.invariant-loop-unit

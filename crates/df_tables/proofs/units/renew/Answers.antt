@@ -1,8 +1,4 @@
-use Rattle.std.proofs.Common.{◌≡◌, ℕ, ◌<◌, List, [], ◌∷◌, Some, length, get_or, set, ap, sym, ◌∙◌, arith}
-use Rattle.std.proofs.lemmas.List.{get_or-map, length-map, length-set}
-use Rattle.df_label.specs.declared.label.Label.{Label}
-use Rattle.df_tables.specs.Labels.{AreLabels, inputs}
-use Rattle.df_tables.specs.declared.units.Unit.{Unit}
+use Rattle.df_tables.proofs.Names.{◌≡◌, ℕ, ◌<◌, List, [], ◌∷◌, Some, length, get_or, set, ap, sym, ◌∙◌, arith, get_or-map, length-map, length-set, Label, AreLabels, inputs, Unit}
 use Rattle.df_tables.proofs.units.renew.Goals as goal
 
 -- the label that may be of before is one of the labels

@@ -1,5 +1,4 @@
-use Rattle.std.proofs.Common.{◌≡◌, List, [], ◌∷◌, ◌++◌, Option, arith, ap, option_to_list, refl, ◌∙◌}
-use Rattle.std.proofs.lemmas.List.{nil_from_length}
+use Rattle.df_workers.proofs.Names.{◌≡◌, List, [], ◌∷◌, ◌++◌, Option, arith, ap, option_to_list, refl, ◌∙◌, nil_from_length}
 use Rattle.df_workers.proofs.Gathered.{gathered_came, gathered_each, gathering_first, gathering_last, gathering_next}
 use Rattle.df_workers.proofs.rounds.gather.Goals as goal
 

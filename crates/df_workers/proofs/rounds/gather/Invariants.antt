@@ -1,4 +1,4 @@
-use Rattle.std.proofs.Common.{vec_len}
+use Rattle.df_workers.proofs.Names.{vec_len}
 use Rattle.df_workers.proofs.Gathered.{IsGathering}
 use Rattle.df_workers.proofs.rounds.gather.Given as goal
 

@@ -1,6 +1,4 @@
-use Rattle.std.proofs.Common.{◌≡◌, All, vec_len}
-use Rattle.df_desk.specs.Pass.{IsFree}
-use Rattle.df_workers.specs.code.Gathered.{IsHired}
+use Rattle.df_workers.proofs.Names.{◌≡◌, All, vec_len, IsFree, IsHired}
 use Rattle.df_workers.proofs.rounds.hire.Given as goal
 
 abbrev pub invariant-loop-hired : goal.invariant-loop-hired

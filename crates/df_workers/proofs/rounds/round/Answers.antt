@@ -1,4 +1,4 @@
-use Rattle.df_rules.specs.Follows.{brain_of}
+use Rattle.df_workers.proofs.Names.{brain_of}
 use Rattle.df_workers.proofs.Gathered.{round_free, round_grew, round_served}
 use Rattle.df_workers.proofs.rounds.round.Goals as goal
 

@@ -1,4 +1,4 @@
-use Rattle.df_rules.specs.Follows.{brain_of}
+use Rattle.df_workers.proofs.Names.{brain_of}
 use Rattle.df_workers.proofs.Gathered.{run_done}
 use Rattle.df_workers.proofs.rounds.run.Goals as goal
 

@@ -1,6 +1,4 @@
-use Rattle.std.proofs.Common.{◌-◌, length}
-use mathlib.Core.List.{IsPrefix}
-use Rattle.df_desk.specs.Pass.{IsFree}
+use Rattle.df_workers.proofs.Names.{◌-◌, length, IsPrefix, IsFree}
 use Rattle.df_workers.proofs.rounds.run.Given as goal
 
 abbrev pub invariant-loop : goal.invariant-loop

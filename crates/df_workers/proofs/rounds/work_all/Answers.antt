@@ -1,10 +1,7 @@
-use Rattle.std.proofs.Common.{sym, subst}
+use Rattle.df_workers.proofs.Names.{sym, subst, arg_send, param_send, sendable, IsFree, brain_of}
 use denote.Exit.{no}
 use denote.Param.{param}
-use denote.Param.Send.{arg_send, param_send, sendable}
-use Rattle.df_desk.specs.Pass.{IsFree}
 use Rattle.df_hub.specs.contracts.hub.Hub as Hub
-use Rattle.df_rules.specs.Follows.{brain_of}
 use Rattle.df_sendable.proofs.Hubs.{hub_sync}
 use Rattle.df_workers.proofs.Crossing.{tools_sync, worker_send}
 use Rattle.df_workers.proofs.Gathered.{have_worked}

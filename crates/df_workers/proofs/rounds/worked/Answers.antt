@@ -1,5 +1,4 @@
-use Rattle.std.proofs.Common.{arith}
-use Rattle.df_rules.specs.Follows.{brain_of}
+use Rattle.df_workers.proofs.Names.{arith, brain_of}
 use Rattle.df_workers.proofs.Gathered.{round_there}
 use Rattle.df_workers.proofs.rounds.worked.Goals as goal
 

@@ -1,4 +1,4 @@
-use Rattle.df_rules.specs.Follows.{brain_of}
+use Rattle.df_workers.proofs.Names.{brain_of}
 use Rattle.df_workers.proofs.Serving.{first_ends, serving_ends, serving_next}
 use Rattle.df_workers.proofs.serve.serve.Goals as goal
 

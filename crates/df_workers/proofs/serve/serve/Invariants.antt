@@ -1,4 +1,4 @@
-use Rattle.df_rules.specs.Follows.{brain_of}
+use Rattle.df_workers.proofs.Names.{brain_of}
 use Rattle.df_workers.proofs.Serving.{IsServing}
 use Rattle.df_workers.proofs.serve.serve.Given as goal
 

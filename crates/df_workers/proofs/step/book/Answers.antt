@@ -1,8 +1,4 @@
-use Rattle.std.proofs.Common.{List, subst}
-use mathlib.Core.List.{IsPrefix}
-use Rattle.df_rules.specs.Follows.{brain_of}
-use Rattle.df_unit.specs.declared.entry.Entry.{Entry}
-use Rattle.df_desk.proofs.Prefixes.{prefix_trans}
+use Rattle.df_workers.proofs.Names.{List, subst, IsPrefix, brain_of, Entry, prefix_trans}
 use Rattle.df_workers.proofs.Turned.{booked_behind}
 use Rattle.df_workers.proofs.Stepped.{seen_current, step_booked, step_refused}
 use Rattle.df_workers.proofs.step.book.Goals as goal

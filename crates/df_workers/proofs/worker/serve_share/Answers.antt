@@ -1,11 +1,8 @@
-use Rattle.std.proofs.Common.{◌≡◌, false, refl, arith}
-use Rattle.std.specs.Prelude.{Some, slice_get}
-use Rattle.std.proofs.lemmas.Bool.Decides.{nat_tests}
+use Rattle.df_workers.proofs.Names.{◌≡◌, false, refl, arith, slice_get, nat_tests, brain_of, came_then, is_over}
+use Rattle.std.specs.Prelude.{Some}
 use Rattle.std.proofs.lemmas.Option.{slice_get_read}
-use Rattle.df_rules.specs.Follows.{brain_of}
 use Rattle.df_workers.proofs.Gathered.{get_below}
 use Rattle.df_workers.proofs.Serving.{sharing_passed, sharing_served, then_over, unless_going}
-use Rattle.df_workers.specs.code.Came.{came_then, is_over}
 use Rattle.df_workers.proofs.worker.serve_share.Goals as goal
 use Rattle.df_workers.proofs.worker.serve_share.Goals.{then-place-share+else-is_over, else-place-share}
 

@@ -1,4 +1,4 @@
-use Rattle.df_rules.specs.Follows.{brain_of}
+use Rattle.df_workers.proofs.Names.{brain_of}
 use Rattle.df_workers.proofs.Serving.{IsSharing}
 use Rattle.df_workers.proofs.worker.serve_share.Given as goal
 

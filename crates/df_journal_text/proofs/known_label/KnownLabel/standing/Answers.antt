@@ -1,6 +1,4 @@
-use Rattle.std.proofs.Common.{Option, drop, subst, sym}
-use Rattle.df_label.specs.declared.label.Label.{Label}
-use Rattle.df_journal_text.specs.code.KnownLabel.{IsKnown}
+use Rattle.df_journal_text.proofs.Names.{Option, drop, subst, sym, Label, IsKnown}
 use Rattle.df_journal_text.proofs.KnownLabels.{known_stands}
 use Rattle.df_journal_text.proofs.known_label.KnownLabel.standing.Goals as goal
 

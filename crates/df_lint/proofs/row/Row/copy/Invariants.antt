@@ -1,4 +1,4 @@
-use Rattle.std.proofs.Common.{◌≡◌, take}
+use Rattle.df_lint.proofs.Names.{◌≡◌, take}
 use Rattle.df_lint.proofs.row.Row.copy.Given as goal
 
 abbrev pub invariant-loop-cell : goal.invariant-loop-cell

@@ -1,16 +1,6 @@
-use Rattle.std.proofs.Common.{◌≡◌, ◌<◌, ℕ, List, true, false, length, ap, sym, subst, ◌∙◌, arith}
-use Rattle.std.proofs.lemmas.List.{length-map}
-use Rattle.std.specs.Prelude.{slice_index_or, []}
-use Rattle.df_family.proofs.BoundJournal.{never}
-use Rattle.df_family.specs.Family.{names}
-use Rattle.df_family.specs.May.{IsLeast}
-use Rattle.df_label.specs.TagSet.{contains}
-use Rattle.df_start.specs.Begun.{begun}
+use Rattle.df_lint.proofs.Names.{◌≡◌, ◌<◌, ℕ, List, true, false, length, ap, sym, subst, ◌∙◌, arith, length-map, slice_index_or, never, names, IsLeast, contains, begun, has, found, rows_of, Cell, Roots}
+use Rattle.std.specs.Prelude.{[]}
 use Rattle.df_lint.proofs.Least.{looked_up, may_holds, holds_may, row_many}
-use Rattle.df_lint.specs.code.Cells.{has}
-use Rattle.df_lint.specs.code.Rows.{found, rows_of}
-use Rattle.df_lint.specs.declared.cell.Cell.{Cell}
-use Rattle.df_rules.specs.Always.{Roots}
 use Rattle.df_lint.proofs.table.Lint.may.Goals as goal
 
 pub place_of-place-requires-clause-there : goal.place_of-place-requires-clause-there

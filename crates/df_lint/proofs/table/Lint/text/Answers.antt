@@ -1,16 +1,7 @@
-use Rattle.std.proofs.Common.{◌≡◌, ℕ, ◌<◌, List, ◌++◌, length, ap, sym, subst, ◌∙◌}
-use Rattle.std.proofs.lemmas.List.{length-map}
-use Rattle.df_family.specs.May.{IsLeast}
-use Rattle.df_start.specs.Begun.{begun}
+use Rattle.df_lint.proofs.Names.{◌≡◌, ℕ, ◌<◌, List, ◌++◌, length, ap, sym, subst, ◌∙◌, length-map, IsLeast, begun, lint_lines, AreTagsOf, cells_at, found, rows_of, Cell, Roots}
 use Rattle.df_lint.proofs.CellRows.{length-rows_of}
 use Rattle.df_lint.proofs.Least.{row_many}
 use Rattle.df_lint.proofs.Lines.{text_of_rows}
-use Rattle.df_lint.specs.LintText.{lint_lines}
-use Rattle.df_lint.specs.Tags.{AreTagsOf}
-use Rattle.df_lint.specs.code.Cells.{cells_at}
-use Rattle.df_lint.specs.code.Rows.{found, rows_of}
-use Rattle.df_lint.specs.declared.cell.Cell.{Cell}
-use Rattle.df_rules.specs.Always.{Roots}
 use Rattle.df_lint.proofs.table.Lint.text.Goals as goal
 
 pub append_rows-requires-clause-many : goal.append_rows-requires-clause-many

@@ -1,5 +1,4 @@
-use Rattle.std.proofs.Common.{◌+◌, refl, sym, ◌∙◌}
-use Rattle.std.proofs.lemmas.Bool.{true≢false}
+use Rattle.df_live.proofs.Names.{◌+◌, refl, sym, ◌∙◌, true≢false}
 use Rattle.df_live.specs.declared.lines.NotTaken.TheVariants as not_taken
 use Rattle.df_live.proofs.Parts.{takes_long, takes_part}
 use Rattle.df_live.proofs.read_lines.ReadLines.take_part.Goals as goal

@@ -1,7 +1,4 @@
-use Rattle.std.proofs.Common.{◌-◌, ◌≤◌, length}
-use Rattle.std.specs.Io.KnownBytes.{Consumes}
-use Rattle.df_io.specs.Limits.{longest_file}
-use Rattle.df_lines.specs.Lines.{IsLine}
+use Rattle.df_live.proofs.Names.{◌-◌, ◌≤◌, length, Consumes, longest_file, IsLine}
 use Rattle.df_live.specs.ReadLines.{faults_of, left_of}
 use Rattle.df_live.proofs.read_lines.ReadLinesLines.next_line.Given as goal
 

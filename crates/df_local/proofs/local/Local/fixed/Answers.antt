@@ -1,5 +1,4 @@
-use Rattle.std.proofs.Common.{subst, sym}
-use Rattle.df_local.specs.Births.{IsAccounted}
+use Rattle.df_local.proofs.Names.{subst, sym, IsAccounted}
 use Rattle.df_local.proofs.Begun.{fixed_accounted}
 use Rattle.df_local.proofs.local.Local.fixed.Goals as goal
 

@@ -1,9 +1,4 @@
-use Rattle.std.proofs.Common.{ap, subst, ◌∙◌}
-use Rattle.df_label.specs.Label.{join}
-use Rattle.df_unit.specs.Beginnings.{beginning}
-use Rattle.df_unit.specs.KeptFact.{IsKept}
-use Rattle.df_unit.proofs.KeptRows.{accounted_as}
-use Rattle.df_local.specs.code.LocalState.{LocalState}
+use Rattle.df_local.proofs.Names.{ap, subst, ◌∙◌, join, beginning, IsKept, accounted_as, LocalState}
 use Rattle.df_local.proofs.Begun.{begun_child}
 use Rattle.df_local.proofs.local.Local.of_child.Goals as goal
 

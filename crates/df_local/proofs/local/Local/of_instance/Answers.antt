@@ -1,9 +1,4 @@
-use Rattle.std.proofs.Common.{ap, ◌∙◌}
-use Rattle.df_label.specs.Label.{join}
-use Rattle.df_label.specs.declared.label.Label.{Label}
-use Rattle.df_unit.specs.Beginnings.{begin}
-use Rattle.df_unit.proofs.KeptRows.{accounted_as}
-use Rattle.df_local.specs.Births.{record_of}
+use Rattle.df_local.proofs.Names.{ap, ◌∙◌, join, Label, begin, accounted_as, record_of}
 use Rattle.df_local.proofs.Begun.{begun_instance}
 use Rattle.df_local.proofs.local.Local.of_instance.Goals as goal
 

@@ -1,5 +1,4 @@
-use Rattle.df_unit.proofs.KeptRows.{accounted_as, kept_root}
-use Rattle.df_unit.specs.Beginnings.{root}
+use Rattle.df_local.proofs.Names.{accounted_as, kept_root, root}
 use Rattle.df_local.proofs.local.Local.of_root.Goals as goal
 
 pub begun-requires : goal.begun-requires

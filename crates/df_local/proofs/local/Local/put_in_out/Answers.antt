@@ -1,10 +1,4 @@
-use Rattle.std.proofs.Common.{subst}
-use Rattle.df_unit.proofs.KeptRows.{accounted_as, kept_in_out}
-use Rattle.df_unit.specs.KeptFact.{IsKept}
-use Rattle.df_unit.specs.Rows.{changed}
-use Rattle.df_unit.specs.declared.call.Call.{Call}
-use Rattle.df_unit.specs.declared.entry.Effect.{Effect}
-use Rattle.df_local.specs.code.LocalState.{LocalState}
+use Rattle.df_local.proofs.Names.{subst, accounted_as, kept_in_out, IsKept, changed, Call, Effect, LocalState}
 use Rattle.df_local.proofs.local.Local.put_in_out.Goals as goal
 
 pub invariant_of-self : goal.invariant_of-self

@@ -1,8 +1,4 @@
-use Rattle.std.proofs.Common.{ap, subst}
-use Rattle.df_unit.proofs.KeptRows.{accounted_as, kept_out}
-use Rattle.df_unit.specs.KeptFact.{IsKept}
-use Rattle.df_unit.specs.Rows.{out_changed}
-use Rattle.df_local.specs.code.LocalState.{LocalState}
+use Rattle.df_local.proofs.Names.{ap, subst, accounted_as, kept_out, IsKept, out_changed, LocalState}
 use Rattle.df_local.proofs.local.Local.put_out.Goals as goal
 
 pub invariant_of-self : goal.invariant_of-self

@@ -1,7 +1,4 @@
-use Rattle.std.proofs.Common.{[], ◌∙◌, ap, sym}
-use Rattle.df_unit.specs.OwnState.{OwnState}
-use Rattle.df_unit.specs.declared.entry.Effect.{Effect}
-use Rattle.df_local.specs.Locally.{with_own}
+use Rattle.df_local.proofs.Names.{[], ◌∙◌, ap, sym, OwnState, Effect, with_own}
 use Rattle.df_local.proofs.ReadInTurn.{read_held}
 use Rattle.df_local.proofs.local.Local.read_part.Goals as goal
 

@@ -1,10 +1,4 @@
-use Rattle.std.proofs.Common.{◌≡◌, OnOk, ◌∙◌, ap, sym, subst}
-use Rattle.df_unit.specs.OwnState.{OwnState}
-use Rattle.df_unit.specs.Rows.{after, reply}
-use Rattle.df_unit.specs.declared.call.Call.{Call}
-use Rattle.df_unit.specs.declared.entry.Effect.{Effect}
-use Rattle.df_unit.specs.declared.reply.Reply.{Reply}
-use Rattle.df_local.specs.Locally.{with_own}
+use Rattle.df_local.proofs.Names.{◌≡◌, OnOk, ◌∙◌, ap, sym, subst, OwnState, after, reply, Call, Effect, Reply, with_own}
 use Rattle.df_local.proofs.ReadInTurn.{read_held}
 use Rattle.df_local.proofs.local.Local.take.Goals as goal
 

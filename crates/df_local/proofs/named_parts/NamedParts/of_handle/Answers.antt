@@ -1,5 +1,4 @@
-use Rattle.std.proofs.Common.{◌∙◌}
-use Rattle.df_handles.specs.Visible.{named_in}
+use Rattle.df_local.proofs.Names.{◌∙◌, named_in}
 use Rattle.df_handles.proofs.Views.{named_once}
 use Rattle.df_local.proofs.named_parts.NamedParts.of_handle.Goals as goal
 

@@ -1,5 +1,4 @@
-use Rattle.std.proofs.Common.{◌≡◌, length}
-use Rattle.df_handles.specs.Visible.{named_in}
+use Rattle.df_local.proofs.Names.{◌≡◌, length, named_in}
 use Rattle.df_local.proofs.named_parts.NamedPartsIterator.next.Given as goal
 
 abbrev pub invariant-loop-first : goal.invariant-loop-first

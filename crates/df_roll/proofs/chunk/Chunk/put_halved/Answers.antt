@@ -1,7 +1,4 @@
-use Rattle.std.proofs.Common.{List, ◌++◌, ap, sym, ◌∙◌, arith}
-use Rattle.std.proofs.lemmas.List.Edits.{insert-append_right}
-use Rattle.std.specs.List.{insert}
-use Rattle.df_roll.specs.declared.seat.Seat.{Seat}
+use Rattle.df_roll.proofs.Names.{List, ◌++◌, ap, sym, ◌∙◌, arith, insert-append_right, insert, Seat}
 use Rattle.df_roll.proofs.chunk.Chunk.put_halved.Goals as goal
 
 pub returns-else-at-le-HALF-clause-seats : goal.returns-else-at-le-HALF-clause-seats

@@ -1,13 +1,4 @@
-use Rattle.std.proofs.Common.{◌≡◌, List, None, Some, true, if◌then◌else◌, [], length, ◌<◌, ◌≤◌, ap, sym, subst, ◌∙◌}
-use Rattle.std.specs.Prelude.{is_some, slice_index_or}
-use Rattle.std.specs.List.{insert}
-use Rattle.std.specs.Option.{option_or}
-use Rattle.df_label.specs.Ascending.{IsAscending}
-use Rattle.df_unit.specs.Name.{same}
-use Rattle.df_unit.specs.UnitOrder.{unit_cmp}
-use Rattle.df_roll.specs.Chunks.{joined, place_in}
-use Rattle.df_roll.specs.Roll.{RollState, names_in, seat_of}
-use Rattle.df_roll.specs.declared.seat.Seat.{Seat}
+use Rattle.df_roll.proofs.Names.{◌≡◌, List, None, Some, true, if◌then◌else◌, [], length, ◌<◌, ◌≤◌, ap, sym, subst, ◌∙◌, is_some, slice_index_or, insert, option_or, IsAscending, same, unit_cmp, joined, place_in, RollState, names_in, seat_of, Seat}
 use Rattle.df_roll.proofs.Joining.{place_fits}
 use Rattle.df_roll.proofs.Seating.{held, names_in-insert, seat_of-insert}
 use Rattle.df_roll.proofs.roll.Roll.seat.Goals as goal

@@ -1,6 +1,4 @@
-use Rattle.df_lines.proofs.FirstBad.{names_line}
-use Rattle.df_script_text.specs.Script.{IsScriptText}
-use Rattle.df_script_text.specs.TooLarge.{IsTooLargeIn}
+use Rattle.df_script_text.proofs.Names.{names_line, IsScriptText, IsTooLargeIn}
 use Rattle.df_script_text.proofs.reader.ScriptReader.begin.Goals as goal
 
 pub returns-in-Err-clause-refused : goal.returns-in-Err-clause-refused

@@ -1,5 +1,4 @@
-use Rattle.std.proofs.Common.{subst, sym}
-use Rattle.df_script_text.specs.Reader.{HasRead}
+use Rattle.df_script_text.proofs.Names.{subst, sym, HasRead}
 use Rattle.df_script_text.proofs.Commons.{root_read}
 use Rattle.df_script_text.proofs.reader.ScriptReader.next_common.Goals as goal
 

@@ -1,12 +1,5 @@
-use Rattle.std.proofs.Common.{subst, sym}
-use Rattle.df_lines.specs.Refused.{NamesBadLine}
+use Rattle.df_script_text.proofs.Names.{subst, sym, NamesBadLine, HasRead, ReaderState, IsScriptText, IsTooLargeIn, call_line, FileFault, StopsCall}
 use Rattle.df_journal_text.proofs.Frames.{unended}
-use Rattle.df_script_text.specs.Reader.{HasRead, ReaderState}
-use Rattle.df_script_text.specs.Script.{IsScriptText}
-use Rattle.df_script_text.specs.TooLarge.{IsTooLargeIn}
-use Rattle.df_script_text.specs.code.Lines.{call_line}
-use Rattle.df_lines.specs.declared.fault.FileFault.{FileFault}
-use Rattle.df_script_text.specs.code.Stops.{StopsCall}
 use Rattle.df_script_text.proofs.Stops.{call_read, calls_refused, line_unread}
 use Rattle.df_script_text.proofs.reader.ScriptReader.next_line.Goals as goal
 

@@ -1,14 +1,5 @@
-use Rattle.std.proofs.Common.{◌≡◌, List, [], ◌∷◌, Option, slice_get, refl, ap, ◌∙◌}
-use Rattle.std.specs.Prelude.{Result, Ok, Err, IfOk, option_to_list}
-use Rattle.df_memory.specs.declared.NoMemory.{NoMemory}
-use Rattle.df_local.specs.Locally.{row_answer}
-use Rattle.df_local.specs.code.LocalState.{LocalState}
-use Rattle.df_local.specs.declared.answer.Answer.{Answer}
-use Rattle.df_unit.specs.declared.call.Call.{Call}
-use Rattle.df_unit.specs.declared.call.Call.TheVariants.{Get}
-use Rattle.df_unit.specs.declared.commit.Given.{Given}
-use Rattle.df_unit.specs.declared.entry.Effect.{Effect}
-use Rattle.df_unit.specs.declared.reply.Reply.{Reply}
+use Rattle.df_tables.proofs.Names.{◌≡◌, List, [], ◌∷◌, Option, slice_get, refl, ap, ◌∙◌, option_to_list, NoMemory, row_answer, LocalState, Answer, Call, Get, Given, Effect, Reply}
+use Rattle.std.specs.Prelude.{Result, Ok, Err, IfOk}
 use Rattle.df_tables.proofs.board.Board.answer.Goals as goal
 
 -- an answer looks at no delivery but the first

@@ -1,9 +1,4 @@
-use Rattle.std.proofs.Common.{All, List, ℕ, ap, sym, subst, ◌∙◌}
-use Rattle.std.proofs.lemmas.List.Elements.{All-tail}
-use Rattle.std.specs.Vec.Iter.{into_iter_items, into_iter_len}
-use Rattle.df_tables.specs.Births.{IsNewborn, all_new, rows_in}
-use Rattle.df_tables.specs.Board.{HasRoom}
-use Rattle.df_tables.specs.declared.births.Newborn.{Newborn}
+use Rattle.df_tables.proofs.Names.{All, List, ℕ, ap, sym, subst, ◌∙◌, All-tail, into_iter_items, into_iter_len, IsNewborn, all_new, rows_in, HasRoom, Newborn}
 use Rattle.df_tables.proofs.board.Board.bear_all.Goals as goal
 
 pub births-preserved : goal.births-preserved

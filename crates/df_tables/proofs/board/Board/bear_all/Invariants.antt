@@ -1,7 +1,4 @@
-use Rattle.std.proofs.Common.{◌≡◌, All}
-use Rattle.std.specs.Vec.Iter.{into_iter_items, into_iter_len}
-use Rattle.df_tables.specs.Births.{IsNewborn, all_new, rows_in}
-use Rattle.df_tables.specs.Board.{HasRoom, IsBoard}
+use Rattle.df_tables.proofs.Names.{◌≡◌, All, into_iter_items, into_iter_len, IsNewborn, all_new, rows_in, HasRoom, IsBoard}
 use Rattle.df_tables.proofs.board.Board.bear_all.Given as goal
 
 abbrev pub invariant-births : goal.invariant-births

@@ -1,9 +1,4 @@
-use Rattle.std.proofs.Common.{◌≡◌, ℕ, if◌then◌else◌, [], ◌∷◌, ◌++◌, Some, None, length, refl, ap, sym, ◌∙◌, arith}
-use Rattle.std.specs.Prelude.{is_none}
-use Rattle.std.specs.Option.{option_or}
-use Rattle.df_unit.specs.Name.{same}
-use Rattle.df_unit.specs.declared.name.UnitName.{UnitName}
-use Rattle.df_roll.specs.Roll.{seat_of}
+use Rattle.df_tables.proofs.Names.{◌≡◌, ℕ, if◌then◌else◌, [], ◌∷◌, ◌++◌, Some, None, length, refl, ap, sym, ◌∙◌, arith, is_none, option_or, same, UnitName, seat_of}
 use Rattle.df_tables.specs.declared.births.Beside.{Beside}
 use Rattle.df_tables.proofs.Newborn.{board_had, board_new}
 use Rattle.df_tables.proofs.board.Board.bear_in_room.Goals as goal

@@ -1,8 +1,5 @@
-use Rattle.std.proofs.Common.{◌≡◌, subst, ◌∙◌}
+use Rattle.df_tables.proofs.Names.{◌≡◌, subst, ◌∙◌, on_ok_weaker, answer_from, Unit}
 use Rattle.std.specs.Prelude.{Option}
-use Rattle.std.proofs.lemmas.Result.{on_ok_weaker}
-use Rattle.df_tables.specs.Board.{answer_from}
-use Rattle.df_tables.specs.declared.units.Unit.{Unit}
 use Rattle.df_tables.proofs.Booked.{absent_childless, absent_unmanaged, answered_at, booked_none, place_in, row_is}
 use Rattle.df_tables.proofs.board.Board.book.Goals as goal
 

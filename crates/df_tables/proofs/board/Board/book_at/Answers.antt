@@ -1,6 +1,5 @@
-use Rattle.std.proofs.Common.{sym}
-use Rattle.std.specs.Prelude.{Result, Ok, Err, OnOk}
-use Rattle.std.proofs.lemmas.Result.{on_err_weaker, on_ok_weaker}
+use Rattle.df_tables.proofs.Names.{sym, OnOk, on_err_weaker, on_ok_weaker}
+use Rattle.std.specs.Prelude.{Result, Ok, Err}
 use Rattle.df_tables.proofs.Booked.{booked_plain, child_at, kept_opened, kept_renewed, plain_else}
 use Rattle.df_tables.proofs.Children.{booked_child}
 use Rattle.df_tables.proofs.Enrolling.{booked_managed, managed_at}

@@ -1,10 +1,4 @@
-use Rattle.std.proofs.Common.{List, All, length, map, refl, ap, sym, subst, ◌∙◌, arith}
-use Rattle.std.proofs.lemmas.List.{with_items_is}
-use Rattle.df_index.specs.Due.{Pair}
-use Rattle.df_tables.specs.Births.{all_new, rows_in}
-use Rattle.df_tables.specs.Board.{receivers_of}
-use Rattle.df_tables.specs.Hand.{IsAnsweredAt, IsNews, modify, with_news, with_state}
-use Rattle.df_tables.specs.declared.units.Unit.{Unit}
+use Rattle.df_tables.proofs.Names.{List, All, length, map, refl, ap, sym, subst, ◌∙◌, arith, with_items_is, Pair, all_new, rows_in, receivers_of, IsAnsweredAt, IsNews, modify, with_news, with_state, Unit}
 use Rattle.df_tables.proofs.Boards.{board_handed, receivers_within, steady_state}
 use Rattle.df_tables.proofs.Booked.{commit_quiet}
 use Rattle.df_tables.proofs.Calls.{IsIn}

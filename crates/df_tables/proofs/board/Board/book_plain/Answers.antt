@@ -1,4 +1,4 @@
-use Rattle.std.proofs.lemmas.Result.{on_ok_weaker}
+use Rattle.df_tables.proofs.Names.{on_ok_weaker}
 use Rattle.df_tables.proofs.Booked.{enrols_at, moved_made}
 use Rattle.df_tables.proofs.board.Board.book_plain.Goals as goal
 

@@ -1,5 +1,4 @@
-use Rattle.std.proofs.Common.{All, sym, subst}
-use Rattle.df_tables.specs.Births.{IsNewborn}
+use Rattle.df_tables.proofs.Names.{All, sym, subst, IsNewborn}
 use Rattle.df_tables.specs.declared.calling.Called.{Called}
 use Rattle.df_tables.proofs.board.Board.call_one.Goals as goal
 use Rattle.df_tables.proofs.board.Board.call_one.Goals.{in-None+in_ok-add_born-in-None, in-Some+then-not-was_handed+in_ok-push-in-Some, in-Some+else-not-was_handed}

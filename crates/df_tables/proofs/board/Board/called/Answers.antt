@@ -1,9 +1,4 @@
-use Rattle.std.proofs.Common.{◌≡◌, ◌+◌, ◌++◌, [], ◌∷◌, List, slice_get, take, ap, sym, ◌∙◌, arith}
-use Rattle.std.proofs.lemmas.List.{flat_map_more, take_all, take_more}
-use Rattle.df_index.specs.Due.{Pair}
-use Rattle.df_instances.specs.declared.instances.Instance.{Instance}
-use Rattle.df_tables.specs.Calls.{birth_of, births_by, pair_of, pairs_by}
-use Rattle.df_tables.specs.declared.units.Unit.{Unit}
+use Rattle.df_tables.proofs.Names.{◌≡◌, ◌+◌, ◌++◌, [], ◌∷◌, List, slice_get, take, ap, sym, ◌∙◌, arith, flat_map_more, take_all, take_more, Pair, Instance, birth_of, births_by, pair_of, pairs_by, Unit}
 use Rattle.df_tables.proofs.board.Board.called.Goals as goal
 
 pub loop-instance-preserved : goal.loop-instance-preserved

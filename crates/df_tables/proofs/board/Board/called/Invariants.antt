@@ -1,6 +1,4 @@
-use Rattle.std.proofs.Common.{◌≡◌, All, take}
-use Rattle.df_tables.specs.Births.{IsNewborn, rows_in}
-use Rattle.df_tables.specs.Calls.{births_by, pairs_by}
+use Rattle.df_tables.proofs.Names.{◌≡◌, All, take, IsNewborn, rows_in, births_by, pairs_by}
 use Rattle.df_tables.proofs.board.Board.called.Given as goal
 
 abbrev pub invariant-loop-instance : goal.invariant-loop-instance

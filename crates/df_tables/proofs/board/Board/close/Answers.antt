@@ -1,10 +1,6 @@
-use Rattle.std.proofs.Common.{List, length, refl, ap, ◌∙◌}
+use Rattle.df_tables.proofs.Names.{List, length, refl, ap, ◌∙◌, FilterIndex, event_place, parts_of, EventRow}
 use Rattle.df_index.specs.IndexState.{was_handed}
 use Rattle.df_instances.specs.Marks as marks
-use Rattle.df_tables.specs.Agree.{FilterIndex}
-use Rattle.df_tables.specs.Events.{event_place}
-use Rattle.df_tables.specs.Table.{parts_of}
-use Rattle.df_tables.specs.declared.events.EventRow.{EventRow}
 use Rattle.df_tables.proofs.Boards.{board_booked}
 use Rattle.df_tables.proofs.board.Board.close.Goals as goal
 

@@ -1,4 +1,4 @@
-use Rattle.std.proofs.lemmas.Result.{on_err_weaker, on_ok_weaker}
+use Rattle.df_tables.proofs.Names.{on_err_weaker, on_ok_weaker}
 use Rattle.df_tables.proofs.Booked.{kept_opened}
 use Rattle.df_tables.proofs.HandedOver.{emitted}
 use Rattle.df_tables.proofs.board.Board.emit.Goals as goal

@@ -1,12 +1,4 @@
-use Rattle.std.proofs.Common.{None, refl, ap, sym, ◌∙◌, List}
-use Rattle.std.proofs.lemmas.List.{append-nil, with_items_is}
-use Rattle.df_rules.specs.Start.{rows}
-use Rattle.df_unit.specs.declared.call.Call.TheVariants.{SubscribeManaged}
-use Rattle.df_unit.specs.declared.entry.Effect.{Effect}
-use Rattle.df_unit.specs.declared.reply.Reply.TheVariants.{Sub}
-use Rattle.df_tables.specs.Hand.{modify}
-use Rattle.df_tables.specs.Table.{moved_row}
-use Rattle.df_tables.specs.declared.units.Unit.{Unit}
+use Rattle.df_tables.proofs.Names.{None, refl, ap, sym, ◌∙◌, List, append-nil, with_items_is, rows, SubscribeManaged, Effect, Sub, modify, moved_row, Unit}
 use Rattle.df_tables.proofs.Moved.{board_other}
 use Rattle.df_tables.proofs.board.Board.enrol_managed.Goals as goal
 

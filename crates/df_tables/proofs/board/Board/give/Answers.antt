@@ -1,12 +1,4 @@
-use Rattle.std.proofs.Common.{◌≡◌, List, None, refl, sym, subst, ◌∙◌}
-use Rattle.std.specs.Vec.{with_items}
-use Rattle.std.proofs.lemmas.List.{with_items_is}
-use Rattle.std.proofs.lemmas.Result.{IfOk-weaker, on_err_weaker}
-use Rattle.df_unit.specs.declared.call.Call.TheVariants.{Get}
-use Rattle.df_unit.specs.declared.entry.Effect.{Effect}
-use Rattle.df_unit.specs.declared.reply.Reply.{Reply}
-use Rattle.df_tables.specs.Hand.{IsGivenAt}
-use Rattle.df_tables.specs.declared.units.Unit.{Unit}
+use Rattle.df_tables.proofs.Names.{◌≡◌, List, None, refl, sym, subst, ◌∙◌, with_items, with_items_is, IfOk-weaker, on_err_weaker, Get, Effect, Reply, IsGivenAt, Unit}
 use Rattle.df_tables.proofs.Alone.{makes_alone}
 use Rattle.df_tables.proofs.Booked.{place_in}
 use Rattle.df_tables.proofs.Gets.{board_either, makes_given}

@@ -1,4 +1,4 @@
-use Rattle.std.proofs.lemmas.Result.{IfOk-weaker}
+use Rattle.df_tables.proofs.Names.{IfOk-weaker}
 use Rattle.df_tables.proofs.Alone.{made_renewed}
 use Rattle.df_tables.proofs.board.Board.make.Goals as goal
 

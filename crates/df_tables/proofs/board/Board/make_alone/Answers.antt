@@ -1,10 +1,4 @@
-use Rattle.std.proofs.Common.{List, Option, refl, sym, subst, ◌∙◌}
-use Rattle.std.specs.Vec.{with_items}
-use Rattle.std.proofs.lemmas.List.{with_items_is}
-use Rattle.std.proofs.lemmas.Result.{IfOk-weaker}
-use Rattle.df_unit.specs.declared.reply.Reply.{Reply}
-use Rattle.df_tables.specs.Hand.{IsMadeAt}
-use Rattle.df_tables.specs.declared.units.Unit.{Unit}
+use Rattle.df_tables.proofs.Names.{List, Option, refl, sym, subst, ◌∙◌, with_items, with_items_is, IfOk-weaker, Reply, IsMadeAt, Unit}
 use Rattle.df_tables.proofs.Alone.{board_alone, made_or_not, makes_alone}
 use Rattle.df_tables.proofs.Booked.{place_in}
 use Rattle.df_tables.proofs.board.Board.make_alone.Goals as goal

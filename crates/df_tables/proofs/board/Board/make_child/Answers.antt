@@ -1,13 +1,4 @@
-use Rattle.std.proofs.Common.{None, refl, ap, sym, ◌∙◌, ◌≡◌, ◌<◌, ◌+◌, List, length, arith, length-append}
-use Rattle.std.proofs.lemmas.List.{append-nil, with_items_is}
-use Rattle.df_rules.specs.Start.{rows}
-use Rattle.df_unit.specs.declared.call.Call.TheVariants.{Instantiate}
-use Rattle.df_unit.specs.declared.entry.Effect.{Effect}
-use Rattle.df_unit.specs.declared.reply.Reply.{Reply}
-use Rattle.df_tables.specs.Births.{if_new}
-use Rattle.df_tables.specs.Hand.{modify}
-use Rattle.df_tables.specs.Table.{moved_row}
-use Rattle.df_tables.specs.declared.units.Unit.{Unit}
+use Rattle.df_tables.proofs.Names.{None, refl, ap, sym, ◌∙◌, ◌≡◌, ◌<◌, ◌+◌, List, length, arith, length-append, append-nil, with_items_is, rows, Instantiate, Effect, Reply, if_new, modify, moved_row, Unit}
 use Rattle.df_tables.proofs.Moved.{board_other}
 use Rattle.df_tables.proofs.board.Board.make_child.Goals as goal
 

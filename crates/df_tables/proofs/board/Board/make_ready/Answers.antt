@@ -1,21 +1,6 @@
-use Rattle.std.proofs.Common.{◌≡◌, ◌++◌, ℕ, List, Some, length, ap, sym, subst, ◌∙◌}
+use Rattle.df_tables.proofs.Names.{◌≡◌, ◌++◌, ℕ, List, Some, length, ap, sym, subst, ◌∙◌, Contains, Pair, IsReceiver, ManagedSubscription, Label, apply, FilterIndex, rows_in, receivers_by, AreCalled, places_by, event_place, inputs, parts_of, EventRow, Unit}
 use Rattle.std.specs.Prelude.{◌↔◌}
-use Rattle.std.specs.List.{Contains}
-use Rattle.df_index.specs.Due.{Pair}
 use Rattle.df_index.specs.Filter.{matches}
-use Rattle.df_index.specs.IndexState.{IsReceiver}
-use Rattle.df_instances.specs.declared.subscription.ManagedSubscription.{ManagedSubscription}
-use Rattle.df_label.specs.declared.label.Label.{Label}
-use Rattle.df_part.specs.Contents.{apply}
-use Rattle.df_tables.specs.Agree.{FilterIndex}
-use Rattle.df_tables.specs.Births.{rows_in}
-use Rattle.df_tables.specs.Board.{receivers_by}
-use Rattle.df_tables.specs.Calls.{AreCalled, places_by}
-use Rattle.df_tables.specs.Events.{event_place}
-use Rattle.df_tables.specs.Labels.{inputs}
-use Rattle.df_tables.specs.Table.{parts_of}
-use Rattle.df_tables.specs.declared.events.EventRow.{EventRow}
-use Rattle.df_tables.specs.declared.units.Unit.{Unit}
 use Rattle.df_tables.proofs.board.Board.make_ready.Goals as goal
 
 pub returns-clause-ready : goal.returns-clause-ready

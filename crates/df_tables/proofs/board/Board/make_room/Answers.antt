@@ -1,10 +1,4 @@
-use Rattle.std.proofs.Common.{List, refl, subst, sym}
-use Rattle.df_label.specs.declared.label.Label.{Label}
-use Rattle.df_roll.specs.declared.seat.Seat.{Seat}
-use Rattle.df_tables.specs.Agree.{IsWhole}
-use Rattle.df_tables.specs.Board.{IsRollOf}
-use Rattle.df_tables.specs.Labels.{AreLabels, inputs}
-use Rattle.df_tables.specs.declared.units.Unit.{Unit}
+use Rattle.df_tables.proofs.Names.{List, refl, subst, sym, Label, Seat, IsWhole, IsRollOf, AreLabels, inputs, Unit}
 use Rattle.df_tables.proofs.board.Board.make_room.Goals as goal
 
 pub returns-clause-board : goal.returns-clause-board

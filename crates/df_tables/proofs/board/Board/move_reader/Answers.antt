@@ -1,11 +1,4 @@
-use Rattle.std.proofs.Common.{None, refl, sym, ap, ◌∙◌, List}
-use Rattle.std.proofs.lemmas.List.{append-nil, with_items_is}
-use Rattle.df_rules.specs.Start.{rows}
-use Rattle.df_tables.specs.Agree.{FilterIndex}
-use Rattle.df_tables.specs.Hand.{modify}
-use Rattle.df_tables.specs.Labels.{inputs}
-use Rattle.df_tables.specs.Table.{moved_row}
-use Rattle.df_tables.specs.declared.units.Unit.{Unit}
+use Rattle.df_tables.proofs.Names.{None, refl, sym, ap, ◌∙◌, List, append-nil, with_items_is, rows, FilterIndex, modify, inputs, moved_row, Unit}
 use Rattle.df_tables.proofs.Moved.{board_reader}
 use Rattle.df_tables.proofs.board.Board.move_reader.Goals as goal
 

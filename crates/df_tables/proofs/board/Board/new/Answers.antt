@@ -1,19 +1,6 @@
-use Rattle.std.proofs.Common.{◌≡◌, ◌<◌, ℕ, List, [], None, false, All, length, refl, ap, sym, subst, ◌∙◌}
-use Rattle.std.proofs.lemmas.List.Elements.{All-nil}
-use Rattle.df_filter.specs.declared.clause.Clause.{Clause}
+use Rattle.df_tables.proofs.Names.{◌≡◌, ◌<◌, ℕ, List, [], None, false, All, length, refl, ap, sym, subst, ◌∙◌, All-nil, Clause, Subscription, MarksState, AreNumbered, ManagedSubscription, rows, roots, Agrees, FilterIndex, managed_by, inputs, place_of, rows_from, EventRow, Unit}
 use Rattle.df_index.specs.IndexState.{was_handed}
-use Rattle.df_index.specs.declared.subscription.Subscription.{Subscription}
 use Rattle.df_instances.specs.Marks as marks
-use Rattle.df_instances.specs.Marks.{MarksState}
-use Rattle.df_instances.specs.Named.{AreNumbered}
-use Rattle.df_instances.specs.declared.subscription.ManagedSubscription.{ManagedSubscription}
-use Rattle.df_rules.specs.Start.{rows, roots}
-use Rattle.df_tables.specs.Agree.{Agrees, FilterIndex}
-use Rattle.df_tables.specs.Board.{managed_by}
-use Rattle.df_tables.specs.Labels.{inputs}
-use Rattle.df_tables.specs.Table.{place_of, rows_from}
-use Rattle.df_tables.specs.declared.events.EventRow.{EventRow}
-use Rattle.df_tables.specs.declared.units.Unit.{Unit}
 use Rattle.df_tables.proofs.Begin.{agrees_first}
 use Rattle.df_tables.proofs.Search.{ordered_apart}
 use Rattle.df_tables.proofs.board.Board.new.Goals as goal

@@ -1,5 +1,4 @@
-use Rattle.std.proofs.Common.{ap, ◌∙◌}
-use Rattle.df_part.specs.Contents.{apply, spared}
+use Rattle.df_tables.proofs.Names.{ap, ◌∙◌, apply, spared}
 use Rattle.df_tables.proofs.Opened.{place_within}
 use Rattle.df_tables.proofs.board.Board.open.Goals as goal
 

@@ -1,10 +1,4 @@
-use Rattle.std.proofs.Common.{◌++◌, List, ap, ◌∙◌}
-use Rattle.std.proofs.lemmas.Result.{IfOk-weaker}
-use Rattle.df_tables.specs.Births.{rows_in}
-use Rattle.df_tables.specs.Board.{receivers_of}
-use Rattle.df_tables.specs.Calls.{names_at}
-use Rattle.df_tables.specs.Table.{names_of}
-use Rattle.df_tables.specs.declared.units.Unit.{Unit}
+use Rattle.df_tables.proofs.Names.{◌++◌, List, ap, ◌∙◌, IfOk-weaker, rows_in, receivers_of, names_at, names_of, Unit}
 use Rattle.df_tables.proofs.Booked.{kept_opened}
 use Rattle.df_tables.proofs.Receiving.{ready_receivers}
 use Rattle.df_tables.proofs.board.Board.receivers.Goals as goal

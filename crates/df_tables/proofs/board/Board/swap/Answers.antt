@@ -1,10 +1,5 @@
-use Rattle.std.proofs.Common.{◌≡◌, ◌<◌, None, Some, length, option_map, set, refl, ap, sym, subst, ◌∙◌, arith}
+use Rattle.df_tables.proofs.Names.{◌≡◌, ◌<◌, None, Some, length, option_map, set, refl, ap, sym, subst, ◌∙◌, arith, LocalState, UnitName, ReadsAs, find, place_of, Unit}
 use Rattle.std.specs.Prelude.{Option}
-use Rattle.df_local.specs.code.LocalState.{LocalState}
-use Rattle.df_unit.specs.declared.name.UnitName.{UnitName}
-use Rattle.df_tables.specs.Runs.{ReadsAs}
-use Rattle.df_tables.specs.Table.{find, place_of}
-use Rattle.df_tables.specs.declared.units.Unit.{Unit}
 use Rattle.df_tables.proofs.Booked.{place_in}
 use Rattle.df_tables.proofs.Places.{at_none, at_some}
 use Rattle.df_tables.proofs.Swapped.{board_swapped, put_own}

@@ -1,4 +1,4 @@
-use Rattle.std.proofs.Common.{sym, ◌∙◌}
+use Rattle.df_tables.proofs.Names.{sym, ◌∙◌}
 use Rattle.df_tables.proofs.Booked.{row_is}
 use Rattle.df_tables.proofs.board.Board.unit.Goals as goal
 

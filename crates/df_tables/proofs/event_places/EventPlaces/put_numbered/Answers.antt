@@ -1,6 +1,4 @@
-use Rattle.std.proofs.Common.{◌≡◌, ◌<◌, length, None, refl, ap, ◌∙◌, arith}
-use Rattle.std.proofs.lemmas.Option.{slice_get_read}
-use Rattle.df_tables.specs.EventPlaces.{slot_in}
+use Rattle.df_tables.proofs.Names.{◌≡◌, ◌<◌, length, None, refl, ap, ◌∙◌, arith, slice_get_read, slot_in}
 use Rattle.df_tables.proofs.Keyed.{near_put, stray_put}
 use Rattle.df_tables.proofs.event_places.EventPlaces.put_numbered.Goals as goal
 

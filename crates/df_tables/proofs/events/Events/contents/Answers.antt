@@ -1,7 +1,4 @@
-use Rattle.std.proofs.Common.{◌≡◌, List, Some, ap, subst, ◌∙◌}
-use Rattle.df_tables.specs.Events.{event_place}
-use Rattle.df_tables.specs.Table.{parts_of}
-use Rattle.df_tables.specs.declared.events.EventRow.{EventRow}
+use Rattle.df_tables.proofs.Names.{◌≡◌, List, Some, ap, subst, ◌∙◌, event_place, parts_of, EventRow}
 use Rattle.df_tables.proofs.Opened.{parts_at}
 use Rattle.df_tables.proofs.events.Events.contents.Goals as goal
 

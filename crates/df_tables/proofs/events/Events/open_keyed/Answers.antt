@@ -1,8 +1,4 @@
-use Rattle.std.proofs.Common.{◌≡◌, List, if◌then◌else◌, length, Some, None, ap, sym, subst, ◌∙◌}
-use Rattle.df_tables.specs.EventPlaces.{place_at, same_key}
-use Rattle.df_tables.specs.Events.{IsPlaced, event_place}
-use Rattle.df_tables.specs.declared.event_places.Key.{Key}
-use Rattle.df_tables.specs.declared.events.EventRow.{EventRow}
+use Rattle.df_tables.proofs.Names.{◌≡◌, List, if◌then◌else◌, length, Some, None, ap, sym, subst, ◌∙◌, place_at, same_key, IsPlaced, event_place, Key, EventRow}
 use Rattle.df_tables.proofs.Opened.{opened_place, placed_more}
 use Rattle.df_tables.proofs.events.Events.open_keyed.Goals as goal
 

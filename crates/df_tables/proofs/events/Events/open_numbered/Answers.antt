@@ -1,9 +1,4 @@
-use Rattle.std.proofs.Common.{◌≡◌, ◌++◌, ◌∷◌, [], List, if◌then◌else◌, length, Some, None, ap, sym, subst, ◌∙◌}
-use Rattle.df_unit.specs.declared.name.EventName.{EventName}
-use Rattle.df_tables.specs.EventPlaces.{place_at, same_key}
-use Rattle.df_tables.specs.Events.{IsPlaced, blank, event_place}
-use Rattle.df_tables.specs.declared.event_places.Key.{Key}
-use Rattle.df_tables.specs.declared.events.EventRow.{EventRow}
+use Rattle.df_tables.proofs.Names.{◌≡◌, ◌++◌, ◌∷◌, [], List, if◌then◌else◌, length, Some, None, ap, sym, subst, ◌∙◌, EventName, place_at, same_key, IsPlaced, blank, event_place, Key, EventRow}
 use Rattle.df_tables.proofs.Keyed.{named_by_root, numbered_key}
 use Rattle.df_tables.proofs.Opened.{opened_place, placed_more}
 use Rattle.df_tables.proofs.events.Events.open_numbered.Goals as goal

@@ -1,8 +1,4 @@
-use Rattle.std.proofs.Common.{List, if◌then◌else◌, set, ap, sym, ◌∙◌}
-use Rattle.df_unit.specs.Name.{same_event}
-use Rattle.df_tables.specs.Events.{event_place}
-use Rattle.df_tables.specs.Table.{parts_of}
-use Rattle.df_tables.specs.declared.events.EventRow.{EventRow}
+use Rattle.df_tables.proofs.Names.{List, if◌then◌else◌, set, ap, sym, ◌∙◌, same_event, event_place, parts_of, EventRow}
 use Rattle.df_tables.proofs.Opened.{set_places}
 use Rattle.df_tables.proofs.Places.{put_at}
 use Rattle.df_tables.proofs.events.Events.set.Goals as goal
