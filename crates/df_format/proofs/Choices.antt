@@ -60,7 +60,8 @@ module _ {T X : Type 0} {IsLow : List T → List T → Type 0} (begins : T → B
         | inr h ↦ subst (MaybeFound (t ∷ ts)) (ok_is (None, t ∷ ts) (x, rest) h.1) (record { parts = refl; fits = tt; ends = h.0 })
       ]
 
-  maybe_again : ((x : X) → Fits x → Begins begins true (spell x)) → (x : Option X) (rest : List T) → MaybeFits Fits x → Ends (maybe_goes begins goes) x rest → maybe_at begins read (maybe_spell spell x ++ rest) ≡ Ok (x, rest)
+  maybe_again : ((x : X) → Fits x → Begins begins true (spell x)) → (x : Option X) (rest : List T) → MaybeFits Fits x
+      → Ends (maybe_goes begins goes) x rest → maybe_at begins read (maybe_spell spell x ++ rest) ≡ Ok (x, rest)
   maybe_again starts None rest fits ends = maybe_none rest ends
   maybe_again starts (Some x) rest fits ends =
       let s = starts x fits in
@@ -84,7 +85,8 @@ module _ {T X : Type 0} {IsLow : List T → List T → Type 0} (begins : T → B
             ]
       ]
 
-  maybe_on : ((t : T) → begins t ≡ true → CanGoOn spell Fits (t ∷ [])) → (x : Option X) (t : T) → MaybeFits Fits x → maybe_goes begins goes x t ≡ true → SomeCan (maybe_spell spell x ++ t ∷ [])
+  maybe_on : ((t : T) → begins t ≡ true → CanGoOn spell Fits (t ∷ [])) → (x : Option X) (t : T) → MaybeFits Fits x
+      → maybe_goes begins goes x t ≡ true → SomeCan (maybe_spell spell x ++ t ∷ [])
   maybe_on some None t fits g = some_can (t ∷ []) (some t g)
   maybe_on some (Some x) t fits g = some_can (spell x ++ t ∷ []) (fx.on x t fits g)
 

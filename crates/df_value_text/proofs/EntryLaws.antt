@@ -52,7 +52,8 @@ module _ {X : Type 0} (spell : X → List ℕ) (Fits : X → Type 0) (After : X 
       → Format IsLow (ended_text last spell) (Chain Fits After) never (ended_at last read)
   ended_format {IsLow} {goes} {read} ends f =
       fitting chain_of of_chain (either_of (λ c. eqb c last) (made none_listed (text_format IsLow (last ∷ [])) (λ w h. sym h) (λ w c h. refl))
-      (closed_format last [] {goes = goes_on goes} (λ xs h. subst (λ (ys : List X). goes_on goes ys last ≡ false) h.2 (ends h.0 h.1)) (made listed f (λ x h. joined_items 44 spell x.0 x.1) (λ x c h. refl)))
+      (closed_format last [] {goes = goes_on goes} (λ xs h. subst (λ (ys : List X). goes_on goes ys last ≡ false) h.2 (ends h.0 h.1))
+      (made listed f (λ x h. joined_items 44 spell x.0 x.1) (λ x c h. refl)))
       none_begins some_begins)
 
 -- ---- how deep lists and maps nest

@@ -122,5 +122,6 @@ privilege_goes p c = right_goes p.right c
 
 pub privilege_format : Format nowhere privilege_text IsPrivilege privilege_goes privilege_at
 privilege_format =
-    viewed privilege_of (then_second_format nowhere_is_local (tag_format nowhere nowhere_is_local) right_format Plus tt (λ tag r rest fits any ends. before_sign tag r rest fits))
+    viewed privilege_of (then_second_format nowhere_is_local (tag_format nowhere nowhere_is_local) right_format Plus tt
+    (λ tag r rest fits any ends. before_sign tag r rest fits))
     (record { to = λ x fits. fits.0; from = λ p fits. ((p.tag, p.right), (fits, tt), refl); spelled = λ x fits. refl; alike = λ x c fits. refl })

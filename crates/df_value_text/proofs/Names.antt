@@ -11,13 +11,12 @@ pub use Rattle.df_format.proofs.Thens.{ThenFits, ends_of_second, then_format, th
 pub use Rattle.df_format.proofs.Tokens.{Links, Of, any_low, chain_at, chain_format, enclosed, first_at, first_format, first_stays, first_stops, fitting, itself, led, low_as, made, nowhere, nowhere_is_local, passing, passing_format, told_as}
 pub use Rattle.df_format.specs.Format.{Ends, Format, Found, IsLocal, IsViable, Stuck}
 pub use Rattle.df_format.specs.Grammar.{CanGoOn, FirstBad, IsLongest, Stands}
-pub use Rattle.df_format.specs.Reading.{Bad, Low, Read, Stop, all_at, as_at, behind_at, closed_at, decoded, either_at, items_at, maybe_at, more_at, more_of, one_at, starts, text_at, then_at, with_front, ◌>>=◌}
+pub use Rattle.df_format.specs.Reading.{Bad, Low, Read, Stop, all_at, as_at, behind_at, closed_at, decoded, either_at, items_at, more_at, more_of, one_at, starts, text_at, then_at, with_front, ◌>>=◌}
 pub use Rattle.df_format.specs.Spelling.{items_spell, maybe_spell, more_spell, then_spell}
 pub use Rattle.df_frozen.specs.Limits.{IsWithinLimits, longest_name, most_bytes, most_depth, most_nodes}
 pub use Rattle.df_frozen.specs.Name.{is_letter, is_name, is_name_byte, name_cmp}
 pub use Rattle.df_frozen.specs.Plain.{Pairs, Plain, Plains, byte_count, bytes, depth, entries, entries_byte_count, entries_depth, entries_node_count, entry, from_list, from_pairs, int, item, items, items_byte_count, items_depth, items_node_count, no_entries, no_items, node_count, words}
 pub use Rattle.df_frozen.specs.Value.{named, plain, plain_all}
-pub use Rattle.df_frozen.specs.declared.frozen.Frozen.{Frozen}
 pub use Rattle.df_label.specs.Ascending.{IsAscending}
 pub use Rattle.df_label.specs.Tag.{tag_cmp}
 pub use Rattle.df_label.specs.declared.label.Label.{Label}
@@ -52,7 +51,7 @@ pub use Rattle.df_value_text.specs.declared.refused.TextRefused.{TextRefused}
 pub use Rattle.std.proofs.Common.{Bool, Err, List, None, Ok, Option, Result, Some, [], add-one, ap, append_assoc, arith, cond, decimal, drop, eq-eqb, eqb, false, get_or, inl, inr, length, length-append, length-drop, ltb, map, max, min, nat_lt, negsuc, not, pos, refl, rules, subst, suc, sym, take, true, zero, ℕ, ℤ, ◌%◌, ◌&&◌, ◌*◌, ◌++◌, ◌+◌, ◌-◌, ◌/◌, ◌<◌, ◌^◌, ◌||◌, ◌∙◌, ◌∷◌, ◌≡◌, ◌≤◌, ◌⊎◌}
 pub use Rattle.std.proofs.Math.Seq.{drop-append_seam, drop-cons, get_or-append_seam, take-append_seam}
 pub use Rattle.std.proofs.Math.Utf8.{encodes, low_scalar, scalar, scalars}
-pub use Rattle.std.proofs.lemmas.Bool.{and_parts, eqb-true, leb-true, lt-ltb, ltb-false, ltb-true}
+pub use Rattle.std.proofs.lemmas.Bool.{and_parts, eqb-true, lt-ltb, ltb-false, ltb-true}
 pub use Rattle.std.proofs.lemmas.Bool.Decides.{nat_tests}
 pub use Rattle.std.proofs.lemmas.Fmt.{decimal_by_steps, decimal_digit, decimal_step}
 pub use Rattle.std.proofs.lemmas.Grind.{flat_map-append}

@@ -172,7 +172,8 @@ fn is_below_greatest(name: &Name) -> bool
 /// Whether a comma stands at the place, behind which an entry may stand.
 fn leads_entry(bytes: &[u8], place: usize, last: &Name) -> bool
     requires { place ≤ length bytes.now }
-    ensures { result ≡ (begins_with 44 (drop place bytes.now) && is_lt (name_cmp last.now greatest)) }
+    ensures { result ≡ (begins_with 44 (drop place bytes.now)
+        && is_lt (name_cmp last.now greatest)) }
 {
     byte_stands(bytes, place, b',') && is_below_greatest(last)
 }

@@ -77,7 +77,8 @@ IsSyntaxAt bytes rest (Err (refused.Syntax place)) = drop place bytes ≡ rest
 IsSyntaxAt bytes rest (Err (refused.TooLarge place)) = ⊥
 
 -- what is told of a value: as the public reader says
-pub record TellsValue (bytes : List ℕ) (at : ℕ) (result : Result (Plain × ℕ) TextRefused) : Type 0 where
+pub record TellsValue (bytes : List ℕ) (at : ℕ) (result : Result (Plain × ℕ)
+    TextRefused) : Type 0 where
   pub found : IfOk result (IsFound value_text IsValue bytes at)
   pub only : (value : Plain) (rest : List ℕ) →
       Stands value_text IsValue (drop at bytes) value rest → IsRead bytes value rest result
