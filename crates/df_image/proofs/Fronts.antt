@@ -1,8 +1,8 @@
 -- An image that is gone through record by record.
-use Rattle.df_image.proofs.Names.{◌≡◌, ◌≢◌, inl, inr, ℕ, ◌+◌, ◌^◌, ◌<◌, List, [], ◌∷◌, ◌++◌, length, drop, reverse, refl, sym, ◌∙◌, ap, subst, arith, length-append, map, All, AllByRecursion, append-nil, drop_at, reverse-append, map-append, All-from_recursion, All-nil, recursion_from_All, opened, record_text, length-record, BreaksAt, IsKept, IsNext, State, entry_record, records_of, start_record, IsWholeEntry, AreRoots, RootStart, Entry}
+use Rattle.df_image.proofs.Names.{◌≡◌, ◌≢◌, inl, inr, ℕ, ◌+◌, ◌^◌, ◌<◌, List, [], ◌∷◌, ◌++◌, length, drop, reverse, refl, sym, ◌∙◌, ap, subst, arith, length-append, map, All, append-nil, drop_at, reverse-append, map-append, All-nil, All-push, opened, record_text, length-record, BreaksAt, IsKept, IsNext, State, entry_record, records_of, start_record, IsWholeEntry, AreRoots, RootStart, Entry}
 use Rattle.df_disk.specs.Found.{BeginsWith}
 use Rattle.df_disk.proofs.Crash.{opened-push}
-use Rattle.df_image.proofs.SameRecords.{one_record}
+use Rattle.df_image.proofs.SameRecords.{one_record, tail_of}
 use Rattle.df_image.specs.Front.{IsFront, KeepsTo, TakesAnswer, TakesNone}
 
 -- ---- one entry more
@@ -15,18 +15,11 @@ pub records-push : (roots : List RootStart) (past : List Entry) (entry : Entry)
 records-push roots past entry = ap (λ (l : List (List ℕ)). start_record roots ∷ l)
     (ap (map entry_record) (reversed entry past) ∙ map-append entry_record (reverse past) (entry ∷ []))
 
-all_push : (past : List Entry) (entry : Entry) → All IsWholeEntry past → IsWholeEntry entry → All IsWholeEntry (past ++ entry ∷ [])
-all_push past entry all whole = All-from_recursion IsWholeEntry (past ++ entry ∷ []) (push past (recursion_from_All IsWholeEntry past all))
-  where
-    push : (es : List Entry) → AllByRecursion IsWholeEntry es → AllByRecursion IsWholeEntry (es ++ entry ∷ [])
-    push [] h = (whole, tt)
-    push (e ∷ es) h = (h.0, push es h.1)
-
 pub kept-push : (roots : List RootStart) (past : List Entry) (entry : Entry) → IsKept (roots, past) → IsWholeEntry entry
     → IsNext (roots, past) entry → IsKept (roots, entry ∷ past)
 kept-push roots past entry kept whole right =
     record {
-      spelled = (kept.spelled.0, subst (All IsWholeEntry) (sym (reversed entry past)) (all_push (reverse past) entry kept.spelled.1 whole));
+      spelled = (kept.spelled.0, subst (All IsWholeEntry) (sym (reversed entry past)) (All-push IsWholeEntry (reverse past) entry kept.spelled.1 whole));
       legal = (kept.legal, right);
     }
 
@@ -48,22 +41,16 @@ module _ (image text tail : List ℕ) (starts : image ≡ 1 ∷ tail) (begins : 
   first_wrong none = inl (record {
     at = refl;
     lacks = λ roots next more are is.
-        let tails : record_text text ++ begins.0 ∷ begins.1 ≡ record_text (start_record roots) ++ next ∷ more = sym begins.2 ∙ same_tail (sym starts ∙ is) in
+        let tails : record_text text ++ begins.0 ∷ begins.1 ≡ record_text (start_record roots) ++ next ∷ more = sym begins.2 ∙ tail_of (sym starts ∙ is) in
         none roots are (one_record text (start_record roots) (begins.0 ∷ begins.1) (next ∷ more) (subst (λ (l : List ℕ). length l < 2 ^ 64) begins.2 small)
         tails);
   })
-    where
-      same_tail : {xs ys : List ℕ} → 1 ∷ xs ≡ 1 ∷ ys → xs ≡ ys
-      same_tail e = cc
 
 pub first_broken : (image tail : List ℕ) → image ≡ 1 ∷ tail → ((bytes : List ℕ) → ¬ BeginsWith bytes tail) → BreaksAt 0 image
 first_broken image tail starts none = inl (record {
   at = refl;
-  lacks = λ roots next more are is. none (start_record roots) (next, more, same_tail (sym starts ∙ is));
+  lacks = λ roots next more are is. none (start_record roots) (next, more, tail_of (sym starts ∙ is));
 })
-  where
-    same_tail : {xs ys : List ℕ} → 1 ∷ xs ≡ 1 ∷ ys → xs ≡ ys
-    same_tail e = cc
 
 -- ---- the next record
 
@@ -102,11 +89,8 @@ module _ (image : List ℕ) (core : State) (place : ℕ) (front : IsFront image 
       kept = front.kept;
       split = split_open;
       at = sym front.ends;
-      lacks = λ entry next more whole right is. none (entry_record entry) (next, more, same_tail is);
+      lacks = λ entry next more whole right is. none (entry_record entry) (next, more, tail_of is);
     })
-      where
-        same_tail : {xs ys : List ℕ} → 1 ∷ xs ≡ 1 ∷ ys → xs ≡ ys
-        same_tail e = cc
 
     module _ (text : List ℕ) (begins : BeginsWith text tail) where
       pub front_wrong : length tail < 2 ^ 64 → TakesNone core text → BreaksAt place image
@@ -118,20 +102,15 @@ module _ (image : List ℕ) (core : State) (place : ℕ) (front : IsFront image 
         at = sym front.ends;
         lacks = λ entry next more whole right is.
             none.none entry whole right (one_record text (entry_record entry) (begins.0 ∷ begins.1) (next ∷ more)
-            (subst (λ (l : List ℕ). length l < 2 ^ 64) begins.2 small) (sym begins.2 ∙ same_tail is));
+            (subst (λ (l : List ℕ). length l < 2 ^ 64) begins.2 small) (sym begins.2 ∙ tail_of is));
       })
-        where
-          same_tail : {xs ys : List ℕ} → 1 ∷ xs ≡ 1 ∷ ys → xs ≡ ys
-          same_tail e = cc
 
       pub front_more : (new : State) → TakesAnswer core text new → IsFront image new (place + (9 + length text))
       front_more new takes =
           let entry = takes.entry in
           let pushed : records_of (core.0, entry ∷ core.1) ≡ records_of core ++ entry_record entry ∷ [] = records-push core.0 core.1 entry in
-          let longer : opened (records_of core) ++ (1 ∷ record_text text ++ begins.0 ∷ begins.1) ≡ opened (records_of (core.0, entry ∷ core.1)) ++ begins.0 ∷
-          begins.1 =
-          ap (λ (t : List ℕ). opened (records_of core) ++ (1 ∷ record_text t ++ begins.0 ∷ begins.1)) takes.is
-          ∙ sym (opened-push (records_of core) (entry_record entry) (begins.0 ∷ begins.1))
+          let text_of : List ℕ → List ℕ = λ t. opened (records_of core) ++ (1 ∷ record_text t ++ begins.0 ∷ begins.1) in
+          let longer = ap text_of takes.is ∙ sym (opened-push (records_of core) (entry_record entry) (begins.0 ∷ begins.1))
           ∙ ap (λ (rs : List (List ℕ)). opened rs ++ begins.0 ∷ begins.1) (sym pushed) in
           let next : IsFront image (core.0, entry ∷ core.1) (place + (9 + length text)) = record {
             kept = kept-push core.0 core.1 entry front.kept takes.whole takes.right;

@@ -1,8 +1,8 @@
 -- An image keeps one journal, or is damaged at one gate.
-use Rattle.df_image.proofs.Names.{◌≡◌, ◌⊎◌, inl, inr, ⊎_elim, ℕ, ◌+◌, ◌^◌, ◌<◌, List, [], ◌∷◌, ◌++◌, length, reverse, refl, sym, ◌∙◌, ap, subst, arith, append_assoc, length-append, codes, map, All, AllByRecursion, append_cancel_left, reverse-reverse, All-from_recursion, All-nil, recursion_from_All, IsEmpty, opened, record_text, BreaksAt, IsDamagedAt, IsKept, IsNext, KeepsJournal, LacksEntry, LacksStart, State, entry_record, records_of, start_record, IsWholeEntry, AreRoots, IsJournal, IsNoteOf, IsNoted, line, RootStart, Entry}
+use Rattle.df_image.proofs.Names.{◌≡◌, ◌⊎◌, inl, inr, ⊎_elim, ℕ, ◌+◌, ◌^◌, ◌<◌, List, [], ◌∷◌, ◌++◌, length, reverse, refl, sym, ◌∙◌, ap, subst, arith, append_assoc, length-append, codes, map, AllByRecursion, append_cancel_left, reverse-reverse, All-from_recursion, All-nil, recursion_from_All, IsEmpty, opened, record_text, BreaksAt, IsDamagedAt, IsKept, IsNext, KeepsJournal, LacksEntry, LacksStart, State, entry_record, records_of, start_record, IsWholeEntry, AreRoots, IsJournal, IsNoteOf, IsNoted, line, RootStart, Entry}
 use Rattle.std.specs.Prelude.{None}
 use Rattle.df_image.proofs.Readings.{no_roots}
-use Rattle.df_image.proofs.SameRecords.{one_record}
+use Rattle.df_image.proofs.SameRecords.{head_of, one_record, tail_of}
 use Rattle.df_journal_text.specs.Start.{head_text, journal_text, start_text}
 use Rattle.df_journal_text.proofs.JournalBacks.{journal_is_one}
 use Rattle.df_rules.proofs.Places.{legal_at}
@@ -69,12 +69,6 @@ begins : (ss : Lists) (h : ℕ) (more : List ℕ) → (next : ℕ) × (rest : Li
 begins [] h more = (h, more, refl)
 begins (s ∷ ss) h more = (1, (record_text s ++ opened ss) ++ h ∷ more, refl)
 
-tail_of : {x y : ℕ} {xs ys : List ℕ} → x ∷ xs ≡ y ∷ ys → xs ≡ ys
-tail_of e = cc
-
-head_of : {x y : ℕ} {xs ys : List ℕ} → x ∷ xs ≡ y ∷ ys → x ≡ y
-head_of e = cc
-
 front_now : (s : List ℕ) (ss : Lists) (g h : ℕ) (rest more : List ℕ) → g ∷ rest ≡ (1 ∷ record_text s ++ opened ss) ++ h ∷ more → IsFrontOf [] (s ∷ ss) g rest
 front_now s ss g h rest more same =
     let b = begins ss h more in
@@ -105,15 +99,12 @@ fork [] [] g h rest more small same = inl (refl, head_of same)
 fork [] (s ∷ ss) g h rest more small same = inr (inl (front_now s ss g h rest more same))
 fork (r ∷ rs) [] g h rest more small same = inr (inr (front_now r rs h g more rest (sym same)))
 fork (r ∷ rs) (s ∷ ss) g h rest more small same =
-    let left : (1 ∷ record_text r ++ opened rs) ++ g ∷ rest ≡ 1 ∷ (record_text r ++ (opened rs ++ g ∷ rest)) = ap (λ (l : List ℕ). 1 ∷ l)
-    (append_assoc (record_text r) (opened rs) (g ∷ rest)) in
-    let right : (1 ∷ record_text s ++ opened ss) ++ h ∷ more ≡ 1 ∷ (record_text s ++ (opened ss ++ h ∷ more)) = ap (λ (l : List ℕ). 1 ∷ l)
-    (append_assoc (record_text s) (opened ss) (h ∷ more)) in
+    let left = ap (λ (l : List ℕ). 1 ∷ l) (append_assoc (record_text r) (opened rs) (g ∷ rest)) in
+    let right = ap (λ (l : List ℕ). 1 ∷ l) (append_assoc (record_text s) (opened ss) (h ∷ more)) in
     let tails : record_text r ++ (opened rs ++ g ∷ rest) ≡ record_text s ++ (opened ss ++ h ∷ more) = tail_of (sym left ∙ same ∙ right) in
-    let sizes : length ((1 ∷ record_text r ++ opened rs) ++ g ∷ rest) ≡ 1 + length (record_text r ++ (opened rs ++ g ∷ rest)) =
-    omega (arith, ap (λ (l : List ℕ). length l) left) in
-    let one : r ≡ s = one_record r s (opened rs ++ g ∷ rest) (opened ss ++ h ∷ more) (omega (arith, small, sizes)) tails in
-    let rests : opened rs ++ g ∷ rest ≡ opened ss ++ h ∷ more = append_cancel_left (record_text r) (opened rs ++ g ∷ rest) (opened ss ++ h ∷ more)
+    let sizes = ap (λ (l : List ℕ). length l) left in
+    let one = one_record r s (opened rs ++ g ∷ rest) (opened ss ++ h ∷ more) (omega (arith, small, sizes)) tails in
+    let rests = append_cancel_left (record_text r) (opened rs ++ g ∷ rest) (opened ss ++ h ∷ more)
     (tails ∙ ap (λ (t : List ℕ). record_text t ++ (opened ss ++ h ∷ more)) (sym one)) in
     let smaller : length (opened rs ++ g ∷ rest) < 2 ^ 64 = omega (arith, small, sizes, length-append (record_text r) (opened rs ++ g ∷ rest)) in
     subst (λ (t : List ℕ). AreOne (r ∷ rs) (t ∷ ss) g h ⊎ (IsFrontOf (r ∷ rs) (t ∷ ss) g rest ⊎ IsFrontOf (t ∷ ss) (r ∷ rs) h more)) one
@@ -122,9 +113,6 @@ fork (r ∷ rs) (s ∷ ss) g h rest more small same =
     (fork rs ss g h rest more smaller rests))
 
 -- ---- the records of journals
-
-all_of : (es : List Entry) → All IsWholeEntry es → AllByRecursion IsWholeEntry es
-all_of es all = recursion_from_All IsWholeEntry es all
 
 entries_are_one : (es ds : List Entry) → AllByRecursion IsWholeEntry es → AllByRecursion IsWholeEntry ds → map entry_record es ≡ map entry_record ds → es ≡ ds
 entries_are_one [] [] whole whole_too same = refl
@@ -142,8 +130,7 @@ cores_are_one a b kept kept_too same =
     let starts : start_record a.0 ≡ start_record b.0 = cc in
     let entries : map entry_record (reverse a.1) ≡ map entry_record (reverse b.1) = cc in
     let first : a.0 ≡ b.0 = start_is_one a.0 b.0 kept.spelled.0 kept_too.spelled.0 starts in
-    let back : reverse a.1 ≡ reverse b.1 =
-    entries_are_one (reverse a.1) (reverse b.1) (all_of (reverse a.1) kept.spelled.1) (all_of (reverse b.1) kept_too.spelled.1) entries in
+    let back = entries_are_one _ _ (recursion_from_All _ (reverse a.1) kept.spelled.1) (recursion_from_All _ (reverse b.1) kept_too.spelled.1) entries in
     let second : a.1 ≡ b.1 = sym (reverse-reverse a.1) ∙ ap (λ (l : List Entry). reverse l) back ∙ reverse-reverse b.1 in
     ap (λ (x : List RootStart). (x, a.1)) first ∙ ap (λ (y : List Entry). (b.0, y)) second
 
@@ -180,19 +167,11 @@ next_is_right a b kept kept_too bytes others same =
     let starts : start_record b.0 ≡ start_record a.0 = cc in
     let entries : map entry_record (reverse b.1) ≡ map entry_record (reverse a.1) ++ bytes ∷ others = cc in
     let first : b.0 ≡ a.0 = start_is_one b.0 a.0 kept_too.spelled.0 kept.spelled.0 starts in
-    let on = goes_on (reverse a.1) (reverse b.1) bytes others (all_of (reverse a.1) kept.spelled.1) (all_of (reverse b.1) kept_too.spelled.1) entries in
-    let legal : Legal rows (roots (map begun b.0)) (reverse (reverse b.1)) =
-    subst (λ (l : List Entry). Legal rows (roots (map begun b.0)) l) (sym (reverse-reverse b.1)) kept_too.legal in
-    let right : IsRight rows (roots (map begun b.0)) (reverse (reverse a.1)) on.entry =
-    legal_at rows (roots (map begun b.0)) (reverse b.1) legal (reverse a.1) on.later on.entry on.split
-    in
-    let past : IsRight rows (roots (map begun b.0)) a.1 on.entry =
-    subst (λ (l : List Entry). IsRight rows (roots (map begun b.0)) l on.entry) (reverse-reverse a.1) right in (
-      on.entry,
-      on.whole,
-      subst (λ (x : List RootStart). IsRight rows (roots (map begun x)) a.1 on.entry) first past,
-      on.is,
-    )
+    let on = goes_on _ _ bytes others (recursion_from_All _ (reverse a.1) kept.spelled.1) (recursion_from_All _ (reverse b.1) kept_too.spelled.1) entries in
+    let legal = subst (λ (l : List Entry). Legal rows (roots (map begun b.0)) l) (sym (reverse-reverse b.1)) kept_too.legal in
+    let right = legal_at rows (roots (map begun b.0)) (reverse b.1) legal (reverse a.1) on.later on.entry on.split in
+    let past = subst (λ (l : List Entry). IsRight rows (roots (map begun b.0)) l on.entry) (reverse-reverse a.1) right in
+    (on.entry, on.whole, subst (λ (x : List RootStart). IsRight rows (roots (map begun x)) a.1 on.entry) first past, on.is)
 
 -- an image doesn't lack the entry that stands there
 not_lacking : (a b : State) → IsKept a → IsKept b → (rest : List ℕ) → LacksEntry a (1 ∷ rest) → ¬ IsFrontOf (records_of a) (records_of b) 1 rest

@@ -1,7 +1,14 @@
 -- Two records in front of the same bytes are one.
-use Rattle.df_image.proofs.Names.{◌≡◌, ℕ, ◌+◌, ◌^◌, ◌<◌, List, ◌++◌, length, take, drop, refl, sym, ◌∙◌, ap, arith, append_assoc, length-append, take_at, drop_at, record_text, length-count, length-record}
+use Rattle.df_image.proofs.Names.{◌≡◌, ℕ, ◌+◌, ◌^◌, ◌<◌, List, ◌∷◌, ◌++◌, length, take, drop, refl, sym, ◌∙◌, ap, arith, append_assoc, length-append, take_at, drop_at, record_text, length-count, length-record}
 use Rattle.std.specs.Int.{w64, to_be_bytes, from_be_bytes}
 use Rattle.std.proofs.lemmas.Nat.{from_be_bytes-to_be_bytes_8}
+
+-- of two texts that are the same the first byte and what stands behind it are
+pub head_of : {x y : ℕ} {xs ys : List ℕ} → x ∷ xs ≡ y ∷ ys → x ≡ y
+head_of e = cc
+
+pub tail_of : {x y : ℕ} {xs ys : List ℕ} → x ∷ xs ≡ y ∷ ys → xs ≡ ys
+tail_of e = cc
 
 front : (bytes rest : List ℕ) → take 8 (record_text bytes ++ rest) ≡ to_be_bytes w64 (length bytes)
 front bytes rest = ap (take 8) (append_assoc (to_be_bytes w64 (length bytes)) bytes rest)
