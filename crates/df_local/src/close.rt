@@ -1,12 +1,12 @@
 //! Closing a handle, and the commit that goes with it.
 
-ghost use Rattle.std.specs.Prelude.{◌≡◌, IfOk, option_copied};
+ghost use Rattle.std.specs.Prelude.{IfSome, ◌≡◌, IfOk, option_copied};
 ghost use Rattle.df_unit.specs.Drafts.{relabelled};
 ghost use Rattle.df_unit.specs.Handles.{closed};
 ghost use Rattle.df_unit.specs.Rows.{unwritable};
 ghost use Rattle.df_unit.specs.declared.entry.Effect.{Effect};
 ghost use Rattle.df_unit.specs.declared.reply.Reply.{Reply};
-ghost use Rattle.df_local.specs.Locally.{edited, publish_effect, publish_reply, release_effect, release_reply, with_own};
+ghost use Rattle.df_local.specs.Locally.{IsPublished, edited, publish_effect, publish_reply, release_effect, release_reply, with_own};
 
 use crate::Local;
 use crate::answer::{Answer, quiet};
@@ -31,6 +31,21 @@ impl Local {
             (record self.old.own { handles = closed self.old.own.handles h }) }
     {
         self.handles.close(h);
+    }
+
+    /// The commit of a publish of this handle, where it is accepted.
+    pub fn published(&self, h: u32) -> Result<Option<Commit>, NoMemory>
+        ensures { IfOk result (λ made. IfSome made (IsPublished self.now h)) }
+    {
+        let Some(handle) = self.handles.get(h) else {
+            return Ok(None);
+        };
+        if handle.is_view || handle.drafted.as_slice().is_empty() {
+            return Ok(None);
+        }
+        let alloc = self.alloc;
+        let made = commit_of(alloc, &self.writing.output, handle, Vec::new(alloc))?;
+        Ok(Some(made))
     }
 }
 
@@ -89,13 +104,28 @@ fn committed(
     ensures effect { IfOk result (λ a. a.effect ≡ Effect.Commit (edited handle.now.event
         deleted.items (relabelled output.now handle.now.drafted))) }
 {
+    let commit = commit_of(alloc, output, handle, deleted)?;
+    Ok(Answer {
+        reply: Reply::Ok,
+        effect: Effect::Commit(commit),
+    })
+}
+
+/// The commit of what is drafted at a handle, with these deletions.
+#[inline(always)]
+fn commit_of(
+    alloc: Global,
+    output: &Label,
+    handle: &Handle,
+    deleted: Vec<Spot>,
+) -> Result<Commit, NoMemory>
+    ensures { IfOk result (λ commit. commit ≡ edited handle.now.event deleted.items
+        (relabelled output.now handle.now.drafted)) }
+{
     let event = handle.event.copy()?;
     let added = relabelled(alloc, output, handle.drafted.as_slice())?;
     let edit = Edit::adding(deleted, added);
-    Ok(Answer {
-        reply: Reply::Ok,
-        effect: Effect::Commit(Commit { event, edit }),
-    })
+    Ok(Commit { event, edit })
 }
 
 /// The first spot that a unit with this output label can't write.

@@ -14,7 +14,7 @@ pub use Rattle.df_label.specs.declared.label.Label.{Label}
 pub use Rattle.df_label.specs.declared.privilege.Privilege.{Privilege}
 pub use Rattle.df_local.specs.Births.{record_of}
 pub use Rattle.df_local.specs.Brief.{MakesBriefly, accepted_reply, brief_call}
-pub use Rattle.df_local.specs.Locally.{IsMadeAlone, counted, is_alone, row_answer, with_own}
+pub use Rattle.df_local.specs.Locally.{IsMadeAlone, IsPublished, counted, is_alone, row_answer, with_own}
 pub use Rattle.df_local.specs.code.LocalState.{LocalState}
 pub use Rattle.df_local.specs.declared.answer.Answer.{Answer}
 pub use Rattle.df_memory.specs.declared.NoMemory.{NoMemory}
@@ -60,7 +60,7 @@ pub use Rattle.df_unit.specs.Rows.{after, changed, first_given, handed, is_accep
 pub use Rattle.df_unit.specs.UnitOrder.{unit_cmp}
 pub use Rattle.df_unit.specs.UnitOrderLaws.{unit_cmp_ties, unit_cmp_total}
 pub use Rattle.df_unit.specs.declared.call.Call.{Call}
-pub use Rattle.df_unit.specs.declared.call.Call.TheVariants.{ChangeInOut, Get, Instantiate, Subscribe, SubscribeManaged}
+pub use Rattle.df_unit.specs.declared.call.Call.TheVariants.{ChangeInOut, Get, Instantiate, Publish, Subscribe, SubscribeManaged}
 pub use Rattle.df_unit.specs.declared.commit.Commit.{Commit}
 pub use Rattle.df_unit.specs.declared.commit.Given.{Given}
 pub use Rattle.df_unit.specs.declared.entry.Effect.{Effect}
@@ -87,7 +87,7 @@ pub use Rattle.std.specs.List.{AllByRecursion, AllPairs, Contains, filter, flat_
 pub use Rattle.std.specs.List.Sorted.{IsStrictlySortedBy}
 pub use Rattle.std.specs.Option.{option_and_then, option_or}
 pub use Rattle.std.specs.Ordering.{is_eq, nat_cmp, ordering_then}
-pub use Rattle.std.specs.Prelude.{OnOk, is_none, nat_le, nat_lt, option_to_list, vec_len, ⊤}
+pub use Rattle.std.specs.Prelude.{IfSome, OnOk, is_none, nat_le, nat_lt, option_to_list, vec_len, ⊤}
 pub use Rattle.std.specs.Vec.{with_items}
 pub use Rattle.std.specs.Vec.Iter.{into_iter_items, into_iter_len}
 pub use Rattle.std.specs.declared.cmp.Ordering.{Ordering}

@@ -8,5 +8,6 @@ pub mod Hand
 pub mod Labels
 pub mod Line
 pub mod Moves
+pub mod RowName
 pub mod Runs
 pub mod Table

@@ -6,7 +6,7 @@ ghost use Rattle.std.specs.Option.{option_map};
 ghost use Rattle.df_label.specs.declared.label.Label.{Label};
 ghost use Rattle.df_label.specs.declared.privilege.Privilege.{Privilege};
 ghost use Rattle.df_rules.specs.Commits.{commit_in};
-ghost use Rattle.df_unit.specs.declared.call.Call.TheVariants.{Get, Instantiate, Subscribe, SubscribeManaged};
+ghost use Rattle.df_unit.specs.declared.call.Call.TheVariants.{Get, Instantiate, Publish, Subscribe, SubscribeManaged};
 ghost use Rattle.df_unit.specs.declared.entry.Effect.{Effect};
 ghost use Rattle.df_unit.specs.declared.name.UnitName.{UnitName};
 ghost use Rattle.df_unit.specs.declared.name.UnitName.TheVariants.{Root};
@@ -505,8 +505,46 @@ impl Board {
         give_at(self.rows.as_mut_slice(), place)
     }
 
-    /// Makes a call of the unit whose place this is: works out its answer, and takes the entry in.
+    /// Publishes the draft of a handle of the unit at a place. Without memory the tables agree with
+    /// the journal as before.
+    fn publish(&mut self, place: usize, h: u32, call: &Call) -> Result<Answer, NoMemory>
+        requires board { IsBoard self.old }
+        requires seated { (actor : UnitName) × (place_on self.old actor ≡ Some place) }
+        requires publish { call.now ≡ Publish h }
+        ensures board { IsBoard self.new }
+        ensures made { IfOk result (λ a. IsMade (Some place) call.now (a.reply, a.effect)
+            self.old self.new) }
+        ensures kept { OnErr result (IsKept self.old self.new) }
+    {
+        let Some(commit) = self.rows[place].local.published(h)? else {
+            return self.answer_first(Some(place), call);
+        };
+        let effect = Effect::Commit(commit);
+        self.book_at(place, call, &Reply::Ok, &effect)?;
+        Ok(Answer {
+            reply: Reply::Ok,
+            effect,
+        })
+    }
+
+    /// Works out the answer of a call of the unit whose place this is, and takes the entry in.
     /// Without memory the tables agree with the journal as before.
+    #[inline(never)]
+    fn answer_first(&mut self, place: Option<usize>, call: &Call) -> Result<Answer, NoMemory>
+        requires board { IsBoard self.old }
+        requires seated { (actor : UnitName) × (place_on self.old actor ≡ place) }
+        ensures board { IsBoard self.new }
+        ensures made { IfOk result (λ a. IsMade place call.now (a.reply, a.effect)
+            self.old self.new) }
+        ensures kept { OnErr result (IsKept self.old self.new) }
+    {
+        let answer = self.answer(place, call)?;
+        self.book(place, call, &answer.reply, &answer.effect)?;
+        Ok(answer)
+    }
+
+    /// Makes a call of the unit whose place this is, but doesn't ask first whether it is one of the
+    /// unit's own state alone. Without memory the tables agree with the journal as before.
     #[inline(never)]
     pub fn answer_and_book(&mut self, place: Option<usize>, call: &Call) -> Result<Answer, NoMemory>
         requires board { IsBoard self.old }
@@ -516,12 +554,11 @@ impl Board {
             self.old self.new) }
         ensures kept { OnErr result (IsKept self.old self.new) }
     {
-        if let (Some(place), Call::Get) = (place, call) {
-            return self.give(place);
+        match (place, call) {
+            (Some(place), Call::Get) => self.give(place),
+            (Some(place), Call::Publish { h }) => self.publish(place, *h, call),
+            _ => self.answer_first(place, call),
         }
-        let answer = self.answer(place, call)?;
-        self.book(place, call, &answer.reply, &answer.effect)?;
-        Ok(answer)
     }
 
     /// Makes a call of the unit whose place this is, and answers it. Without memory the tables agree

@@ -9,16 +9,17 @@ ghost use Rattle.df_tables.specs.Table.{parts_of};
 ghost use Rattle.df_tables.specs.declared.event_places.Key.{Key};
 
 use crate::event_places::{EventPlaces, Key, key_of, root_number};
+use crate::row_name::RowName;
 use df_memory::NoMemory;
 use df_part::Contents;
-use df_unit::{EventName, Path, UnitName};
+use df_unit::EventName;
 use std::alloc::Global;
 use std::marker::Model;
 
 /// The parts of an event.
 #[derive(Drop)]
 pub struct EventRow {
-    pub event: EventName,
+    pub event: RowName,
     pub contents: Contents,
 }
 
@@ -67,10 +68,7 @@ fn add_numbered(
     let place = rows.len();
     places.put_numbered(root, number, place)?;
     rows.push_reserved(EventRow {
-        event: EventName {
-            unit: UnitName::Root(Path::root(root)),
-            number,
-        },
+        event: RowName::numbered(root, number),
         contents: Contents::new(alloc),
     });
     Ok(place)
@@ -93,7 +91,7 @@ fn add_row(
         ≡ place_at places.old q) }
 {
     rows.reserve(1)?;
-    let event = event.copy()?;
+    let event = RowName::of(alloc, event)?;
     let place = rows.len();
     places.put(key, place)?;
     rows.push_reserved(EventRow {

@@ -21,6 +21,7 @@ pub(crate) struct News<'a> {
 }
 
 /// The delivery of an event to a receiver who reads at a label.
+#[inline(always)]
 pub(crate) fn given_to(
     event: &EventName,
     after: &Contents,

@@ -13,6 +13,7 @@ mod line;
 mod managing;
 mod moves;
 mod receivers;
+mod row_name;
 mod runs;
 mod units;
 

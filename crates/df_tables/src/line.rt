@@ -83,6 +83,7 @@ impl Line {
     }
 
     /// Makes one more ready, with all the memory that it needs.
+    #[inline(always)]
     pub fn stage(&mut self, given: Given) -> Result<(), NoMemory>
         ensures ok { OnOk result (self.new ≡ staged_more given self.old) }
         ensures unchanged { OnErr result (self.new ≡ self.old) }
