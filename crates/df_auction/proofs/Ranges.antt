@@ -1,14 +1,14 @@
 -- The orders of a file are in range.
-use Rattle.std.proofs.Common.{◌≡◌, ℕ, ◌≤◌, Bool, true, false, cond, ◌==◌, List, [], ◌∷◌, map, refl, subst, arith, Option, Some, None}
+use Rattle.std.proofs.Common.{◌≡◌, ℕ, ◌≤◌, Bool, true, false, cond, ◌==◌, List, [], ◌∷◌, refl, subst, arith, Option, Some, None}
 use Rattle.std.specs.Prelude.{All, pos}
 use Rattle.std.proofs.lemmas.Int.{ints}
 use Rattle.df_book.specs.declared.order.Order.{Order}
 use Rattle.df_records.specs.Fields.{is_symbol, number}
 use Rattle.df_records.specs.RecordFile.{Fields}
 use Rattle.df_records.proofs.Fields.{number_in, some_is}
+use Rattle.df_records.proofs.Reading.{all_told}
 use Rattle.df_auction.specs.Stairs.{IsInRange}
 use Rattle.df_auction.specs.OrderFile.{order_with, order_of_six, order_of, IsOrderFile}
-use Rattle.df_auction.proofs.Sweeping.{Each, all_of_each}
 
 in_range : (id limit qty : ℕ) (symbol : List ℕ) (trader : ℕ) (sell : Bool) → (1 ≤ limit) × (limit ≤ 1_000_000_000) → (1 ≤ qty) × (qty ≤ 1_000_000)
     → IsInRange record { id = pos id; limit = pos limit; qty = pos qty; symbol = symbol; trader = trader; sell = sell }
@@ -20,11 +20,7 @@ order_with_in : (symbol : List ℕ) (id trader sell limit qty : Option ℕ) (o :
     → order_with symbol id trader sell limit qty ≡ Some o → IsInRange o
 order_with_in symbol (Some id) (Some trader) (Some sell) (Some limit) (Some qty) o l q h =
     subst IsInRange (some_is _ o h) (in_range id limit qty symbol trader (sell == 1) (l limit refl) (q qty refl))
-order_with_in symbol (Some id) (Some trader) (Some sell) (Some limit) None o l q h = absurd cc
-order_with_in symbol (Some id) (Some trader) (Some sell) None qty o l q h = absurd cc
-order_with_in symbol (Some id) (Some trader) None limit qty o l q h = absurd cc
-order_with_in symbol (Some id) None sell limit qty o l q h = absurd cc
-order_with_in symbol None trader sell limit qty o l q h = absurd cc
+order_with_in symbol _ _ _ _ _ o l q h = absurd cc
 
 six_in : (id trader symbol sell limit qty : List ℕ) (o : Order) → order_of_six id trader symbol sell limit qty ≡ Some o → IsInRange o
 six_in id trader symbol sell limit qty o h = go (is_symbol symbol) h
@@ -36,24 +32,9 @@ six_in id trader symbol sell limit qty o h = go (is_symbol symbol) h
     go false h = absurd cc
 
 order_in : (fs : Fields) (o : Order) → order_of fs ≡ Some o → IsInRange o
-order_in [] o h = absurd cc
-order_in (p ∷ []) o h = absurd cc
-order_in (p ∷ q ∷ []) o h = absurd cc
-order_in (p ∷ q ∷ r ∷ []) o h = absurd cc
-order_in (p ∷ q ∷ r ∷ s ∷ []) o h = absurd cc
-order_in (p ∷ q ∷ r ∷ s ∷ t ∷ []) o h = absurd cc
 order_in (p ∷ q ∷ r ∷ s ∷ t ∷ u ∷ []) o h = six_in p q r s t u o h
-order_in (p ∷ q ∷ r ∷ s ∷ t ∷ u ∷ v ∷ fs) o h = absurd cc
-
-first_of : {X : Type 0} (a b : X) (xs ys : List X) → a ∷ xs ≡ b ∷ ys → (a ≡ b) × (xs ≡ ys)
-first_of a b xs ys h = (cc, cc)
-
-rows_in : (rows : List Fields) (orders : List Order) → map order_of rows ≡ map Some orders → Each IsInRange orders
-rows_in rows [] h = tt
-rows_in [] (o ∷ orders) h = absurd cc
-rows_in (r ∷ rows) (o ∷ orders) h = let e = first_of (order_of r) (Some o) (map order_of rows) (map Some orders)
-    h in (order_in r o e.0, rows_in rows orders e.1)
+order_in _ o h = absurd cc
 
 -- the orders of a file are in range
 pub file_in_range : (bytes : List ℕ) (orders : List Order) → IsOrderFile bytes orders → All IsInRange orders
-file_in_range bytes orders f = all_of_each IsInRange orders (rows_in f.2.0 orders f.2.2)
+file_in_range bytes orders f = all_told order_of IsInRange order_in f.2.0 orders f.2.2

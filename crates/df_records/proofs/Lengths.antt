@@ -1,6 +1,6 @@
 -- A file has more bytes than records.
-use Rattle.std.proofs.Common.{◌≡◌, ℕ, suc, ◌≤◌, ◌<◌, Bool, true, false, cond, ◌&&◌, ◌==◌, List, [], ◌∷◌, ◌++◌, length, map, refl, sym, ap, subst, ◌∙◌, arith, Option, Some, None}
-use Rattle.csv.specs.Machine.{Read, next_record, step, is_end, ends_at_end, ends_with, after_end, fields_after, field_after, in_field, start_field, start_record}
+use Rattle.std.proofs.Common.{◌≡◌, ℕ, suc, ◌≤◌, ◌<◌, Bool, true, false, cond, ◌==◌, List, [], ◌∷◌, ◌++◌, length, map, refl, sym, ap, subst, ◌∙◌, arith, Option, Some, None}
+use Rattle.csv.specs.Machine.{Read, next_record, step, is_end, ends_at_end, after_end, fields_after, field_after, in_field, start_field, start_record}
 use Rattle.csv.specs.Reading.{default_config, strip_bom, is_bom, Reached}
 use Rattle.csv.specs.declared.parser.State.{State}
 use Rattle.csv.specs.declared.parser.State.TheVariants as st
@@ -38,30 +38,17 @@ ended c h = go (c == 13)
     go false = refl
 
 in_field_between : (c : ℕ) → Between (in_field default_config c)
-in_field_between c = chosen (c == 44) (st.StartField, act.EndField)
-    (cond (ends_with term.CRLF c) (after_end term.CRLF c, act.EndRecord) (st.InField, act.Copy)) (no_end st.StartField act.EndField refl)
-    (chosen (ends_with term.CRLF c) (after_end term.CRLF c, act.EndRecord) (st.InField, act.Copy) (ended c) (no_end st.InField act.Copy refl))
+in_field_between c = search (chosen, no_end, ended)
 
 start_field_between : (c : ℕ) → Between (start_field default_config c)
-start_field_between c = chosen (true && (c == 34)) (st.InQuoted, act.Skip) (in_field default_config c) (no_end st.InQuoted act.Skip refl) (in_field_between c)
+start_field_between c = search (chosen, no_end, in_field_between)
 
 start_record_between : (c : ℕ) → Between (start_record default_config c)
-start_record_between c = chosen (ends_with term.CRLF c) (st.StartRecord, act.Skip) (start_field default_config c) (no_end st.StartRecord act.Skip refl)
-    (start_field_between c)
+start_record_between c = search (chosen, no_end, start_field_between)
 
 step_between : (s : State) (c : ℕ) → Between (step default_config s c)
 step_between st.StartRecord c = start_record_between c
-step_between st.StartField c = start_field_between c
-step_between st.InField c = in_field_between c
-step_between st.InQuoted c = chosen (true && (c == 34)) (st.AfterQuote, act.Skip) (st.InQuoted, act.Copy) (no_end st.AfterQuote act.Skip refl)
-    (no_end st.InQuoted act.Copy refl)
-step_between st.InEscape c = no_end st.InQuoted act.Copy refl
-step_between st.AfterQuote c = chosen (true && (true && (c == 34))) (st.InQuoted, act.Copy) (in_field default_config c) (no_end st.InQuoted act.Copy refl)
-    (in_field_between c)
-step_between st.InComment c = chosen (c == 10) (st.StartRecord, act.Skip) (st.InComment, act.Skip) (no_end st.StartRecord act.Skip refl)
-    (no_end st.InComment act.Skip refl)
-step_between st.AfterCr c = chosen (c == 10) (st.StartRecord, act.Skip) (start_record default_config c) (no_end st.StartRecord act.Skip refl)
-    (start_record_between c)
+step_between _ c = search (chosen, no_end, start_record_between, start_field_between, in_field_between)
 
 -- a record takes a byte at least where the machine stands between records, and leaves it there
 abbrev Takes : State → List ℕ → Read → Type 0

@@ -9,22 +9,19 @@ use Rattle.df_records.specs.RecordFile.{Fields, IsBadAfter, IsBadAt, IsFileOf, T
 use Rattle.df_records.proofs.Fields.{some_is}
 
 -- there is no record where there is one
-none_here : (o : Option Read) (p : Read) → o ≡ Some p → o ≡ None → ⊥
-none_here o p e n = cc
+none_here : (cfg : Config) (s s2 : State) (xs zs : List ℕ) (p : Read) → next_record cfg s [] [] xs ≡ Some p → (s ≡ s2) × (xs ≡ zs)
+    → next_record cfg s2 [] [] zs ≡ None → ⊥
+none_here cfg s s2 xs zs p e same n = let end = ap (λ (t : State). next_record cfg t [] [] xs) same.0 ∙ ap (next_record cfg s2 [] []) same.1 ∙ n in cc
 
 -- the record behind these is the next of all
 next_of_all : (cfg : Config) (s s1 : State) (xs ys : List ℕ) (good : List Fields) (bad : Fields) (records : List Fields)
     → Reached cfg s xs (good ++ bad ∷ []) s1 ys → AreRecords cfg s xs records → (more : List Fields) × (records ≡ good ++ bad ∷ more)
 unfolding Reached
-next_of_all cfg s s1 xs ys [] bad [] (p, e, f, r) (s2, zs, (a, b), n) =
-    absurd (none_here (next_record cfg s [] [] xs) p e
-    (subst (λ (t : State). next_record cfg t [] [] xs ≡ None) (sym a) (subst (λ (t : List ℕ). next_record cfg s2 [] [] t ≡ None) (sym b) n)))
+next_of_all cfg s s1 xs ys [] bad [] (p, e, f, r) (s2, zs, same, n) = absurd (none_here cfg s s2 xs zs p e same n)
 next_of_all cfg s s1 xs ys [] bad (record' ∷ records) (p, e, f, r) (s2, zs, (q, e2, f2, r2), n) =
     let same : p ≡ q = some_is p q (sym e ∙ e2) in
     (records, ap (λ (x : Fields). x ∷ records) (f2 ∙ ap (λ (z : Read). z.0) (sym same) ∙ sym f))
-next_of_all cfg s s1 xs ys (g ∷ good) bad [] (p, e, f, r) (s2, zs, (a, b), n) =
-    absurd (none_here (next_record cfg s [] [] xs) p e
-    (subst (λ (t : State). next_record cfg t [] [] xs ≡ None) (sym a) (subst (λ (t : List ℕ). next_record cfg s2 [] [] t ≡ None) (sym b) n)))
+next_of_all cfg s s1 xs ys (g ∷ good) bad [] (p, e, f, r) (s2, zs, same, n) = absurd (none_here cfg s s2 xs zs p e same n)
 next_of_all cfg s s1 xs ys (g ∷ good) bad (record' ∷ records) (p, e, f, r) (s2, zs, (q, e2, f2, r2), n) =
     let same : p ≡ q = some_is p q (sym e ∙ e2) in
     let more = next_of_all cfg p.1 s1 p.2 ys good bad records r (subst (λ (z : Read). AreRecords cfg z.1 z.2 records) (sym same) (s2, zs, r2, n)) in
@@ -34,12 +31,8 @@ next_of_all cfg s s1 xs ys (g ∷ good) bad (record' ∷ records) (p, e, f, r) (
 records_are_one : (cfg : Config) (s : State) (xs : List ℕ) (some others : List Fields) → AreRecords cfg s xs some → AreRecords cfg s xs others → some ≡ others
 unfolding Reached
 records_are_one cfg s xs [] [] a b = refl
-records_are_one cfg s xs [] (r ∷ rs) (s2, zs, (a, b), n) (s3, ws, (q, e, f, t), m) =
-    absurd (none_here (next_record cfg s [] [] xs) q e
-    (subst (λ (t : State). next_record cfg t [] [] xs ≡ None) (sym a) (subst (λ (t : List ℕ). next_record cfg s2 [] [] t ≡ None) (sym b) n)))
-records_are_one cfg s xs (r ∷ rs) [] (s3, ws, (q, e, f, t), m) (s2, zs, (a, b), n) =
-    absurd (none_here (next_record cfg s [] [] xs) q e
-    (subst (λ (t : State). next_record cfg t [] [] xs ≡ None) (sym a) (subst (λ (t : List ℕ). next_record cfg s2 [] [] t ≡ None) (sym b) n)))
+records_are_one cfg s xs [] (r ∷ rs) (s2, zs, same, n) (s3, ws, (q, e, f, t), m) = absurd (none_here cfg s s2 xs zs q e same n)
+records_are_one cfg s xs (r ∷ rs) [] (s3, ws, (q, e, f, t), m) (s2, zs, same, n) = absurd (none_here cfg s s2 xs zs q e same n)
 records_are_one cfg s xs (r ∷ rs) (r2 ∷ rs2) (s2, zs, (p, e, f, t), n) (s3, ws, (q, e2, f2, t2), m) =
     let same : p ≡ q = some_is p q (sym e ∙ e2) in
     let rest = records_are_one cfg p.1 p.2 rs rs2 (s2, zs, t, n) (subst (λ (z : Read). AreRecords cfg z.1 z.2 rs2) (sym same) (s3, ws, t2, m)) in

@@ -2,6 +2,8 @@
 use Rattle.std.proofs.Common.{◌≡◌, ℕ, ◌+◌, ◌<◌, true, false, List, [], ◌∷◌, ◌++◌, length, map, sym, ap, subst, ◌∙◌, ◌⊎◌, inl, inr, ⊎_elim, arith, Option, Some, nat_eq, length-append}
 use Rattle.std.proofs.lemmas.List.{map-append}
 use Rattle.std.proofs.lemmas.Bool.Decides.{nat_tests}
+use Rattle.std.proofs.lemmas.List.Elements.{All-cons, All-nil}
+use Rattle.std.specs.List.{All}
 use Rattle.df_records.specs.RecordFile.{Fields, IsBadAfter, Tells}
 use Rattle.df_records.specs.code.Taking.{TakesFurther, TakesHeader, TakesRecord}
 
@@ -53,3 +55,13 @@ read_bad header told_of records told more fields line r t = ⊎_elim
 pub read_all : {T : Type 0} (header : Fields) (told_of : Fields → Option T) (records : List Fields) (told : List T) (line : ℕ)
     → Read header told_of records told line → 1 < line → Tells header told_of records told
 read_all header told_of records told line r lt = ⊎_elim (λ no. absurd (omega (arith, no.2))) (λ so. so.0) r
+
+-- what holds of whatever a record tells holds of all that is told
+pub all_told : {T : Type 0} (told_of : Fields → Option T) (P : T → Type 0) → ((fields : Fields) (t : T) → told_of fields ≡ Some t → P t)
+    → (rows : List Fields) (told : List T) → map told_of rows ≡ map Some told → All P told
+all_told told_of P gives rows [] h = All-nil P
+all_told told_of P gives [] (t ∷ told) h = absurd cc
+all_told told_of P gives (r ∷ rows) (t ∷ told) h =
+    let first : told_of r ≡ Some t = cc in
+    let rest : map told_of rows ≡ map Some told = cc in
+    All-cons P t told (gives r t first) (all_told told_of P gives rows told rest)
