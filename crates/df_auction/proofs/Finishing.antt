@@ -19,28 +19,21 @@ no_choice : (n : ℕ) (b : Bool) → n ≡ cond b n n
 no_choice n true = refl
 no_choice n false = refl
 
+if_both : (n : ℕ) (a b : Bool) → cond (a && b) n 0 ≡ cond b (cond a n 0) 0
+if_both n true b = refl
+if_both n false true = refl
+if_both n false false = refl
+
 -- the quantity of who buys at a price, by the limit
 pub buys_if : (t : ℕ) (os : List Order) (k : ℕ) → qty_at (buys_at t) os k ≡ (if nat_le t (limit_at os k) then qty_at is_purchase os k else 0)
 buys_if t [] k = no_choice 0 (nat_le t 0)
-buys_if t (o ∷ os) zero = go (is_purchase o) (nat_le t (limit_of o))
-  where
-    go : (a b : Bool) → cond (a && b) (qty_of o) 0 ≡ cond b (cond a (qty_of o) 0) 0
-    go true true = refl
-    go true false = refl
-    go false true = refl
-    go false false = refl
+buys_if t (o ∷ os) zero = if_both (qty_of o) (is_purchase o) (nat_le t (limit_of o))
 buys_if t (o ∷ os) (suc k) = buys_if t os k
 
 -- the same of who sells
 pub sells_if : (t : ℕ) (os : List Order) (k : ℕ) → qty_at (sells_at t) os k ≡ (if nat_le (limit_at os k) t then qty_at is_sale os k else 0)
 sells_if t [] k = no_choice 0 (nat_le 0 t)
-sells_if t (o ∷ os) zero = go (is_sale o) (nat_le (limit_of o) t)
-  where
-    go : (a b : Bool) → cond (a && b) (qty_of o) 0 ≡ cond b (cond a (qty_of o) 0) 0
-    go true true = refl
-    go true false = refl
-    go false true = refl
-    go false false = refl
+sells_if t (o ∷ os) zero = if_both (qty_of o) (is_sale o) (nat_le (limit_of o) t)
 sells_if t (o ∷ os) (suc k) = sells_if t os k
 
 -- an order is a purchase or a sale
@@ -66,21 +59,20 @@ module _ (orders : List Order) where
   none_given side k [] h = refl
   none_given side k (f ∷ fs) h = omega (arith, given-cons side k f fs, ap (λ b. cond b f.qty 0) h.0, none_given side k fs h.1)
 
+  -- lots with other limits hold nothing of an order
+  none_other : (P : ℕ → Type 0) (k : ℕ) (xs : List Lot) → ((n : ℕ) → P n → n ≡ limit_at orders k → ⊥) → Each (IsLot orders) xs
+      → Each (λ x. P x.limit) xs → Each (λ x. nat_eq x.place k ≡ false) xs
+  none_other P k [] other l h = tt
+  none_other P k (x ∷ xs) other l h =
+      (differ x.place k (λ e. let a = l.0.limit in other x.limit h.0 (omega arith)), none_other P k xs other l.1 h.1)
+
   -- lots with limits up to t hold nothing of an order whose limit is above
   none_above : (t k : ℕ) (xs : List Lot) → t < limit_at orders k → Each (IsLot orders) xs → Each (λ x. x.limit ≤ t) xs → held k xs ≡ 0
-  none_above t k xs lt l h = none_held k xs (go xs l h)
-    where
-      go : (xs : List Lot) → Each (IsLot orders) xs → Each (λ x. x.limit ≤ t) xs → Each (λ x. nat_eq x.place k ≡ false) xs
-      go [] l h = tt
-      go (x ∷ xs) l h = (differ x.place k (λ e. let a = l.0.limit in let b = h.0 in omega arith), go xs l.1 h.1)
+  none_above t k xs lt l h = none_held k xs (none_other (λ n. n ≤ t) k xs (λ n le e. omega arith) l h)
 
   -- and lots with limits from t on nothing of one whose limit is below
   none_below : (t k : ℕ) (xs : List Lot) → limit_at orders k < t → Each (IsLot orders) xs → Each (λ x. t ≤ x.limit) xs → held k xs ≡ 0
-  none_below t k xs lt l h = none_held k xs (go xs l h)
-    where
-      go : (xs : List Lot) → Each (IsLot orders) xs → Each (λ x. t ≤ x.limit) xs → Each (λ x. nat_eq x.place k ≡ false) xs
-      go [] l h = tt
-      go (x ∷ xs) l h = (differ x.place k (λ e. let a = l.0.limit in let b = h.0 in omega arith), go xs l.1 h.1)
+  none_below t k xs lt l h = none_held k xs (none_other (λ n. t ≤ n) k xs (λ n le e. omega arith) l h)
 
 -- the first two lots can't trade
 abbrev pub Stuck : List Lot → List Lot → Type 0

@@ -137,15 +137,15 @@ module _ (orders : List Order) (fills : List Fill) (p r : ℕ) (c : Clears order
   abbrev pub settled : Settlement
   settled = record { volume = total fills; price = price_of p; split = r; fills = fills }
 
-  no_total : fills ≡ [] → total fills ≡ 0
-  no_total e = ap total e
+  some_price : 1 ≤ p → nat_eq p 0 ≡ false
+  some_price le = grind (arith, nat_tests)
 
   pub called_for : IsSettlement orders settled
   called_for = record {
     greatest = greatest;
     price = ⊎_elim
         (λ no. let z : nat_eq p 0 ≡ true = (λ i. nat_eq (no.1 i) 0) in
-        subst (λ b. MatchOption (cond b None (Some p)) (total fills ≡ 0) (IsLeastPrice orders (total fills))) (sym z) (no_total no.0))
+        subst (λ b. MatchOption (cond b None (Some p)) (total fills ≡ 0) (IsLeastPrice orders (total fills))) (sym z) (ap total no.0))
         (λ t. let z : nat_eq p 0 ≡ false = some_price t.1 in
         subst (λ b. MatchOption (cond b None (Some p)) (total fills ≡ 0) (IsLeastPrice orders (total fills))) (sym z) (least_price t))
         c.traded;
@@ -156,9 +156,6 @@ module _ (orders : List Order) (fills : List Fill) (p r : ℕ) (c : Clears order
     };
     fills = c.through;
   }
-    where
-      some_price : 1 ≤ p → nat_eq p 0 ≡ false
-      some_price le = grind (arith, nat_tests)
 
   pub best : IsBest orders settled
   best = record {
@@ -175,6 +172,3 @@ module _ (orders : List Order) (fills : List Fill) (p r : ℕ) (c : Clears order
     within = c.within;
     apart = apart;
   }
-    where
-      some_price : 1 ≤ p → nat_eq p 0 ≡ false
-      some_price le = grind (arith, nat_tests)
