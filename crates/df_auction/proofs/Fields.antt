@@ -7,11 +7,5 @@ pub six_is : (fs : Fields) (a b c d e f : List ℕ) → length fs ≡ 6
     → Some a ≡ field_at fs 0 → Some b ≡ field_at fs 1 → Some c ≡ field_at fs 2 → Some d ≡ field_at fs 3 → Some e ≡ field_at fs 4 → Some f ≡ field_at fs 5
     → fs ≡ a ∷ b ∷ c ∷ d ∷ e ∷ f ∷ []
 unfolding field_at
-six_is [] a b c d e f n ea eb ec ed ee ef = absurd (omega arith)
-six_is (p ∷ []) a b c d e f n ea eb ec ed ee ef = absurd (omega arith)
-six_is (p ∷ q ∷ []) a b c d e f n ea eb ec ed ee ef = absurd (omega arith)
-six_is (p ∷ q ∷ r ∷ []) a b c d e f n ea eb ec ed ee ef = absurd (omega arith)
-six_is (p ∷ q ∷ r ∷ s ∷ []) a b c d e f n ea eb ec ed ee ef = absurd (omega arith)
-six_is (p ∷ q ∷ r ∷ s ∷ t ∷ []) a b c d e f n ea eb ec ed ee ef = absurd (omega arith)
 six_is (p ∷ q ∷ r ∷ s ∷ t ∷ u ∷ []) a b c d e f n ea eb ec ed ee ef = cc
-six_is (p ∷ q ∷ r ∷ s ∷ t ∷ u ∷ v ∷ fs) a b c d e f n ea eb ec ed ee ef = absurd (omega arith)
+six_is _ a b c d e f n ea eb ec ed ee ef = absurd (omega arith)

@@ -37,17 +37,13 @@ symbol_is_text bs h =
 pub some_is : {X : Type 0} (a b : X) → Some a ≡ Some b → a ≡ b
 some_is a b h = cc
 
-both_le : (a b : Bool) → a && b ≡ true → b ≡ true
-both_le true b h = h
-both_le false b h = let e : false ≡ true = h in absurd cc
-
 le_of : (a b : ℕ) → nat_le a b ≡ true → a ≤ b
 le_of a b h = grind (arith, nat_tests)
 
 number_from_most : (most n m : ℕ) (bs : List ℕ) → n ≤ most → number_from most n bs ≡ Some m → m ≤ most
 number_from_most most n m [] le h = let e = some_is n m h in omega arith
 number_from_most most n m (b ∷ bs) le h =
-    go (is_digit b && nat_le (10 * n + (b - 48)) most) (λ t. le_of (10 * n + (b - 48)) most (both_le (is_digit b) (nat_le (10 * n + (b - 48)) most) t))
+    go (is_digit b && nat_le (10 * n + (b - 48)) most) (λ t. le_of (10 * n + (b - 48)) most (both_true (is_digit b) _ t).1)
     (number_from_most most (10 * n + (b - 48)) m bs) h
   where
     go : (t : Bool) → (t ≡ true → 10 * n + (b - 48) ≤ most) → (10 * n + (b - 48) ≤ most → number_from most (10 * n + (b - 48)) bs ≡ Some m → m ≤ most)

@@ -5,7 +5,5 @@ use Rattle.df_records.specs.RecordFile.{Fields}
 
 pub two_is : (fs : Fields) (a b : List ℕ) → length fs ≡ 2 → Some a ≡ field_at fs 0 → Some b ≡ field_at fs 1 → fs ≡ a ∷ b ∷ []
 unfolding field_at
-two_is [] a b n ea eb = absurd (omega arith)
-two_is (p ∷ []) a b n ea eb = absurd (omega arith)
 two_is (p ∷ q ∷ []) a b n ea eb = cc
-two_is (p ∷ q ∷ r ∷ fs) a b n ea eb = absurd (omega arith)
+two_is _ a b n ea eb = absurd (omega arith)
