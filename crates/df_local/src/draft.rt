@@ -53,15 +53,9 @@ impl Local {
         if self.events >= MOST_NUMBERS {
             return Err(NoMemory);
         }
-        let unit = match self.name.copy() {
-            Ok(unit) => unit,
-            Err(refused) => return Err(refused),
-        };
+        let unit = self.name.copy()?;
         let number = self.events;
-        match self.handles.open_draft(EventName { unit, number }) {
-            Ok(()) => {}
-            Err(refused) => return Err(refused),
-        }
+        self.handles.open_draft(EventName { unit, number })?;
         self.events += 1;
         Ok(())
     }

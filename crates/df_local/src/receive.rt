@@ -9,8 +9,7 @@ use crate::Local;
 use crate::limits::MOST_SUBS;
 use crate::take::is_accepted;
 use df_memory::NoMemory;
-use df_part::Parts;
-use df_unit::{EventName, Given, Reply};
+use df_unit::{Given, Reply};
 
 impl Local {
     /// Opens a view of an event that was handed to the unit.
@@ -37,14 +36,9 @@ impl Local {
         if self.given == u64::MAX {
             return Err(NoMemory);
         }
-        let (event, seen) = match shared(given) {
-            Ok(both) => both,
-            Err(refused) => return Err(refused),
-        };
-        match self.handles.open_view(event, seen) {
-            Ok(()) => {}
-            Err(refused) => return Err(refused),
-        }
+        let event = given.event.copy()?;
+        let seen = given.parts.copy()?;
+        self.handles.open_view(event, seen)?;
         self.given += 1;
         Ok(())
     }
@@ -71,14 +65,4 @@ impl Local {
         }
         Reply::Sub(self.subs)
     }
-}
-
-/// The event that was handed to a unit, and its parts.
-fn shared(given: &Given) -> Result<(EventName, Parts), NoMemory>
-    ensures event { IfOk result (λ both. both.0 ≡ given.now.event) }
-    ensures seen { IfOk result (λ both. both.1 ≡ given.now.parts) }
-{
-    let event = given.event.copy()?;
-    let seen = given.parts.copy()?;
-    Ok((event, seen))
 }
