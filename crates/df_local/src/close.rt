@@ -1,9 +1,10 @@
 //! Closing a handle, and the commit that goes with it.
 
-ghost use Rattle.std.specs.Prelude.{IfSome, ◌≡◌, IfOk, option_copied};
+ghost use Rattle.std.specs.Prelude.{◌≡◌, [], IfOk, IfSome, None, false, option_copied};
 ghost use Rattle.df_unit.specs.Drafts.{relabelled};
 ghost use Rattle.df_unit.specs.Handles.{closed};
-ghost use Rattle.df_unit.specs.Rows.{unwritable};
+ghost use Rattle.df_unit.specs.Rows.{is_accepted, reply, unwritable};
+ghost use Rattle.df_unit.specs.declared.call.Call.{Call};
 ghost use Rattle.df_unit.specs.declared.entry.Effect.{Effect};
 ghost use Rattle.df_unit.specs.declared.reply.Reply.{Reply};
 ghost use Rattle.df_local.specs.Locally.{IsPublished, edited, publish_effect, publish_reply, release_effect, release_reply, with_own};
@@ -35,7 +36,9 @@ impl Local {
 
     /// The commit of a publish of this handle, where it is accepted.
     pub fn published(&self, h: u32) -> Result<Option<Commit>, NoMemory>
-        ensures { IfOk result (λ made. IfSome made (IsPublished self.now h)) }
+        ensures made { IfOk result (λ made. IfSome made (IsPublished self.now h)) }
+        ensures refused { IfOk result (λ made. made ≡ None → is_accepted
+            (reply self.now.unit self.now.own [] (Call.Publish h)) ≡ false) }
     {
         let Some(handle) = self.handles.get(h) else {
             return Ok(None);

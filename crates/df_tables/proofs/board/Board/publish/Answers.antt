@@ -27,7 +27,7 @@ book_at-requires-clause-right c =
     let actor = c.requires.seated.0 in
     let inside = place_in actor b.rows.items c.args.place c.requires.seated.1 in
     let told = accepted b c.args.place c.args.h c.args.call.now c.index.result.now c.in_ok-commit.field-0 c.in-Some.commit inside
-    c.requires.publish c.index.ensures c.in-Some.is c.in_ok-commit.ensures in
+    c.requires.publish c.index.ensures c.in-Some.is c.in_ok-commit.ensures.made in
     answered_at actor b.rows.items c.args.place c.args.call.now Reply.Ok (Effect.Commit c.in-Some.commit) c.requires.seated.1
     (subst (λ (o : Option Unit). answer_from o c.args.call.now ≡ (Reply.Ok, Effect.Commit c.in-Some.commit))
     (row_is b actor (Some c.args.place) c.requires.seated.1) told)
@@ -36,6 +36,6 @@ pub returns-clause-made : goal.returns-clause-made
 returns-clause-made c =
     let inside = place_in c.requires.seated.0 c.args.self.now.rows.items c.args.place c.requires.seated.1 in record {
       answer = accepted c.args.self.now c.args.place c.args.h c.args.call.now c.index.result.now c.in_ok-commit.field-0 c.in-Some.commit inside
-          c.requires.publish c.index.ensures c.in-Some.is c.in_ok-commit.ensures;
+          c.requires.publish c.index.ensures c.in-Some.is c.in_ok-commit.ensures.made;
       booked = c.in_ok-book_at.ensures.ok;
     }
