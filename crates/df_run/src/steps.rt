@@ -20,6 +20,9 @@ use df_start::Start;
 use df_steps::{append_common, append_root, append_step};
 use std::alloc::Global;
 
+// A journal has mostly two to five times as many bytes as its script.
+const JOURNAL_TIMES: usize = 4;
+
 /// The text of the journal of a script's calls.
 pub fn steps(alloc: Global, bytes: &[u8]) -> Result<Vec<u8>, FileRefused>
     ensures records { IfOk result (λ text. RecordsScript bytes.now text.items) }
@@ -29,21 +32,30 @@ pub fn steps(alloc: Global, bytes: &[u8]) -> Result<Vec<u8>, FileRefused>
         Ok(begun) => begun,
         Err(refused) => return Err(refused),
     };
-    journal_of(alloc, start, &mut reader)
+    let room = bytes.len().saturating_mul(JOURNAL_TIMES);
+    journal_of(alloc, start, &mut reader, room)
+}
+
+/// An empty text with room for this many bytes.
+fn roomy(alloc: Global, room: usize) -> Result<Vec<u8>, NoMemory>
+    ensures { IfOk result (λ text. text.items ≡ []) }
+{
+    Ok(Vec::with_capacity(alloc, room)?)
 }
 
 /// Makes the calls that are left to a reader, each as it is read, and gives the text of their
-/// journal, which nothing keeps.
+/// journal, which nothing keeps. The text is begun with room for this many bytes.
 fn journal_of(
     alloc: Global,
     start: Start,
     reader: &mut ScriptReader<'_>,
+    room: usize,
 ) -> Result<Vec<u8>, FileRefused>
     requires { HasRead start [] reader.old }
     ensures records { IfOk result (λ text. RecordsScript reader.old.bytes text.items) }
     ensures refuses { IfErr result (NamesBadLine IsScriptText IsTooLargeIn reader.old.bytes) }
 {
-    let mut text = Vec::new(alloc);
+    let mut text = roomy(alloc, room)?;
     write_head(&start, &mut text)?;
     let mut tables = Tables::begin(alloc, &start)?;
     let mut notes = Notes::new(alloc);

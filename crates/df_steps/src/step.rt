@@ -103,6 +103,27 @@ fn append_of_root(
     append_at(tables, notes, place, words, call, text)
 }
 
+/// Makes a call that creates an event or drops one, where that isn't accepted, and appends its
+/// entry with this note.
+#[inline(never)]
+fn append_unaccepted(
+    tables: &mut Tables,
+    place: Option<usize>,
+    note: &Note,
+    words: &[u8],
+    brief: Brief,
+    text: &mut Vec<u8>,
+) -> Result<(), NoMemory>
+    requires state { (core : State) × AgreesWith core tables.old }
+    requires seated { (actor : UnitName) × (place ≡ place_in tables.old actor) }
+    ensures { (core : State) (actor : UnitName) → AgreesWith core tables.old →
+        place ≡ place_in tables.old actor → words.now ≡ call_front actor (brief_call brief) →
+        OnOk result (AppendsEntry actor (brief_call brief) note.now core tables.new text.old.items
+        text.new.items) }
+{
+    append_other(tables, place, note, words, &brief.call(), text)
+}
+
 /// Makes a call of the unit at a place that creates an event or drops one, and appends its entry
 /// with the unit's contamination before it.
 fn append_brief(
@@ -124,8 +145,28 @@ fn append_brief(
     let note = notes.of(place, contamination)?;
     match tables.step_brief(place, brief)? {
         Some(accepted) => append_accepted(words, accepted, note, text),
-        None => append_other(tables, place, note, words, &brief.call(), text),
+        None => append_unaccepted(tables, place, note, words, brief, text),
     }
+}
+
+/// Makes the call of a common line by the unit at a place, and appends its entry with the root's
+/// contamination before it.
+#[inline(never)]
+fn append_asked(
+    tables: &mut Tables,
+    notes: &mut Notes,
+    place: Option<usize>,
+    line: CommonLine<'_>,
+    text: &mut Vec<u8>,
+) -> Result<(), NoMemory>
+    requires state { (core : State) × AgreesWith core tables.old }
+    requires seated { place ≡ place_in tables.old (Root (line.root ∷ [])) }
+    requires words { line.words.now ≡ call_front (Root (line.root ∷ [])) (asked line.ask) }
+    ensures { OnOk result ((core : State) → AgreesWith core tables.old →
+        AppendsStep (common_line line.entry.root line.entry.ask) core tables.new text.old.items
+        text.new.items) }
+{
+    append_at(tables, notes, place, line.words, &line.ask.call(), text)
 }
 
 /// Makes the call of a common line, and appends its entry with the root's contamination before it.
@@ -144,7 +185,7 @@ pub fn append_common(
     let place = tables.root(line.root);
     match brief_of(line.ask) {
         Some(brief) => append_brief(tables, notes, place, line.words, brief, text),
-        None => append_at(tables, notes, place, line.words, &line.ask.call(), text),
+        None => append_asked(tables, notes, place, line, text),
     }
 }
 

@@ -13,7 +13,7 @@ lines-init c = (
   [],
   c.requires,
   written_none c.args.start c.in_ok-tables.tables c.write_head.new.to.items c.in_ok-tables.ensures
-      (c.in_ok-write_head.ensures.ok ∙ ap (λ (t : List ℕ). t ++ head_text c.args.start) c.new-text.ensures.items),
+      (c.in_ok-write_head.ensures.ok ∙ ap (λ (t : List ℕ). t ++ head_text c.args.start) c.in_ok-text.ensures),
   refl,
 )
 

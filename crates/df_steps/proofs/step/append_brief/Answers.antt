@@ -1,21 +1,17 @@
-use Rattle.std.proofs.Common.{ap, subst, sym, ◌∙◌}
-use Rattle.std.specs.Prelude.{OnOk}
+use Rattle.std.proofs.Common.{sym, ◌∙◌}
 use Rattle.std.proofs.lemmas.Result.{on_ok_weaker}
 use Rattle.df_local.specs.Brief.{accepted_reply, brief_call}
 use Rattle.df_unit.specs.declared.entry.Effect.{Effect}
-use Rattle.df_journal_text.specs.Front.{call_front}
-use Rattle.df_unit.specs.declared.call.Call.{Call}
-use Rattle.df_steps.specs.code.Noting.{AppendsEntry}
 use Rattle.df_steps.proofs.Appending.{appends_entry, appends_step}
 use Rattle.df_steps.proofs.step.append_brief.Goals as goal
 
-pub append_other-requires-clause-state : goal.append_other-requires-clause-state
-append_other-requires-clause-state c =
+pub append_unaccepted-requires-clause-state : goal.append_unaccepted-requires-clause-state
+append_unaccepted-requires-clause-state c =
     let left = rw c.in-None.is at c.in_ok-accepted.ensures.made in
     (c.requires.state.0, left.0 c.requires.state.0 c.requires.state.1)
 
-pub append_other-requires-clause-seated : goal.append_other-requires-clause-seated
-append_other-requires-clause-seated c =
+pub append_unaccepted-requires-clause-seated : goal.append_unaccepted-requires-clause-seated
+append_unaccepted-requires-clause-seated c =
     let left = rw c.in-None.is at c.in_ok-accepted.ensures.made in
     (c.requires.seated.0, c.requires.seated.1 ∙ sym (left.1 c.requires.seated.0))
 
@@ -33,10 +29,8 @@ returns-in-Some c = λ core actor agrees seated words.
 pub returns-in-None : goal.returns-in-None
 returns-in-None c = λ core actor agrees seated words.
     let left = rw c.in-None.is at c.in_ok-accepted.ensures.made in
-    let front = words ∙ ap (call_front actor) (sym c.call.ensures) in
-    on_ok_weaker c.append_other.result
-    (appends_step core actor (brief_call c.args.brief) c.in_ok-note.note.now c.append_other.new.tables c.args.text.now.items c.append_other.new.text.items
+    on_ok_weaker c.append_unaccepted.result
+    (appends_step core actor (brief_call c.args.brief) c.in_ok-note.note.now c.append_unaccepted.new.tables c.args.text.now.items
+    c.append_unaccepted.new.text.items
     (c.in_ok-note.ensures ∙ c.contamination-contamination.ensures core actor agrees seated))
-    (subst
-    (λ (call : Call). OnOk c.append_other.result (AppendsEntry actor call c.in_ok-note.note.now core c.append_other.new.tables c.args.text.now.items c.append_other.new.text.items))
-    c.call.ensures (c.append_other.ensures core actor (left.0 core agrees) (seated ∙ sym (left.1 actor)) front))
+    (c.append_unaccepted.ensures core actor (left.0 core agrees) (seated ∙ sym (left.1 actor)) words)

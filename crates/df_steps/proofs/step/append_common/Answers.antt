@@ -12,9 +12,6 @@ use Rattle.df_steps.proofs.step.append_common.Goals as goal
 pub append_brief-requires-clause-seated : goal.append_brief-requires-clause-seated
 append_brief-requires-clause-seated c = (Root (c.args.line.root ∷ []), c.root-place.ensures)
 
-pub append_at-requires-clause-seated : goal.append_at-requires-clause-seated
-append_at-requires-clause-seated c = (Root (c.args.line.root ∷ []), c.root-place.ensures)
-
 pub returns-in-Some : goal.returns-in-Some
 returns-in-Some c =
     let root = c.args.line.root in
@@ -25,14 +22,3 @@ returns-in-Some c =
     c.in-Some.ensures
     (c.append_brief.ensures core (Root (root ∷ [])) agrees c.root-place.ensures
     (c.requires.words ∙ ap (call_front (Root (root ∷ []))) (sym c.in-Some.ensures)))))
-
-pub returns-in-None : goal.returns-in-None
-returns-in-None c =
-    let root = c.args.line.root in
-    on_ok_each _ c.append_at.result
-    (λ (core : State). on_ok_each _ c.append_at.result
-    (λ agrees. subst
-    (λ (call : Call). OnOk c.append_at.result (AppendsStep (root_call root call) core c.append_at.new.tables c.args.text.now.items c.append_at.new.text.items))
-    c.call.ensures
-    (c.append_at.ensures core (Root (root ∷ [])) agrees c.root-place.ensures
-    (c.requires.words ∙ ap (call_front (Root (root ∷ []))) (sym c.call.ensures)))))
