@@ -32,10 +32,10 @@ use Rattle.df_rules.specs.Own.{fixed, own, own_plain}
 use Rattle.df_rules.specs.Start.{rows}
 use Rattle.df_start.specs.declared.start.RootStart.{RootStart}
 use Rattle.df_turn.specs.Locally.{TurnState, most_local, wants_local}
-use Rattle.df_turn.specs.code.Going.{IsAt, IsEnded, IsGoing, goes_on, now_of}
+use Rattle.df_turn.specs.code.Going.{IsAt, IsEnded, IsGoing, IsSettled, goes_on, now_of}
 use Rattle.df_turn.specs.declared.going.Going.{Going}
 use Rattle.df_turn.specs.declared.stage.Stage.{Stage}
-use Rattle.df_turn.specs.declared.stage.Stage.TheVariants.{Told, Wants}
+use Rattle.df_turn.specs.declared.stage.Stage.TheVariants.{Answered, Told, Wants}
 use Rattle.df_unit.specs.Name.{same}
 use Rattle.df_unit.specs.OwnState.{Fixed, OwnState}
 use Rattle.df_unit.specs.Rows.{after, subscribed}
@@ -67,7 +67,7 @@ not_local : {B : Type 0} (brain : Brain B) (m : B × Last) (g : Going B) → IsG
 not_local brain m g going ended w e = by (wants_local (want_of w)) refl (subst (λ (s : Stage). IsAt brain (now_of brain m g) g.run.entries g.state s) e going.at).1
   where
     by : (b : Bool) → wants_local (want_of w) ≡ b → length g.run.entries < most_local → wants_local (want_of w) ≡ false
-    by true k few = absurd (let full = ended (ap goes_on e ∙ k) in let z : ⊥ = omega arith in z)
+    by true k few = absurd (let full = ended.full (ap goes_on e ∙ k) in let z : ⊥ = omega arith in z)
     by false k few = k
 
 module _ {B : Type 0} (brain : Brain B) (bs : List B) (start : List RootStart) (past : List Entry) (u : UnitName) (m : B × Last) (g : Going B)
@@ -90,6 +90,7 @@ module _ {B : Type 0} (brain : Brain B) (bs : List B) (start : List RootStart) (
     where
       by : (x : Stage) → seed_of g.run.present x ≡ Some (seed_name o n) → ⊥
       by (Told l) s = let z : ⊥ = cc in z
+      by Answered s = let z : ⊥ = cc in z
       by (Wants w) s =
           let named = seed_named g.run.present w (seed_name o n) s in
           let r = reached h in
@@ -252,7 +253,8 @@ module _ {B : Type 0} (brain : Brain B) (bs : List B) (start : List RootStart) (
           due false = refl
 
       by : (x : Stage) → g.stage ≡ x → turn_of brain bs most_local u core ≡ machine.booked (record g.run { base = record g.run.base { unit = u } }) (shared_by (has_delivery_in core u) x) core
-      by (Told l) e = turn most_local 0 (let z = ended (ap goes_on e) in omega arith)
+      by (Told l) e = turn most_local 0 (let z = ended.full (ap goes_on e) in omega arith)
+      by Answered e = turn most_local 0 (let z = ended.full (ap goes_on e) in omega arith)
       by (Wants w) e =
           let at : ((want_of w, g.state) ≡ brain.next now.0 now.1) × (length g.run.entries < most_local) = subst (λ (x : Stage). IsAt brain now g.run.entries g.state x) e going.at in
           let d = spare (length g.run.entries) most_local at.1 in
@@ -264,25 +266,22 @@ module _ {B : Type 0} (brain : Brain B) (bs : List B) (start : List RootStart) (
           ∙ asks w
 
 -- a turn that is current is under way
-pub under_way : {B : Type 0} (brain : Brain B) (core : State) (bs : List B) (crew : CrewState B) → (let x : CrewState B = record { core = core; brains = bs } in x) ≡ crew → (t : TurnState B) → IsCurrent brain t crew →
-    (m : B × Last) (g : Going B) → g.run.base ≡ t.unit → m ≡ (t.state, t.last) → IsGoing brain m g → IsUnderWay brain bs m g core
-under_way brain core bs crew view t current m g base is going =
-    let here = subst (λ (x : CrewState _). IsCurrent brain t x) (sym view) current in
-    record {
-      going = going;
-      unit = subst (λ (l : LocalState). local_of core l.unit ≡ Some l) (sym base) here.unit;
-      mind = subst (λ (l : LocalState). mind_in brain bs core l.unit ≡ Some m) (sym base) (here.mind ∙ ap (λ (p : _ × Last). Some p) (sym is));
-    }
+pub under_way : {B : Type 0} (brain : Brain B) (crew : CrewState B) (t : TurnState B) → IsCurrent brain t crew → (m : B × Last) (g : Going B) → g.run.base ≡ t.unit → m ≡ (t.state, t.last) →
+    IsGoing brain m g → IsUnderWay brain crew.brains m g crew.core
+under_way brain crew t here m g base is going = record {
+  going = going;
+  unit = subst (λ (l : LocalState). local_of crew.core l.unit ≡ Some l) (sym base) here.unit;
+  mind = subst (λ (l : LocalState). mind_in brain crew.brains crew.core l.unit ≡ Some m) (sym base) (here.mind ∙ ap (λ (p : _ × Last). Some p) (sym is));
+}
 
 -- what is booked of a turn that has ended is its unit's turn
-pub turned_is : {B : Type 0} (brain : Brain B) (core : State) (bs : List B) (crew : CrewState B) → (let x : CrewState B = record { core = core; brains = bs } in x) ≡ crew → (t : TurnState B) (m : B × Last) (g : Going B) →
-    g.run.base ≡ t.unit → IsUnderWay brain bs m g core → IsFollowed brain bs core → IsEnded g → (k : State) → k ≡ machine.booked g.run (shared_of g core) core →
-    (let x : CrewState B = record { core = k; brains = bs } in x) ≡ turned brain t.unit.unit crew
-turned_is brain core bs crew view t m g base under followed ended k is =
+pub turned_is : {B : Type 0} (brain : Brain B) (core : State) (bs : List B) (crew : CrewState B) → (let x : CrewState B = record { core = core; brains = bs } in x) ≡ crew → (m : B × Last) (g : Going B) →
+    IsUnderWay brain bs m g core → IsFollowed brain bs core → IsEnded g → (k : State) → k ≡ machine.booked g.run (shared_of g core) core →
+    (let x : CrewState B = record { core = k; brains = bs } in x) ≡ turned brain g.run.base.unit crew
+turned_is brain core bs crew view m g under followed ended k is =
     ap (λ (c : State). let x : CrewState _ = record { core = c; brains = bs } in x)
     (is ∙ sym (turn_booked brain bs core.0 core.1 g.run.base.unit m g under.going under.unit under.mind followed ended))
-    ∙ ap (λ (l : LocalState). turned brain l.unit (record { core = core; brains = bs })) base
-    ∙ ap (turned brain t.unit.unit) view
+    ∙ ap (turned brain g.run.base.unit) view
 
 -- where this unit's brain is kept, nothing else changes
 pub keeps_one : {B : Type 0} (u : UnitName) (m : B × Last) (old new : KeptState (B × Last)) → ((n : UnitName) → kept_at n new ≡ cond (same u n) (Some m) (kept_at n old)) → KeepsAtMost u m old new
@@ -296,6 +295,12 @@ keeps_one {B} u m old new h n = by (same u n) refl (h n)
 pub keeps_none : {B : Type 0} (u : UnitName) (m : B × Last) (old new : KeptState (B × Last)) → new ≡ old → KeepsAtMost u m old new
 keeps_none u m old new e n = inl (ap (kept_at n) e)
 
+-- with room for a subscription's brain the tables still agree
+pub manned_seeded : {B : Type 0} (brain : Brain B) (bs : List B) (core : State) (m : B × Last) (g : Going B) → IsUnderWay brain bs m g core → (kept : KeptState (B × Last)) (begun begun' : KeptState B) →
+    IsSeeded brain g.run.present g.stage g.state begun begun' → IsManned brain bs kept begun core → IsManned brain bs kept begun' core
+manned_seeded brain bs core m g under kept begun begun' seeded manned =
+    manned_ready brain bs core.0 core.1 g.run.base.unit m g under.going under.unit under.mind kept kept begun begun' (keeps_none g.run.base.unit m kept kept refl) (λ k h. seeded.others k h) manned
+
 -- what a turn leaves agrees with the journal
 pub manned_booked : {B : Type 0} (brain : Brain B) (bs : List B) (core : State) (m : B × Last) (g : Going B) → IsUnderWay brain bs m g core → (kept kept' : KeptState (B × Last)) (begun : KeptState B) →
     ((n : UnitName) → kept_at n kept' ≡ cond (same g.run.base.unit n) (Some (mind_behind brain m g core)) (kept_at n kept)) → IsSeed brain g.run.present g.stage g.state begun →
@@ -307,6 +312,7 @@ manned_booked brain bs core m g under kept kept' begun room seed h = by g.stage 
         IsManned brain bs kept' begun (machine.booked g.run s core)
     by x e None f now = manned_alone brain bs core.0 core.1 g.run.base.unit m g under.going under.unit under.mind kept kept' begun now h
     by (Told l) e (Some c) f now = absurd (let z : None ≡ Some c = sym (ap (shared_by (has_delivery_in core g.run.base.unit)) e) ∙ f in let y : ⊥ = cc in y)
+    by Answered e (Some c) f now = absurd (let z : None ≡ Some c = sym (ap (shared_by (has_delivery_in core g.run.base.unit)) e) ∙ f in let y : ⊥ = cc in y)
     by (Wants w) e (Some c) f now =
         let at : ((want_of w, g.state) ≡ brain.next (now_of brain m g).0 (now_of brain m g).1) × (length g.run.entries < most_local) =
         subst (λ (x : Stage). IsAt brain (now_of brain m g) g.run.entries g.state x) e under.going.at in
@@ -315,9 +321,9 @@ manned_booked brain bs core m g under kept kept' begun room seed h = by g.stage 
         (λ name k. seed name (ap (seed_of g.run.present) e ∙ k)) h
 
 -- the brain behind a turn that makes all its calls
-pub left_is : {B : Type 0} (brain : Brain B) (m : B × Last) (g : Going B) → IsGoing brain m g → (core : State) (due : Bool) → has_delivery_in core g.run.base.unit ≡ due → (g.stage ≡ Wants wish.Wait → due ≡ true) →
+pub left_is : {B : Type 0} (brain : Brain B) (m : B × Last) (g : Going B) → IsGoing brain m g → IsEnded g → (core : State) (due : Bool) → has_delivery_in core g.run.base.unit ≡ due → (g.stage ≡ Wants wish.Wait → due ≡ true) →
     left_by g.state g.stage (machine.reply_booked g.run (shared_by due g.stage) core) ≡ mind_behind brain m g core
-left_is brain m g going core due is made = by g.stage refl going.at ∙ ap (λ (b : Bool). mind_after (now_of brain m g) g.state (machine.reply_booked g.run (shared_by b g.stage) core)) (sym is)
+left_is brain m g going ended core due is made = by g.stage refl going.at ∙ ap (λ (b : Bool). mind_after (now_of brain m g) g.state (machine.reply_booked g.run (shared_by b g.stage) core)) (sym is)
   where
     replied : (s : Stage) (c : Call) (call : Option Call) → call ≡ Some c →
         left_by g.state s (machine.reply_booked g.run call core) ≡ mind_after (now_of brain m g) g.state (machine.reply_booked g.run call core)
@@ -326,6 +332,7 @@ left_is brain m g going core due is made = by g.stage refl going.at ∙ ap (λ (
     by : (s : Stage) → g.stage ≡ s → IsAt brain (now_of brain m g) g.run.entries g.state s →
         left_by g.state g.stage (machine.reply_booked g.run (shared_by due g.stage) core) ≡ mind_after (now_of brain m g) g.state (machine.reply_booked g.run (shared_by due g.stage) core)
     by (Told l) e at = subst (λ (s : Stage). left_by g.state s (machine.reply_booked g.run (shared_by due s) core) ≡ mind_after (now_of brain m g) g.state (machine.reply_booked g.run (shared_by due s) core)) (sym e) (sym at)
+    by Answered e at = absurd (subst (λ (s : Stage). IsSettled s) e ended.settled)
     by (Wants (wish.Call c)) e at = replied g.stage c (shared_by due g.stage) (ap (shared_by due) e)
     by (Wants wish.Wait) e at = replied g.stage Get (shared_by due g.stage) (ap (shared_by due) e ∙ ap (λ (b : Bool). cond b (Some Get) None) (made e))
 

@@ -8,7 +8,7 @@ ghost use Rattle.df_machine.specs.Booking.{booked, reply_booked};
 ghost use Rattle.df_machine.specs.Journal.{local_of};
 ghost use Rattle.df_turn.specs.declared.stage.Stage.TheVariants.{Wants};
 ghost use Rattle.df_rules.specs.Follows.{brain_of};
-ghost use Rattle.df_turn.specs.code.Going.{IsEnded, IsGoing, now_of};
+ghost use Rattle.df_turn.specs.code.Going.{IsEnded, IsGoing, IsSettled, now_of};
 
 use df_brain::{Brain, Last, Want};
 use df_machine::Core;
@@ -27,11 +27,13 @@ enum Rest {
 /// The shared call that follows the local calls of a turn, if any, and the rest: a get only where
 /// a delivery is left.
 fn parted(stage: Stage, due: bool) -> (Option<Call>, Rest)
+    requires { IsSettled stage }
     ensures shared { result.0 ≡ shared_by due stage }
     ensures back { back_of result.1 result.0 ≡ stage }
 {
     match stage {
         Stage::Told(last) => (None, Rest::Long(last)),
+        Stage::Answered => unreachable!(),
         Stage::Wants(Want::Call(call)) => (Some(call), Rest::Called),
         Stage::Wants(Want::Wait) => (if due { Some(Call::Get) } else { None }, Rest::Waits),
     }
@@ -88,8 +90,10 @@ pub(crate) struct Booked<B: Brain> {
 
 /// Books the local calls of a turn, and then the shared call that is wanted, or a get where the
 /// turn waits and a delivery is left, as is told.
+#[inline(never)]
 fn book_calls<B: Brain>(core: &mut Core, going: Going<B>, due: bool) -> Result<Booked<B>, Going<B>>
     requires current { local_of core.old going.run.base.unit ≡ Some going.run.base }
+    requires settled { IsSettled going.stage }
     ensures entries { OnOk result (core.new
         ≡ booked going.run (shared_by due going.stage) core.old) }
     ensures mind { IfOk result (λ b. b.mind ≡ left_by going.state going.stage

@@ -4,4 +4,4 @@
 mod booking;
 mod renewal;
 
-pub use renewal::{book_kept, seed_name};
+pub use renewal::{book_at, book_kept, seed_name};

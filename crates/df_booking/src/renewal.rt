@@ -5,10 +5,10 @@ ghost use Rattle.std.specs.Option.{option_map};
 ghost use Rattle.df_booking.specs.Manned.{IsManned, seed_name};
 ghost use Rattle.df_booking.specs.code.Renewal.{IsUnderWay, shared_of};
 ghost use Rattle.df_booking.specs.code.Seeding.{IsSeed, IsSeeded, KeepsAtMost, seed_of};
-ghost use Rattle.df_kept.specs.Kept.{IsPlace};
+ghost use Rattle.df_kept.specs.Kept.{IsPlace, kept_at};
 ghost use Rattle.df_machine.specs.Booking.{booked};
 ghost use Rattle.df_machine.specs.Journal.{State, local_of};
-ghost use Rattle.df_rules.specs.Follows.{brain_of};
+ghost use Rattle.df_rules.specs.Follows.{Last as Told, brain_of};
 ghost use Rattle.df_turn.specs.code.Going.{IsEnded, IsGoing};
 ghost use Rattle.df_unit.specs.declared.name.UnitName.{UnitName};
 
@@ -120,6 +120,7 @@ fn prepare<B: Brain>(
 /// Books a turn's local calls and then the shared call that is wanted, or a get where the turn
 /// waits and a delivery is left, and renews its unit's brain; or gives the turn back where there is
 /// no memory. The tables agree with the journal as before.
+#[inline(never)]
 pub fn book_kept<B: Brain>(
     alloc: Global,
     core: &mut Core,
@@ -145,6 +146,45 @@ pub fn book_kept<B: Brain>(
         return Err(going);
     };
     match book_going(alloc, core, base, going) {
+        Ok(booked) => {
+            minds.renew(place, booked.mind);
+            Ok(booked.count)
+        }
+        Err(going) => Err(going),
+    }
+}
+
+/// Books a turn as `book_kept` does, where its unit's brain as it began is kept at this place.
+#[inline(never)]
+pub fn book_at<B: Brain>(
+    alloc: Global,
+    core: &mut Core,
+    minds: &mut Kept<Mind<B>>,
+    seeds: &mut Kept<B>,
+    place: usize,
+    going: Going<B>,
+) -> Result<u64, Going<B>>
+    requires place { IsPlace going.run.base.unit place minds.old }
+    requires going { (m : B × Told) → kept_at going.run.base.unit minds.old ≡ Some m →
+        IsGoing (brain_of B.next B.instance) m going }
+    requires ended { IsEnded going }
+    requires unit { local_of core.old going.run.base.unit ≡ Some going.run.base }
+    ensures manned { (bs : List B) (m : B × Told) →
+        kept_at going.run.base.unit minds.old ≡ Some m →
+        IsUnderWay (brain_of B.next B.instance) bs m going core.old →
+        IsManned (brain_of B.next B.instance) bs minds.old seeds.old core.old →
+        IsManned (brain_of B.next B.instance) bs minds.new seeds.new core.new }
+    ensures entries { OnOk result (core.new
+        ≡ booked going.run (shared_of going core.old) core.old) }
+    ensures count { IfOk result (λ n. length core.new.1 ≡ n + length core.old.1) }
+    ensures unchanged { OnErr result (core.new ≡ core.old) }
+    ensures back { IfErr result (λ g. g ≡ going) }
+{
+    let unit = going.run.present();
+    let Ok(()) = seed(alloc, seeds, unit, &going.stage, going.state.state()) else {
+        return Err(going);
+    };
+    match book_going(alloc, core, minds.at(place), going) {
         Ok(booked) => {
             minds.renew(place, booked.mind);
             Ok(booked.count)

@@ -1,22 +1,28 @@
 -- The brains of a crew as it starts, and that who exists has a brain, and is still where it waits.
 use Rattle.std.proofs.Common.{◌≡◌, ℕ, zero, suc, List, [], ◌∷◌, Bool, true, false, refl, sym, ◌∙◌, ap, subst, cond, Option, Some, None, length, slice_get, map, arith, Bor, Result, Ok, Err}
-use Rattle.std.specs.Prelude.{IsSome, OnErr, is_some, option_copied}
+use Rattle.std.specs.Prelude.{IsSome, OnErr, OnOk, is_some, option_copied}
 use Rattle.std.specs.Option.{option_map, option_or}
 use Rattle.df_brain.specs.Brain.{is_child_wanted}
 use Rattle.df_booking.specs.CrewState.{CrewState, mind_in, want_by}
-use Rattle.df_booking.specs.Manned.{IsManned, IsMind, seed_name}
+use Rattle.df_booking.specs.Manned.{IsFollowed, IsManned, IsMind, seed_name}
 use Rattle.df_booking.specs.Turns.{asked_by, is_local_want, turn_of, turned}
+use Rattle.df_booking.specs.code.Renewal.{IsUnderWay, shared_of}
+use Rattle.df_booking.proofs.Acting.{own_of}
+use Rattle.df_booking.proofs.Manning.{turned_is}
 use Rattle.df_booking.proofs.Brained.{fixed_counted, makes_none}
 use Rattle.df_booking.proofs.Entries.{recorded, some_is}
 use Rattle.df_kept.specs.Kept.{KeptState, kept_at}
 use Rattle.df_label.specs.Tag.{maker_of, number_of}
 use Rattle.df_local.specs.code.LocalState.{LocalState}
+use Rattle.df_machine.specs.Booking as machine
 use Rattle.df_machine.specs.Journal.{State, firsts, has_delivery_in, local_of}
 use Rattle.df_rules.specs.Follows.{Brain, Follows, Last, Wait, Want, began_with, replies_of, root_began, wanted}
 use Rattle.df_rules.specs.Own.{made_by, own, own_plain, root_at, stepped}
 use Rattle.df_rules.specs.Start.{rows}
 use Rattle.df_start.specs.declared.start.RootStart.{RootStart}
 use Rattle.df_turn.specs.Locally.{most_local}
+use Rattle.df_turn.specs.code.Going.{IsEnded, IsGoing}
+use Rattle.df_turn.specs.declared.going.Going.{Going}
 use Rattle.df_unit.specs.Name.{same}
 use Rattle.df_unit.specs.OwnState.{OwnState}
 use Rattle.df_unit.specs.Rows.{after}
@@ -167,3 +173,24 @@ still_waiting brain crew u m mind waits none =
         { core = cond (is_local_want (Some w)) (turn_of brain crew.brains most_some.0 u (asked_by crew.core u (Some w))) (asked_by crew.core u (Some w)) })
         waits
         ∙ ap (λ (k : State). record crew { core = k }) none_asked
+
+-- a turn that began from a unit and its brain is under way
+pub begun_under_way : {B : Type 0} (brain : Brain B) (bs : List B) (core : State) (u : UnitName) (l : LocalState) (m : B × Last) (g : Going B) → local_of core u ≡ Some l → mind_in brain bs core u ≡ Some m →
+    g.run.base ≡ l → IsGoing brain m g → IsUnderWay brain bs m g core × (g.run.base.unit ≡ u)
+begun_under_way brain bs core u l m g here mind base going =
+    let named : l.unit ≡ u = (own_of core u l here).1 in
+    let of_unit : g.run.base.unit ≡ u = ap (λ (x : LocalState). x.unit) base ∙ named in (
+      record {
+        going = going;
+        unit = subst (λ (v : UnitName). local_of core v ≡ Some g.run.base) (sym of_unit) (here ∙ ap (λ (x : LocalState). Some x) (sym base));
+        mind = subst (λ (v : UnitName). mind_in brain bs core v ≡ Some m) (sym of_unit) mind;
+      },
+      of_unit,
+    )
+
+-- where a turn is booked, it is its unit's
+pub booked_ok : {B T E : Type 0} (brain : Brain B) (core : State) (bs : List B) (crew : CrewState B) → (let x : CrewState B = record { core = core; brains = bs } in x) ≡ crew → (m : B × Last) (g : Going B) →
+    IsUnderWay brain bs m g core → IsFollowed brain bs core → IsEnded g → (k : State) (r : Result T E) → OnOk r (k ≡ machine.booked g.run (shared_of g core) core) →
+    OnOk r ((let x : CrewState B = record { core = k; brains = bs } in x) ≡ turned brain g.run.base.unit crew)
+booked_ok brain core bs crew view m g under followed ended k (Ok x) is = turned_is brain core bs crew view m g under followed ended k is
+booked_ok brain core bs crew view m g under followed ended k (Err e) is = tt

@@ -1,31 +1,29 @@
 //! A crew: a machine whose units have brains.
 
 ghost use Rattle.std.specs.Prelude.{◌≡◌, ◌↔◌, ◌+◌, [], length, Err, IfErr, IfOk, IsTrue, None, OnErr, OnOk, Some, is_some, option_copied, true};
-ghost use Rattle.df_machine.specs.Journal.{IsRoll, firsts, local_of};
-ghost use Rattle.df_rules.specs.Follows.{Quiet, began_with, brain_of, replies_of, root_began};
+ghost use Rattle.df_machine.specs.Journal.{firsts, local_of};
+ghost use Rattle.df_rules.specs.Follows.{began_with, brain_of, replies_of, root_began};
 ghost use Rattle.df_crew.specs.declared.crew.BeginRefused.TheVariants.{NoSuchUnit};
 ghost use Rattle.df_booking.specs.Booked.{IsCurrent, booked};
 ghost use Rattle.df_crew.specs.Booking.{IsRefused, IsUntold};
 ghost use Rattle.df_crew.specs.Growing.{IsMore};
 ghost use Rattle.df_booking.specs.CrewState.{mind_in};
-ghost use Rattle.df_crew.specs.Resting.{IsResting};
 ghost use Rattle.df_crew.specs.Since.{WasCurrent};
 ghost use Rattle.df_booking.specs.Turns.{turned};
 ghost use Rattle.df_unit.specs.Rows.{is_instance};
 ghost use Rattle.df_unit.specs.declared.name.UnitName.{UnitName};
 ghost use Rattle.df_rules.specs.Start.{rows};
 
-use crate::base::{Base, turn_of};
-use crate::roster::units;
+use crate::base::Base;
 use crate::since::has_entry;
-use df_booking::{book_kept, seed_name};
+use df_booking::{book_at, book_kept, seed_name};
 use df_brain::{Brain, Last};
 use df_kept::Kept;
 use df_local::Local;
 use df_machine::Core;
 use df_memory::NoMemory;
 use df_start::Start;
-use df_turn::{Mind, Shared, Turn, TurnParts};
+use df_turn::{Going, Mind, Shared, Turn, TurnParts};
 use df_unit::{Path, UnitName};
 use std::alloc::Global;
 use std::marker::Model;
@@ -60,7 +58,7 @@ pub struct Crew<B: Brain> {
     brains: Vec<B>,
     minds: Kept<Mind<B>>,
     seeds: Kept<B>,
-    alloc: Global,
+    pub(crate) alloc: Global,
 }
 
 impl<B: Brain> Model for Crew<B> {
@@ -89,8 +87,10 @@ fn root_state<'a, B: Brain>(brains: &'a [B], path: &Path) -> Option<&'a B>
 }
 
 impl<B: Brain> Crew<B> {
-    ghost use Rattle.df_crew.specs.Locally.{IsBase, IsBegun};
+    ghost use Rattle.df_booking.specs.code.Renewal.{IsUnderWay};
+    ghost use Rattle.df_crew.specs.Locally.{IsBase};
     ghost use Rattle.df_booking.specs.Manned.{IsFollowed};
+    ghost use Rattle.df_turn.specs.code.Going.{IsEnded};
 
     /// A crew whose journal is empty, with a brain for each root.
     pub fn start(alloc: Global, start: Start, brains: Vec<B>) -> Result<Crew<B>, NoMemory>
@@ -135,7 +135,7 @@ impl<B: Brain> Crew<B> {
     }
 
     /// A unit's brain. It is copied where the unit has not taken a turn yet.
-    fn mind(&self, unit: &UnitName) -> Result<Mind<B>, NoMemory>
+    pub(crate) fn mind(&self, unit: &UnitName) -> Result<Mind<B>, NoMemory>
         requires { is_some (local_of self.now.core unit.now) ≡ true }
         ensures { IfOk result (λ m. mind_in (brain_of B.next B.instance) self.now.brains
             self.now.core unit.now ≡ Some m) }
@@ -160,22 +160,6 @@ impl<B: Brain> Crew<B> {
         }
         let state = self.first_state(unit)?.unwrap();
         Ok(mind.is_first(state))
-    }
-
-    /// A turn of a unit. It costs a copy of the unit, and its first local call another; its brain is
-    /// shared, but for a copy in its first turn.
-    pub fn begin(&self, unit: &UnitName) -> Result<Turn<B>, BeginRefused>
-        ensures begun { IfOk result (λ t. IsBegun (brain_of B.next B.instance) self.now.brains
-            self.now.core unit.now t) }
-        ensures absent { (result ≡ Err NoSuchUnit) ↔ (local_of self.now.core unit.now ≡ None) }
-    {
-        let Some(local) = self.core.local(unit) else {
-            return Err(BeginRefused::NoSuchUnit);
-        };
-        match self.mind(unit) {
-            Ok(mind) => turn_of(self.alloc, local, mind),
-            Err(NoMemory) => Err(BeginRefused::NoMemory),
-        }
     }
 
     /// What a turn of a unit begins from. It costs a copy of the unit; its brain is shared, but for
@@ -221,6 +205,21 @@ impl<B: Brain> Crew<B> {
         self.has_mind(unit.name(), turn.mind())
     }
 
+    /// Books a turn whose local calls are made, or gives it back where there is no memory.
+    fn book_going(&mut self, base: &Mind<B>, going: Going<B>) -> Result<u64, Going<B>>
+        requires under_way { IsUnderWay (brain_of B.next B.instance) self.old.brains base.now going
+            self.old.core }
+        requires ended { IsEnded going }
+        ensures ok { OnOk result (self.new
+            ≡ turned (brain_of B.next B.instance) going.run.base.unit self.old) }
+        ensures count { IfOk result (λ n. length self.new.core.1 ≡ n + length self.old.core.1) }
+        ensures unchanged { OnErr result (self.new ≡ self.old) }
+        ensures back { IfErr result (λ g. g ≡ going) }
+    {
+        let (minds, seeds) = (&mut self.minds, &mut self.seeds);
+        book_kept(self.alloc, &mut self.core, minds, seeds, base, going)
+    }
+
     /// Books a turn that was advanced and is current, or gives it back where there is no memory.
     fn book_ready(&mut self, turn: Turn<B>) -> Result<u64, Turn<B>>
         requires ready { turn.is_ready ≡ true }
@@ -236,8 +235,7 @@ impl<B: Brain> Crew<B> {
             going,
             is_ready,
         } = turn.into_parts();
-        let (minds, seeds) = (&mut self.minds, &mut self.seeds);
-        match book_kept(self.alloc, &mut self.core, minds, seeds, &base, going) {
+        match self.book_going(&base, going) {
             Ok(count) => {
                 drop(base);
                 Ok(count)
@@ -253,9 +251,64 @@ impl<B: Brain> Crew<B> {
         }
     }
 
+    /// Gives a unit its first turn.
+    #[inline(never)]
+    fn take_first_turn(&mut self, unit: &UnitName) -> Result<(), NoMemory>
+        ensures turned { OnOk result (self.new
+            ≡ turned (brain_of B.next B.instance) unit.now self.old) }
+        ensures brain { OnOk result (is_some (local_of self.old.core unit.now) ≡ true →
+            is_some (mind_in (brain_of B.next B.instance) self.old.brains self.old.core unit.now)
+            ≡ true) }
+        ensures unchanged { OnErr result (self.new ≡ self.old) }
+    {
+        let Some(local) = self.core.local(unit) else {
+            return Ok(());
+        };
+        let mind = self.mind(unit)?;
+        let going = Going::advanced(self.alloc, local, &mind)?;
+        match self.book_going(&mind, going) {
+            Ok(_) => Ok(()),
+            Err(going) => {
+                going.let_go();
+                Err(NoMemory)
+            }
+        }
+    }
+
+    /// Gives a unit a turn, which is advanced and booked at once. Who doesn't exist does nothing,
+    /// and who is known to wait, with no delivery left, isn't asked.
+    pub fn take_turn(&mut self, unit: &UnitName) -> Result<(), NoMemory>
+        ensures turned { OnOk result (self.new
+            ≡ turned (brain_of B.next B.instance) unit.now self.old) }
+        ensures brain { OnOk result (is_some (local_of self.old.core unit.now) ≡ true →
+            is_some (mind_in (brain_of B.next B.instance) self.old.brains self.old.core unit.now)
+            ≡ true) }
+        ensures unchanged { OnErr result (self.new ≡ self.old) }
+    {
+        let Some(place) = self.minds.place(unit) else {
+            return self.take_first_turn(unit);
+        };
+        let mind = self.minds.at(place);
+        if mind.is_known_to_wait() && !self.core.has_delivery(unit) {
+            return Ok(());
+        }
+        let Some(local) = self.core.local(unit) else {
+            return Ok(());
+        };
+        let going = Going::advanced(self.alloc, local, mind)?;
+        let (minds, seeds) = (&mut self.minds, &mut self.seeds);
+        match book_at(self.alloc, &mut self.core, minds, seeds, place, going) {
+            Ok(_) => Ok(()),
+            Err(going) => {
+                going.let_go();
+                Err(NoMemory)
+            }
+        }
+    }
+
     /// Books a turn as `book` does, where the unit and its brain are known to be as the turn began:
     /// they aren't compared. It gives the turn back where there is no memory.
-    pub fn book_current(&mut self, turn: Turn<B>) -> Result<u64, Turn<B>>
+    fn book_current(&mut self, turn: Turn<B>) -> Result<u64, Turn<B>>
         requires { IsCurrent (brain_of B.next B.instance) turn self.old }
         ensures ok { OnOk result (self.new
             ≡ booked (brain_of B.next B.instance) turn self.old) }
@@ -342,59 +395,5 @@ impl<B: Brain> Crew<B> {
             return self.book(turn);
         }
         self.book_there(turn)
-    }
-
-    /// Whether it is known that a unit waits, and no delivery is left to it. Takes no memory, and
-    /// copies nothing. Where it isn't known, a turn tells.
-    pub fn is_idle(&self, unit: &UnitName) -> bool
-        ensures still { IsTrue result →
-            turned (brain_of B.next B.instance) unit.now self.now ≡ self.now }
-        ensures brain { IsTrue result → is_some (mind_in (brain_of B.next B.instance)
-            self.now.brains self.now.core unit.now) ≡ true }
-    {
-        let Some(mind) = self.minds.get(unit) else {
-            return false;
-        };
-        let is_due = self.core.has_delivery(unit);
-        if is_due {
-            return false;
-        }
-        mind.is_known_to_wait()
-    }
-
-    /// Whether a unit waits, and no delivery is left to it.
-    fn is_at_rest(&self, unit: &UnitName) -> Result<bool, NoMemory>
-        requires { is_some (local_of self.now.core unit.now) ≡ true }
-        ensures { IfOk result (λ b.
-            IsTrue b ↔ IsResting (brain_of B.next B.instance) self.now unit.now) }
-    {
-        if self.core.has_delivery(unit) {
-            return Ok(false);
-        }
-        self.mind(unit)?.waits(self.alloc)
-    }
-
-    /// Whether each of the units waits, and no delivery is left to it.
-    fn are_at_rest(&self, units: &[UnitName]) -> Result<bool, NoMemory>
-        requires { IsRoll self.now.core units.now }
-        ensures { IfOk result (λ b. IsTrue b ↔ Quiet (brain_of B.next B.instance) rows
-            (firsts self.now.core.0) self.now.brains self.now.core.1) }
-    {
-        for unit in units {
-            if !self.is_at_rest(unit)? {
-                return Ok(false);
-            }
-        }
-        Ok(true)
-    }
-
-    /// Whether each unit waits, and no delivery is left to it. It costs a copy of each unit's
-    /// name, and of the brains that are not known to wait.
-    pub fn is_quiet(&self) -> Result<bool, NoMemory>
-        ensures { IfOk result (λ b. IsTrue b ↔ Quiet (brain_of B.next B.instance) rows
-            (firsts self.now.core.0) self.now.brains self.now.core.1) }
-    {
-        let units = units(self.alloc, &self.core)?;
-        self.are_at_rest(units.as_slice())
     }
 }

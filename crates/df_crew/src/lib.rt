@@ -5,6 +5,7 @@ mod base;
 mod crew;
 mod journaled;
 mod origin;
+mod rest;
 mod roster;
 mod since;
 

@@ -59,6 +59,15 @@ impl<V: Drop> Kept<V> {
         self.roll.place(name)
     }
 
+    /// What is kept at a unit's place.
+    pub fn at(&self, place: usize) -> &V
+        requires { place < length self.now.1 }
+        ensures { (n : UnitName) → IsPlace n place self.now →
+            kept_at n self.now ≡ Some result.now }
+    {
+        &self.values[place]
+    }
+
     /// Keeps a value in place of the one at a unit's place.
     pub fn renew(&mut self, place: usize, value: V)
         requires { place < length self.old.1 }

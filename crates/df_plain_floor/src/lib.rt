@@ -3,7 +3,6 @@
 
 pub mod laws;
 mod run;
-mod turn;
 mod turns;
 
 pub use run::{Ended, open_turns, run_passes, run_turns};

@@ -6,7 +6,6 @@ ghost use Rattle.df_plain_floor.specs.PlainRun.{IsPass, IsQuiet, IsTurn, is_full
 ghost use Rattle.df_rules.specs.Follows.{brain_of};
 ghost use Rattle.df_unit.specs.declared.name.UnitName.{UnitName};
 
-use crate::turn::make_turn;
 use df_brain::Brain;
 use df_crew::{Crew, units};
 use df_memory::NoMemory;
@@ -41,7 +40,7 @@ pub(crate) fn take_turn<B: Brain>(
     if is_full(crew, max) {
         return Ok(());
     }
-    make_turn(crew, unit)
+    crew.take_turn(unit)
 }
 
 /// Gives units one turn each, the first one first.

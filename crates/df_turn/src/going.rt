@@ -5,14 +5,14 @@ ghost use Rattle.df_brain.specs.Brain.{last_of};
 ghost use Rattle.df_brain.specs.declared.want.Want.TheVariants.{Wait};
 ghost use Rattle.df_rules.specs.Follows.{Last as Told, brain_of};
 ghost use Rattle.df_turn.specs.Locally.{most_local, ready_from};
-ghost use Rattle.df_turn.specs.code.Going.{IsEnded, IsGoing, IsMade, goes_on, led, steps_left};
-ghost use Rattle.df_turn.specs.declared.stage.Stage.TheVariants.{Wants};
+ghost use Rattle.df_turn.specs.code.Going.{IsEnded, IsGoing, IsSettled, IsTaken, goes_on, led, steps_left, steps_made, told_behind};
+ghost use Rattle.df_turn.specs.declared.stage.Stage.TheVariants.{Answered, Wants};
 ghost use Rattle.df_unit.specs.declared.entry.Entry.{Entry};
 
 use crate::mind::Mind;
 use crate::ready::Ready;
 use crate::shared::Shared;
-use crate::stage::{Stage, reply_to, take};
+use crate::stage::{Stage, take};
 use df_brain::{Brain, Last, Want};
 use df_local::Local;
 use df_local_run::LocalRun;
@@ -83,8 +83,25 @@ impl<B: Brain> Going<B> {
         })
     }
 
+    /// A turn of a unit with this brain, whose local calls are made. It costs a copy of the unit,
+    /// and its first local call another.
+    pub fn advanced(alloc: Global, unit: &Local, mind: &Mind<B>) -> Result<Going<B>, NoMemory>
+        ensures unit { IfOk result (λ g. g.run.base ≡ unit.now) }
+        ensures going { IfOk result (λ g. IsGoing (brain_of B.next B.instance) mind.now g) }
+        ensures ended { IfOk result (λ g. IsEnded g) }
+    {
+        let mut going = Going::begin(alloc, unit.copy()?, mind)?;
+        match going.go_on(alloc) {
+            Ok(()) => Ok(going),
+            Err(NoMemory) => {
+                going.let_go();
+                Err(NoMemory)
+            }
+        }
+    }
+
     /// Lets the turn go, one part after the other.
-    pub(crate) fn let_go(self) {
+    pub fn let_go(self) {
         let Going { run, state, stage } = self;
         drop(state);
         drop(stage);
@@ -92,15 +109,14 @@ impl<B: Brain> Going<B> {
     }
 
     /// Makes the local call that is wanted.
-    #[tactic(auto, using(crate::proofs::Goings::made_by))]
     fn make(&mut self) -> Result<(), NoMemory>
         requires { goes_on self.old.stage ≡ true }
-        ensures ok { OnOk result (IsMade self.old.run self.new.run self.old.stage self.new.stage) }
+        ensures taken { OnOk result (IsTaken self.old.run self.new.run self.old.stage) }
+        ensures stage { OnOk result (self.new.stage ≡ Answered) }
         ensures state { self.new.state ≡ self.old.state }
         ensures unchanged { OnErr result (self.new ≡ self.old) }
     {
-        let reply = reply_to(&self.run, &self.stage)?;
-        let wanted = mem::replace(&mut self.stage, Stage::Told(Last::Reply(reply)));
+        let wanted = mem::replace(&mut self.stage, Stage::Answered);
         match take(&mut self.run, wanted) {
             Ok(()) => Ok(()),
             Err(wanted) => {
@@ -108,6 +124,31 @@ impl<B: Brain> Going<B> {
                 Err(NoMemory)
             }
         }
+    }
+
+    /// The reply to the newest call, which the brain is told.
+    fn newest(&self) -> Result<Last, NoMemory>
+        ensures { IfOk result (λ l. last_of l ≡ told_behind self.now.run.entries) }
+    {
+        match self.run.entries().last() {
+            Some(Entry::Done { reply, .. }) => Ok(Last::Reply(reply.copy()?)),
+            _ => Ok(Last::Start),
+        }
+    }
+
+    /// Asks the brain, which is told the reply to the newest call.
+    fn ask_on(&mut self, alloc: Global) -> Result<(), NoMemory>
+        requires few { length self.old.run.entries < most_local }
+        requires answered { self.old.stage ≡ Answered }
+        ensures run { self.new.run ≡ self.old.run }
+        ensures going { (m : B × Told) → IsGoing (brain_of B.next B.instance) m self.old →
+            IsGoing (brain_of B.next B.instance) m self.new }
+        ensures wants { OnOk result (steps_made self.new.stage ≡ 1) }
+    {
+        let last = self.newest()?;
+        let want = self.state.next(alloc, &last)?;
+        self.stage = Stage::Wants(want);
+        Ok(())
     }
 
     /// Asks the brain, or makes the local call that it wants.
@@ -125,8 +166,23 @@ impl<B: Brain> Going<B> {
                 self.stage = Stage::Wants(want);
                 Ok(())
             }
+            Stage::Answered => self.ask_on(alloc),
             Stage::Wants(_) => self.make(),
         }
+    }
+
+    /// Has the brain be told the reply to the newest call, where it is to be.
+    fn settle(&mut self) -> Result<(), NoMemory>
+        ensures run { self.new.run ≡ self.old.run }
+        ensures going { (m : B × Told) → IsGoing (brain_of B.next B.instance) m self.old →
+            IsGoing (brain_of B.next B.instance) m self.new }
+        ensures same { goes_on self.new.stage ≡ goes_on self.old.stage }
+        ensures settled { OnOk result (IsSettled self.new.stage) }
+    {
+        if let Stage::Answered = &self.stage {
+            self.stage = Stage::Told(self.newest()?);
+        }
+        Ok(())
     }
 
     /// Makes the local calls that are wanted. Where there is no memory, some are made.
@@ -140,7 +196,7 @@ impl<B: Brain> Going<B> {
         while self.run.entries().len() < MOST_LOCAL && self.stage.goes_on() {
             self.step(alloc)?;
         }
-        Ok(())
+        self.settle()
     }
 
     /// How the turn ends, once no local call is left to make.
@@ -151,6 +207,7 @@ impl<B: Brain> Going<B> {
     {
         match &self.stage {
             Stage::Told(_) => Ready::Long,
+            Stage::Answered => Ready::Long,
             Stage::Wants(want) => match want {
                 Want::Call(_) => Ready::Shared,
                 Want::Wait => Ready::Waiting,

@@ -66,7 +66,20 @@ impl<B: Brain> Shared<B> {
         if let Some(own) = Arc::get_mut(&mut self.state) {
             return own.next(last);
         }
-        self.next_apart(alloc, last)
+        self.part(alloc)?;
+        match Arc::get_mut(&mut self.state) {
+            Some(own) => own.next(last),
+            None => self.next_apart(alloc, last),
+        }
+    }
+
+    /// Makes a copy of the state that nobody shares.
+    #[inline(never)]
+    fn part(&mut self, alloc: Global) -> Result<(), NoMemory>
+        ensures { self.new ≡ self.old }
+    {
+        self.state = Arc::new(alloc, self.state.copy()?)?;
+        Ok(())
     }
 
     /// What is wanted next, where a copy of the state goes on.

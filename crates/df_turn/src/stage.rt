@@ -1,18 +1,18 @@
 //! What a brain does next in a turn.
 
-ghost use Rattle.std.specs.Prelude.{◌≡◌, IfErr, IfOk, OnErr, OnOk, true};
-ghost use Rattle.df_turn.specs.code.Going.{IsAnswered, IsTaken, goes_on};
+ghost use Rattle.std.specs.Prelude.{◌≡◌, IfErr, OnErr, OnOk, true};
+ghost use Rattle.df_turn.specs.code.Going.{IsTaken, goes_on};
 
 use df_brain::{Last, Want};
 use df_local_run::{LocalRun, is_local};
-use df_memory::NoMemory;
-use df_unit::Reply;
 
 /// What a brain does next in a turn.
 #[derive(Drop)]
 pub enum Stage {
     /// It is told this.
     Told(Last),
+    /// It is told the reply to the newest call.
+    Answered,
     /// It was asked, and wants this, which is not made yet.
     Wants(Want),
 }
@@ -23,24 +23,10 @@ impl Stage {
         ensures { result ≡ goes_on self.now }
     {
         match self {
-            Stage::Told(_) => true,
+            Stage::Told(_) | Stage::Answered => true,
             Stage::Wants(Want::Call(call)) => is_local(call),
             Stage::Wants(Want::Wait) => false,
         }
-    }
-}
-
-/// What the local call that is wanted is answered.
-pub(crate) fn reply_to(run: &LocalRun, stage: &Stage) -> Result<Reply, NoMemory>
-    requires { goes_on stage.now ≡ true }
-    ensures { IfOk result (λ r. IsAnswered run.now stage.now r) }
-{
-    match stage {
-        Stage::Wants(Want::Call(call)) => {
-            let answer = run.present().answer(None, call)?;
-            Ok(answer.reply)
-        }
-        _ => Err(NoMemory),
     }
 }
 

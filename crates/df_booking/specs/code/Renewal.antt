@@ -10,7 +10,7 @@ use Rattle.df_rules.specs.Follows.{Brain, Last, Replied, Start}
 use Rattle.df_turn.specs.code.Going.{IsGoing, now_of}
 use Rattle.df_turn.specs.declared.going.Going.{Going}
 use Rattle.df_turn.specs.declared.stage.Stage.{Stage}
-use Rattle.df_turn.specs.declared.stage.Stage.TheVariants.{Told, Wants}
+use Rattle.df_turn.specs.declared.stage.Stage.TheVariants.{Answered, Told, Wants}
 use Rattle.df_unit.specs.declared.call.Call.{Call}
 use Rattle.df_unit.specs.declared.reply.Reply.{Reply}
 
@@ -25,6 +25,7 @@ reply_of g core = reply_booked g.run (shared_of g core) core
 -- whether a brain waits at this stage, and no delivery is left
 abbrev pub is_rest : Bool → Stage → Bool
 is_rest due (Told l) = false
+is_rest due Answered = false
 is_rest due (Wants (want.Call c)) = false
 is_rest due (Wants want.Wait) = not due
 
@@ -32,6 +33,7 @@ is_rest due (Wants want.Wait) = not due
 abbrev pub left_by : {B : Type 0} → B → Stage → Option Reply → B × Last
 left_by x s (Some q) = (x, Replied q)
 left_by x (Told l) None = (x, last_of l)
+left_by x Answered None = (x, Start)
 left_by x (Wants w) None = (x, Start)
 
 -- the brain behind a turn: where a shared call was replied to, it has gone on

@@ -10,7 +10,7 @@ use Rattle.df_kept.specs.Kept.{KeptState, kept_at}
 use Rattle.df_local.specs.code.LocalState.{LocalState}
 use Rattle.df_rules.specs.Follows.{Brain, Last, Replied, Start}
 use Rattle.df_turn.specs.declared.stage.Stage.{Stage}
-use Rattle.df_turn.specs.declared.stage.Stage.TheVariants.{Told, Wants}
+use Rattle.df_turn.specs.declared.stage.Stage.TheVariants.{Answered, Told, Wants}
 use Rattle.df_unit.specs.Name.{same}
 use Rattle.df_unit.specs.declared.call.Call.{Call}
 use Rattle.df_unit.specs.declared.call.Call.TheVariants.{Get, SubscribeManaged}
@@ -34,6 +34,7 @@ seed_of_want l want.Wait = None
 -- the managed subscription that a turn is to make, if it is to make one
 abbrev pub seed_of : LocalState → Stage → Option UnitName
 seed_of l (Told t) = None
+seed_of l Answered = None
 seed_of l (Wants w) = seed_of_want l w
 
 -- of each unit what was kept is kept, or of this one this brain
@@ -61,6 +62,7 @@ shared_by_want due want.Wait = if due then Some Get else None
 
 abbrev pub shared_by : Bool → Stage → Option Call
 shared_by due (Told l) = None
+shared_by due Answered = None
 shared_by due (Wants w) = shared_by_want due w
 
 -- what the brain does next, from the shared call and the rest

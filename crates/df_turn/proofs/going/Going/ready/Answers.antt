@@ -10,6 +10,9 @@ use Rattle.df_turn.proofs.going.Going.ready.Goals as goal
 pub returns-in-Told : goal.returns-in-Told
 returns-in-Told g c = λ m h ended. sym (is_ready (brain_of g.B.StepFunction.next g.B.StepFunction.instance) m c.args.self.now _ c.in-Told.is h ended)
 
+pub returns-in-Answered : goal.returns-in-Answered
+returns-in-Answered g c = λ m h ended. sym (is_ready (brain_of g.B.StepFunction.next g.B.StepFunction.instance) m c.args.self.now _ c.in-Answered.is h ended)
+
 pub returns-in-Call : goal.returns-in-Call
 returns-in-Call g c = λ m h ended. sym (is_ready (brain_of g.B.StepFunction.next g.B.StepFunction.instance) m c.args.self.now (Wants c.in-Wants.want) c.in-Wants.is h ended
     ∙ ap (λ (w : Want). ready_by (want_of w)) c.in-Call.is)
