@@ -1,23 +1,13 @@
 -- A turn that began in an earlier journal is current where its unit made no entry since.
-use Rattle.std.proofs.Common.{◌≡◌, inl, ℕ, ◌-◌, ◌≤◌, List, ◌++◌, false, refl, sym, ◌∙◌, ap, subst, Result, Ok, Err, drop, take, length, arith, length-append}
-use Rattle.std.specs.Prelude.{IfErr, OnOk, reverse}
-use Rattle.std.specs.List.{list_any}
-use Rattle.std.proofs.lemmas.List.{drop_at, length-drop, reverse-reverse, take_all}
-use Rattle.df_booking.specs.Booked.{IsCurrent}
-use Rattle.df_booking.specs.CrewState.{CrewState}
+use Rattle.df_crew.proofs.Names.{◌≡◌, inl, ℕ, ◌-◌, ◌≤◌, List, ◌++◌, false, refl, sym, ◌∙◌, ap, subst, Result, Ok, Err, drop, take, length, arith, length-append, IfErr, OnOk, reverse, list_any, drop_at, length-drop, reverse-reverse, take_all, IsCurrent, CrewState, origin_of, seen_of, Brain, has_entry, is_of, TurnState, Entry, UnitName}
 use Rattle.df_crew.proofs.HasEntry.{entry_any}
 use Rattle.df_crew.proofs.Others.{current_kept}
 use Rattle.df_crew.proofs.Seen.{crew_is}
 use Rattle.df_crew.specs.Booking.{IsRefused}
-use Rattle.df_crew.specs.Seen.{origin_of, seen_of}
 use Rattle.df_crew.specs.Since.{WasCurrent}
 use Rattle.df_crew.specs.declared.crew.BookCause.{BookCause}
 use Rattle.df_crew.specs.declared.crew.BookCause.TheVariants as why
 use Rattle.df_crew.specs.declared.crew.NotTurned.{NotTurned}
-use Rattle.df_rules.specs.Follows.{Brain, has_entry, is_of}
-use Rattle.df_turn.specs.Locally.{TurnState}
-use Rattle.df_unit.specs.declared.entry.Entry.{Entry}
-use Rattle.df_unit.specs.declared.name.UnitName.{UnitName}
 
 module _ {B : Type 0} (brain : Brain B) (t : TurnState B) (count : ℕ) (crew : CrewState B) (was : WasCurrent brain t count crew) (es : List Entry)
     (is : reverse es ≡ crew.core.1) where

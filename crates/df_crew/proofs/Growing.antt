@@ -1,16 +1,5 @@
 -- A turn appends entries and changes nothing else.
-use Rattle.std.proofs.Common.{◌≡◌, ℕ, zero, suc, ◌+◌, ◌≤◌, List, [], ◌∷◌, ◌++◌, Bool, true, false, refl, sym, ◌∙◌, ap, subst, cond, Option, Some, None, length, arith, length-append}
-use Rattle.df_booking.specs.Booked.{booked}
-use Rattle.df_booking.specs.CrewState.{CrewState, want_in}
-use Rattle.df_booking.specs.Turns.{asked, asked_by, is_local_want, turn_of, turned}
-use Rattle.df_turn.specs.Locally.{TurnState, most_local}
-use Rattle.df_machine.specs.Journal.{State, appended, has_delivery_in}
-use Rattle.df_crew.specs.Growing.{IsMore}
-use Rattle.df_rules.specs.Follows.{Brain, Calls, Wait, Want}
-use Rattle.df_start.specs.declared.start.RootStart.{RootStart}
-use Rattle.df_unit.specs.declared.call.Call.{Call}
-use Rattle.df_unit.specs.declared.entry.Entry.{Entry}
-use Rattle.df_unit.specs.declared.name.UnitName.{UnitName}
+use Rattle.df_crew.proofs.Names.{◌≡◌, ℕ, zero, suc, ◌+◌, ◌≤◌, List, [], ◌∷◌, ◌++◌, Bool, true, false, refl, sym, ◌∙◌, ap, subst, cond, Option, Some, None, length, arith, length-append, booked, CrewState, want_in, asked, asked_by, is_local_want, turn_of, turned, TurnState, most_local, State, appended, has_delivery_in, IsMore, Brain, Calls, Wait, Want, RootStart, Call, Entry, UnitName}
 
 append_again : {A : Type 0} (xs ys zs : List A) → (xs ++ ys) ++ zs ≡ xs ++ (ys ++ zs)
 append_again [] ys zs = refl

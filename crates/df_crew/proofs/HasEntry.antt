@@ -1,11 +1,5 @@
 -- Whether a unit has an entry among these, or behind them.
-use Rattle.std.proofs.Common.{◌≡◌, List, [], ◌∷◌, ◌++◌, Bool, true, false, ◌||◌, refl, ◌∙◌, ap}
-use Rattle.std.specs.Prelude.{reverse}
-use Rattle.std.specs.List.{list_any}
-use Rattle.std.proofs.lemmas.List.{reverse-append}
-use Rattle.df_rules.specs.Follows.{has_entry, is_of}
-use Rattle.df_unit.specs.declared.entry.Entry.{Entry}
-use Rattle.df_unit.specs.declared.name.UnitName.{UnitName}
+use Rattle.df_crew.proofs.Names.{◌≡◌, List, [], ◌∷◌, ◌++◌, Bool, true, false, ◌||◌, refl, ◌∙◌, ap, reverse, list_any, reverse-append, has_entry, is_of, Entry, UnitName}
 
 or_again : (a b c : Bool) → (a || (b || c)) ≡ ((a || b) || c)
 or_again true b c = refl

@@ -1,3 +1,4 @@
+pub mod Names
 pub mod Minded
 pub mod Rolls
 pub mod Resting

@@ -1,35 +1,14 @@
 -- The brains of a crew as it starts, and that who exists has a brain, and is still where it waits.
-use Rattle.std.proofs.Common.{◌≡◌, ℕ, zero, suc, List, [], ◌∷◌, Bool, true, false, refl, sym, ◌∙◌, ap, subst, cond, Option, Some, None, length, slice_get, map, arith, Bor, Result, Ok, Err}
-use Rattle.std.specs.Prelude.{IsSome, OnErr, OnOk, is_some, option_copied}
-use Rattle.std.specs.Option.{option_map, option_or}
+use Rattle.df_crew.proofs.Names.{◌≡◌, ℕ, zero, suc, List, [], ◌∷◌, Bool, true, false, refl, sym, ◌∙◌, ap, subst, cond, Option, Some, None, length, map, arith, Bor, Result, Ok, Err, IsSome, OnErr, OnOk, is_some, option_copied, option_map, option_or, CrewState, mind_in, want_by, IsFollowed, IsManned, IsMind, seed_name, asked_by, is_local_want, turn_of, turned, IsUnderWay, shared_of, turned_is, KeptState, kept_at, maker_of, number_of, LocalState, State, firsts, has_delivery_in, local_of, Brain, Follows, Last, Wait, Want, began_with, replies_of, root_began, wanted, made_by, own, own_plain, root_at, stepped, rows, RootStart, IsEnded, IsGoing, OwnState, after, Entry, Done, Emitted, UnitName, Managed, Root}
+use Rattle.std.proofs.Common.{slice_get}
 use Rattle.df_brain.specs.Brain.{is_child_wanted}
-use Rattle.df_booking.specs.CrewState.{CrewState, mind_in, want_by}
-use Rattle.df_booking.specs.Manned.{IsFollowed, IsManned, IsMind, seed_name}
-use Rattle.df_booking.specs.Turns.{asked_by, is_local_want, turn_of, turned}
-use Rattle.df_booking.specs.code.Renewal.{IsUnderWay, shared_of}
 use Rattle.df_booking.proofs.Acting.{own_of}
-use Rattle.df_booking.proofs.Manning.{turned_is}
 use Rattle.df_booking.proofs.Brained.{fixed_counted, makes_none}
 use Rattle.df_booking.proofs.Entries.{recorded, some_is}
-use Rattle.df_kept.specs.Kept.{KeptState, kept_at}
-use Rattle.df_label.specs.Tag.{maker_of, number_of}
-use Rattle.df_local.specs.code.LocalState.{LocalState}
 use Rattle.df_machine.specs.Booking as machine
-use Rattle.df_machine.specs.Journal.{State, firsts, has_delivery_in, local_of}
-use Rattle.df_rules.specs.Follows.{Brain, Follows, Last, Wait, Want, began_with, replies_of, root_began, wanted}
-use Rattle.df_rules.specs.Own.{made_by, own, own_plain, root_at, stepped}
-use Rattle.df_rules.specs.Start.{rows}
-use Rattle.df_start.specs.declared.start.RootStart.{RootStart}
 use Rattle.df_turn.specs.Locally.{most_local}
-use Rattle.df_turn.specs.code.Going.{IsEnded, IsGoing}
 use Rattle.df_turn.specs.declared.going.Going.{Going}
 use Rattle.df_unit.specs.Name.{same}
-use Rattle.df_unit.specs.OwnState.{OwnState}
-use Rattle.df_unit.specs.Rows.{after}
-use Rattle.df_unit.specs.declared.entry.Entry.{Entry}
-use Rattle.df_unit.specs.declared.entry.Entry.TheVariants.{Done, Emitted}
-use Rattle.df_unit.specs.declared.name.UnitName.{UnitName}
-use Rattle.df_unit.specs.declared.name.UnitName.TheVariants.{Managed, Root}
 
 long : (xs : List RootStart) → length (map Rattle.df_start.specs.Begun.begun xs) ≡ length xs
 long [] = refl
@@ -187,6 +166,12 @@ begun_under_way brain bs core u l m g here mind base going =
       },
       of_unit,
     )
+
+-- and so is one that began from the brain that is kept
+pub kept_under_way : {B : Type 0} (brain : Brain B) (bs : List B) (kept : KeptState (B × Last)) (begun : KeptState B) (core : State) → IsManned brain bs kept begun core → (u : UnitName) (l : LocalState)
+    (m : B × Last) (g : Going B) → kept_at u kept ≡ Some m → Some l ≡ local_of core u → g.run.base ≡ l → IsGoing brain m g → IsUnderWay brain bs m g core × (g.run.base.unit ≡ u)
+kept_under_way brain bs kept begun core manned u l m g at here base going =
+    begun_under_way brain bs core u l m g (sym here) (kept_mind brain bs kept begun core manned u m at) base going
 
 -- where a turn is booked, it is its unit's
 pub booked_ok : {B T E : Type 0} (brain : Brain B) (core : State) (bs : List B) (crew : CrewState B) → (let x : CrewState B = record { core = core; brains = bs } in x) ≡ crew → (m : B × Last) (g : Going B) →

@@ -1,30 +1,8 @@
 -- A unit and its brain stay as they are where others make the entries.
-use Rattle.std.proofs.Common.{◌≡◌, List, [], ◌∷◌, ◌++◌, Bool, true, false, ◌||◌, refl, sym, ◌∙◌, ap, subst, cond, Option, Some, None}
-use Rattle.std.specs.Prelude.{reverse}
-use Rattle.std.specs.Option.{option_map, option_or}
-use Rattle.std.proofs.lemmas.List.{reverse-append}
-use mathlib.Core.List.{IsPrefix}
-use Rattle.df_booking.specs.Booked.{IsCurrent}
-use Rattle.df_booking.specs.CrewState.{mind_in}
-use Rattle.df_booking.specs.Minds.{mind_from, mind_of}
+use Rattle.df_crew.proofs.Names.{◌≡◌, List, [], ◌∷◌, ◌++◌, Bool, true, false, ◌||◌, refl, sym, ◌∙◌, ap, subst, cond, Option, Some, None, reverse, option_map, option_or, reverse-append, IsPrefix, IsCurrent, mind_in, mind_from, mind_of, core_at, crew_at, Origin, LocalState, State, firsts, local_of, maker_of, Brain, Last, began_with, has_entry, is_of, last_of, replies_of, state_after, born, fixed, made_by, own, own_instance, own_plain, stepped, rows, TurnState, OwnState, after, Entry, Done, Emitted, UnitName, Managed, Root}
 use Rattle.df_booking.proofs.Entries.{began_kept}
 use Rattle.df_crew.specs.Locally.{IsBegun}
-use Rattle.df_crew.specs.Seen.{core_at, crew_at}
-use Rattle.df_crew.specs.declared.origin.Origin.{Origin}
-use Rattle.df_local.specs.code.LocalState.{LocalState}
-use Rattle.df_machine.specs.Journal.{State, firsts, local_of}
-use Rattle.df_label.specs.Tag.{maker_of}
 use Rattle.df_rules.specs.Commits.{commit_of}
-use Rattle.df_rules.specs.Follows.{Brain, Last, began_with, has_entry, is_of, last_of, replies_of, state_after}
-use Rattle.df_rules.specs.Own.{born, fixed, made_by, own, own_instance, own_plain, stepped}
-use Rattle.df_rules.specs.Start.{rows}
-use Rattle.df_turn.specs.Locally.{TurnState}
-use Rattle.df_unit.specs.OwnState.{OwnState}
-use Rattle.df_unit.specs.Rows.{after}
-use Rattle.df_unit.specs.declared.entry.Entry.{Entry}
-use Rattle.df_unit.specs.declared.entry.Entry.TheVariants.{Done, Emitted}
-use Rattle.df_unit.specs.declared.name.UnitName.{UnitName}
-use Rattle.df_unit.specs.declared.name.UnitName.TheVariants.{Managed, Root}
 use Rattle.df_unit.specs.declared.reply.Reply.{Reply}
 use Rattle.df_crew.proofs.HasEntry.{entry_reverse}
 

@@ -1,23 +1,7 @@
 -- When a crew is quiet.
-use Rattle.std.proofs.Common.{◌≡◌, ◌⊎◌, inl, inr, ℕ, zero, suc, ◌<◌, List, [], ◌∷◌, Bool, true, false, ◌||◌, refl, sym, ◌∙◌, ap, subst, Option, Some, None, length, get_or, is_eq, arith}
-use Rattle.std.specs.Prelude.{is_some}
-use Rattle.std.specs.Option.{option_map}
-use Rattle.std.proofs.lemmas.Bool.{or_cases}
-use Rattle.df_booking.specs.CrewState.{CrewState}
-use Rattle.df_crew.specs.Resting.{IsResting}
-use Rattle.df_label.specs.Ascending.{contains_by}
+use Rattle.df_crew.proofs.Names.{◌≡◌, ◌⊎◌, inl, inr, ℕ, zero, suc, ◌<◌, List, [], ◌∷◌, Bool, true, false, ◌||◌, refl, sym, ◌∙◌, ap, subst, Option, Some, None, length, get_or, is_eq, arith, is_some, option_map, or_cases, CrewState, IsResting, contains_by, LocalState, IsRoll, State, firsts, local_of, Brain, Quiet, own, rows, same_name-exact, OwnState, unit_cmp, unit_cmp_ties, UnitName}
 use Rattle.df_label.proofs.SetFacts.{contains-itself}
-use Rattle.df_local.specs.code.LocalState.{LocalState}
-use Rattle.df_machine.specs.Journal.{IsRoll, State, firsts, local_of}
-use Rattle.df_rules.specs.Follows.{Brain, Quiet}
-use Rattle.df_rules.specs.Own.{own}
-use Rattle.df_rules.specs.Start.{rows}
 use Rattle.df_unit.proofs.OrderFacts.{unit_cmp_exact}
-use Rattle.df_unit.proofs.SameFacts.{same_name-exact}
-use Rattle.df_unit.specs.OwnState.{OwnState}
-use Rattle.df_unit.specs.UnitOrder.{unit_cmp}
-use Rattle.df_unit.specs.UnitOrderLaws.{unit_cmp_ties}
-use Rattle.df_unit.specs.declared.name.UnitName.{UnitName}
 
 -- a name at a place is one of the names
 named : (names : List UnitName) (k : ℕ) (d : UnitName) → k < length names → contains_by unit_cmp names (get_or names k d) ≡ true

@@ -1,15 +1,7 @@
 -- The names of a roll, one after another.
-use Rattle.std.proofs.Common.{◌≡◌, inl, inr, ℕ, suc, true, List, [], ◌∷◌, ◌++◌, sym, ◌∙◌, ap, Some, None, length, take, length-append}
-use Rattle.std.specs.Prelude.{slice_get}
-use Rattle.std.proofs.lemmas.Bool.{or_cases}
+use Rattle.df_crew.proofs.Names.{◌≡◌, inl, inr, ℕ, suc, true, List, [], ◌∷◌, ◌++◌, sym, ◌∙◌, ap, Some, None, length, take, length-append, slice_get, or_cases, take_all, contains_by, same_name-exact, unit_cmp, unit_cmp_ties, UnitName}
 use Rattle.std.proofs.lemmas.Grind.{take_at_read}
-use Rattle.std.proofs.lemmas.List.{take_all}
 use Rattle.std.proofs.lemmas.Option.{get_or_from_slice_get, slice_get_cases, slice_get_within}
-use Rattle.df_label.specs.Ascending.{contains_by}
-use Rattle.df_unit.proofs.SameFacts.{same_name-exact}
-use Rattle.df_unit.specs.UnitOrder.{unit_cmp}
-use Rattle.df_unit.specs.UnitOrderLaws.{unit_cmp_ties}
-use Rattle.df_unit.specs.declared.name.UnitName.{UnitName}
 
 module _ {A : Type 0} (xs all : List A) (begins : xs ≡ take (length xs) all) where
   -- a beginning of a list, with what follows it

@@ -1,14 +1,5 @@
 -- A crew by its origin and its journal, and how both grow.
-use Rattle.std.proofs.Common.{◌≡◌, List, ◌++◌, refl, sym, ap, ◌∙◌, length}
-use Rattle.std.specs.Prelude.{reverse}
-use Rattle.std.proofs.lemmas.List.{length-reverse, reverse-append, reverse-reverse}
-use mathlib.Core.List.{IsPrefix}
-use Rattle.df_booking.specs.CrewState.{CrewState}
-use Rattle.df_crew.specs.Growing.{IsMore}
-use Rattle.df_crew.specs.Seen.{crew_at, origin_of, seen_of}
-use Rattle.df_crew.specs.declared.origin.Origin.{Origin}
-use Rattle.df_start.specs.declared.start.RootStart.{RootStart}
-use Rattle.df_unit.specs.declared.entry.Entry.{Entry}
+use Rattle.df_crew.proofs.Names.{◌≡◌, List, ◌++◌, refl, sym, ap, ◌∙◌, length, reverse, length-reverse, reverse-append, reverse-reverse, IsPrefix, CrewState, IsMore, crew_at, origin_of, seen_of, Origin, RootStart, Entry}
 
 module _ {B : Type 0} where
   abbrev origin_by : List RootStart → List B → Origin B

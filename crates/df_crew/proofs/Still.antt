@@ -1,23 +1,9 @@
 -- A unit whose turn appends nothing is at rest.
-use Rattle.std.proofs.Common.{◌≡◌, ℕ, suc, ◌≤◌, List, [], ◌∷◌, Bool, true, false, refl, sym, ◌∙◌, ap, subst, cond, Option, Some, None, length, arith}
-use Rattle.std.specs.Prelude.{⊤, is_some, not}
-use Rattle.std.specs.Option.{option_map}
-use Rattle.df_booking.specs.CrewState.{CrewState, mind_in, want_by, want_in}
-use Rattle.df_booking.specs.Minds.{mind_from}
-use Rattle.df_booking.specs.Turns.{asked_by, is_local_want, turn_of, turned}
+use Rattle.df_crew.proofs.Names.{◌≡◌, ℕ, suc, ◌≤◌, List, [], ◌∷◌, Bool, true, false, refl, sym, ◌∙◌, ap, subst, cond, Option, Some, None, length, arith, ⊤, is_some, not, option_map, CrewState, mind_in, want_by, want_in, mind_from, asked_by, is_local_want, turn_of, turned, State, appended, firsts, has_delivery_in, is_due, Brain, Calls, IsAtRest, Wait, Want, began_with, replies_of, wanted, own, rows, OwnState, is_nil, Call, Entry, UnitName}
 use Rattle.df_turn.specs.Locally.{most_local}
 use Rattle.df_local_run.specs.Runs.{is_local}
-use Rattle.df_machine.specs.Journal.{State, appended, firsts, has_delivery_in, is_due}
 use Rattle.df_rules.specs.Deliveries.{deliveries}
-use Rattle.df_rules.specs.Follows.{Brain, Calls, IsAtRest, Wait, Want, began_with, replies_of, wanted}
-use Rattle.df_rules.specs.Own.{own}
-use Rattle.df_rules.specs.Start.{rows}
-use Rattle.df_unit.specs.OwnState.{OwnState}
-use Rattle.df_unit.specs.Rows.{is_nil}
-use Rattle.df_unit.specs.declared.call.Call.{Call}
 use Rattle.df_unit.specs.declared.commit.Given.{Given}
-use Rattle.df_unit.specs.declared.entry.Entry.{Entry}
-use Rattle.df_unit.specs.declared.name.UnitName.{UnitName}
 use Rattle.df_crew.proofs.Growing.{more_longer, run_more}
 
 -- who wants this appends nothing

@@ -1,5 +1,5 @@
 -- A journal of the floor that goes on from the plain opening opens, whoever takes turns: after the opening the exchange alone has something to do.
-use Rattle.df_floor_run.proofs.Names.{◌≡◌, ◌≢◌, ◌⊎◌, inl, inr, ℕ, zero, suc, List, [], ◌∷◌, ◌++◌, Bool, true, false, true≢false, ◌||◌, refl, sym, ◌∙◌, ap, subst, Option, Some, None, drop, slice_get, CrewState, IsConfig, Config, floor_brains, Mind, IsMore, IsOpening, is_full, root_name, Calls, Follows, IsWanted, Opens, OthersWait, Wait, Want, has_entry, replies_of, wanted, IsUnaided, Legal, left, own, rows, IsFloorJournal, first_states, floor_brain, Tick, same, OwnState, Call, Entry, UnitName, Root, fresh_crew}
+use Rattle.df_floor_run.proofs.Names.{◌≡◌, ◌≢◌, ◌⊎◌, inl, inr, ℕ, zero, suc, List, [], ◌∷◌, ◌++◌, Bool, true, false, true≢false, ◌||◌, refl, sym, ◌∙◌, ap, subst, Some, drop, slice_get, CrewState, IsConfig, Config, floor_brains, Mind, IsMore, IsOpening, is_full, Calls, Follows, IsWanted, Opens, OthersWait, Wait, Want, has_entry, replies_of, wanted, IsUnaided, Legal, left, own, rows, IsFloorJournal, first_states, floor_brain, Tick, same, OwnState, Call, Entry, UnitName, Root, fresh_crew}
 use Rattle.df_rules.specs.Deliveries.{deliveries}
 use Rattle.df_settling.proofs.Bound.{World, actor_member, world}
 use Rattle.df_settling.proofs.Entries.{name_refl}

@@ -1,5 +1,5 @@
 -- What workers make of a crew, and what that tells of the floor whose crew it is.
-use Rattle.df_floor_run.proofs.Names.{◌≡◌, ℕ, List, [], ◌++◌, Bool, true, false, refl, sym, ◌∙◌, ap, subst, length, ◌↔◌, IsPrefix, CrewState, IsFollowed, IsConfig, Config, more_trans, IsMore, origin_of, seen_of, floor_brains, Mind, State, IsAtLimit, IsOpening, IsQuiet, is_full, Ended, Opens, IsFloorJournal, floor_brain, RootStart, Tick, Entry, EndsWith, IsFloorCrew, IsWorkedRun, fresh_crew, run_text, GoesOn, TellsWorked, Worked, end_of, FloorEnd}
+use Rattle.df_floor_run.proofs.Names.{◌≡◌, ℕ, List, ◌++◌, Bool, true, false, refl, sym, ◌∙◌, ap, subst, length, ◌↔◌, IsPrefix, CrewState, IsFollowed, IsConfig, Config, more_trans, IsMore, origin_of, seen_of, floor_brains, Mind, State, IsAtLimit, IsOpening, IsQuiet, is_full, Ended, Opens, IsFloorJournal, floor_brain, RootStart, Tick, Entry, EndsWith, IsFloorCrew, IsWorkedRun, fresh_crew, run_text, TellsWorked, Worked, end_of, FloorEnd}
 use Rattle.std.specs.Prelude.{reverse}
 use Rattle.std.proofs.lemmas.List.{reverse-append, reverse-reverse}
 use Rattle.df_crew.specs.declared.origin.Origin.{Origin}

@@ -1,10 +1,8 @@
 //! The load: one floor, and ticks that a generator makes.
 
-ghost use Rattle.std.specs.Prelude.{◌≡◌, ◌≤◌, [], All, IfOk, length};
+ghost use Rattle.std.specs.Prelude.{◌≡◌, ◌≤◌, [], IfOk};
 ghost use Rattle.df_floor_run.specs.Load.{IsLoadText, load_config, load_pair, load_pairs, load_trader, load_traders};
 ghost use Rattle.df_floor_run.specs.code.Running.{TellsReport};
-ghost use Rattle.df_gen.specs.Generated.{generated};
-ghost use Rattle.df_ticks.specs.TickFile.{IsTick};
 
 use crate::journal::report_of;
 use crate::running::{fresh_crew, run_crew};
@@ -14,7 +12,6 @@ use df_floor_units::FloorBrain;
 use df_frozen::Words;
 use df_gen::gen_ticks;
 use df_memory::NoMemory;
-use df_ticks::Tick;
 use std::alloc::Global;
 
 fn load_pair(alloc: Global, first: &str, second: &str) -> Result<PairRow, NoMemory>

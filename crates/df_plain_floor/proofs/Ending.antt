@@ -1,12 +1,8 @@
 -- How a run that stands still has ended.
-use Rattle.std.proofs.Common.{◌≡◌, ◌↔◌, ◌≤◌, ℕ, Bool, true, false, refl, length, Result, Ok, Err}
-use Rattle.std.specs.Prelude.{IfOk}
+use Rattle.df_plain_floor.proofs.Names.{◌≡◌, ◌↔◌, ◌≤◌, ℕ, Bool, true, false, refl, length, Result, Ok, Err, IfOk, CrewState, IsAtLimit, IsQuiet, is_full, Brain}
 use Rattle.std.proofs.lemmas.Bool.{leb-true}
-use Rattle.df_booking.specs.CrewState.{CrewState}
-use Rattle.df_plain_floor.specs.PlainRun.{IsAtLimit, IsQuiet, is_full}
 use Rattle.df_plain_floor.specs.declared.run.Ended.{Ended}
 use Rattle.df_plain_floor.specs.declared.run.Ended.TheVariants.{Limit, Quiet}
-use Rattle.df_rules.specs.Follows.{Brain}
 
 -- where a journal below the limit is quiet, a run ends at the limit exactly where it isn't quiet
 ended : {B : Type 0} (brain : Brain B) (max : ℕ) (crew : CrewState B) (e : Ended) → ((e ≡ Quiet) ↔ IsQuiet brain crew) → (is_full max crew ≡ false →

@@ -1,3 +1,4 @@
+pub mod Names
 pub mod More
 pub mod Resting
 pub mod Turning

@@ -1,12 +1,5 @@
 -- Turns below a limit append entries and change nothing else.
-use Rattle.std.proofs.Common.{ℕ, List, [], ◌∷◌, Bool, true, false, cond}
-use Rattle.df_booking.specs.CrewState.{CrewState}
-use Rattle.df_booking.specs.Turns.{turned}
-use Rattle.df_crew.proofs.Growing.{more_refl, more_trans, turn_more}
-use Rattle.df_crew.specs.Growing.{IsMore}
-use Rattle.df_plain_floor.specs.PlainRun.{is_full, take_turn, take_turns}
-use Rattle.df_rules.specs.Follows.{Brain}
-use Rattle.df_unit.specs.declared.name.UnitName.{UnitName}
+use Rattle.df_plain_floor.proofs.Names.{ℕ, List, [], ◌∷◌, Bool, true, false, cond, CrewState, turned, more_refl, more_trans, turn_more, IsMore, is_full, take_turn, take_turns, Brain, UnitName}
 
 module _ {B : Type 0} (brain : Brain B) where
   pub take_more : (max : ℕ) (u : UnitName) (crew : CrewState B) → IsMore crew (take_turn brain max u crew)

@@ -1,8 +1,5 @@
 -- One root more has taken its turns.
-use Rattle.std.proofs.Common.{◌≡◌, ℕ, suc, List, [], ◌∷◌, sym, ◌∙◌, ap, subst}
-use Rattle.df_booking.specs.CrewState.{CrewState}
-use Rattle.df_plain_floor.specs.PlainRun.{IsTurn, Opened, RunsOut}
-use Rattle.df_rules.specs.Follows.{Brain}
+use Rattle.df_plain_floor.proofs.Names.{◌≡◌, ℕ, suc, List, [], ◌∷◌, sym, ◌∙◌, ap, subst, CrewState, IsTurn, Opened, RunsOut, Brain}
 use Rattle.df_unit.specs.declared.name.UnitName.TheVariants.{Root}
 
 pub opened_more : {B : Type 0} (brain : Brain B) (max k m : ℕ) (old mid new : CrewState B) (path : List ℕ) → m ≡ suc k → path ≡ m ∷ [] →

@@ -1,10 +1,5 @@
 -- Steps that are made until one appends nothing.
-use Rattle.std.proofs.Common.{◌≡◌, ℕ, ◌<◌, ◌≤◌, Bool, true, false, not, eqb, refl, sym, ◌∙◌, ap, length, arith}
-use Rattle.df_booking.specs.CrewState.{CrewState}
-use Rattle.df_plain_floor.specs.Grown.{AreTurns, IsAppending}
-use Rattle.df_plain_floor.specs.PlainRun.{Repeated, is_full}
-use Rattle.df_rules.specs.Follows.{Brain}
-use Rattle.df_crew.proofs.Growing.{more_longer, more_same}
+use Rattle.df_plain_floor.proofs.Names.{◌≡◌, ℕ, ◌<◌, ◌≤◌, Bool, true, false, not, eqb, refl, sym, ◌∙◌, ap, length, arith, CrewState, AreTurns, IsAppending, Repeated, is_full, Brain, more_longer, more_same}
 use Rattle.df_plain_floor.proofs.Turning.{turns_full, turns_more}
 
 -- some steps lead from the one to the other

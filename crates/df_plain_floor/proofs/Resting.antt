@@ -1,21 +1,12 @@
 -- Where a pass appends nothing, and the run goes on, each unit is at rest.
-use Rattle.std.proofs.Common.{◌≡◌, ℕ, zero, suc, ◌≤◌, List, [], ◌∷◌, Bool, true, false, ◌∙◌, ap, subst, cond, Option, Some, length, arith}
-use Rattle.std.specs.Prelude.{is_some, slice_get}
+use Rattle.df_plain_floor.proofs.Names.{◌≡◌, ℕ, zero, suc, ◌≤◌, List, [], ◌∷◌, Bool, true, false, ◌∙◌, ap, subst, cond, Option, Some, length, arith, is_some, slice_get, CrewState, turned, more_longer, more_same, IsRoll, firsts, local_of, Brain, UnitName, HasBrain, IsQuiet, is_full, take_turn, take_turns}
 use Rattle.std.specs.Option.{option_map}
-use Rattle.df_booking.specs.CrewState.{CrewState}
-use Rattle.df_booking.specs.Turns.{turned}
-use Rattle.df_crew.proofs.Growing.{more_longer, more_same}
 use Rattle.df_crew.proofs.Rolls.{placed}
 use Rattle.df_crew.proofs.Still.{at_rest}
 use Rattle.df_local.specs.code.LocalState.{LocalState}
-use Rattle.df_machine.specs.Journal.{IsRoll, firsts, local_of}
-use Rattle.df_rules.specs.Follows.{Brain}
 use Rattle.df_rules.specs.Own.{exists}
 use Rattle.df_rules.specs.Start.{rows}
 use Rattle.df_unit.specs.OwnState.{OwnState}
-use Rattle.df_unit.specs.declared.name.UnitName.{UnitName}
-use Rattle.df_plain_floor.specs.Grown.{HasBrain}
-use Rattle.df_plain_floor.specs.PlainRun.{IsQuiet, is_full, take_turn, take_turns}
 use Rattle.df_plain_floor.proofs.More.{take_more, takes_more}
 
 module _ {B : Type 0} (brain : Brain B) (max : ℕ) where

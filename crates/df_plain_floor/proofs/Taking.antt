@@ -1,13 +1,6 @@
 -- Units take one turn each, one after another.
-use Rattle.std.proofs.Common.{◌≡◌, ◌⊎◌, inl, inr, ℕ, suc, ◌+◌, ◌<◌, ◌≤◌, List, ◌∷◌, refl, sym, ◌∙◌, ap, subst, Some, length, get_or, drop, arith, add-one, drop-cons}
-use Rattle.std.specs.Prelude.{slice_get}
+use Rattle.df_plain_floor.proofs.Names.{◌≡◌, ◌⊎◌, inl, inr, ℕ, suc, ◌+◌, ◌<◌, ◌≤◌, List, ◌∷◌, refl, sym, ◌∙◌, ap, subst, Some, length, get_or, drop, arith, add-one, drop-cons, slice_get, CrewState, more_longer, more_same, AreTurns, HasBrain, take_turn, take_turns, Brain, UnitName}
 use Rattle.std.proofs.lemmas.Option.{get_or_from_slice_get, slice_get_within}
-use Rattle.df_booking.specs.CrewState.{CrewState}
-use Rattle.df_crew.proofs.Growing.{more_longer, more_same}
-use Rattle.df_plain_floor.specs.Grown.{AreTurns, HasBrain}
-use Rattle.df_plain_floor.specs.PlainRun.{take_turn, take_turns}
-use Rattle.df_rules.specs.Follows.{Brain}
-use Rattle.df_unit.specs.declared.name.UnitName.{UnitName}
 use Rattle.df_plain_floor.proofs.Turning.{no_turns, one_turn, turns_more, turns_trans}
 
 -- so many of the units have taken their turns

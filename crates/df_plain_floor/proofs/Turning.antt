@@ -1,13 +1,5 @@
 -- Turns of some units: they follow one another, append alone, and do nothing at the limit.
-use Rattle.std.proofs.Common.{◌≡◌, ℕ, List, [], ◌∷◌, ◌++◌, Bool, true, false, refl, sym, ◌∙◌, ap, subst, cond, Result, Ok, Err}
-use Rattle.std.specs.Prelude.{OnErr, OnOk}
-use Rattle.df_booking.specs.CrewState.{CrewState}
-use Rattle.df_booking.specs.Turns.{turned}
-use Rattle.df_crew.specs.Growing.{IsMore}
-use Rattle.df_plain_floor.specs.Grown.{AreTurns}
-use Rattle.df_plain_floor.specs.PlainRun.{is_full, take_turn, take_turns}
-use Rattle.df_rules.specs.Follows.{Brain}
-use Rattle.df_unit.specs.declared.name.UnitName.{UnitName}
+use Rattle.df_plain_floor.proofs.Names.{◌≡◌, ℕ, List, [], ◌∷◌, ◌++◌, Bool, true, false, refl, sym, ◌∙◌, ap, subst, cond, Result, Ok, Err, OnErr, OnOk, CrewState, turned, IsMore, AreTurns, is_full, take_turn, take_turns, Brain, UnitName}
 use Rattle.df_plain_floor.proofs.More.{takes_more}
 
 module _ {B : Type 0} (brain : Brain B) (max : ℕ) where

@@ -1,11 +1,5 @@
 -- Where a command was read, the words ask for it, and name its files.
-use Rattle.std.proofs.Common.{◌≡◌, ◌<◌, List, ℕ, length, refl, sym, subst, arith}
-use Rattle.std.specs.Prelude.{◌↔◌}
-use Rattle.df_words.specs.Words.{Ask, files_of}
-use Rattle.df_run.specs.Outcome.{AsksNothing, IfAsked, IsOfACommand, UsageIsExact}
-use Rattle.df_run.specs.declared.status.Status.{Status}
-use Rattle.df_words.specs.declared.command.Command.{Command}
-use Rattle.df_words.specs.declared.command.Command.TheVariants.{Steps, Check, Purge, Upgrade, Why, Auction, Lint, Gen, Floor, FloorWorkers, Load}
+use Rattle.df_run.proofs.Names.{◌≡◌, ◌<◌, List, ℕ, length, refl, sym, subst, arith, ◌↔◌, Ask, files_of, AsksNothing, IfAsked, IsOfACommand, UsageIsExact, Status, Command, Steps, Check, Purge, Upgrade, Why, Auction, Lint, Gen, Floor, FloorWorkers, Load}
 use Rattle.df_words.specs.declared.command.Files.TheVariants as files
 
 -- words that ask for this command, and for no other

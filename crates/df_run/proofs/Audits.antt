@@ -1,14 +1,7 @@
 -- What an audit tells is what the command writes.
-use Rattle.std.proofs.Common.{◌≡◌, ℕ, List, [], ◌∷◌, sym, subst}
-use Rattle.df_audit.specs.Audit.{Explains, IsCheckOf, OfJournal, Purges, Upgrades}
+use Rattle.df_run.proofs.Names.{◌≡◌, ℕ, List, [], ◌∷◌, sym, subst, Explains, IsCheckOf, OfJournal, Purges, Upgrades, First, Journal, Second, Label, Command, Check, Purge, Upgrade, Why, IsText, end_of, End}
 use Rattle.df_audit.specs.declared.audit.Finding.{Finding}
 use Rattle.df_audit.specs.declared.audit.Finding.TheVariants.{Right, Wrong, NoPlace}
-use Rattle.df_journal_file.specs.Either.{First, Journal, Second}
-use Rattle.df_label.specs.declared.label.Label.{Label}
-use Rattle.df_words.specs.declared.command.Command.{Command}
-use Rattle.df_words.specs.declared.command.Command.TheVariants.{Check, Purge, Upgrade, Why}
-use Rattle.df_run.specs.Tasks.{IsText, end_of}
-use Rattle.df_run.specs.declared.tasks.End.{End}
 
 -- the text and the end that were handed on
 same_text : (c : Command) (bytes : List ℕ) (d e : End) (text told : List ℕ) → IsText c (bytes ∷ []) d text → e ≡ d → told ≡ text → IsText c (bytes ∷ []) e told

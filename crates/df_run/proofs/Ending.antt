@@ -1,16 +1,10 @@
 -- The status of a run that made a text.
-use Rattle.std.proofs.Common.{◌≡◌, ◌⊎◌, ℕ, List, Option, ap, inl, inr, refl, sym, subst}
-use Rattle.df_run.specs.Making.{IsWritten, status_of}
+use Rattle.df_run.proofs.Names.{◌≡◌, ◌⊎◌, ℕ, List, Option, ap, inl, inr, refl, sym, subst, IsWritten, status_of, BadInputIsDue, BadInputIsExact, DoesInput, IsHindered, IsOfACommand, IsOutcome, IsTextOfSome, IsToldBad, IsToldLong, NoPlaceIsDue, NoPlaceIsExact, OfTold, Reaches, TooLongIsDue, TooLongIsExact, UnsettledIsDue, UnsettledIsExact, WereRead, WriteFaultIsDue, Writes, WrongIsDue, WrongIsExact, IsCutInput, IsNoPlaceInput, IsRightInput, IsText, IsWrongInput, Status, End, Command}
 use Rattle.df_io.specs.Pieces.{HasAll}
-use Rattle.df_run.specs.Outcome.{BadInputIsDue, BadInputIsExact, DoesInput, IsHindered, IsOfACommand, IsOutcome, IsTextOfSome, IsToldBad, IsToldLong, NoPlaceIsDue, NoPlaceIsExact, OfTold, Reaches, TooLongIsDue, TooLongIsExact, UnsettledIsDue, UnsettledIsExact, WereRead, WriteFaultIsDue, Writes, WrongIsDue, WrongIsExact}
-use Rattle.df_run.specs.Tasks.{IsCutInput, IsNoPlaceInput, IsRightInput, IsText, IsWrongInput}
-use Rattle.df_run.specs.declared.status.Status.{Status}
 use Rattle.df_run.specs.declared.status.Status.TheVariants as status
-use Rattle.df_run.specs.declared.tasks.End.{End}
 use Rattle.df_run.specs.declared.tasks.End.TheVariants as end
 use Rattle.df_run.proofs.Inputs.{EndsSo, MustEnd, ends_inputs, ends_once, text_ends}
 use Rattle.df_run.proofs.Reaching.{ToldBad, ToldLong, if_all_told-all, if_all_told-read, none_is_bad, told_bad, told_long}
-use Rattle.df_words.specs.declared.command.Command.{Command}
 
 -- what holds of the status of a run that ended so, and of a failed write, holds once it was written
 written : (C : Status → Type 0) (e : End) (text : List ℕ) (old new : Option (List ℕ)) (s : Status) → IsWritten e text old new s → C (status_of e)

@@ -1,15 +1,8 @@
 -- Bytes that aren't a script, or aren't a journal, are blamed so.
-use Rattle.std.proofs.Common.{ℕ, List}
-use Rattle.df_journal_file.specs.Either.{IsEitherText}
+use Rattle.df_run.proofs.Names.{ℕ, List, IsEitherText, Label, NamesBadLine, RefusesInput, told_of, IsScriptText, IsTooLargeIn, Check, Lint, Purge, Steps, Upgrade, Why}
 use Rattle.df_journal_file.specs.TooLarge.{IsLargeIn}
-use Rattle.df_label.specs.declared.label.Label.{Label}
-use Rattle.df_lines.specs.Refused.{NamesBadLine}
 use Rattle.df_lines.specs.declared.refused.FileRefused.{FileRefused}
 use Rattle.df_lines.specs.declared.refused.FileRefused.TheVariants as file
-use Rattle.df_run.specs.Tasks.{RefusesInput, told_of}
-use Rattle.df_script_text.specs.Script.{IsScriptText}
-use Rattle.df_script_text.specs.TooLarge.{IsTooLargeIn}
-use Rattle.df_words.specs.declared.command.Command.TheVariants.{Check, Lint, Purge, Steps, Upgrade, Why}
 
 abbrev pub NoScript : List ℕ → FileRefused → Type 0
 NoScript bytes refused = NamesBadLine IsScriptText IsTooLargeIn bytes refused

@@ -1,35 +1,19 @@
 -- A run of one file, and of a floor's two files.
-use Rattle.std.proofs.Common.{◌≡◌, ◌≤◌, ℕ, List, [], ◌∷◌, Option, None, Some, refl, sym, subst, inl, inr, map, slice_get, arith}
+use Rattle.df_run.proofs.Names.{◌≡◌, ◌≤◌, ℕ, List, [], ◌∷◌, Option, None, Some, refl, sym, subst, inl, inr, map, slice_get, arith, IsConfigFile, Config, IsFloorRun, IsWorkedRun, FloorEnd, Label, IsFloorJournal, first_states, floor_brain, IsTickFile, Tick, Command, Auction, Check, Floor, FloorWorkers, Gen, Lint, Load, Purge, Steps, Upgrade, Why, FollowsPurged, IsFloorPast, RunsFloor, WorksFloor, IsOfFloor, Stops, StopsAt, TellsFloor, TellsWork, end_of_floor, IsTextOfSome, OfRead, told_at, BlamesBytes, IsInput, IsText, Status, End}
 use Rattle.std.specs.Option.{option_and_then}
 use Rattle.df_audit.proofs.Sound.{legal_is_sound}
-use Rattle.df_config.specs.ConfigFile.{IsConfigFile}
 use Rattle.df_config.specs.ConfigForm.{IsConfig}
-use Rattle.df_config.specs.declared.config.Config.{Config}
 use Rattle.df_floor.specs.Brains.{floor_brains}
 use Rattle.df_floor.specs.Starting.{floor_start}
-use Rattle.df_floor_run.specs.FloorRun.{IsFloorRun, IsWorkedRun}
-use Rattle.df_floor_run.specs.declared.run.FloorEnd.{FloorEnd}
 use Rattle.df_floor_run.specs.declared.run.FloorEnd.TheVariants as floor
 use Rattle.df_io.specs.Faults.{Rose}
-use Rattle.df_label.specs.declared.label.Label.{Label}
 use Rattle.df_rules.proofs.FollowsAgain.{purge_follows}
 use Rattle.df_rules.proofs.RowLaws.{row_laws}
 use Rattle.df_rules.specs.Start.{rows}
 use Rattle.df_settling.proofs.Bound.{settles}
-use Rattle.df_settling.specs.Settling.{IsFloorJournal, first_states, floor_brain}
 use Rattle.df_start.specs.Begun.{begun}
-use Rattle.df_ticks.specs.TickFile.{IsTickFile}
-use Rattle.df_ticks.specs.declared.tick.Tick.{Tick}
 use Rattle.df_unit.specs.declared.entry.Entry.{Entry}
-use Rattle.df_words.specs.declared.command.Command.{Command}
-use Rattle.df_words.specs.declared.command.Command.TheVariants.{Auction, Check, Floor, FloorWorkers, Gen, Lint, Load, Purge, Steps, Upgrade, Why}
-use Rattle.df_run.specs.Floor.{FollowsPurged, IsFloorPast, RunsFloor, WorksFloor}
-use Rattle.df_run.specs.Making.{IsOfFloor, Stops, StopsAt, TellsFloor, TellsWork, end_of_floor}
-use Rattle.df_run.specs.Outcome.{IsTextOfSome, OfRead, told_at}
-use Rattle.df_run.specs.Tasks.{BlamesBytes, IsInput, IsText}
-use Rattle.df_run.specs.declared.status.Status.{Status}
 use Rattle.df_run.specs.declared.status.Status.TheVariants as status
-use Rattle.df_run.specs.declared.tasks.End.{End}
 use Rattle.df_run.specs.declared.tasks.End.TheVariants as end
 
 -- the first file stops a run

@@ -1,26 +1,14 @@
 -- How what was read ends, and what is written of it tells.
-use Rattle.std.specs.Prelude.{⊤}
-use Rattle.std.proofs.Common.{◌≡◌, ◌≤◌, ◌<◌, ℕ, suc, List, [], ◌∷◌, length, refl, ap, subst, sym, ◌∙◌, arith}
+use Rattle.df_run.proofs.Names.{⊤, ◌≡◌, ◌≤◌, ◌<◌, ℕ, suc, List, [], ◌∷◌, length, refl, ap, subst, sym, ◌∙◌, arith, HasPlace, IsCheckOf, IsPurgeOf, IsRightJournal, IsUpgradeOf, IsWhyOf, IsWrongAt, LacksPlace, OfJournal, TellsCount, TellsPlace, past_in, Config, First, IsEitherText, IsJournalOf, Journal, Second, IsScriptText, settling_bound, Tick, Command, Steps, Check, Purge, Upgrade, Why, Auction, Lint, Gen, Floor, FloorWorkers, Load, IsCutAt, MayBeCutAt, OfFloor, RunsFloor, Settles, SettlesAnyhow, WorksFloor, IsCutInput, IsInput, IsNoPlaceInput, IsOrders, IsRightInput, IsText, IsUnsettledInput, IsWrongInput, OfOne, OfTwo, End}
 use Rattle.df_audit.proofs.Exact.{one_count, one_place, right_is_not_wrong}
-use Rattle.df_audit.specs.Audit.{HasPlace, IsCheckOf, IsPurgeOf, IsRightJournal, IsUpgradeOf, IsWhyOf, IsWrongAt, LacksPlace, OfJournal, TellsCount, TellsPlace, past_in}
 use Rattle.df_audit.specs.declared.audit.Finding.TheVariants as finding
 use Rattle.df_auction.specs.AuctionText.{IsTextOfFile}
-use Rattle.df_config.specs.declared.config.Config.{Config}
 use Rattle.df_floor_run.specs.declared.run.FloorEnd.TheVariants as floor
 use Rattle.df_journal_file.proofs.Eithers.{either_text}
-use Rattle.df_journal_file.specs.Either.{First, IsEitherText, IsJournalOf, Journal, Second}
-use Rattle.df_script_text.specs.Script.{IsScriptText}
-use Rattle.df_settling.specs.Settling.{settling_bound}
-use Rattle.df_ticks.specs.declared.tick.Tick.{Tick}
-use Rattle.df_words.specs.declared.command.Command.{Command}
-use Rattle.df_words.specs.declared.command.Command.TheVariants.{Steps, Check, Purge, Upgrade, Why, Auction, Lint, Gen, Floor, FloorWorkers, Load}
 use Rattle.df_run.proofs.OneRun.{one_cut, one_floor, quiet_settles, settles_or_cut}
 use Rattle.df_run.proofs.Reaching.{AreInputs}
-use Rattle.df_run.specs.Floor.{IsCutAt, MayBeCutAt, OfFloor, RunsFloor, Settles, SettlesAnyhow, WorksFloor}
 use Rattle.df_run.specs.Lint.{LintsScript}
 use Rattle.df_steps.specs.Steps.{RecordsScript}
-use Rattle.df_run.specs.Tasks.{IsCutInput, IsInput, IsNoPlaceInput, IsOrders, IsRightInput, IsText, IsUnsettledInput, IsWrongInput, OfOne, OfTwo}
-use Rattle.df_run.specs.declared.tasks.End.{End}
 use Rattle.df_run.specs.declared.tasks.End.TheVariants as end
 
 -- ---- what is said of one file's bytes, and of two files'

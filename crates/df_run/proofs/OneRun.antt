@@ -1,24 +1,15 @@
 -- Files make one floor, which has one plain run.
-use Rattle.std.proofs.Common.{◌≡◌, ◌+◌, ℕ, zero, suc, List, Some, refl, ap, sym, subst, ◌∙◌, arith}
-use Rattle.df_config.specs.ConfigFile.{IsConfigFile}
+use Rattle.df_run.proofs.Names.{◌≡◌, ◌+◌, ℕ, zero, suc, List, Some, refl, ap, sym, subst, ◌∙◌, arith, IsConfigFile, Config, EndsWith, IsFloorRun, fresh_crew, FloorEnd, floor_brain, told_is_one, header, tick_of, Tick, IsCutAt, OfFloor, RunsFloor, Settles}
 use Rattle.df_config.specs.ConfigTable.{config_of}
-use Rattle.df_config.specs.declared.config.Config.{Config}
 use Rattle.df_booking.specs.CrewState.{CrewState}
-use Rattle.df_floor_run.specs.FloorRun.{EndsWith, IsFloorRun, fresh_crew}
-use Rattle.df_floor_run.specs.declared.run.FloorEnd.{FloorEnd}
 use Rattle.df_floor_run.specs.declared.run.FloorEnd.TheVariants as floor
 use Rattle.df_floor_units.specs.Floor.{Mind}
 use Rattle.df_label.proofs.SetFacts.{same_elements}
 use Rattle.df_plain_floor.specs.PlainRun.{IsPass, IsPlainRun, IsTurn, Opened, Repeated, RunsOut, root_name, take_turns}
 use Rattle.df_rules.specs.Follows.{Brain}
-use Rattle.df_settling.specs.Settling.{floor_brain}
-use Rattle.df_records.proofs.OneReading.{told_is_one}
-use Rattle.df_ticks.specs.TickFile.{header, tick_of}
-use Rattle.df_ticks.specs.declared.tick.Tick.{Tick}
 use Rattle.df_unit.proofs.OrderFacts.{unit_cmp_exact}
 use Rattle.df_unit.specs.UnitOrder.{unit_cmp}
 use Rattle.df_unit.specs.declared.name.UnitName.{UnitName}
-use Rattle.df_run.specs.Floor.{IsCutAt, OfFloor, RunsFloor, Settles}
 
 -- ---- one run
 

@@ -1,11 +1,6 @@
 -- Which file stops a run.
-use Rattle.std.proofs.Common.{◌≡◌, ◌<◌, ◌≤◌, ℕ, suc, List, [], ◌∷◌, length, Option, None, Some, inl, inr, sym, subst, ◌∙◌, arith}
-use Rattle.std.specs.Prelude.{⊤}
+use Rattle.df_run.proofs.Names.{◌≡◌, ◌<◌, ◌≤◌, ℕ, suc, List, [], ◌∷◌, length, Option, None, Some, inl, inr, sym, subst, ◌∙◌, arith, ⊤, IfAllTold, IfTold, IsToldLong, OfRead, OfTold, Reaches, WereRead, BlamesBytes, IsInput, BadKind, Command}
 use Rattle.df_io.specs.Limits.{longest_file}
-use Rattle.df_run.specs.Outcome.{IfAllTold, IfTold, IsToldLong, OfRead, OfTold, Reaches, WereRead}
-use Rattle.df_run.specs.Tasks.{BlamesBytes, IsInput}
-use Rattle.df_run.specs.declared.status.BadKind.{BadKind}
-use Rattle.df_words.specs.declared.command.Command.{Command}
 
 -- ---- what is said of all files
 

@@ -1,15 +1,9 @@
 -- The status of a run that writes nothing.
-use Rattle.std.proofs.Common.{◌≡◌, ◌⊎◌, ℕ, List, Option, ap, inl, inr, refl}
-use Rattle.df_run.specs.Making.{Stops}
-use Rattle.df_run.specs.Outcome.{BlamesFile, DoesInput, IfAllTold, IsCutOff, IsHindered, IsOfACommand, IsOutcome, IsToldBad, IsToldLong, NoPlaceIsDue, NoPlaceIsExact, OfTold, Reaches, UnsettledIsDue, UnsettledIsExact, Writes, WrongIsDue, WrongIsExact}
-use Rattle.df_run.specs.Tasks.{IsCutInput, IsNoPlaceInput, IsRightInput, IsWrongInput}
-use Rattle.df_run.specs.declared.status.BadKind.{BadKind}
-use Rattle.df_run.specs.declared.status.Status.{Status}
+use Rattle.df_run.proofs.Names.{◌≡◌, ◌⊎◌, ℕ, List, Option, ap, inl, inr, refl, Stops, BlamesFile, DoesInput, IfAllTold, IsCutOff, IsHindered, IsOfACommand, IsOutcome, IsToldBad, IsToldLong, NoPlaceIsDue, NoPlaceIsExact, OfTold, Reaches, UnsettledIsDue, UnsettledIsExact, Writes, WrongIsDue, WrongIsExact, IsCutInput, IsNoPlaceInput, IsRightInput, IsWrongInput, BadKind, Status, Command}
 use Rattle.df_run.specs.declared.status.Status.TheVariants as status
 use Rattle.df_run.specs.declared.tasks.End.TheVariants as end
 use Rattle.df_run.proofs.Inputs.{ends_inputs, must_may}
 use Rattle.df_run.proofs.Reaching.{AreInputs, ReadBad, ReadLong, ToldBad, ToldLong, bad_or_long, if_all_told-all, if_all_told-map, long_or_bad, one_stop, read_bad, read_long, stopped_is_bad, told_bad, told_long}
-use Rattle.df_words.specs.declared.command.Command.{Command}
 
 module _ (c : Command) (files : List (Option (List ℕ))) (before now : ℕ) where
   abbrev Stopped : Status → Type 0

@@ -1,5 +1,5 @@
 -- Who was served between two journals was served between longer ones.
-use Rattle.df_workers.proofs.Names.{◌≡◌, inl, inr, ◌≤◌, List, ◌++◌, sym, ◌∙◌, ap, length, arith, append_assoc, length-append, IsPrefix, entry_before, entry_behind, Origin, prefix_trans, Brain, Entry, UnitName, HasMoved, IsServed}
+use Rattle.df_workers.proofs.Names.{inl, inr, ◌≤◌, List, ◌++◌, sym, ◌∙◌, ap, length, arith, append_assoc, length-append, IsPrefix, entry_before, entry_behind, Origin, prefix_trans, Brain, Entry, UnitName, HasMoved, IsServed}
 
 module _ (u : UnitName) where
   pub moved_before : (a b c : List Entry) → IsPrefix a b → HasMoved u b c → HasMoved u a c

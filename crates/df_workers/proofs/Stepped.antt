@@ -1,12 +1,10 @@
 -- What follows a step.
-use Rattle.df_workers.proofs.Names.{◌≡◌, inl, inr, ℕ, ◌<◌, ◌≤◌, List, Bool, true, false, refl, sym, ◌∙◌, ap, subst, cond, Option, Some, None, Result, Ok, Err, length, arith, ◌==◌, IfOk, nat_le, nat_tests, IsPrefix, IsCurrent, IsBegun, IsResting, core_at, crew_at, Origin, IsBooked, IsCounted, Brain, TurnState, OwnState, Entry, UnitName, HasMoved, IsServed, IsFirst, IsNext, next_by, next_of, next_turn, Came, Still, Moved, Full, NoMemory, Goes, Ends, begun_current, local_named}
-use Rattle.std.specs.Option.{option_map}
+use Rattle.df_workers.proofs.Names.{◌≡◌, inl, inr, ℕ, ◌<◌, ◌≤◌, List, Bool, true, false, refl, sym, ◌∙◌, ap, subst, cond, Some, None, Result, Ok, Err, length, arith, ◌==◌, IfOk, nat_le, nat_tests, IsPrefix, IsCurrent, IsBegun, IsResting, core_at, crew_at, Origin, IsBooked, IsCounted, Brain, TurnState, Entry, UnitName, HasMoved, IsServed, IsFirst, IsNext, next_by, next_of, next_turn, Came, Still, Moved, Full, NoMemory, Goes, Ends, begun_current, local_named}
 use Rattle.df_crew.specs.Booking.{IsRefused}
 use Rattle.df_crew.specs.declared.crew.BookCause.{BookCause}
 use Rattle.df_crew.specs.declared.crew.BookCause.TheVariants.{Stale}
 use Rattle.df_crew.specs.declared.crew.BookCause.TheVariants as why
 use Rattle.df_hub.specs.declared.hub.Stepped.{Stepped}
-use Rattle.df_local.specs.code.LocalState.{LocalState}
 use Rattle.df_memory.specs.declared.NoMemory as label
 use Rattle.df_workers.specs.declared.step.Next.{Next}
 use Rattle.df_workers.proofs.Others.{stale_moved}

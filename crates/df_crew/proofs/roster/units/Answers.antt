@@ -1,7 +1,4 @@
-use Rattle.std.proofs.Common.{◌≡◌, ◌++◌, ◌∷◌, [], List, None, Some, ap, sym, subst, ◌∙◌, length, take}
-use Rattle.std.specs.Prelude.{option_copied, slice_get}
-use Rattle.df_machine.specs.Journal.{IsRoll}
-use Rattle.df_unit.specs.declared.name.UnitName.{UnitName}
+use Rattle.df_crew.proofs.Names.{◌≡◌, ◌++◌, ◌∷◌, [], List, None, Some, ap, sym, subst, ◌∙◌, length, take, option_copied, slice_get, IsRoll, UnitName}
 use Rattle.df_crew.proofs.Rolls.{begins_all, begins_more}
 use Rattle.df_crew.proofs.roster.units.Goals as goal
 

@@ -1,6 +1,4 @@
-use Rattle.std.proofs.Common.{◌≡◌, ◌-◌, ◌^◌, List, length, take}
-use Rattle.df_machine.specs.Journal.{IsRoll}
-use Rattle.df_unit.specs.declared.name.UnitName.{UnitName}
+use Rattle.df_crew.proofs.Names.{◌≡◌, ◌-◌, ◌^◌, List, length, take, IsRoll, UnitName}
 use Rattle.df_crew.proofs.roster.units.Given as goal
 
 abbrev pub invariant-loop-unit : goal.invariant-loop-unit

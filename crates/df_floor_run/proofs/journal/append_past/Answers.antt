@@ -1,4 +1,4 @@
-use Rattle.df_floor_run.proofs.Names.{List, ◌≡◌, ◌++◌, reverse, subst, sym, take, noted_text, State, firsts, AgreesWith, Legal, rows, Entry, noted_in, replayed}
+use Rattle.df_floor_run.proofs.Names.{◌≡◌, ◌++◌, reverse, subst, sym, take, noted_text, State, firsts, AgreesWith, Legal, rows, Entry, noted_in, replayed}
 use Rattle.df_floor_run.proofs.Told.{told_more}
 use Rattle.df_floor_run.proofs.journal.append_past.Goals as goal
 

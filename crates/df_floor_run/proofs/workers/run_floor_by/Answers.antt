@@ -1,4 +1,4 @@
-use Rattle.df_floor_run.proofs.Names.{IfOk-weaker, TellsWorked}
+use Rattle.df_floor_run.proofs.Names.{IfOk-weaker}
 use Rattle.df_floor_run.proofs.Works.{worked_run}
 use Rattle.df_floor_run.proofs.workers.run_floor_by.Goals as goal
 

@@ -1,4 +1,4 @@
-use Rattle.df_floor_run.proofs.Names.{◌≡◌, List, subst, sym, ◌∙◌, Err, IfOk, Ok, Result, IsPrefix, IsMore, origin_of, seen_of, Entry}
+use Rattle.df_floor_run.proofs.Names.{List, subst, ◌∙◌, Err, IfOk, Ok, Result, IsPrefix, IsMore, seen_of, Entry}
 use Rattle.df_floor_run.proofs.Works.{more_of}
 use Rattle.df_floor_run.proofs.workers.serve.Goals as goal
 

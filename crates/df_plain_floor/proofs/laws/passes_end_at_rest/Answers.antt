@@ -1,4 +1,4 @@
-use Rattle.df_rules.specs.Follows.{brain_of}
+use Rattle.df_plain_floor.proofs.Names.{brain_of}
 use Rattle.df_plain_floor.proofs.Resting.{quiet}
 use Rattle.df_plain_floor.proofs.laws.passes_end_at_rest.Goals as goal
 

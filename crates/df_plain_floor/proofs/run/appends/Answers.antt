@@ -1,6 +1,4 @@
-use Rattle.std.proofs.Common.{ℕ, not, ap, ◌∙◌, length}
-use Rattle.std.specs.Prelude.{nat_eq}
-use Rattle.df_rules.specs.Follows.{brain_of}
+use Rattle.df_plain_floor.proofs.Names.{ℕ, not, ap, ◌∙◌, length, nat_eq, brain_of}
 use Rattle.df_plain_floor.proofs.Passing.{appending}
 use Rattle.df_plain_floor.proofs.run.appends.Goals as goal
 

@@ -1,5 +1,4 @@
-use Rattle.std.proofs.Common.{suc}
-use Rattle.df_rules.specs.Follows.{brain_of}
+use Rattle.df_plain_floor.proofs.Names.{suc, brain_of}
 use Rattle.df_plain_floor.proofs.Turning.{turns_trans}
 use Rattle.df_plain_floor.proofs.run.make_passes.Goals as goal
 

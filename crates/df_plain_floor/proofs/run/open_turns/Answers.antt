@@ -1,5 +1,4 @@
-use Rattle.std.proofs.Common.{◌+◌, arith}
-use Rattle.df_rules.specs.Follows.{brain_of}
+use Rattle.df_plain_floor.proofs.Names.{◌+◌, arith, brain_of}
 use Rattle.df_plain_floor.proofs.Opening.{opened_more}
 use Rattle.df_plain_floor.proofs.Turning.{turns_full, turns_more, turns_trans}
 use Rattle.df_plain_floor.proofs.run.open_turns.Goals as goal

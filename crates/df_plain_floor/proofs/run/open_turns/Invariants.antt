@@ -1,6 +1,4 @@
-use Rattle.df_plain_floor.specs.Grown.{AreTurns}
-use Rattle.df_plain_floor.specs.PlainRun.{Opened}
-use Rattle.df_rules.specs.Follows.{brain_of}
+use Rattle.df_plain_floor.proofs.Names.{AreTurns, Opened, brain_of}
 use Rattle.df_plain_floor.proofs.run.open_turns.Given as goal
 
 abbrev pub invariant-loop-others : goal.invariant-loop-others

@@ -1,7 +1,4 @@
-use Rattle.std.proofs.Common.{◌-◌, length}
-use Rattle.df_plain_floor.specs.Grown.{AreTurns}
-use Rattle.df_plain_floor.specs.PlainRun.{IsTurn}
-use Rattle.df_rules.specs.Follows.{brain_of}
+use Rattle.df_plain_floor.proofs.Names.{◌-◌, length, AreTurns, IsTurn, brain_of}
 use Rattle.df_plain_floor.proofs.Passing.{AreSteps}
 use Rattle.df_plain_floor.proofs.run.open_unit.Given as goal
 

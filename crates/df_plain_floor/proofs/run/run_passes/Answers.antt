@@ -1,4 +1,4 @@
-use Rattle.df_rules.specs.Follows.{brain_of}
+use Rattle.df_plain_floor.proofs.Names.{brain_of}
 use Rattle.df_plain_floor.proofs.Ending.{ended_so}
 use Rattle.df_plain_floor.proofs.Turning.{turns_full, turns_more}
 use Rattle.df_plain_floor.proofs.run.run_passes.Goals as goal

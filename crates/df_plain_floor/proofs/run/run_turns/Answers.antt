@@ -1,4 +1,4 @@
-use Rattle.df_rules.specs.Follows.{brain_of}
+use Rattle.df_plain_floor.proofs.Names.{brain_of}
 use Rattle.df_plain_floor.proofs.Turning.{turns_full, turns_more, turns_trans}
 use Rattle.df_plain_floor.proofs.run.run_turns.Goals as goal
 

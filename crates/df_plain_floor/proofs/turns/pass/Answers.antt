@@ -1,10 +1,4 @@
-use Rattle.std.proofs.Common.{◌≡◌, ℕ, List, false, not, sym, subst, ap, ◌∙◌, length}
-use Rattle.std.specs.Prelude.{nat_eq}
-use Rattle.df_booking.specs.CrewState.{CrewState}
-use Rattle.df_machine.specs.Journal.{IsRoll, State}
-use Rattle.df_plain_floor.specs.PlainRun.{IsQuiet, is_full}
-use Rattle.df_rules.specs.Follows.{brain_of}
-use Rattle.df_unit.specs.declared.name.UnitName.{UnitName}
+use Rattle.df_plain_floor.proofs.Names.{◌≡◌, ℕ, List, false, not, sym, subst, ap, ◌∙◌, length, nat_eq, CrewState, IsRoll, State, IsQuiet, is_full, brain_of, UnitName}
 use Rattle.df_plain_floor.proofs.Passing.{appending, stood}
 use Rattle.df_plain_floor.proofs.Resting.{quiet}
 use Rattle.df_plain_floor.proofs.turns.pass.Goals as goal

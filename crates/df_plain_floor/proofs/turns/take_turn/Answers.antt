@@ -1,5 +1,4 @@
-use Rattle.std.proofs.Common.{sym, ◌∙◌}
-use Rattle.df_rules.specs.Follows.{brain_of}
+use Rattle.df_plain_floor.proofs.Names.{sym, ◌∙◌, brain_of}
 use Rattle.df_plain_floor.proofs.Turning.{tried}
 use Rattle.df_plain_floor.proofs.turns.take_turn.Goals as goal
 

@@ -1,4 +1,4 @@
-use Rattle.df_rules.specs.Follows.{brain_of}
+use Rattle.df_plain_floor.proofs.Names.{brain_of}
 use Rattle.df_plain_floor.proofs.Taking.{HaveTaken}
 use Rattle.df_plain_floor.proofs.turns.take_turns.Given as goal
 

@@ -1,11 +1,8 @@
-use Rattle.std.proofs.Common.{List, ℕ, refl, subst}
-use Rattle.df_config.specs.ConfigFile.{IsRightRefusal}
+use Rattle.df_run.proofs.Names.{List, ℕ, refl, subst, IsRightRefusal, BlamesBytes, Command}
 use Rattle.df_config.specs.declared.read.ConfigRefused.TheVariants.{BadConfig}
 use Rattle.df_run.proofs.Floors.{of_each}
 use Rattle.df_run.proofs.floor.config_at.Goals as goal
-use Rattle.df_run.specs.Tasks.{BlamesBytes}
 use Rattle.df_run.specs.declared.status.BadKind.TheVariants as kind
-use Rattle.df_words.specs.declared.command.Command.{Command}
 
 pub returns-in-Err-clause-stops : goal.returns-in-Err-clause-stops
 returns-in-Err-clause-stops g c = λ command of_floor. c.in-Err.ensures.stops command

@@ -1,10 +1,6 @@
-use Rattle.std.proofs.Common.{subst}
+use Rattle.df_run.proofs.Names.{subst, StopsAt, OfRead, IsTickFile, texts}
 use Rattle.df_run.proofs.Floors.{config_good, first_stops, second_stops, told_again}
 use Rattle.df_run.proofs.floor.files_at.Goals as goal
-use Rattle.df_run.specs.Making.{StopsAt}
-use Rattle.df_run.specs.Outcome.{OfRead}
-use Rattle.df_ticks.specs.TickFile.{IsTickFile}
-use Rattle.df_words.specs.Words.{texts}
 
 pub returns-in-Err-clause-stops : goal.returns-in-Err-clause-stops
 returns-in-Err-clause-stops g c = λ command of_floor. first_stops command _ _ _ _ c.in-Err.status (c.in-Err.ensures.stops command of_floor)

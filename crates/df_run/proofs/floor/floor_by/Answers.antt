@@ -1,6 +1,6 @@
+use Rattle.df_run.proofs.Names.{FloorWorkers}
 use Rattle.df_run.proofs.Floors.{works_told}
 use Rattle.df_run.proofs.floor.floor_by.Goals as goal
-use Rattle.df_words.specs.declared.command.Command.TheVariants.{FloorWorkers}
 
 pub returns-in-Err-clause-stops : goal.returns-in-Err-clause-stops
 returns-in-Err-clause-stops g c = c.in-Err.ensures.stops (FloorWorkers c.args.first c.args.second c.args.workers) tt

@@ -1,6 +1,6 @@
+use Rattle.df_run.proofs.Names.{Floor}
 use Rattle.df_run.proofs.Floors.{floor_told}
 use Rattle.df_run.proofs.floor.floor_of.Goals as goal
-use Rattle.df_words.specs.declared.command.Command.TheVariants.{Floor}
 
 pub returns-in-Err-clause-stops : goal.returns-in-Err-clause-stops
 returns-in-Err-clause-stops g c = c.in-Err.ensures.stops (Floor c.args.first c.args.second) tt

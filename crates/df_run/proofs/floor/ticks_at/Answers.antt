@@ -1,13 +1,9 @@
-use Rattle.std.proofs.Common.{List, ℕ, refl, subst}
-use Rattle.df_records.proofs.OneReading.{a_file_is_good}
-use Rattle.df_ticks.specs.TickFile.{header, tick_of}
+use Rattle.df_run.proofs.Names.{List, ℕ, refl, subst, a_file_is_good, header, tick_of, BlamesBytes, Command}
 use Rattle.df_ticks.specs.Refusing.{IsRightRefusal}
 use Rattle.df_ticks.specs.declared.ticks.TicksRefused.TheVariants.{BadTick}
 use Rattle.df_run.proofs.Floors.{of_each}
 use Rattle.df_run.proofs.floor.ticks_at.Goals as goal
-use Rattle.df_run.specs.Tasks.{BlamesBytes}
 use Rattle.df_run.specs.declared.status.BadKind.TheVariants as kind
-use Rattle.df_words.specs.declared.command.Command.{Command}
 
 pub returns-in-Err-clause-stops : goal.returns-in-Err-clause-stops
 returns-in-Err-clause-stops g c = λ command of_floor. c.in-Err.ensures.stops command

@@ -1,7 +1,6 @@
-use Rattle.std.proofs.Common.{List, ℕ, [], ◌∷◌, refl, subst}
+use Rattle.df_run.proofs.Names.{List, ℕ, [], ◌∷◌, refl, subst, BlamesBytes, IsText}
 use Rattle.df_run.proofs.Floors.{first_stops}
 use Rattle.df_run.proofs.making.made_of_file.Goals as goal
-use Rattle.df_run.specs.Tasks.{BlamesBytes, IsText}
 use Rattle.df_run.specs.declared.status.Status.TheVariants as status
 
 pub returns-in-Err-clause-stops : goal.returns-in-Err-clause-stops

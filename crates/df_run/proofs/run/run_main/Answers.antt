@@ -1,5 +1,5 @@
+use Rattle.df_run.proofs.Names.{Ask, texts}
 use Rattle.df_run.proofs.Asked.{if_asked, some_asked, usage_exact}
-use Rattle.df_words.specs.Words.{Ask, texts}
 use Rattle.df_run.proofs.run.run_main.Goals as goal
 
 pub returns-in-Ok-clause-usage : goal.returns-in-Ok-clause-usage

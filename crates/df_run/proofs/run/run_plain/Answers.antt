@@ -1,6 +1,5 @@
+use Rattle.df_run.proofs.Names.{AskPlainly, texts}
 use Rattle.df_run.proofs.Asked.{if_asked, some_asked, usage_exact}
-use Rattle.df_run.specs.Outcome.{AskPlainly}
-use Rattle.df_words.specs.Words.{texts}
 use Rattle.df_run.proofs.run.run_plain.Goals as goal
 
 pub returns-in-Ok-clause-usage : goal.returns-in-Ok-clause-usage

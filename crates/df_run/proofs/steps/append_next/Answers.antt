@@ -1,10 +1,5 @@
-use Rattle.std.proofs.Common.{◌≡◌, [], ◌∷◌, ◌++◌, subst, sym, ◌∙◌}
-use Rattle.std.proofs.lemmas.Result.{err_from_is_err_and}
-use Rattle.df_lines.specs.Refused.{NamesBadLine}
+use Rattle.df_run.proofs.Names.{◌≡◌, [], ◌∷◌, ◌++◌, subst, sym, ◌∙◌, err_from_is_err_and, NamesBadLine, HasRead, ReaderState, IsScriptText, IsTooLargeIn}
 use Rattle.df_script_text.specs.Common.{common_line, root_call}
-use Rattle.df_script_text.specs.Reader.{HasRead, ReaderState}
-use Rattle.df_script_text.specs.Script.{IsScriptText}
-use Rattle.df_script_text.specs.TooLarge.{IsTooLargeIn}
 use Rattle.df_steps.proofs.Journals.{written_more}
 use Rattle.df_steps.specs.Steps.{journal_of}
 use Rattle.df_run.proofs.steps.append_next.Goals as goal

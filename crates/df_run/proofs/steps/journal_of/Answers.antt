@@ -1,9 +1,5 @@
-use Rattle.std.proofs.Common.{List, ℕ, [], ◌∷◌, ◌++◌, ap, refl, sym, subst, ◌∙◌}
-use Rattle.std.proofs.lemmas.Result.{err_from_is_err_and}
+use Rattle.df_run.proofs.Names.{List, ℕ, [], ◌∷◌, ◌++◌, ap, refl, sym, subst, ◌∙◌, err_from_is_err_and, NamesBadLine, IsScriptText, IsTooLargeIn}
 use Rattle.df_journal_text.specs.Start.{head_text}
-use Rattle.df_lines.specs.Refused.{NamesBadLine}
-use Rattle.df_script_text.specs.Script.{IsScriptText}
-use Rattle.df_script_text.specs.TooLarge.{IsTooLargeIn}
 use Rattle.df_steps.proofs.Journals.{written_none}
 use Rattle.df_steps.proofs.Sound.{journal_is_sound, journal_is_unaided}
 use Rattle.df_run.proofs.steps.journal_of.Goals as goal

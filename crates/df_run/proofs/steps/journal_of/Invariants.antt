@@ -1,5 +1,4 @@
-use Rattle.std.proofs.Common.{◌≡◌, ◌-◌, List, length}
-use Rattle.df_script_text.specs.Reader.{HasRead}
+use Rattle.df_run.proofs.Names.{◌≡◌, ◌-◌, List, length, HasRead}
 use Rattle.df_script_text.specs.declared.line.ScriptLine.{ScriptLine}
 use Rattle.df_steps.specs.code.Written.{IsWritten}
 use Rattle.df_run.proofs.steps.journal_of.Given as goal

@@ -1,5 +1,4 @@
-use Rattle.std.proofs.Common.{refl, subst}
-use Rattle.df_records.proofs.OneReading.{a_file_is_good}
+use Rattle.df_run.proofs.Names.{refl, subst, a_file_is_good}
 use Rattle.df_auction.specs.OrderFile.{IsBadAt, header, order_of}
 use Rattle.df_auction.specs.Refusing.{IsRightRefusal}
 use Rattle.df_auction.specs.declared.orders.OrdersRefused.{OrdersRefused}

@@ -1,9 +1,7 @@
-use Rattle.std.proofs.Common.{sym, subst}
-use Rattle.df_run.specs.Tasks.{RefusesInput}
+use Rattle.df_run.proofs.Names.{sym, subst, RefusesInput, Check}
 use Rattle.df_run.proofs.Audits.{check_given}
 use Rattle.df_run.proofs.Files.{check_blames}
 use Rattle.df_run.proofs.tasks.check_of_journal.Goals as goal
-use Rattle.df_words.specs.declared.command.Command.TheVariants.{Check}
 
 pub returns-in-Ok-clause-gives : goal.returns-in-Ok-clause-gives
 returns-in-Ok-clause-gives c journal = check_given journal c.args.bytes.now c.in-Ok.audit.finding c.in-Ok.audit.text.items c.audited.result.end

@@ -1,8 +1,6 @@
-use Rattle.std.proofs.Common.{sym, subst}
-use Rattle.df_run.specs.Tasks.{RefusesInput}
+use Rattle.df_run.proofs.Names.{sym, subst, RefusesInput, Steps}
 use Rattle.df_run.proofs.Files.{run_blames}
 use Rattle.df_run.proofs.tasks.journal_of_script.Goals as goal
-use Rattle.df_words.specs.declared.command.Command.TheVariants.{Steps}
 
 pub returns-in-Err-clause-refuses : goal.returns-in-Err-clause-refuses
 returns-in-Err-clause-refuses c file = subst (RefusesInput (Steps file) c.args.bytes.now) (sym c.blamed_line.ensures)

@@ -1,5 +1,4 @@
-use Rattle.std.proofs.Common.{IfErr, IfOk, [], ◌∷◌, sym, subst}
-use Rattle.df_run.specs.Tasks.{IsText, RefusesInput}
+use Rattle.df_run.proofs.Names.{IfErr, IfOk, [], ◌∷◌, sym, subst, IsText, RefusesInput}
 use Rattle.df_run.proofs.tasks.output_of.Goals as goal
 
 pub returns-in-Steps-clause-gives : goal.returns-in-Steps-clause-gives

@@ -1,9 +1,7 @@
-use Rattle.std.proofs.Common.{sym, subst}
-use Rattle.df_run.specs.Tasks.{RefusesInput}
+use Rattle.df_run.proofs.Names.{sym, subst, RefusesInput, Purge}
 use Rattle.df_run.proofs.Audits.{purge_given}
 use Rattle.df_run.proofs.Files.{purge_blames}
 use Rattle.df_run.proofs.tasks.purge_of_journal.Goals as goal
-use Rattle.df_words.specs.declared.command.Command.TheVariants.{Purge}
 
 pub returns-in-Ok-clause-gives : goal.returns-in-Ok-clause-gives
 returns-in-Ok-clause-gives c journal =

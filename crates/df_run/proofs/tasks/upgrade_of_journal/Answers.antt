@@ -1,9 +1,7 @@
-use Rattle.std.proofs.Common.{sym, subst}
-use Rattle.df_run.specs.Tasks.{RefusesInput}
+use Rattle.df_run.proofs.Names.{sym, subst, RefusesInput, Upgrade}
 use Rattle.df_run.proofs.Audits.{upgrade_given}
 use Rattle.df_run.proofs.Files.{upgrade_blames}
 use Rattle.df_run.proofs.tasks.upgrade_of_journal.Goals as goal
-use Rattle.df_words.specs.declared.command.Command.TheVariants.{Upgrade}
 
 pub returns-in-Ok-clause-gives : goal.returns-in-Ok-clause-gives
 returns-in-Ok-clause-gives c journal = upgrade_given journal c.args.bytes.now c.in-Ok.audit.finding c.in-Ok.audit.text.items c.audited.result.end

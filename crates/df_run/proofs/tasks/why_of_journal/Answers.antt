@@ -1,9 +1,7 @@
-use Rattle.std.proofs.Common.{sym, subst}
-use Rattle.df_run.specs.Tasks.{RefusesInput}
+use Rattle.df_run.proofs.Names.{sym, subst, RefusesInput, Why}
 use Rattle.df_run.proofs.Audits.{why_given}
 use Rattle.df_run.proofs.Files.{why_blames}
 use Rattle.df_run.proofs.tasks.why_of_journal.Goals as goal
-use Rattle.df_words.specs.declared.command.Command.TheVariants.{Why}
 
 pub returns-in-Ok-clause-gives : goal.returns-in-Ok-clause-gives
 returns-in-Ok-clause-gives c journal =

@@ -1,10 +1,6 @@
-use Rattle.std.proofs.Common.{◌≡◌, true, sym, subst, rules, arith}
-use Rattle.std.specs.Prelude.{is_some}
+use Rattle.df_crew.proofs.Names.{◌≡◌, true, sym, subst, rules, arith, is_some, local_of, brain_of, UnitName}
 use Rattle.df_crew.proofs.Resting.{exists_named, quiet_by}
 use Rattle.df_crew.proofs.crew.Crew.are_at_rest.Goals as goal
-use Rattle.df_machine.specs.Journal.{local_of}
-use Rattle.df_rules.specs.Follows.{brain_of}
-use Rattle.df_unit.specs.declared.name.UnitName.{UnitName}
 
 pub is_at_rest-requires : goal.is_at_rest-requires
 is_at_rest-requires g c =

@@ -1,7 +1,4 @@
-use Rattle.std.proofs.Common.{ℕ, ◌<◌, get_or}
-use Rattle.df_crew.specs.Resting.{IsResting}
-use Rattle.df_rules.specs.Follows.{brain_of}
-use Rattle.df_unit.specs.declared.name.UnitName.{UnitName}
+use Rattle.df_crew.proofs.Names.{ℕ, ◌<◌, get_or, IsResting, brain_of, UnitName}
 use Rattle.df_crew.proofs.crew.Crew.are_at_rest.Given as goal
 
 abbrev pub invariant-loop-unit : goal.invariant-loop-unit

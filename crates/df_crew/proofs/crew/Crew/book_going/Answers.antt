@@ -1,9 +1,6 @@
-use Rattle.std.proofs.Common.{sym, subst}
-use Rattle.df_booking.specs.CrewState.{CrewState}
-use Rattle.df_booking.specs.code.Renewal.{IsUnderWay}
+use Rattle.df_crew.proofs.Names.{sym, subst, CrewState, IsUnderWay, brain_of}
 use Rattle.df_crew.proofs.Minded.{booked_ok}
 use Rattle.df_crew.proofs.crew.Crew.book_going.Goals as goal
-use Rattle.df_rules.specs.Follows.{brain_of}
 
 pub invariant_of-self : goal.invariant_of-self
 invariant_of-self g c =

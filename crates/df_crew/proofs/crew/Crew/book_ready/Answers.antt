@@ -1,6 +1,5 @@
-use Rattle.df_booking.proofs.Manning.{under_way}
+use Rattle.df_crew.proofs.Names.{under_way, brain_of}
 use Rattle.df_crew.proofs.crew.Crew.book_ready.Goals as goal
-use Rattle.df_rules.specs.Follows.{brain_of}
 
 pub book_going-requires-clause-under_way : goal.book_going-requires-clause-under_way
 book_going-requires-clause-under_way g c =

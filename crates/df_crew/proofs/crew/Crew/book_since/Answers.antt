@@ -1,9 +1,6 @@
-use Rattle.std.proofs.Common.{sym, ◌∙◌, ap}
-use Rattle.df_booking.specs.CrewState.{CrewState}
+use Rattle.df_crew.proofs.Names.{sym, ◌∙◌, ap, CrewState, LocalState, brain_of}
 use Rattle.df_crew.proofs.Began.{current_ok, kept_since, refused_short}
 use Rattle.df_crew.proofs.crew.Crew.book_since.Goals as goal
-use Rattle.df_local.specs.code.LocalState.{LocalState}
-use Rattle.df_rules.specs.Follows.{brain_of}
 
 pub book_there-requires : goal.book_there-requires
 book_there-requires g c =

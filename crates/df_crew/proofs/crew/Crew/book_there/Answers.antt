@@ -1,6 +1,6 @@
+use Rattle.df_crew.proofs.Names.{brain_of}
 use Rattle.df_crew.proofs.Growing.{more_booked}
 use Rattle.df_crew.proofs.crew.Crew.book_there.Goals as goal
-use Rattle.df_rules.specs.Follows.{brain_of}
 
 pub returns-in-Ok-clause-more : goal.returns-in-Ok-clause-more
 returns-in-Ok-clause-more g c =

@@ -1,13 +1,6 @@
-use Rattle.std.proofs.Common.{◌≡◌, true, ap, sym, subst, ◌∙◌}
-use Rattle.std.specs.Prelude.{is_some, option_copied}
-use Rattle.df_booking.specs.CrewState.{CrewState}
-use Rattle.df_kept.specs.Kept.{kept_at}
+use Rattle.df_crew.proofs.Names.{◌≡◌, true, ap, sym, subst, ◌∙◌, is_some, option_copied, CrewState, kept_at, firsts, local_of, began_with, brain_of, rows, UnitName}
 use Rattle.df_crew.proofs.Minded.{seed_began}
 use Rattle.df_crew.proofs.crew.Crew.first_state.Goals as goal
-use Rattle.df_machine.specs.Journal.{firsts, local_of}
-use Rattle.df_rules.specs.Follows.{began_with, brain_of}
-use Rattle.df_rules.specs.Start.{rows}
-use Rattle.df_unit.specs.declared.name.UnitName.{UnitName}
 
 pub returns-in_ok-seed_name-in-Managed-clause-state : goal.returns-in_ok-seed_name-in-Managed-clause-state
 returns-in_ok-seed_name-in-Managed-clause-state g c =

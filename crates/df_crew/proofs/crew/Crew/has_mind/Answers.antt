@@ -1,12 +1,6 @@
-use Rattle.std.proofs.Common.{◌≡◌, [], None, Some, true, ap, sym, subst, ◌∙◌}
-use Rattle.std.specs.Prelude.{is_some, option_copied}
-use Rattle.df_booking.specs.CrewState.{CrewState, mind_in}
+use Rattle.df_crew.proofs.Names.{◌≡◌, [], None, Some, true, ap, sym, subst, ◌∙◌, is_some, option_copied, CrewState, mind_in, kept_at, firsts, local_of, Last, began_with, brain_of, replies_of, rows}
 use Rattle.df_crew.proofs.Minded.{found_there, kept_mind, none_told, on_err}
 use Rattle.df_crew.proofs.crew.Crew.has_mind.Goals as goal
-use Rattle.df_kept.specs.Kept.{kept_at}
-use Rattle.df_machine.specs.Journal.{firsts, local_of}
-use Rattle.df_rules.specs.Follows.{Last, began_with, brain_of, replies_of}
-use Rattle.df_rules.specs.Start.{rows}
 
 pub returns-in-Some-clause-is : goal.returns-in-Some-clause-is
 returns-in-Some-clause-is g c =

@@ -1,11 +1,6 @@
-use Rattle.std.proofs.Common.{◌≡◌, true, sym, subst}
-use Rattle.std.specs.Prelude.{is_some, option_copied}
-use Rattle.df_booking.specs.CrewState.{CrewState}
+use Rattle.df_crew.proofs.Names.{◌≡◌, true, sym, subst, is_some, option_copied, CrewState, firsts, local_of, began_with, brain_of, rows}
 use Rattle.df_crew.proofs.Minded.{found_there}
 use Rattle.df_crew.proofs.crew.Crew.mind.Goals as goal
-use Rattle.df_machine.specs.Journal.{firsts, local_of}
-use Rattle.df_rules.specs.Follows.{began_with, brain_of}
-use Rattle.df_rules.specs.Start.{rows}
 
 pub unwrap-state-requires : goal.unwrap-state-requires
 unwrap-state-requires g c =

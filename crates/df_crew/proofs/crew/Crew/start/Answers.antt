@@ -1,9 +1,6 @@
-use Rattle.std.proofs.Common.{sym, subst}
-use Rattle.df_booking.specs.Manned.{IsManned}
+use Rattle.df_crew.proofs.Names.{sym, subst, IsManned, State, brain_of}
 use Rattle.df_crew.proofs.Minded.{manned_start}
 use Rattle.df_crew.proofs.crew.Crew.start.Goals as goal
-use Rattle.df_machine.specs.Journal.{State}
-use Rattle.df_rules.specs.Follows.{brain_of}
 
 pub invariant_of-result : goal.invariant_of-result
 invariant_of-result g c =

@@ -1,9 +1,6 @@
-use Rattle.std.proofs.Common.{◌≡◌, Some, sym, subst}
-use Rattle.df_booking.specs.CrewState.{CrewState}
+use Rattle.df_crew.proofs.Names.{◌≡◌, Some, sym, subst, CrewState, local_of, brain_of}
 use Rattle.df_crew.proofs.Minded.{begun_under_way}
 use Rattle.df_crew.proofs.crew.Crew.take_first_turn.Goals as goal
-use Rattle.df_machine.specs.Journal.{local_of}
-use Rattle.df_rules.specs.Follows.{brain_of}
 
 pub book_going-requires-clause-under_way : goal.book_going-requires-clause-under_way
 book_going-requires-clause-under_way g c =
