@@ -68,7 +68,9 @@ fn teller_alone(alloc: Global) -> Result<(Hub<Player>, Pass<Crew<Player>>), NoMe
 
 /// The events that have a bed.
 fn with_a_bed(alloc: Global) -> Result<Filter, NoMemory> {
-    let name = Name::new("bed")?;
+    let Ok(name) = Name::new("bed") else {
+        return Err(NoMemory);
+    };
     let clause = Clause {
         name,
         test: Test::Present,
@@ -106,7 +108,9 @@ fn advanced<R: Wait>(
     requires { IsFree hub.now pass.old }
     ensures { IsFree hub.now pass.new }
 {
-    let mut turn = hub.begin(rt, pass, unit)?;
+    let Ok(mut turn) = hub.begin(rt, pass, unit) else {
+        return Err(NoMemory);
+    };
     match turn.advance() {
         Ok(ready) => Ok(ReadyTurn { turn, ready }),
         Err(NoMemory) => {

@@ -45,8 +45,12 @@ pub struct Teller {
 
 impl Teller {
     pub fn new(alloc: Global, number: i64) -> Result<Teller, NoMemory> {
-        let name = Name::new("bed")?;
-        let value = Value::Int(number).freeze(alloc)?;
+        let Ok(name) = Name::new("bed") else {
+            return Err(NoMemory);
+        };
+        let Ok(value) = Value::Int(number).freeze(alloc) else {
+            return Err(NoMemory);
+        };
         let label = Label {
             s: TagSet::new(alloc),
             i: TagSet::new(alloc),
