@@ -2,10 +2,10 @@
 use Rattle.std.proofs.Common.{◌≡◌, true, ap}
 use Rattle.std.specs.Bool.{Decides}
 use Rattle.std.proofs.lemmas.Bool.{and_parts, and_from}
-use Rattle.df_label.specs.TagSet.{tag_set_eq, is_subset, union, meet}
+use Rattle.df_label.specs.TagSet.{tag_set_eq, is_subset}
 use Rattle.df_label.specs.Label.{flows_to, join, label_eq, IsCanonical}
 use Rattle.df_label.specs.declared.label.Label.{Label}
-use Rattle.df_label.proofs.TagSetFacts.{tag_set_eq-Decides, union-included_right, meet-included_left, is_subset-refl, is_subset-trans, is_subset-antisymm, ascending-union, ascending-meet, is_subset-union_left, is_subset-union_right, union-is_subset, meet-is_subset_left, meet-is_subset_right, is_subset-meet}
+use Rattle.df_label.proofs.TagSetFacts.{tag_set_eq-Decides, is_subset-refl, is_subset-trans, is_subset-antisymm, ascending-union, ascending-meet, is_subset-union_left, is_subset-union_right, union-is_subset, meet-is_subset_left, meet-is_subset_right, is_subset-meet}
 
 -- the two halves of a flow
 pub flows_to-parts : (a b : Label) → flows_to a b ≡ true → (is_subset a.s b.s ≡ true) × (is_subset b.i a.i ≡ true)

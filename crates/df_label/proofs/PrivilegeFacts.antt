@@ -1,5 +1,5 @@
 -- Privileges are totally ordered, and only equal privileges tie.
-use Rattle.std.proofs.Common.{◌≡◌, true, ◌||◌, List, refl, ap, sym, arith}
+use Rattle.std.proofs.Common.{◌≡◌, ◌||◌, List, refl, ap, sym, arith}
 use Rattle.std.specs.declared.cmp.Ordering.{Ordering}
 use Rattle.std.specs.declared.cmp.Ordering.TheVariants.{Less, Equal, Greater}
 use Rattle.std.specs.Bool.{Decides}
@@ -13,7 +13,7 @@ use Rattle.df_label.specs.declared.privilege.Right.TheVariants.{Plus, Minus, Plu
 use Rattle.df_label.specs.declared.privilege.Privilege.{Privilege}
 use Rattle.df_label.specs.Ascending.{IsAscending}
 use Rattle.df_label.specs.Privileges.{contains, add}
-use Rattle.df_label.proofs.SetFacts.{IsExactOrder, contains-insert, ascending_insert, insert_present, eq_by_cmp-Decides}
+use Rattle.df_label.proofs.SetFacts.{IsExactOrder, contains-insert, ascending_insert, eq_by_cmp-Decides}
 use Rattle.df_label.proofs.TagSetFacts.{tag_cmp_exact}
 
 -- no two rights stand at one place

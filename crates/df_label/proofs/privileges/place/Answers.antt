@@ -1,6 +1,5 @@
-use Rattle.std.proofs.Common.{◌≡◌, Result, Err, length, sym, ap, ◌∙◌, arith}
+use Rattle.std.proofs.Common.{Err, length, sym, ap, ◌∙◌, arith}
 use Rattle.std.specs.Ordering.{is_lt}
-use Rattle.std.specs.List.Sorted.{IsBinarySearchResult}
 use Rattle.df_label.specs.Privilege.{privilege_cmp}
 use Rattle.df_label.proofs.PlaceFacts.{searched, searched_kept, searched_new, searched_ascending, searched_behind}
 use Rattle.df_label.proofs.PrivilegeFacts.{privilege_cmp_exact}
