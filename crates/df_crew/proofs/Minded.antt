@@ -109,11 +109,6 @@ module _ {B : Type 0} (brain : Brain B) (bs : List B) (kept : KeptState (B × La
   pub none_told : kept_at u kept ≡ None → replies_of u core.1 ≡ []
   none_told h = subst (λ (o : Option (B × Last)). IsMind brain bs core u o) h (manned.minds u)
 
--- what holds anyhow holds where there is an error
-pub on_err : {T E P : Type 0} (r : Result T E) → P → OnErr r P
-on_err (Ok t) p = tt
-on_err (Err e) p = p
-
 some_of : {A : Type 0} (o : Option (Bor A)) (x : Option A) → option_copied o ≡ x → is_some x ≡ true → IsSome o
 some_of (Some b) x e h = refl
 some_of None x e h = absurd (let z : ⊥ = (let y = ap is_some e in cc) in z)

@@ -1,5 +1,5 @@
 -- The journal, seen newest first.
-use Rattle.std.specs.Prelude.{Result, Ok, Err, IsOk, OnErr, is_ok}
+use Rattle.std.specs.Prelude.{Result, Ok, Err, IsOk, is_ok}
 use Rattle.std.proofs.Common.{◌≡◌, if◌then◌else◌, suc, ◌-◌, List, [], ◌∷◌, ◌++◌, length, reverse, slice_get, refl, ap, sym, ◌∙◌, arith, length-append}
 use Rattle.std.proofs.lemmas.List.{reverse-append, reverse-reverse}
 use Rattle.df_unit.specs.declared.call.Call.{Call}
@@ -31,11 +31,6 @@ pub journal_then : (j k l m es : List Entry) (n : UnitName) (c : Call) (r : Repl
     → m ≡ l ++ Done n c r f ∷ [] → reverse m ≡ Done n c r f ∷ (reverse es ++ reverse j)
 journal_then j k l m es n c r f e g h =
     journal_more l l m n n c r f refl h refl ∙ ap (λ (x : List Entry). Done n c r f ∷ x) (journal_on j k l es e g)
-
--- what holds holds where nothing was done
-pub on_err : {A E : Type 0} {P : Type 0} (r : Result A E) → P → OnErr r P
-on_err (Ok a) p = tt
-on_err (Err e) p = p
 
 -- the last of a list is the first of it reversed
 pub last_reverse : (es : List Entry) → slice_get es (length es - 1) ≡ slice_get (reverse es) 0

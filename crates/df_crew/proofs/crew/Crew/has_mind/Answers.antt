@@ -1,5 +1,6 @@
 use Rattle.df_crew.proofs.Names.{◌≡◌, [], None, Some, true, ap, sym, subst, ◌∙◌, is_some, option_copied, CrewState, mind_in, kept_at, firsts, local_of, Last, began_with, brain_of, replies_of, rows}
-use Rattle.df_crew.proofs.Minded.{found_there, kept_mind, none_told, on_err}
+use Rattle.df_crew.proofs.Minded.{found_there, kept_mind, none_told}
+use Rattle.df_memory.proofs.Errors.{on_err}
 use Rattle.df_crew.proofs.crew.Crew.has_mind.Goals as goal
 
 pub returns-in-Some-clause-is : goal.returns-in-Some-clause-is

@@ -1,6 +1,6 @@
 use Rattle.std.proofs.Common.{map}
 use Rattle.df_start.specs.Begun.{begun}
-use Rattle.df_machine.proofs.Journal.{on_err}
+use Rattle.df_memory.proofs.Errors.{on_err}
 use Rattle.df_machine.proofs.tables.Tables.emitted.Goals as goal
 
 pub emit-requires : goal.emit-requires
