@@ -100,7 +100,9 @@ impl Entries {
         }
     }
 
-    pub(crate) fn put(&mut self, name: Name, value: Value) -> Result<(), NotPut>
+    /// Puts a value under the name, in place of the one that stood there. Where there is no memory
+    /// the value comes back.
+    pub fn put(&mut self, name: Name, value: Value) -> Result<(), NotPut>
         ensures put { OnOk result (from_pairs self.new
             ≡ put_entry name (plain value) (from_pairs self.old)) }
         ensures unchanged { OnErr result (self.new ≡ self.old) }
