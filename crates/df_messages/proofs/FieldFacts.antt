@@ -9,7 +9,7 @@ use Rattle.std.proofs.lemmas.List.{length-map}
 use Rattle.df_frozen.specs.Limits.{IsWithinLimits}
 use Rattle.df_frozen.specs.Name.{is_letter, is_name, is_name_byte, name_cmp}
 use Rattle.df_frozen.specs.Place.{put_entry}
-use Rattle.df_frozen.specs.Plain.{Plain, Pairs, int, words, bytes, items, entries, no_entries, entry, from_pairs, node_count, byte_count, depth, entries_node_count, entries_byte_count, entries_depth}
+use Rattle.df_frozen.specs.Plain.{Plain, Pairs, no_entries, entry, from_pairs, node_count, byte_count, depth, entries_node_count, entries_byte_count, entries_depth}
 use Rattle.df_frozen.specs.Value.{named, plain}
 use Rattle.df_frozen.specs.declared.value.Value.{Value}
 use Rattle.df_frozen.specs.declared.value.Value.TheVariants.{Map}
@@ -94,33 +94,29 @@ good_is_small (Symbol name w) h =
     let t = short_symbol w.now (and_right (is_name name.now) _ h) in
     record { nodes = omega arith; bytes = omega (arith, s, t); flat = omega arith }
 
--- a map of k small fields
-record SmallMap (k : ℕ) (p : Plain) : Type 0 where
-  nodes : node_count p ≤ k + 1
-  bytes : byte_count p ≤ 40 * k
-  flat : depth p ≤ 2
+-- the entries of k small fields
+record SmallMap (k : ℕ) (es : Pairs) : Type 0 where
+  nodes : entries_node_count es ≤ k
+  bytes : entries_byte_count es ≤ 40 * k
+  flat : entries_depth es ≤ 1
 
-put_small : (f : List ℕ × Plain) (k : ℕ) (p : Plain) → Small f → SmallMap k p → SmallMap (k + 1) (put_field f p)
-put_small f k (entries es) s m = record {
+put_small : (f : List ℕ × Plain) (k : ℕ) (es : Pairs) → Small f → SmallMap k es → SmallMap (k + 1) (put_field f es)
+put_small f k es s m = record {
   nodes = omega (arith, nodes_put f.0 f.1 es, s.nodes, m.nodes);
   bytes = omega (arith, bytes_put f.0 f.1 es, s.bytes, m.bytes);
-  flat = let low : entries_depth es ≤ 1 = omega (arith, m.flat) in omega (arith, flat_put f.0 f.1 es s.flat low);
+  flat = flat_put f.0 f.1 es s.flat m.flat;
 }
-put_small f k (int n) s m = record { nodes = omega (arith, m.nodes); bytes = omega (arith, m.bytes); flat = m.flat }
-put_small f k (words w) s m = record { nodes = omega (arith, m.nodes); bytes = omega (arith, m.bytes); flat = m.flat }
-put_small f k (bytes b) s m = record { nodes = omega (arith, m.nodes); bytes = omega (arith, m.bytes); flat = m.flat }
-put_small f k (items ps) s m = record { nodes = omega (arith, m.nodes); bytes = omega (arith, m.bytes); flat = m.flat }
 
-all_small : (fs : List Field) (k : ℕ) (p : Plain) → list_all is_good fs ≡ true → SmallMap k p → SmallMap (k + length fs) (put_all p (map content_of fs))
-all_small [] k p good m = record { nodes = omega (arith, m.nodes); bytes = omega (arith, m.bytes); flat = m.flat }
-all_small (f ∷ fs) k p good m =
-    let one = put_small (content_of f) k p (good_is_small f (and_left (is_good f) _ good)) m in
-    let rest = all_small fs (k + 1) (put_field (content_of f) p) (and_right (is_good f) _ good) one in
+all_small : (fs : List Field) (k : ℕ) (es : Pairs) → list_all is_good fs ≡ true → SmallMap k es → SmallMap (k + length fs) (put_all es (map content_of fs))
+all_small [] k es good m = record { nodes = omega (arith, m.nodes); bytes = omega (arith, m.bytes); flat = m.flat }
+all_small (f ∷ fs) k es good m =
+    let one = put_small (content_of f) k es (good_is_small f (and_left (is_good f) _ good)) m in
+    let rest = all_small fs (k + 1) (put_field (content_of f) es) (and_right (is_good f) _ good) one in
     record { nodes = omega (arith, rest.nodes); bytes = omega (arith, rest.bytes); flat = rest.flat }
 
 -- few good fields make a map within the limits
 pub built_within : (fs : List Field) → list_all is_good fs ≡ true → length fs ≤ 6 → IsWithinLimits (built (map content_of fs))
 built_within fs good few =
-    let none : SmallMap 0 (entries no_entries) = record { nodes = omega arith; bytes = omega arith; flat = omega arith } in
-    let all = all_small fs 0 (entries no_entries) good none in
+    let none : SmallMap 0 no_entries = record { nodes = omega arith; bytes = omega arith; flat = omega arith } in
+    let all = all_small fs 0 no_entries good none in
     record { nodes = omega (arith, all.nodes); bytes = omega (arith, all.bytes); flat = omega (arith, all.flat) }

@@ -2,13 +2,12 @@
 
 ghost use Rattle.std.specs.Prelude.{◌≡◌, ◌≤◌, true, IfOk, OnOk, map, length};
 ghost use Rattle.std.specs.List.{list_all};
-ghost use Rattle.df_frozen.specs.Limits.{IsWithinLimits};
-ghost use Rattle.df_frozen.specs.Plain.{words};
+ghost use Rattle.df_frozen.specs.Plain.{from_pairs, no_entries, words};
 ghost use Rattle.df_frozen.specs.Value.{plain};
-ghost use Rattle.df_messages.specs.code.Putting.{built, content_of, is_good, is_map, put_field};
+ghost use Rattle.df_messages.specs.code.Putting.{built, content_of, is_good, put_all, put_field};
 
 use crate::field::name;
-use df_frozen::{Entries, FreezeCause, Frozen, Name, PutCause, Value, Words};
+use df_frozen::{Entries, Frozen, Name, Value, Words};
 use df_memory::NoMemory;
 use std::alloc::Global;
 
@@ -49,43 +48,27 @@ fn name_of(field: &Field<'_>) -> Name
     }
 }
 
-fn put(value: &mut Value, field: &Field<'_>) -> Result<(), NoMemory>
-    requires map { is_map (plain value.old) ≡ true }
-    requires good { is_good field.now ≡ true }
-    ensures { OnOk result (plain value.new ≡ put_field (content_of field.now) (plain value.old)) }
+fn put(entries: &mut Entries, field: &Field<'_>) -> Result<(), NoMemory>
+    requires { is_good field.now ≡ true }
+    ensures { OnOk result (from_pairs entries.new
+        ≡ put_field (content_of field.now) (from_pairs entries.old)) }
 {
     let content = value_of(field)?;
-    match value.put_at(&[], name_of(field), content) {
+    match entries.put(name_of(field), content) {
         Ok(()) => Ok(()),
-        Err(refused) => match refused.cause {
-            PutCause::NoSuchPlace => unreachable!(),
-            PutCause::NoMemory => Err(NoMemory),
-        },
+        Err(_) => Err(NoMemory),
     }
 }
 
-fn built(alloc: Global, fields: &[Field<'_>]) -> Result<Value, NoMemory>
+fn entries_of(alloc: Global, fields: &[Field<'_>]) -> Result<Entries, NoMemory>
     requires { list_all is_good fields.now ≡ true }
-    ensures { IfOk result (λ v. plain v ≡ built (map content_of fields.now)) }
+    ensures { IfOk result (λ es. from_pairs es ≡ put_all no_entries (map content_of fields.now)) }
 {
-    let mut value = Value::Map(Entries::new(alloc));
+    let mut entries = Entries::new(alloc);
     for field in fields {
-        put(&mut value, field)?;
+        put(&mut entries, field)?;
     }
-    Ok(value)
-}
-
-fn frozen(alloc: Global, value: Value) -> Result<Frozen, NoMemory>
-    requires { IsWithinLimits (plain value) }
-    ensures { IfOk result (λ f. f ≡ plain value) }
-{
-    match value.freeze(alloc) {
-        Ok(frozen) => Ok(frozen),
-        Err(refused) => match refused.cause {
-            FreezeCause::TooLarge { .. } => unreachable!(),
-            FreezeCause::NoMemory => Err(NoMemory),
-        },
-    }
+    Ok(entries)
 }
 
 /// The map of these fields.
@@ -94,6 +77,9 @@ pub(crate) fn map_of(alloc: Global, fields: &[Field<'_>]) -> Result<Frozen, NoMe
     requires few { length fields.now ≤ 6 }
     ensures { IfOk result (λ f. f ≡ built (map content_of fields.now)) }
 {
-    let value = built(alloc, fields)?;
-    frozen(alloc, value)
+    let entries = entries_of(alloc, fields)?;
+    match Frozen::new(alloc, Value::Map(entries)) {
+        Ok(frozen) => Ok(frozen),
+        Err(_) => Err(NoMemory),
+    }
 }
