@@ -1,7 +1,7 @@
-//! How many parts of a name are added.
+//! Parts that are counted by their names.
 
-ghost use Rattle.std.specs.Prelude.{◌≡◌, fold};
-ghost use Rattle.df_report.specs.Summing.{added_by, count_of, counted, one_more};
+ghost use Rattle.std.specs.Prelude.{◌≡◌};
+ghost use Rattle.df_report.specs.Summing.{added_by, counted, one_more};
 
 use df_part::PartRef;
 use df_unit::{Effect, Entry};
@@ -26,27 +26,7 @@ pub(crate) fn one_more(count: u64, more: bool) -> u64
     if more { count.saturating_add(1) } else { count }
 }
 
-pub(crate) fn count(entries: &[Entry], name: &str) -> u64
-    ensures { result ≡ count_of name.now entries.now }
-{
-    let mut count = 0;
-    for entry in entries {
-        count = count_in(count, name, added_by(entry));
-    }
-    count
-}
-
-fn count_in(before: u64, name: &str, parts: &[PartRef]) -> u64
-    ensures { result ≡ fold (counted name.now) before parts.now }
-{
-    let mut count = before;
-    for part in parts {
-        count = counted(count, name, part);
-    }
-    count
-}
-
-fn counted(count: u64, name: &str, part: &PartRef) -> u64
+pub(crate) fn counted(count: u64, name: &str, part: &PartRef) -> u64
     ensures { result ≡ counted name.now count part.now }
 {
     one_more(count, part.part().name.as_str() == name)

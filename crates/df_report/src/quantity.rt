@@ -1,34 +1,12 @@
 //! The quantity that was traded.
 
-ghost use Rattle.std.specs.Prelude.{◌≡◌, fold, pos};
-ghost use Rattle.df_report.specs.Summing.{added, with_quantity, with_trade, quantity_of};
+ghost use Rattle.std.specs.Prelude.{◌≡◌};
+ghost use Rattle.df_report.specs.Summing.{with_quantity, with_trade, quantity_of};
 
-use crate::count::added_by;
 use df_frozen::{Name, Value};
 use df_part::PartRef;
-use df_unit::Entry;
 
-pub(crate) fn quantity(entries: &[Entry]) -> i128
-    ensures { result ≡ fold with_trade (pos 0) (added entries.now) }
-{
-    let mut sum = 0;
-    for entry in entries {
-        sum = quantity_in(sum, added_by(entry));
-    }
-    sum
-}
-
-fn quantity_in(before: i128, parts: &[PartRef]) -> i128
-    ensures { result ≡ fold with_trade before parts.now }
-{
-    let mut sum = before;
-    for part in parts {
-        sum = with_trade(sum, part);
-    }
-    sum
-}
-
-fn with_trade(sum: i128, shared: &PartRef) -> i128
+pub(crate) fn with_trade(sum: i128, shared: &PartRef) -> i128
     ensures { result ≡ with_trade sum shared.now }
 {
     let part = shared.part();
