@@ -1,27 +1,34 @@
-ghost use Rattle.std.specs.Prelude.{◌≡◌, ◌∷◌, ◌++◌, [], OnOk};
+ghost use Rattle.std.specs.Prelude.{◌≡◌, ◌<◌, ◌∷◌, ◌++◌, [], OnOk, codes, decimal};
 ghost use Rattle.std.specs.List.{flat_map};
 ghost use Rattle.df_value_text.specs.Label.{label_text};
-ghost use Rattle.df_journal_text.specs.Line.{word};
+ghost use Rattle.df_journal_text.specs.Line.{line, word};
+ghost use Rattle.df_journal_text.specs.Name.{event_text};
 ghost use Rattle.df_journal_text.specs.Entry.{edit_text, effect_text, given_text, part_line, read_line, spot_line};
 
-use crate::line::{append_label_word, append_name_word, append_privilege_words, append_value_word};
+use crate::line::{
+    append_label_word, append_name_word, append_privilege_words, append_value_word, put_few,
+};
 use crate::name::append_event_word;
 use crate::note::is_empty;
 use df_label::Label;
 use df_memory::NoMemory;
 use df_part::{Edit, Part, PartRef, Spot};
-use df_unit::{Commit, Effect, Given, PartRead};
+use df_unit::{Commit, Effect, EventName, Given, PartRead, UnitName};
 
 /// Appends a label behind a mark. Most have no tag.
 fn append_marked(mark: u8, label: &Label, to: &mut Vec<u8>) -> Result<(), NoMemory>
     ensures { OnOk result (to.new.items ≡ to.old.items ++ (mark ∷ word (label_text label.now))) }
 {
-    if is_empty(label) {
-        to.extend_from_slice(&[mark, b' ', b'{', b'|', b'}'])?;
-        return Ok(());
+    to.reserve(5)?;
+    to.push_reserved(mark);
+    if !is_empty(label) {
+        return append_label_word(label, to);
     }
-    to.push(mark)?;
-    append_label_word(label, to)
+    to.push_reserved(b' ');
+    to.push_reserved(b'{');
+    to.push_reserved(b'|');
+    to.push_reserved(b'}');
+    Ok(())
 }
 
 /// Appends a part behind a mark.
@@ -96,8 +103,7 @@ pub fn append_reads(parts: &[PartRead], to: &mut Vec<u8>) -> Result<(), NoMemory
     Ok(())
 }
 
-/// Appends an event's name behind a mark, and ends the line.
-#[inline(always)]
+/// Appends an event's name as a word, and ends the line.
 pub fn append_event_line(event: &EventName, to: &mut Vec<u8>) -> Result<(), NoMemory>
     ensures { OnOk result (to.new.items ≡ to.old.items ++ line [] (event_text event.now ∷ [])) }
 {
@@ -106,17 +112,44 @@ pub fn append_event_line(event: &EventName, to: &mut Vec<u8>) -> Result<(), NoMe
     Ok(())
 }
 
-ghost use Rattle.std.specs.Prelude.{◌∷◌, []};
-ghost use Rattle.df_journal_text.specs.Line.{line};
-ghost use Rattle.df_journal_text.specs.Name.{event_text};
+/// Appends the name of a root's event behind a mark, and ends the line.
+#[inline(always)]
+fn append_few(mark: u8, root: u32, number: u32, to: &mut Vec<u8>) -> Result<(), NoMemory>
+    requires root { root < 10000 }
+    requires number { number < 10000 }
+    ensures { OnOk result (to.new.items ≡ to.old.items
+        ++ line (mark ∷ []) ((decimal root ++ codes "!" ++ decimal number) ∷ [])) }
+{
+    to.reserve(12)?;
+    to.push_reserved(mark);
+    to.push_reserved(b' ');
+    put_few(root, to);
+    to.push_reserved(b'!');
+    put_few(number, to);
+    to.push_reserved(b'\n');
+    Ok(())
+}
 
-use df_unit::EventName;
+/// Appends an event's name behind a mark, and ends the line. Most are of roots, and of few digits.
+fn append_marked_event(mark: u8, event: &EventName, to: &mut Vec<u8>) -> Result<(), NoMemory>
+    ensures { OnOk result (to.new.items ≡ to.old.items
+        ++ line (mark ∷ []) (event_text event.now ∷ [])) }
+{
+    if let UnitName::Root(path) = &event.unit
+        && let [root] = path.as_slice()
+        && *root < 10_000
+        && event.number < 10_000
+    {
+        return append_few(mark, *root, event.number, to);
+    }
+    to.push(mark)?;
+    append_event_line(event, to)
+}
 
 fn append_commit(commit: &Commit, to: &mut Vec<u8>) -> Result<(), NoMemory>
     ensures { OnOk result (to.new.items ≡ to.old.items ++ effect_text (Effect.Commit commit.now)) }
 {
-    to.push(b'=')?;
-    append_event_line(&commit.event, to)?;
+    append_marked_event(b'=', &commit.event, to)?;
     append_edit(&commit.edit, to)?;
     Ok(())
 }
@@ -124,8 +157,7 @@ fn append_commit(commit: &Commit, to: &mut Vec<u8>) -> Result<(), NoMemory>
 fn append_given(given: &Given, to: &mut Vec<u8>) -> Result<(), NoMemory>
     ensures { OnOk result (to.new.items ≡ to.old.items ++ given_text given.now) }
 {
-    to.push(b'<')?;
-    append_event_line(&given.event, to)?;
+    append_marked_event(b'<', &given.event, to)?;
     append_parts(b'.', given.parts.as_slice(), to)?;
     Ok(())
 }

@@ -13,36 +13,29 @@ ghost use Rattle.df_journal_text.specs.code.Outcome.{answer_text, outcome_text};
 
 use crate::call::append_call;
 use crate::effect::{append_edit, append_effect, append_event_line, append_reads};
-use crate::line::{append_label_word, append_short, append_word};
+use crate::line::{append_label_word, append_number_word, append_word, put_all, put_few};
 use crate::name::append_unit;
 use crate::note::Note;
 use crate::reply::append_reply;
 use df_label::Label;
 use df_memory::NoMemory;
 use df_unit::{Commit, Effect, Entry, Reply};
+use df_value_text::append_number;
 
 /// Appends a handle behind the words of its call, and ends the line.
 #[inline(always)]
 fn append_handle(h: u32, to: &mut Vec<u8>) -> Result<(), NoMemory>
     ensures { OnOk result (to.new.items ≡ to.old.items ++ answer_text (Handle h)) }
 {
-    to.extend_from_slice(b" -> handle ")?;
-    append_short(h, to)?;
-    to.push(b'\n')?;
-    Ok(())
-}
-
-/// Appends a view of an event as `append_event` does, where both numbers have one digit.
-#[inline(always)]
-fn append_low_event(h: u8, sub: u8, to: &mut Vec<u8>) -> Result<(), NoMemory>
-    requires h { h < 10 }
-    requires sub { sub < 10 }
-    ensures { OnOk result (to.new.items ≡ to.old.items ++ answer_text (Event h sub)) }
-{
-    let mut told = *b" -> event 0 0\n";
-    told[10] += h;
-    told[12] += sub;
-    to.extend_from_slice(&told)?;
+    to.reserve(16)?;
+    put_all(b" -> handle ", to);
+    if h >= 10_000 {
+        append_number(u64::from(h), to)?;
+        to.push(b'\n')?;
+        return Ok(());
+    }
+    put_few(h, to);
+    to.push_reserved(b'\n');
     Ok(())
 }
 
@@ -51,14 +44,18 @@ fn append_low_event(h: u8, sub: u8, to: &mut Vec<u8>) -> Result<(), NoMemory>
 fn append_event(h: u32, sub: u32, to: &mut Vec<u8>) -> Result<(), NoMemory>
     ensures { OnOk result (to.new.items ≡ to.old.items ++ answer_text (Event h sub)) }
 {
-    if h < 10 && sub < 10 {
-        return append_low_event(h as u8, sub as u8, to);
+    to.reserve(20)?;
+    put_all(b" -> event ", to);
+    if h >= 10_000 || sub >= 10_000 {
+        append_number(u64::from(h), to)?;
+        append_number_word(u64::from(sub), to)?;
+        to.push(b'\n')?;
+        return Ok(());
     }
-    to.extend_from_slice(b" -> event ")?;
-    append_short(h, to)?;
-    to.push(b' ')?;
-    append_short(sub, to)?;
-    to.push(b'\n')?;
+    put_few(h, to);
+    to.push_reserved(b' ');
+    put_few(sub, to);
+    to.push_reserved(b'\n');
     Ok(())
 }
 
@@ -116,6 +113,14 @@ fn append_noted(reply: &Reply, note: &Note, to: &mut Vec<u8>) -> Result<(), NoMe
             Ok(())
         }
         Reply::Handle(h) => append_noted_handle(*h, note, to),
+        Reply::Parts(_) => {
+            to.extend_from_slice(note.behind_parts())?;
+            Ok(())
+        }
+        Reply::Event { h: 0, sub: 0 } => {
+            to.extend_from_slice(note.behind_view())?;
+            Ok(())
+        }
         _ => {
             append_answer(reply, to)?;
             to.extend_from_slice(note.as_bytes())?;

@@ -2,7 +2,7 @@
 //! in front of it.
 
 ghost use Rattle.std.specs.Fmt.{signed_decimal};
-ghost use Rattle.std.specs.Prelude.{◌≡◌, ◌<◌, ◌++◌, OnOk, decimal, map};
+ghost use Rattle.std.specs.Prelude.{◌≡◌, ◌<◌, ◌≤◌, ◌+◌, ◌++◌, OnOk, decimal, length, map, vec_capacity, vec_len};
 ghost use Rattle.df_value_text.specs.Label.{label_text, privilege_text, tag_text};
 ghost use Rattle.df_value_text.specs.Value.{value_text};
 ghost use Rattle.df_journal_text.specs.Line.{spaced, word};
@@ -24,37 +24,65 @@ pub fn append_word(text: &[u8], to: &mut Vec<u8>) -> Result<(), NoMemory>
     Ok(())
 }
 
-/// Appends a number below 100.
+/// Puts bytes where there is room for them.
+#[inline(always)]
+pub fn put_all(bytes: &[u8], to: &mut Vec<u8>)
+    requires { vec_len to.old + length bytes.now ≤ vec_capacity to.old }
+    ensures bytes { to.new.items ≡ to.old.items ++ bytes.now }
+    ensures capacity { vec_capacity to.new ≡ vec_capacity to.old }
+    ensures len { vec_len to.new ≡ vec_len to.old + length bytes.now }
+{
+    for byte in bytes {
+        to.push_reserved(*byte);
+    }
+}
+
+/// Puts a number below 100 where there is room for its digits.
 #[inline(always)]
 #[tactic(auto, using(std::proofs::lemmas::Fmt::decimal_digit, crate::proofs::Digits::two_digits))]
-fn append_two(number: u32, to: &mut Vec<u8>) -> Result<(), NoMemory>
-    requires { number < 100 }
-    ensures { OnOk result (to.new.items ≡ to.old.items ++ decimal number) }
+fn put_two(number: u32, to: &mut Vec<u8>)
+    requires few { number < 100 }
+    requires room { vec_len to.old + 2 ≤ vec_capacity to.old }
+    ensures digits { to.new.items ≡ to.old.items ++ decimal number }
+    ensures capacity { vec_capacity to.new ≡ vec_capacity to.old }
+    ensures len { vec_len to.new ≤ vec_len to.old + 2 }
 {
     if number < 10 {
-        to.push(b'0' + number as u8)?;
-        return Ok(());
+        to.push_reserved(b'0' + number as u8);
+        return;
     }
-    to.push(b'0' + (number / 10) as u8)?;
-    to.push(b'0' + (number % 10) as u8)?;
-    Ok(())
+    to.push_reserved(b'0' + (number / 10) as u8);
+    to.push_reserved(b'0' + (number % 10) as u8);
+}
+
+/// Puts a number below 10,000 where there is room for its digits.
+#[inline(always)]
+#[tactic(auto, using(crate::proofs::Digits::last_two))]
+pub fn put_few(number: u32, to: &mut Vec<u8>)
+    requires few { number < 10000 }
+    requires room { vec_len to.old + 4 ≤ vec_capacity to.old }
+    ensures digits { to.new.items ≡ to.old.items ++ decimal number }
+    ensures capacity { vec_capacity to.new ≡ vec_capacity to.old }
+    ensures len { vec_len to.new ≤ vec_len to.old + 4 }
+{
+    if number < 100 {
+        return put_two(number, to);
+    }
+    put_two(number / 10 / 10, to);
+    to.push_reserved(b'0' + (number / 10 % 10) as u8);
+    to.push_reserved(b'0' + (number % 10) as u8);
 }
 
 /// Appends a number of several digits. Most have four at most.
 #[inline(never)]
-#[tactic(auto, using(crate::proofs::Digits::last_two))]
 fn append_several(number: u32, to: &mut Vec<u8>) -> Result<(), NoMemory>
     ensures { OnOk result (to.new.items ≡ to.old.items ++ decimal number) }
 {
-    if number < 100 {
-        return append_two(number, to);
-    }
     if number >= 10_000 {
         return append_number(u64::from(number), to);
     }
-    append_two(number / 10 / 10, to)?;
-    to.push(b'0' + (number / 10 % 10) as u8)?;
-    to.push(b'0' + (number % 10) as u8)?;
+    to.reserve(4)?;
+    put_few(number, to);
     Ok(())
 }
 
@@ -116,24 +144,30 @@ pub fn append_privilege_word(privilege: &Privilege, to: &mut Vec<u8>) -> Result<
     Ok(())
 }
 
-/// Appends a whole number. The commonest have few digits.
-fn append_integer(number: i64, to: &mut Vec<u8>) -> Result<(), NoMemory>
-    ensures { OnOk result (to.new.items ≡ to.old.items ++ signed_decimal number) }
+/// Appends a whole number as a word. The commonest have few digits.
+#[inline(always)]
+fn append_integer_word(number: i64, to: &mut Vec<u8>) -> Result<(), NoMemory>
+    ensures { OnOk result (to.new.items ≡ to.old.items ++ word (signed_decimal number)) }
 {
-    if number >= 0 && number < 10_000 {
-        return append_short(number as u32, to);
+    to.reserve(5)?;
+    to.push_reserved(b' ');
+    if number < 0 || number >= 10_000 {
+        return append_whole(number, to);
     }
-    append_whole(number, to)
+    put_few(number as u32, to);
+    Ok(())
 }
 
 /// Appends a value as a word.
 pub fn append_value_word(value: &Frozen, to: &mut Vec<u8>) -> Result<(), NoMemory>
     ensures { OnOk result (to.new.items ≡ to.old.items ++ word (value_text value.now)) }
 {
-    to.push(b' ')?;
     match value.value() {
-        Value::Int(number) => append_integer(*number, to),
-        value => append_value(value, to),
+        Value::Int(number) => append_integer_word(*number, to),
+        value => {
+            to.push(b' ')?;
+            append_value(value, to)
+        }
     }
 }
 

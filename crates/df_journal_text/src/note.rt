@@ -14,11 +14,21 @@ use std::marker::Model;
 // The reply of a call, behind its words, where it is the commonest.
 const OK: &[u8] = b" -> ok\n";
 
+// The reply of a read, behind its words.
+const PARTS: &[u8] = b" -> parts\n";
+
 /// The first handle, behind the words of a call.
 fn first_handle() -> &'static [u8]
     ensures { result.now ≡ answer_text (Reply.Handle 0) }
 {
     b" -> handle 0\n"
+}
+
+/// The first handle and the first subscription, behind the words of a call that is told an event.
+fn first_view() -> &'static [u8]
+    ensures { result.now ≡ answer_text (Reply.Event 0 0) }
+{
+    b" -> event 0 0\n"
 }
 
 /// A contamination that is noted, if there is one, and its line, which is spelled once for as long
@@ -32,15 +42,20 @@ pub struct Note {
     /// The line behind the handle that a unit without open events is told; no bytes where nothing
     /// is noted.
     handled: Vec<u8>,
+    /// The line behind the reply of a read; no bytes where nothing is noted.
+    shown: Vec<u8>,
+    /// The line behind the event that a unit without open events is told by its first
+    /// subscription; no bytes where nothing is noted.
+    viewed: Vec<u8>,
 }
 
 impl Model for Note {
-    ghost use Rattle.std.specs.Prelude.{◌≡◌, Option};
+    ghost use Rattle.std.specs.Prelude.{◌≡◌, [], Option};
     ghost use Rattle.std.specs.Coded.{coded_option};
     ghost use Rattle.df_label.specs.contracts.label.Label as label;
     ghost use Rattle.df_label.specs.declared.label.Label.{Label};
     ghost use Rattle.df_journal_text.specs.code.Outcome.{noted_answer};
-    ghost use Rattle.df_unit.specs.declared.reply.Reply.TheVariants.{Handle, Ok};
+    ghost use Rattle.df_unit.specs.declared.reply.Reply.TheVariants.{Event, Handle, Ok, Parts};
 
     ghost Value = { Option Label };
 
@@ -49,7 +64,9 @@ impl Model for Note {
     ghost view = { λ n. n.contamination };
 
     ghost invariant = { λ n. (n.outcome.items ≡ noted_answer Ok n.contamination)
-        × (n.handled.items ≡ noted_answer (Handle 0) n.contamination) };
+        × (n.handled.items ≡ noted_answer (Handle 0) n.contamination)
+        × (n.shown.items ≡ noted_answer (Parts []) n.contamination)
+        × (n.viewed.items ≡ noted_answer (Event 0 0) n.contamination) };
 }
 
 /// Whether the label has no tag, as most have none.
@@ -103,11 +120,15 @@ fn spelled(alloc: Global, contamination: Option<&Label>) -> Result<Note, NoMemor
     };
     let outcome = answered(alloc, OK, label)?;
     let handled = answered(alloc, first_handle(), label)?;
+    let shown = answered(alloc, PARTS, label)?;
+    let viewed = answered(alloc, first_view(), label)?;
     let label = label.copy()?;
     Ok(Note {
         contamination: Some(label),
         outcome,
         handled,
+        shown,
+        viewed,
     })
 }
 
@@ -120,6 +141,8 @@ impl Note {
             contamination: None,
             outcome: Vec::new(alloc),
             handled: Vec::new(alloc),
+            shown: Vec::new(alloc),
+            viewed: Vec::new(alloc),
         }
     }
 
@@ -151,6 +174,26 @@ impl Note {
             return first_handle();
         }
         self.handled.as_slice()
+    }
+
+    /// The line behind the reply of a read.
+    pub(crate) fn behind_parts(&self) -> &[u8]
+        ensures { result.now ≡ answer_text (Reply.Parts []) ++ note_text self.now }
+    {
+        if self.shown.is_empty() {
+            return PARTS;
+        }
+        self.shown.as_slice()
+    }
+
+    /// The line behind the first handle and the first subscription.
+    pub(crate) fn behind_view(&self) -> &[u8]
+        ensures { result.now ≡ answer_text (Reply.Event 0 0) ++ note_text self.now }
+    {
+        if self.viewed.is_empty() {
+            return first_view();
+        }
+        self.viewed.as_slice()
     }
 
     /// Notes this contamination, or none. Its line is spelled only where it is another than what
