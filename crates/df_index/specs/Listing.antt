@@ -1,12 +1,14 @@
 -- Under which names subscriptions are listed.
 use Rattle.std.specs.Prelude.{◌≡◌, ℕ, ◌+◌, Bool, false, if◌then◌else◌, List, [], ◌∷◌, map, Option, Some, None, IsSome, length}
-use Rattle.std.specs.List.{All, filter, list_any}
+use Rattle.std.specs.List.{All, Contains, filter, flat_map, list_any}
+use Rattle.std.specs.List.Sorted.{IsStrictlySortedBy}
 use Rattle.std.specs.Str.{bytes_eq}
 use Rattle.std.specs.BTreeMap as tree
 use Rattle.std.specs.BTreeMap.{BTreeMap}
 use Rattle.std.specs.Cmp.Lexicographic.{slice_cmp}
 use Rattle.std.specs.Ordering.{nat_cmp}
 use Rattle.std.specs.Option.{unwrap_or}
+use Rattle.df_frozen.specs.Name.{name_cmp}
 use Rattle.df_part.specs.declared.part.Part.{Part}
 use Rattle.df_index.specs.declared.subscription.Subscription.{Subscription}
 
@@ -42,6 +44,16 @@ places_from first name i (s ∷ more) =
 abbrev pub places_of : {F : Type 0} → (F → Option (List ℕ)) → List ℕ → List (Subscription F)
     → List ℕ
 places_of first name subscriptions = places_from first name 0 subscriptions
+
+-- these are the places of the subscriptions that are listed under the names of the parts, each name
+-- once
+pub record AreLookedUp {F : Type 0} (first : F → Option (List ℕ)) (parts : List Part)
+    (subscriptions : List (Subscription F)) (found : List ℕ) : Type 0 where
+  pub names : List (List ℕ)
+  pub ascending : IsStrictlySortedBy name_cmp names
+  pub among : (n : List ℕ) → Contains names n → Contains (names_of parts) n
+  pub all : (n : List ℕ) → Contains (names_of parts) n → Contains names n
+  pub places : found ≡ flat_map (λ name. places_of first name subscriptions) names
 
 -- the places that the table has at a name
 abbrev pub places_at : List ℕ → BTreeMap (List ℕ) (List ℕ) → List ℕ

@@ -5,7 +5,7 @@ ghost use Rattle.std.specs.List.{All, Contains};
 ghost use Rattle.std.specs.List.Sorted.{IsSorted, IsStrictlySortedBy};
 ghost use Rattle.df_index.specs.Due.{Pair, has_pair, pair_cmp};
 ghost use Rattle.df_index.specs.IndexState.{IsReceiver, was_handed};
-ghost use Rattle.df_index.specs.Listing.{listed_under, names_of};
+ghost use Rattle.df_index.specs.Listing.{AreLookedUp, listed_under, names_of};
 ghost use Rattle.df_index.specs.Occasion.{IsDueOn};
 
 use crate::due::{Occasion, due};
@@ -16,12 +16,29 @@ use crate::{Listed, Receivers, Subscription, Tester};
 use df_frozen::Name;
 use df_label::Label;
 use df_memory::NoMemory;
-use df_part::{Contents, Edit};
+use df_part::{Contents, Edit, PartRef};
 use std::alloc::Global;
 use std::marker::Model;
 
-/// The pairs of the subscriptions to which the event is to be handed, ascending. What it looks up
-/// it puts down in `names` and `places`.
+/// The places of the subscriptions that are listed under the names of parts. Where there are
+/// several parts, it puts these down in `names` and `places`.
+fn looked_up<'a, F: Listed>(
+    listing: &'a Listing<F>,
+    parts: &[PartRef],
+    names: &mut Vec<Name>,
+    places: &'a mut Vec<usize>,
+) -> Result<&'a [usize], NoMemory>
+    ensures { IfOk result (λ found. AreLookedUp F.first_of parts.now listing.now found.now) }
+{
+    if let [part] = parts {
+        return Ok(listing.under(&part.part().name));
+    }
+    list_names(parts, names)?;
+    listing.look_up(names.as_slice(), places)?;
+    Ok(places.as_slice())
+}
+
+/// The pairs of the subscriptions to which the event is to be handed, ascending.
 fn found<F: Listed, T: Tester<F>>(
     listing: &Listing<F>,
     occasion: &Occasion<'_>,
@@ -41,15 +58,8 @@ fn found<F: Listed, T: Tester<F>>(
     if listing.is_empty() {
         return Ok(Vec::new(alloc));
     }
-    list_names(occasion.contents.parts(), names)?;
-    listing.look_up(names.as_slice(), places)?;
-    let mut found = due(
-        alloc,
-        occasion,
-        listing.as_slice(),
-        places.as_slice(),
-        tester,
-    )?;
+    let places = looked_up(listing, occasion.contents.parts(), names, places)?;
+    let mut found = due(alloc, occasion, listing.as_slice(), places, tester)?;
     found.sort_unstable();
     found.dedup();
     Ok(found)
@@ -160,11 +170,11 @@ impl<F: Listed> Index<F> {
     }
 
     /// Marks the event as handed to its receivers. Takes no memory: `receivers` made the room.
-    pub fn book(&mut self, event: usize, r: &Receivers)
-        requires { self.old.ready ≡ Some (event, r.now) }
+    pub fn book(&mut self, event: usize, r: Receivers)
+        requires { self.old.ready ≡ Some (event, r) }
         ensures enrolled { self.new.enrolled ≡ self.old.enrolled }
         ensures handed { (e : ℕ) (p : Pair) → was_handed self.new.handed e p
-            ≡ (was_handed self.old.handed e p || ((e == event) && has_pair r.now p)) }
+            ≡ (was_handed self.old.handed e p || ((e == event) && has_pair r p)) }
         ensures ready { self.new.ready ≡ None }
     {
         self.marks.book(event, r);

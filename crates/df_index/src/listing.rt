@@ -152,6 +152,13 @@ impl<F: Listed> Listing<F> {
         Ok(())
     }
 
+    /// The places that are listed under a name.
+    pub(crate) fn under(&self, name: &Name) -> &[usize]
+        ensures { result.now ≡ places_of F.first_of name.now self.now }
+    {
+        at(&self.table, name)
+    }
+
     /// Puts down the places that are listed under these names.
     pub(crate) fn look_up(&self, names: &[Name], places: &mut Vec<usize>) -> Result<(), NoMemory>
         ensures { OnOk result (places.new.items
@@ -159,7 +166,7 @@ impl<F: Listed> Listing<F> {
     {
         places.clear();
         for name in names {
-            places.extend_from_slice(at(&self.table, name))?;
+            places.extend_from_slice(self.under(name))?;
         }
         Ok(())
     }

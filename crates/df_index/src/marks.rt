@@ -151,20 +151,20 @@ impl Marks {
             self.event = Some(event);
             return Ok(());
         }
-        let alloc = *self.next.allocator();
-        let mut next = Vec::from_slice(alloc, receivers)?;
-        next.reserve(of_event(self.handed.as_slice(), event).len())?;
+        let marked = of_event(self.handed.as_slice(), event).len();
         reserve_row(&mut self.handed, event)?;
-        self.next = next;
+        self.next.reserve(receivers.len().saturating_add(marked))?;
+        self.next.clear();
+        let _room = self.next.extend_from_slice(receivers);
         self.event = Some(event);
         Ok(())
     }
 
     /// Marks the event as handed to these, which are ready. Takes no memory.
-    pub(crate) fn book(&mut self, event: usize, receivers: &Receivers)
-        requires { self.old.ready ≡ Some (event, receivers.now) }
+    pub(crate) fn book(&mut self, event: usize, receivers: Receivers)
+        requires { self.old.ready ≡ Some (event, receivers) }
         ensures handed { (e : ℕ) (p : Pair) → was_handed self.new.handed e p
-            ≡ (was_handed self.old.handed e p || ((e == event) && has_pair receivers.now p)) }
+            ≡ (was_handed self.old.handed e p || ((e == event) && has_pair receivers p)) }
         ensures ready { self.new.ready ≡ None }
     {
         self.event = None;
@@ -172,9 +172,14 @@ impl Marks {
             return;
         }
         let alloc = *self.next.allocator();
-        let next = mem::replace(&mut self.next, Vec::new(alloc));
         fill_rows(alloc, &mut self.handed, event);
-        let pairs = merged(next, of_event(self.handed.as_slice(), event));
+        let handed = of_event(self.handed.as_slice(), event);
+        let next = if handed.is_empty() {
+            receivers.into_pairs()
+        } else {
+            mem::replace(&mut self.next, Vec::new(alloc))
+        };
+        let pairs = merged(next, handed);
         self.handed[event] = Receivers::new(pairs);
     }
 }

@@ -31,6 +31,12 @@ impl Receivers {
         self.pairs.as_slice()
     }
 
+    pub(crate) fn into_pairs(self) -> Vec<(usize, u32)>
+        ensures { result.items ≡ self }
+    {
+        self.pairs
+    }
+
     pub fn copy(&self) -> Result<Receivers, NoMemory>
         ensures { IfOk result (λ r. r ≡ self.now) }
     {

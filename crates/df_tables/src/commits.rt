@@ -249,7 +249,7 @@ impl Board {
             both: _,
         } = ready;
         let Called { pairs: _, born } = called;
-        self.index.book(place, &to);
+        self.index.book(place, to);
         self.marks.book();
         self.events.set(place, after);
         self.bear_all(born);
