@@ -98,10 +98,10 @@ release_effect out d = if is_accepted (release_reply out d)
     else Effect.Commit (edited d.event d.named (relabelled out d.drafted))
     else Effect.Nothing
 
--- a publish of the handle is accepted and makes this commit, whichever deliveries are left
-abbrev pub IsPublished : LocalState → ℕ → Commit → Type 0
-IsPublished l h commit = (left : List Given) →
-    row_answer l left (Call.Publish h) ≡ (Reply.Ok, Effect.Commit commit)
+-- a publish of the handle is accepted and has this effect, whichever deliveries are left
+abbrev pub IsPublished : LocalState → ℕ → Effect → Type 0
+IsPublished l h effect = (left : List Given) →
+    row_answer l left (Call.Publish h) ≡ (Reply.Ok, effect)
 
 -- whether the call is made of the unit's own state alone and has no effect
 abbrev pub is_alone : Call → Bool

@@ -34,8 +34,8 @@ impl Local {
         self.handles.close(h);
     }
 
-    /// The commit of a publish of this handle, where it is accepted.
-    pub fn published(&self, h: u32) -> Result<Option<Commit>, NoMemory>
+    /// The effect of a publish of this handle, where it is accepted.
+    pub fn published(&self, h: u32) -> Result<Option<Effect>, NoMemory>
         ensures made { IfOk result (λ made. IfSome made (IsPublished self.now h)) }
         ensures refused { IfOk result (λ made. made ≡ None → is_accepted
             (reply self.now.unit self.now.own [] (Call.Publish h)) ≡ false) }
@@ -48,7 +48,7 @@ impl Local {
         }
         let alloc = self.alloc;
         let made = commit_of(alloc, &self.writing.output, handle, Vec::new(alloc))?;
-        Ok(Some(made))
+        Ok(Some(Effect::Commit(made)))
     }
 }
 

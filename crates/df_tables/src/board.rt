@@ -505,22 +505,32 @@ impl Board {
         give_at(self.rows.as_mut_slice(), place)
     }
 
+    /// The effect of a publish of a handle by the unit at a place, where it is accepted.
+    pub fn published(&self, place: Option<usize>, h: u32) -> Result<Option<Effect>, NoMemory>
+        ensures { IfOk result (λ made. IfSome made (λ effect.
+            answer_from (row_by self.now place) (Publish h) ≡ (Reply.Ok, effect))) }
+    {
+        match self.row(place) {
+            Some(unit) => unit.local.published(h),
+            None => Ok(None),
+        }
+    }
+
     /// Publishes the draft of a handle of the unit at a place. Without memory the tables agree with
     /// the journal as before.
-    fn publish(&mut self, place: usize, h: u32, call: &Call) -> Result<Answer, NoMemory>
+    fn publish(&mut self, place: Option<usize>, h: u32, call: &Call) -> Result<Answer, NoMemory>
         requires board { IsBoard self.old }
-        requires seated { (actor : UnitName) × (place_on self.old actor ≡ Some place) }
+        requires seated { (actor : UnitName) × (place_on self.old actor ≡ place) }
         requires publish { call.now ≡ Publish h }
         ensures board { IsBoard self.new }
-        ensures made { IfOk result (λ a. IsMade (Some place) call.now (a.reply, a.effect)
+        ensures made { IfOk result (λ a. IsMade place call.now (a.reply, a.effect)
             self.old self.new) }
         ensures kept { OnErr result (IsKept self.old self.new) }
     {
-        let Some(commit) = self.rows[place].local.published(h)? else {
-            return self.answer_first(Some(place), call);
+        let Some(effect) = self.published(place, h)? else {
+            return self.answer_first(place, call);
         };
-        let effect = Effect::Commit(commit);
-        self.book_at(place, call, &Reply::Ok, &effect)?;
+        self.book(place, call, &Reply::Ok, &effect)?;
         Ok(Answer {
             reply: Reply::Ok,
             effect,
@@ -556,7 +566,7 @@ impl Board {
     {
         match (place, call) {
             (Some(place), Call::Get) => self.give(place),
-            (Some(place), Call::Publish { h }) => self.publish(place, *h, call),
+            (_, Call::Publish { h }) => self.publish(place, *h, call),
             _ => self.answer_first(place, call),
         }
     }
