@@ -1,5 +1,6 @@
 -- Filters are read as they are spelled.
-use Rattle.df_filter_text.proofs.Names.{both_false, ◌≡◌, ℕ, zero, suc, ◌≤◌, Bool, true, false, cond, eqb, List, [], ◌∷◌, ◌++◌, length, Option, Some, None, Ok, refl, sym, ap, subst, ◌∙◌, append_assoc, arith, inl, inr, nat_lt, nat_tests, eqb-true, append-nil, then_at, maybe_spell, more_spell, CanGoOn, Ends, Found, Format, ok_is, not_both, told, ends_never, nowhere, nowhere_is_local, viewed, behind_format, MaybeFits, maybe_goes, maybe_format, listed, optional, Clause, then_spell, ThenFits, then_extend, then_behind, then_format, clause_text, filter_text, IsClause, AreClauses, IsFilter, clause_at, more_clauses_at, filter_at}
+use Rattle.df_filter_text.proofs.Names.{both_false, ◌≡◌, ℕ, zero, suc, ◌≤◌, Bool, true, false, cond, eqb, List, [], ◌∷◌, ◌++◌, length, Option, Some, None, Ok, refl, sym, ap, subst, ◌∙◌, append_assoc, arith, inl, inr, nat_lt, nat_tests, eqb-true, append-nil, then_at, maybe_spell, more_spell, CanGoOn, Ends, Format, told, ends_never, nowhere, nowhere_is_local, viewed, behind_format, MaybeFits, maybe_goes, maybe_format, listed, optional, Clause, then_spell, ThenFits, then_extend, then_behind, then_format, clause_text, filter_text, IsClause, AreClauses, IsFilter, clause_at, more_clauses_at, filter_at}
+use Rattle.df_format.proofs.Laws.{format_of}
 use Rattle.df_value_text.proofs.TagLaws.{joined_items}
 use Rattle.df_filter.specs.declared.clause.Test.TheVariants as test
 use Rattle.df_filter_text.proofs.ClauseLaws.{clause_goes, clause_ends, clause_format}
@@ -126,13 +127,9 @@ pair_format most f =
     (record { joined = λ x ys rest fx fy. joined_ends most x ys rest; apart = λ x ys rest fx fy. ends_apart most x ys rest; on = pair_on most f })
 
 more_format : (most : ℕ) → MoreLaw most
-more_format zero = record {
-  found = λ bytes xs rest e. subst (λ (q : List Clause × List ℕ). Found more_text (AreMore 0) (more_goes 0) bytes q.0 q.1) (ok_is ([], bytes) (xs, rest) e)
-      (record { parts = refl; fits = (tt, omega arith); ends = ends_never {X = List Clause} [] bytes });
-  again = again;
-  stuck = λ bytes stop e. not_both ([], bytes) stop e;
-  on = λ xs c fits g. absurd (let no : false ≡ true = g in cc);
-}
+more_format zero =
+    format_of (λ bytes. record { parts = refl; fits = (tt, omega arith); ends = ends_never {X = List Clause} [] bytes }) again
+    (λ xs c fits g. absurd (let no : false ≡ true = g in cc))
   where
     again : (xs : List Clause) (rest : List ℕ) → AreMore 0 xs → Ends (more_goes 0) xs rest → more_clauses_at 0 (more_text xs ++ rest) ≡ Ok (xs, rest)
     again [] rest fits ends = refl

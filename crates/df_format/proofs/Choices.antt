@@ -1,7 +1,7 @@
 -- What may be missing, and one of two kinds: the first token tells.
-use Rattle.df_format.proofs.Names.{◌≡◌, Bool, true, false, List, [], ◌∷◌, ◌++◌, Option, Some, None, Ok, Err, refl, ap, subst, ◌∙◌, ◌⊎◌, inl, inr, Stop, Read, ◌>>=◌, maybe_at, either_at, CanGoOn, Ends, Found, Stuck, Format}
+use Rattle.df_format.proofs.Names.{◌≡◌, Bool, true, false, List, [], ◌∷◌, ◌++◌, Option, Some, None, Ok, refl, ap, ◌∙◌, ◌⊎◌, inl, inr, Read, ◌>>=◌, maybe_at, either_at, CanGoOn, Ends, Format}
 use Rattle.df_format.specs.Spelling.{maybe_spell}
-use Rattle.df_format.proofs.Laws.{ok_is, not_both, bind_ok, bind_err, chosen, no_first, stuck_first, stuck_as, first_same}
+use Rattle.df_format.proofs.Laws.{no_first, stuck_first, stuck_as, first_same, Reads, cond_told, told_on, told_of, bind_told, format_of}
 
 -- a spelling begins with such a token
 pub record Begins {T : Type 0} (begins : T → Bool) (to : Bool) (text : List T) : Type 0 where
@@ -22,9 +22,6 @@ maybe_goes begins goes (Some x) t = goes x t
 
 module _ {T X : Type 0} {IsLow : List T → List T → Type 0} (begins : T → Bool) {spell : X → List T} {Fits : X → Type 0} {goes : X → T → Bool}
     {read : List T → Read T X} (fx : Format IsLow spell Fits goes read) where
-  abbrev MaybeFound : List T → Option X × List T → Type 0
-  MaybeFound tokens q = Found (maybe_spell spell) (MaybeFits Fits) (maybe_goes begins goes) tokens q.0 q.1
-
   abbrev SomeCan : List T → Type 0
   SomeCan front = CanGoOn (maybe_spell spell) (MaybeFits Fits) front
 
@@ -47,19 +44,6 @@ module _ {T X : Type 0} {IsLow : List T → List T → Type 0} (begins : T → B
   some_can : (front : List T) → CanGoOn spell Fits front → SomeCan front
   some_can front v = record { some = Some v.some; fits = v.fits; more = v.more; is = v.is }
 
-  maybe_found : (tokens : List T) (x : Option X) (rest : List T) → maybe_at begins read tokens ≡ Ok (x, rest)
-      → MaybeFound tokens (x, rest)
-  maybe_found [] x rest e = subst (MaybeFound []) (ok_is (None, []) (x, rest) e) (record { parts = refl; fits = tt; ends = tt })
-  maybe_found (t ∷ ts) x rest e =
-      elim (chosen (begins t) (read (t ∷ ts) >>= λ x. Ok (Some x.0, x.1)) (Ok (None, t ∷ ts)) (Ok (x, rest)) e) [
-        | inl h ↦
-            let a = bind_ok (read (t ∷ ts)) (λ x. Ok (Some x.0, x.1)) (x, rest) h.1 in
-            let f = fx.found (t ∷ ts) a.0.0 a.0.1 a.1 in
-            subst (MaybeFound (t ∷ ts)) (ok_is (Some a.0.0, a.0.1) (x, rest) a.2)
-            (record { parts = f.parts; fits = f.fits; ends = ends_some a.0.0 a.0.1 f.ends })
-        | inr h ↦ subst (MaybeFound (t ∷ ts)) (ok_is (None, t ∷ ts) (x, rest) h.1) (record { parts = refl; fits = tt; ends = h.0 })
-      ]
-
   maybe_again : ((x : X) → Fits x → Begins begins true (spell x)) → (x : Option X) (rest : List T) → MaybeFits Fits x
       → Ends (maybe_goes begins goes) x rest → maybe_at begins read (maybe_spell spell x ++ rest) ≡ Ok (x, rest)
   maybe_again starts None rest fits ends = maybe_none rest ends
@@ -68,22 +52,15 @@ module _ {T X : Type 0} {IsLow : List T → List T → Type 0} (begins : T → B
       maybe_some (spell x ++ rest) s.first (s.others ++ rest) (ap (λ (u : List T). u ++ rest) s.is) s.test
       ∙ rw (fx.again x rest fits (some_ends x rest ends)) refl
 
-  maybe_stuck : (tokens : List T) (stop : Stop T) → maybe_at begins read tokens ≡ Err stop
-      → Stuck IsLow (maybe_spell spell) (MaybeFits Fits) (maybe_at begins read) tokens stop
-  maybe_stuck [] stop e = not_both (None, []) stop e
-  maybe_stuck (t ∷ ts) stop e =
-      elim (chosen (begins t) (read (t ∷ ts) >>= λ x. Ok (Some x.0, x.1)) (Ok (None, t ∷ ts)) (Err stop) e) [
-        | inr h ↦ not_both (None, t ∷ ts) stop h.1
-        | inl h ↦
-            elim (bind_err (read (t ∷ ts)) (λ x. Ok (Some x.0, x.1)) stop h.1) [
-              | inr k ↦ not_both (Some k.0.0, k.0.1) stop k.2
-              | inl k ↦
-                  let s = fx.stuck (t ∷ ts) stop k in
-                  stuck_as s some_can (λ u tail other is e.
-                  let o = first_same s.front t u ts tail other (s.parts ∙ ap (λ (v : List T). s.front ++ v) is) in
-                  maybe_some (s.front ++ u ∷ other) t o.0 o.1 h.0 ∙ rw e refl) (λ front rest low. low)
-            ]
-      ]
+  maybe_reads : (tokens : List T)
+      → Reads IsLow (maybe_spell spell) (MaybeFits Fits) (maybe_goes begins goes) (maybe_at begins read) tokens (maybe_at begins read tokens)
+  maybe_reads [] = record { parts = refl; fits = tt; ends = tt }
+  maybe_reads (t ∷ ts) =
+      cond_told _ _ (begins t) (read (t ∷ ts) >>= λ x. Ok (Some x.0, x.1)) (Ok (None, t ∷ ts)) (λ h.
+      bind_told _ _ fx (t ∷ ts) (λ x. Ok (Some x.0, x.1)) (λ x rest f. record { parts = f.parts; fits = f.fits; ends = ends_some x rest f.ends })
+      (λ stop s. stuck_as s some_can (λ u tail other is e.
+      let o = first_same s.front t u ts tail other (s.parts ∙ ap (λ (v : List T). s.front ++ v) is) in
+      maybe_some (s.front ++ u ∷ other) t o.0 o.1 h ∙ rw e refl) (λ front rest low. low))) (λ h. record { parts = refl; fits = tt; ends = h })
 
   maybe_on : ((t : T) → begins t ≡ true → CanGoOn spell Fits (t ∷ [])) → (x : Option X) (t : T) → MaybeFits Fits x
       → maybe_goes begins goes x t ≡ true → SomeCan (maybe_spell spell x ++ t ∷ [])
@@ -92,7 +69,7 @@ module _ {T X : Type 0} {IsLow : List T → List T → Type 0} (begins : T → B
 
   pub maybe_format : ((x : X) → Fits x → Begins begins true (spell x)) → ((t : T) → begins t ≡ true → CanGoOn spell Fits (t ∷ []))
       → Format IsLow (maybe_spell spell) (MaybeFits Fits) (maybe_goes begins goes) (maybe_at begins read)
-  maybe_format starts some = record { found = maybe_found; again = maybe_again starts; stuck = maybe_stuck; on = maybe_on some }
+  maybe_format starts some = format_of maybe_reads (maybe_again starts) (maybe_on some)
 
 -- ---- one of two kinds
 
@@ -113,30 +90,18 @@ module _ {T X : Type 0} {IsLow : List T → List T → Type 0} (begins : T → B
   right_can : (front : List T) → CanGoOn spell G front → CanGoOn spell Either front
   right_can front v = record { some = v.some; fits = inr v.fits; more = v.more; is = v.is }
 
-  either_found : (tokens : List T) (x : X) (rest : List T) → either_at begins read other tokens ≡ Ok (x, rest) → Found spell Either goes tokens x rest
-  either_found [] x rest e = absurd cc
-  either_found (t ∷ ts) x rest e =
-      elim (chosen (begins t) (read (t ∷ ts)) (other (t ∷ ts)) (Ok (x, rest)) e) [
-        | inl h ↦ let k = f.found (t ∷ ts) x rest h.1 in record { parts = k.parts; fits = inl k.fits; ends = k.ends }
-        | inr h ↦ let k = g.found (t ∷ ts) x rest h.1 in record { parts = k.parts; fits = inr k.fits; ends = k.ends }
-      ]
-
-  either_stuck : (tokens : List T) (stop : Stop T) → either_at begins read other tokens ≡ Err stop
-      → Stuck IsLow spell Either (either_at begins read other) tokens stop
-  either_stuck [] stop e = stuck_first e (λ t tail other is. no_first t tail is)
-  either_stuck (t ∷ ts) stop e =
-      elim (chosen (begins t) (read (t ∷ ts)) (other (t ∷ ts)) (Err stop) e) [
-        | inl h ↦
-            let s = f.stuck (t ∷ ts) stop h.1 in
-            stuck_as s left_can (λ u tail more is e.
-            let o = first_same s.front t u ts tail more (s.parts ∙ ap (λ (v : List T). s.front ++ v) is) in
-            either_yes (s.front ++ u ∷ more) t o.0 o.1 h.0 ∙ e) (λ front rest low. low)
-        | inr h ↦
-            let s = g.stuck (t ∷ ts) stop h.1 in
-            stuck_as s right_can (λ u tail more is e.
-            let o = first_same s.front t u ts tail more (s.parts ∙ ap (λ (v : List T). s.front ++ v) is) in
-            either_no (s.front ++ u ∷ more) t o.0 o.1 h.0 ∙ e) (λ front rest low. low)
-      ]
+  either_reads : (tokens : List T) → Reads IsLow spell Either goes (either_at begins read other) tokens (either_at begins read other tokens)
+  either_reads [] = stuck_first refl (λ t tail other is. no_first t tail is)
+  either_reads (t ∷ ts) =
+      cond_told _ _ (begins t) (read (t ∷ ts)) (other (t ∷ ts)) (λ h.
+      told_on _ _ _ _ (read (t ∷ ts)) (told_of f (t ∷ ts)) (λ x k. record { parts = k.parts; fits = inl k.fits; ends = k.ends })
+      (λ stop s. stuck_as s left_can (λ u tail more is e.
+      let o = first_same s.front t u ts tail more (s.parts ∙ ap (λ (v : List T). s.front ++ v) is) in
+      either_yes (s.front ++ u ∷ more) t o.0 o.1 h ∙ e) (λ front rest low. low))) (λ h.
+      told_on _ _ _ _ (other (t ∷ ts)) (told_of g (t ∷ ts)) (λ x k. record { parts = k.parts; fits = inr k.fits; ends = k.ends })
+      (λ stop s. stuck_as s right_can (λ u tail more is e.
+      let o = first_same s.front t u ts tail more (s.parts ∙ ap (λ (v : List T). s.front ++ v) is) in
+      either_no (s.front ++ u ∷ more) t o.0 o.1 h ∙ e) (λ front rest low. low)))
 
   either_on : (x : X) (t : T) → Either x → goes x t ≡ true → CanGoOn spell Either (spell x ++ t ∷ [])
   either_on x t (inl a) h = left_can (spell x ++ t ∷ []) (f.on x t a h)
@@ -152,4 +117,4 @@ module _ {T X : Type 0} {IsLow : List T → List T → Type 0} (begins : T → B
         either_no (spell x ++ rest) b.first (b.others ++ rest) (ap (λ (u : List T). u ++ rest) b.is) b.test ∙ g.again x rest a ends
 
     pub either_of : Format IsLow spell Either goes (either_at begins read other)
-    either_of = record { found = either_found; again = either_again; stuck = either_stuck; on = either_on }
+    either_of = format_of either_reads either_again either_on

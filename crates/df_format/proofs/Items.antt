@@ -1,8 +1,8 @@
 -- Items with a separator between each two.
-use Rattle.df_format.proofs.Names.{◌≡◌, ℕ, zero, suc, ◌≤◌, Bool, true, false, cond, List, [], ◌∷◌, ◌++◌, length, Ok, Err, refl, sym, ap, subst, ◌∙◌, append_assoc, arith, inl, inr, Stop, Read, ◌>>=◌, more_of, items_at, CanGoOn, Ends, Stuck, Format}
+use Rattle.df_format.proofs.Names.{◌≡◌, ℕ, zero, suc, ◌≤◌, Bool, true, false, cond, List, [], ◌∷◌, ◌++◌, length, Ok, Err, refl, sym, ap, subst, ◌∙◌, append_assoc, arith, inl, inr, Stop, Read, ◌>>=◌, more_of, items_at, CanGoOn, Ends, Found, Stuck, Format}
 use Rattle.std.proofs.lemmas.List.{append-nil}
 use Rattle.df_format.specs.Spelling.{more_spell, items_spell}
-use Rattle.df_format.proofs.Laws.{ok_is, not_both, bind_ok, bind_err, told, both_false, stop_ends, can_within, can_behind, can_go_on, stuck_as, stuck_behind}
+use Rattle.df_format.proofs.Laws.{told, both_false, stop_ends, can_within, can_behind, can_go_on, stuck_as, stuck_behind, Told, self_told, told_bind, told_on, format_of}
 use Rattle.df_format.proofs.ItemSteps.{Shrinks, onto, more_step, more_stop}
 
 -- ---- what is owed of an item
@@ -43,31 +43,36 @@ module _ {T X : Type 0} {Near : X → List T → List T → Type 0} {leads : X �
     pub fits : Follow After prev xs
     pub ends : LastEnds leads goes prev xs rest
 
-  more_found : (n : ℕ) (prev : X) (tokens : List T) (xs : List X) (rest : List T) → Fits prev → length tokens ≤ n → Ends goes prev tokens
-      → more_of leads next prev tokens ≡ Ok (xs, rest) → MoreFound prev tokens xs rest
-  more_found n prev [] xs rest fits le ends e =
-      subst (λ (q : List X × List T). MoreFound prev [] q.0 q.1) (ok_is ([], []) (xs, rest) e) (record { parts = refl; fits = tt; ends = (tt, tt) })
-  more_found zero prev (t ∷ ts) xs rest fits le ends e = absurd (omega arith)
-  more_found (suc n) prev (t ∷ ts) xs rest fits le ends e =
+  -- what is told of where an item stops, and of where those behind it stop
+  pub record Stops (Q : X → List T → Stop T → Type 0) : Type 0 where
+    pub one : (prev : X) (t : T) (ts : List T) (stop : Stop T) → Fits prev → leads prev t ts ≡ true → next prev ts ≡ Err stop → Q prev (t ∷ ts) stop
+    pub more : (prev : X) (t : T) (ts : List T) (x : X) (left : List T) (stop : Stop T) → Fits prev → leads prev t ts ≡ true
+        → Found spell (After prev) goes ts x left → Q x left stop → Q prev (t ∷ ts) stop
+
+  more_told : (Q : X → List T → Stop T → Type 0) → Stops Q → (n : ℕ) (prev : X) (tokens : List T) → Fits prev → length tokens ≤ n → Ends goes prev tokens
+      → Told (λ xs. MoreFound prev tokens xs.0 xs.1) (Q prev tokens) (more_of leads next prev tokens)
+  more_told Q s n prev [] fits le ends = record { parts = refl; fits = tt; ends = (tt, tt) }
+  more_told Q s zero prev (t ∷ ts) fits le ends = absurd (omega arith)
+  more_told Q s (suc n) prev (t ∷ ts) fits le ends =
       elim (told (leads prev t ts)) [
+        | inr h ↦ subst Goal (sym (more_stop leads next prev t ts h)) (record { parts = refl; fits = tt; ends = (ends, h) })
         | inl h ↦
-            let a = bind_ok (next prev ts) (λ x. more_of leads next x.0 x.1 >>= onto x.0) (xs, rest) (sym (more_step leads next p.shrinks prev t ts h) ∙ e) in
-            let f = (p.item prev fits).found ts a.0.0 a.0.1 a.1 in
-            let b = bind_ok (more_of leads next a.0.0 a.0.1) (onto a.0.0) (xs, rest) a.2 in
-            let shorter = p.shrinks prev ts a.0.0 a.0.1 a.1 in
-            let r = more_found n a.0.0 a.0.1 b.0.0 b.0.1 (p.fits prev a.0.0 fits f.fits) (omega arith) f.ends b.1 in
-            let others : List T = more_spell sep spell b.0.0 in
-            subst (λ (q : List X × List T). MoreFound prev (t ∷ ts) q.0 q.1) (ok_is (a.0.0 ∷ b.0.0, b.0.1) (xs, rest) b.2) (record {
-              parts = ap (λ (u : List T). t ∷ u)
-                  (f.parts ∙ ap (λ (u : List T). spell a.0.0 ++ u) r.parts ∙ sym (append_assoc (spell a.0.0) others b.0.1))
-                  ∙ ap (λ (v : T). v ∷ ((spell a.0.0 ++ others) ++ b.0.1)) (p.only prev t ts h);
+            subst Goal (sym (more_step leads next p.shrinks prev t ts h))
+            (told_bind _ _ _ _ (next prev ts) (λ x. more_of leads next x.0 x.1 >>= onto x.0) (self_told (next prev ts)) (λ x e.
+            let f = (p.item prev fits).found ts x.0 x.1 e in
+            let shorter = p.shrinks prev ts x.0 x.1 e in
+            told_bind _ _ _ _ (more_of leads next x.0 x.1) (onto x.0)
+            (more_told Q s n x.0 x.1 (p.fits prev x.0 fits f.fits) (omega arith) f.ends) (λ xs r. record {
+              parts = ap (λ (u : List T). t ∷ u) (f.parts ∙ ap (λ (u : List T). spell x.0 ++ u) r.parts
+                  ∙ sym (append_assoc (spell x.0) (more_spell sep spell xs.0) xs.1))
+                  ∙ ap (λ (v : T). v ∷ ((spell x.0 ++ more_spell sep spell xs.0) ++ xs.1)) (p.only prev t ts h);
               fits = (f.fits, r.fits);
               ends = r.ends;
-            })
-        | inr h ↦
-            subst (λ (q : List X × List T). MoreFound prev (t ∷ ts) q.0 q.1) (ok_is ([], t ∷ ts) (xs, rest) (sym (more_stop leads next prev t ts h) ∙ e))
-            (record { parts = refl; fits = tt; ends = (ends, h) })
+            }) (λ stop q. s.more prev t ts x.0 x.1 stop fits h f q)) (λ stop e. s.one prev t ts stop fits h e))
       ]
+    where
+      Goal : Read T (List X) → Type 0
+      Goal r = Told (λ xs. MoreFound prev (t ∷ ts) xs.0 xs.1) (Q prev (t ∷ ts)) r
 
   -- an item ends before a separator, and before what the last one ends before
   ends_before : (x : X) (xs : List X) (rest : List T) → Fits x → LastEnds leads goes x xs rest → Ends goes x (more_spell sep spell xs ++ rest)
@@ -90,19 +95,19 @@ module _ {T X : Type 0} {Near : X → List T → List T → Type 0} {leads : X �
     pub fits : ItemsFit Fits After xs
     pub ends : LastEnds leads goes xs.0 xs.1 rest
 
-  pub items_found : (IsLow : List T → List T → Type 0) (first : List T → Read T X) → Format IsLow spell Fits goes first
-      → (tokens : List T) (xs : X × List X) (rest : List T) → items_at leads first next tokens ≡ Ok (xs, rest) → ItemsFound tokens xs rest
-  items_found IsLow first fx tokens xs rest e =
-      let a = bind_ok (first tokens) (λ x. more_of leads next x.0 x.1 >>= λ xs. Ok ((x.0, xs.0), xs.1)) (xs, rest) e in
-      let b = bind_ok (more_of leads next a.0.0 a.0.1) (λ xs. Ok ((a.0.0, xs.0), xs.1)) (xs, rest) a.2 in
-      let f = fx.found tokens a.0.0 a.0.1 a.1 in
-      let r = more_found (length a.0.1) a.0.0 a.0.1 b.0.0 b.0.1 f.fits (omega arith) f.ends b.1 in
-      let made : (X × List X) × List T = ((a.0.0, b.0.0), b.0.1) in
-      subst (λ (q : (X × List X) × List T). ItemsFound tokens q.0 q.1) (ok_is made (xs, rest) b.2) (record {
-        parts = f.parts ∙ ap (λ (u : List T). spell a.0.0 ++ u) r.parts ∙ sym (append_assoc (spell a.0.0) (more_spell sep spell b.0.0) b.0.1);
+  pub items_told : {IsLow : List T → List T → Type 0} {first : List T → Read T X} (R : Stop T → Type 0) (Q : X → List T → Stop T → Type 0) → Stops Q
+      → Format IsLow spell Fits goes first → (tokens : List T) → ((stop : Stop T) → first tokens ≡ Err stop → R stop)
+      → ((x : X) (left : List T) (stop : Stop T) → Found spell Fits goes tokens x left → Q x left stop → R stop)
+      → Told (λ xs. ItemsFound tokens xs.0 xs.1) R (items_at leads first next tokens)
+  items_told {first = first} R Q s fx tokens none behind =
+      told_bind _ _ _ _ (first tokens) (λ x. more_of leads next x.0 x.1 >>= λ xs. Ok ((x.0, xs.0), xs.1)) (self_told (first tokens)) (λ x e.
+      let f = fx.found tokens x.0 x.1 e in
+      told_bind _ _ _ _ (more_of leads next x.0 x.1) (λ xs. Ok ((x.0, xs.0), xs.1))
+      (more_told Q s (length x.1) x.0 x.1 f.fits (omega arith) f.ends) (λ xs r. record {
+        parts = f.parts ∙ ap (λ (u : List T). spell x.0 ++ u) r.parts ∙ sym (append_assoc (spell x.0) (more_spell sep spell xs.0) xs.1);
         fits = (f.fits, r.fits);
         ends = r.ends;
-      })
+      }) (λ stop q. behind x.0 x.1 stop f q)) none
 
   pub items_again : (IsLow : List T → List T → Type 0) (first : List T → Read T X) → Format IsLow spell Fits goes first
       → (xs : X × List X) (rest : List T) → ItemsFit Fits After xs → LastEnds leads goes xs.0 xs.1 rest
@@ -145,6 +150,12 @@ pub record Leads {T X : Type 0} (IsLow : List T → List T → Type 0) (Near : X
 abbrev pub last_goes : {T X : Type 0} → (X → T → List T → Bool) → (X → T → Bool) → X → List X → T → Bool
 last_goes leads goes prev [] t = cond (leads prev t []) true (goes prev t)
 last_goes leads goes prev (x ∷ xs) t = last_goes leads goes x xs t
+
+-- with a token with which each ends, the last does
+pub last_ends_at : {T X : Type 0} (leads : X → T → List T → Bool) (goes : X → T → Bool) (t : T) → ((x : X) → cond (leads x t []) true (goes x t) ≡ false)
+    → (x : X) (xs : List X) → last_goes leads goes x xs t ≡ false
+last_ends_at leads goes t each x [] = each x
+last_ends_at leads goes t each x (y ∷ ys) = last_ends_at leads goes t each y ys
 
 abbrev pub items_goes : {T X : Type 0} → (X → T → List T → Bool) → (X → T → Bool) → X × List X → T → Bool
 items_goes leads goes xs t = last_goes leads goes xs.0 xs.1 t
@@ -212,44 +223,29 @@ module _ {T X : Type 0} {IsLow : List T → List T → Type 0} {Near : X → Lis
       (append_assoc (spell x) (more_spell sep spell low.xs) (sep ∷ low.inner) ∙ ap (λ (u : List T). spell x ++ u) (sym low.is))
       (l.near x low.xs low.other low.inner rest fits low.follow low.after low.near)
 
-  more_stuck : (n : ℕ) (prev : X) (tokens : List T) (stop : Stop T) → Fits prev → length tokens ≤ n → more_of leads next prev tokens ≡ Err stop
-      → MoreStuck prev tokens stop
-  more_stuck n prev [] stop fits le e = not_both ([], []) stop e
-  more_stuck zero prev (t ∷ ts) stop fits le e = absurd (omega arith)
-  more_stuck (suc n) prev (t ∷ ts) stop fits le e =
-      elim (told (leads prev t ts)) [
-        | inr h ↦ not_both ([], t ∷ ts) stop (sym (more_stop leads next prev t ts h) ∙ e)
-        | inl h ↦
-            let same : t ≡ sep = p.only prev t ts h in
-            let lead : leads prev sep ts ≡ true = ap (λ (v : T). leads prev v ts) (sym same) ∙ h in
-            let on : (us : List T) → leads prev sep us ≡ true = λ us. l.first prev sep us ts ∙ lead in
-            elim (bind_err (next prev ts) (λ x. more_of leads next x.0 x.1 >>= onto x.0) stop (sym (more_step leads next p.shrinks prev t ts h) ∙ e)) [
-              | inl k ↦
-                  let s = (p.item prev fits).stuck ts stop k in
-                  let y = l.some prev ts fits lead in
-                  stuck_behind s (sep ∷ []) (t ∷ ts) (ap (λ (v : T). v ∷ ts) same)
-                  (λ front v. viable_one prev front (can_go_on spell (After prev) y.0 y.1 front v))
-                  (λ u tail other is e. more_step leads next p.shrinks prev sep (s.front ++ u ∷ other) (on (s.front ++ u ∷ other)) ∙ rw e refl)
-                  (λ rest low. record { xs = []; inner = s.front; is = refl; follow = tt; other = y.0; after = y.1; near = low })
-              | inr k ↦
-                  let f = (p.item prev fits).found ts k.0.0 k.0.1 k.1 in
-                  let shorter = p.shrinks prev ts k.0.0 k.0.1 k.1 in
-                  elim (bind_err (more_of leads next k.0.0 k.0.1) (onto k.0.0) stop k.2) [
-                    | inr m ↦ not_both (k.0.0 ∷ m.0.0, m.0.1) stop m.2
-                    | inl m ↦
-                        let s = more_stuck n k.0.0 k.0.1 stop (p.fits prev k.0.0 fits f.fits) (omega arith) m in
-                        let x : List T = spell k.0.0 in
-                        stuck_behind s (sep ∷ x) (t ∷ ts) (ap (λ (u : List T). t ∷ u) f.parts ∙ ap (λ (v : T). v ∷ (x ++ k.0.1)) same)
-                        (λ front v. viable_more prev k.0.0 front f.fits (can_go_on (more_spell sep spell) (Follow After k.0.0) [] tt front v))
-                        (λ u tail other is e.
-                        let left : List T = s.front ++ u ∷ other in
-                        let ends = stop_ends goes k.0.0 k.0.1 s.front u tail other is f.ends in
-                        let at_item : next prev (x ++ left) ≡ Ok (k.0.0, left) = (p.item prev fits).again k.0.0 left f.fits ends in
-                        more_step leads next p.shrinks prev sep (x ++ left) (on (x ++ left)) ∙ rw (at_item, e) refl)
-                        (λ rest low. low_more prev k.0.0 s.front rest f.fits low)
-                  ]
-            ]
-      ]
+  one_stuck : (prev : X) (t : T) (ts : List T) (stop : Stop T) → Fits prev → leads prev t ts ≡ true → next prev ts ≡ Err stop
+      → MoreStuck prev (t ∷ ts) stop
+  one_stuck prev t ts stop fits h e =
+      let same : t ≡ sep = p.only prev t ts h in
+      let lead : leads prev sep ts ≡ true = ap (λ (v : T). leads prev v ts) (sym same) ∙ h in
+      let s = (p.item prev fits).stuck ts stop e in
+      let y = l.some prev ts fits lead in
+      stuck_behind s (sep ∷ []) (t ∷ ts) (ap (λ (v : T). v ∷ ts) same) (λ front v. viable_one prev front (can_go_on spell (After prev) y.0 y.1 front v))
+      (λ u tail other is e. let more : List T = s.front ++ u ∷ other in
+      more_step leads next p.shrinks prev sep more (l.first prev sep more ts ∙ lead) ∙ rw e refl)
+      (λ rest low. record { xs = []; inner = s.front; is = refl; follow = tt; other = y.0; after = y.1; near = low })
+
+  then_stuck : (prev : X) (t : T) (ts : List T) (x : X) (left : List T) (stop : Stop T) → Fits prev → leads prev t ts ≡ true
+      → Found spell (After prev) goes ts x left → MoreStuck x left stop → MoreStuck prev (t ∷ ts) stop
+  then_stuck prev t ts x left stop fits h f s =
+      let same : t ≡ sep = p.only prev t ts h in
+      stuck_behind s (sep ∷ spell x) (t ∷ ts) (ap (λ (u : List T). t ∷ u) f.parts ∙ ap (λ (v : T). v ∷ (spell x ++ left)) same)
+      (λ front v. viable_more prev x front f.fits (can_go_on (more_spell sep spell) (Follow After x) [] tt front v)) (λ u tail other is e.
+      let more : List T = s.front ++ u ∷ other in
+      let ends = stop_ends goes x left s.front u tail other is f.ends in
+      let one : next prev (spell x ++ more) ≡ Ok (x, more) = (p.item prev fits).again x more f.fits ends in
+      let lead = l.first prev sep (spell x ++ more) ts ∙ ap (λ (v : T). leads prev v ts) (sym same) ∙ h in
+      more_step leads next p.shrinks prev sep (spell x ++ more) lead ∙ rw (one, e) refl) (λ rest low. low_more prev x s.front rest f.fits low)
 
   items_extend : (front : List T) → CanGoOn spell Fits front → CanGoOn (items_spell sep spell) (ItemsFit Fits After) front
   items_extend front v = can_within v (v.some, []) (v.fits, tt) [] [] refl
@@ -297,27 +293,17 @@ module _ {T X : Type 0} {IsLow : List T → List T → Type 0} {Near : X → Lis
 
   pub items_format : (first : List T → Read T X) → Format IsLow spell Fits goes first
       → Format IsLow (items_spell sep spell) (ItemsFit Fits After) (items_goes leads goes) (items_at leads first next)
-  items_format first fx = record {
-    found = λ tokens xs rest e.
-        let f = items_found p IsLow first fx tokens xs rest e in
-        record { parts = f.parts; fits = f.fits; ends = last_ends xs rest f.ends };
-    again = λ xs rest fits ends. items_again p IsLow first fx xs rest fits (ends_last xs rest ends);
-    stuck = λ tokens stop e.
-        elim (bind_err (first tokens) (λ x. more_of leads next x.0 x.1 >>= λ xs. Ok ((x.0, xs.0), xs.1)) stop e) [
-          | inl h ↦ stuck_as (fx.stuck tokens stop h) items_extend (λ t tail other is e. rw e refl) (λ front rest low. low)
-          | inr h ↦
-              elim (bind_err (more_of leads next h.0.0 h.0.1) (λ xs. Ok ((h.0.0, xs.0), xs.1)) stop h.2) [
-                | inr k ↦ not_both ((h.0.0, k.0.0), k.0.1) stop k.2
-                | inl k ↦
-                    let f = fx.found tokens h.0.0 h.0.1 h.1 in
-                    let s = more_stuck (length h.0.1) h.0.0 h.0.1 stop f.fits (omega arith) k in
-                    stuck_behind s (spell h.0.0) tokens f.parts
-                    (λ front v. items_behind h.0.0 front f.fits (can_go_on (more_spell sep spell) (Follow After h.0.0) [] tt front v))
-                    (λ t tail other is e.
-                    let left : List T = s.front ++ t ∷ other in
-                    let ends = stop_ends goes h.0.0 h.0.1 s.front t tail other is f.ends in
-                    rw (fx.again h.0.0 left f.fits ends, e) refl) (λ rest low. low_items h.0.0 s.front rest f.fits low)
-              ]
-        ];
-    on = λ xs t fits g. items_on Fits fx.on (λ x a. a) xs.0 xs.1 t fits.0 fits.1 g;
-  }
+  items_format first fx =
+      format_of (λ tokens. told_on _ _ _ _ (items_at leads first next tokens)
+      (items_told p (λ stop. ItemsStuck tokens stop) MoreStuck (record { one = one_stuck; more = then_stuck }) fx tokens
+      (λ stop e. stuck_as (fx.stuck tokens stop e) items_extend (λ t tail other is e. rw e refl) (λ front rest low. low))
+      (λ x left stop f s. stuck_behind s (spell x) tokens f.parts
+      (λ front v. items_behind x front f.fits (can_go_on (more_spell sep spell) (Follow After x) [] tt front v)) (λ t tail other is e.
+      let ends = stop_ends goes x left s.front t tail other is f.ends in rw (fx.again x (s.front ++ t ∷ other) f.fits ends, e) refl)
+      (λ rest low. low_items x s.front rest f.fits low)))
+      (λ xs f. record { parts = f.parts; fits = f.fits; ends = last_ends xs.0 xs.1 f.ends }) (λ stop s. s))
+      (λ xs rest fits ends. items_again p IsLow first fx xs rest fits (ends_last xs rest ends))
+      (λ xs t fits g. items_on Fits fx.on (λ x a. a) xs.0 xs.1 t fits.0 fits.1 g)
+    where
+      ItemsStuck : List T → Stop T → Type 0
+      ItemsStuck tokens stop = Stuck IsLow (items_spell sep spell) (ItemsFit Fits After) (items_at leads first next) tokens stop

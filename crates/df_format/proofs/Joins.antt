@@ -1,6 +1,6 @@
 -- Another view of what is read, the same reader in another form, and fixed bytes before and behind.
-use Rattle.df_format.proofs.Names.{◌≡◌, ℕ, Bool, false, List, [], ◌∷◌, ◌++◌, Ok, Err, refl, sym, ap, subst, ◌∙◌, inl, inr, Read, ◌>>=◌, as_at, text_at, behind_at, closed_at, CanGoOn, Ends, Found, Format}
-use Rattle.df_format.proofs.Laws.{ok_is, not_both, bind_ok, bind_err, never, ends_never, stuck_as}
+use Rattle.df_format.proofs.Names.{◌≡◌, ℕ, Bool, false, List, [], ◌∷◌, ◌++◌, Ok, Err, refl, sym, ap, subst, ◌∙◌, Read, ◌>>=◌, as_at, text_at, behind_at, closed_at, CanGoOn, Ends, Format}
+use Rattle.df_format.proofs.Laws.{never, ends_never, stuck_as, Reads, told_on, told_of, bind_told, format_of}
 use Rattle.df_format.proofs.Thens.{then_format, ends_of_second}
 use Rattle.df_format.proofs.Texts.{text_format}
 
@@ -28,44 +28,29 @@ module _ {T X Y : Type 0} {IsLow : List T → List T → Type 0} (make : X → Y
   as_can front c = record { some = make c.some; fits = v.to c.some c.fits; more = c.more; is = v.spelled c.some c.fits ∙ c.is }
 
   pub viewed : Format IsLow sy FY gy (as_at make rx)
-  viewed = record {
-    found = λ tokens y rest e.
-        let a = bind_ok (rx tokens) (λ x. Ok (make x.0, x.1)) (y, rest) e in
-        let f = fx.found tokens a.0.0 a.0.1 a.1 in
-        let made : Y × List T = (make a.0.0, a.0.1) in
-        subst (λ (q : Y × List T). Found sy FY gy tokens q.0 q.1) (ok_is made (y, rest) a.2) (record {
-          parts = f.parts ∙ ap (λ (u : List T). u ++ a.0.1) (sym (v.spelled a.0.0 f.fits));
-          fits = v.to a.0.0 f.fits;
-          ends = ends_to a.0.0 a.0.1 f.fits f.ends;
-        });
-    again = λ y rest fits ends.
-        let b = v.from y fits in
-        let end = ends_from b.0 rest b.1 (subst (λ (z : Y). Ends gy z rest) (sym b.2) ends) in
-        let here : as_at make rx (sx b.0 ++ rest) ≡ Ok (make b.0, rest) = rw (fx.again b.0 rest b.1 end) refl in
-        ap (λ (u : List T). as_at make rx (u ++ rest)) (ap sy (sym b.2) ∙ v.spelled b.0 b.1) ∙ here ∙ ap (λ (z : Y). Ok (z, rest)) b.2;
-    stuck = λ tokens stop e.
-        elim (bind_err (rx tokens) (λ x. Ok (make x.0, x.1)) stop e) [
-          | inr h ↦ not_both (make h.0.0, h.0.1) stop h.2
-          | inl h ↦ stuck_as (fx.stuck tokens stop h) as_can (λ t tail other is e. rw e refl) (λ front rest low. low)
-        ];
-    on = λ y t fits g.
-        let b = v.from y fits in
-        let c = fx.on b.0 t b.1 (sym (v.alike b.0 t b.1) ∙ ap (λ (z : Y). gy z t) b.2 ∙ g) in
-        subst (λ (u : List T). CanGoOn sy FY (u ++ t ∷ [])) (sym (v.spelled b.0 b.1) ∙ ap sy b.2) (as_can (sx b.0 ++ t ∷ []) c);
-  }
+  viewed =
+      format_of (λ tokens. bind_told _ _ fx tokens (λ x. Ok (make x.0, x.1)) (λ x rest f. record {
+        parts = f.parts ∙ ap (λ (u : List T). u ++ rest) (sym (v.spelled x f.fits));
+        fits = v.to x f.fits;
+        ends = ends_to x rest f.fits f.ends;
+      }) (λ stop s. stuck_as s as_can (λ t tail other is e. rw e refl) (λ front rest low. low))) (λ y rest fits ends.
+      let b = v.from y fits in
+      let end = ends_from b.0 rest b.1 (subst (λ (z : Y). Ends gy z rest) (sym b.2) ends) in
+      let here : as_at make rx (sx b.0 ++ rest) ≡ Ok (make b.0, rest) = rw (fx.again b.0 rest b.1 end) refl in
+      ap (λ (u : List T). as_at make rx (u ++ rest)) (ap sy (sym b.2) ∙ v.spelled b.0 b.1) ∙ here ∙ ap (λ (z : Y). Ok (z, rest)) b.2) (λ y t fits g.
+      let b = v.from y fits in
+      let c = fx.on b.0 t b.1 (sym (v.alike b.0 t b.1) ∙ ap (λ (z : Y). gy z t) b.2 ∙ g) in
+      subst (λ (u : List T). CanGoOn sy FY (u ++ t ∷ [])) (sym (v.spelled b.0 b.1) ∙ ap sy b.2) (as_can (sx b.0 ++ t ∷ []) c))
 
 -- ---- the same reader in another form
 
 pub same_read : {T X : Type 0} {IsLow : List T → List T → Type 0} {spell : X → List T} {Fits : X → Type 0} {goes : X → T → Bool} {r s : List T → Read T X}
     → ((tokens : List T) → r tokens ≡ s tokens) → Format IsLow spell Fits goes r → Format IsLow spell Fits goes s
-same_read same f = record {
-  found = λ tokens x rest e. f.found tokens x rest (same tokens ∙ e);
-  again = λ x rest fits ends. sym (same _) ∙ f.again x rest fits ends;
-  stuck = λ tokens stop e.
-      let k = f.stuck tokens stop (same tokens ∙ e) in
-      stuck_as k (λ front v. v) (λ t tail other is e. sym (same (k.front ++ t ∷ other)) ∙ e) (λ front rest low. low);
-  on = f.on;
-}
+same_read {IsLow = IsLow} {spell} {Fits} {goes} {r} {s} same f =
+    format_of (λ tokens. subst (Reads IsLow spell Fits goes s tokens) (same tokens)
+    (told_on _ _ _ _ (r tokens) (told_of f tokens) (λ x g. g) (λ stop k. stuck_as k (λ front v. v)
+    (λ t tail other is e. sym (same (k.front ++ t ∷ other)) ∙ e) (λ front rest low. low))))
+    (λ x rest fits ends. sym (same (spell x ++ rest)) ∙ f.again x rest fits ends) f.on
 
 same_as : {T X : Type 0} (r : Read T X) → (r >>= λ (x : X × List T). Ok (x.0, x.1)) ≡ r
 same_as (Ok x) = refl

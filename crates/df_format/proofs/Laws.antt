@@ -1,5 +1,5 @@
 -- Steps of readers, and one thing behind another.
-use Rattle.df_format.proofs.Names.{◌≡◌, Bool, true, false, cond, List, [], ◌∷◌, ◌++◌, Result, Ok, Err, refl, sym, ap, subst, ◌∙◌, append_assoc, append-nil, ◌⊎◌, inl, inr, Stop, Bad, Low, Read, ◌>>=◌, CanGoOn, Stands, FirstBad, Ends, IsViable, place, Cause, Stuck, Format}
+use Rattle.df_format.proofs.Names.{◌≡◌, Bool, true, false, cond, List, [], ◌∷◌, ◌++◌, Result, Ok, Err, refl, sym, ap, subst, ◌∙◌, append_assoc, append-nil, ◌⊎◌, inl, inr, Stop, Bad, Low, Read, ◌>>=◌, CanGoOn, Stands, FirstBad, Ends, Found, IsViable, place, Cause, Stuck, Format}
 
 -- ---- steps
 
@@ -162,6 +162,71 @@ stuck_first {T} {X} {Out} {spell} {Fits} {read} {tokens} {stop} e stays =
 -- there is no first token where there is none
 pub no_first : {T A : Type 0} (t : T) (tail : List T) → [] ≡ t ∷ tail → A
 no_first t tail is = absurd cc
+
+-- ---- what reading tells
+
+-- of what is read, or of why reading stopped
+abbrev pub Told : {T A : Type 0} → (A → Type 0) → (Stop T → Type 0) → Result A (Stop T) → Type 0
+Told P Q (Ok x) = P x
+Told P Q (Err s) = Q s
+
+-- as a test tells
+pub cond_told : {T A : Type 0} (P : A → Type 0) (Q : Stop T → Type 0) (b : Bool) (r s : Result A (Stop T)) → (b ≡ true → Told P Q r)
+    → (b ≡ false → Told P Q s) → Told P Q (cond b r s)
+cond_told P Q true r s all _ = all refl
+cond_told P Q false r s _ none = none refl
+
+-- a reader told all that it had to of these tokens
+abbrev pub Reads : {T X : Type 0} → (List T → List T → Type 0) → (X → List T) → (X → Type 0) → (X → T → Bool) → (List T → Read T X) → List T
+    → Read T X → Type 0
+Reads IsLow spell Fits goes read tokens r = Told (λ x. Found spell Fits goes tokens x.0 x.1) (Stuck IsLow spell Fits read tokens) r
+
+-- of a step itself
+pub self_told : {T A : Type 0} (r : Result A (Stop T)) → Told (λ x. r ≡ Ok x) (λ s. r ≡ Err s) r
+self_told (Ok x) = refl
+self_told (Err s) = refl
+
+module _ {T A : Type 0} (P : A → Type 0) (Q : Stop T → Type 0) where
+  -- told otherwise
+  pub told_on : (R : A → Type 0) (S : Stop T → Type 0) (r : Result A (Stop T)) → Told P Q r → ((x : A) → P x → R x) → ((s : Stop T) → Q s → S s) → Told R S r
+  told_on R S (Ok x) h on stops = on x h
+  told_on R S (Err s) h on stops = stops s h
+
+  -- of what follows a step
+  pub told_bind : {B : Type 0} (R : B → Type 0) (S : Stop T → Type 0) (r : Result A (Stop T)) (next : A → Result B (Stop T)) → Told P Q r
+      → ((x : A) → P x → Told R S (next x)) → ((s : Stop T) → Q s → S s) → Told R S (r >>= next)
+  told_bind R S (Ok x) next h on stops = on x h
+  told_bind R S (Err s) next h on stops = stops s h
+
+module _ {T X : Type 0} {IsLow : List T → List T → Type 0} {spell : X → List T} {Fits : X → Type 0} {goes : X → T → Bool} {read : List T → Read T X} where
+  pub told_of : Format IsLow spell Fits goes read → (tokens : List T) → Reads IsLow spell Fits goes read tokens (read tokens)
+  told_of f tokens = told_on _ _ _ _ (read tokens) (self_told (read tokens)) (λ x e. f.found tokens x.0 x.1 e) (λ s e. f.stuck tokens s e)
+
+  -- what follows a reading, by what is read and by why it stopped
+  pub bind_told : {A : Type 0} (P : A → Type 0) (Q : Stop T → Type 0) → Format IsLow spell Fits goes read → (tokens : List T)
+      (next : X × List T → Result A (Stop T)) → ((x : X) (rest : List T) → Found spell Fits goes tokens x rest → Told P Q (next (x, rest)))
+      → ((stop : Stop T) → Stuck IsLow spell Fits read tokens stop → Q stop) → Told P Q (read tokens >>= next)
+  bind_told P Q f tokens next on stops = told_bind _ _ P Q (read tokens) next (told_of f tokens) (λ x g. on x.0 x.1 g) stops
+
+  pub format_of : ((tokens : List T) → Reads IsLow spell Fits goes read tokens (read tokens))
+      → ((x : X) (rest : List T) → Fits x → Ends goes x rest → read (spell x ++ rest) ≡ Ok (x, rest))
+      → ((x : X) (t : T) → Fits x → goes x t ≡ true → CanGoOn spell Fits (spell x ++ t ∷ [])) → Format IsLow spell Fits goes read
+  format_of reads again on = record {
+    found = λ tokens x rest e. subst (Reads IsLow spell Fits goes read tokens) e (reads tokens);
+    again = again;
+    stuck = λ tokens stop e. subst (Reads IsLow spell Fits goes read tokens) e (reads tokens);
+    on = on;
+  }
+
+  -- where one place is low, another is told
+  pub low_as : {Out : List T → List T → Type 0} → ((front rest : List T) → IsLow front rest → Out front rest) → Format IsLow spell Fits goes read
+      → Format Out spell Fits goes read
+  low_as low f = record {
+    found = f.found;
+    again = f.again;
+    stuck = λ tokens stop e. stuck_as (f.stuck tokens stop e) (λ front v. v) (λ t tail other is e. e) low;
+    on = f.on;
+  }
 
 -- ---- what the laws say of a reader
 

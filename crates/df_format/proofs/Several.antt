@@ -1,6 +1,6 @@
 -- As many things as stand there.
-use Rattle.df_format.proofs.Names.{◌≡◌, ℕ, zero, suc, ◌<◌, ◌≤◌, Bool, true, false, cond, List, [], ◌∷◌, ◌++◌, length, Ok, Err, refl, sym, ap, subst, ◌∙◌, append_assoc, length-append, arith, inl, inr, AllByRecursion, flat_map, Stop, Bad, Read, ◌>>=◌, starts, while_at, all_at, CanGoOn, Ends, Found, Stuck, Format}
-use Rattle.df_format.proofs.Laws.{ok_is, not_both, bind_ok, bind_err, bind_same, told, never, ends_never, can_within, can_behind, can_go_on, first_same, stuck_as, stuck_behind}
+use Rattle.df_format.proofs.Names.{◌≡◌, ℕ, zero, suc, ◌<◌, ◌≤◌, Bool, true, false, cond, List, [], ◌∷◌, ◌++◌, length, Ok, Err, refl, sym, ap, subst, ◌∙◌, append_assoc, length-append, arith, inl, inr, AllByRecursion, flat_map, Stop, Bad, Read, ◌>>=◌, starts, while_at, all_at, CanGoOn, Ends, Found, Format}
+use Rattle.df_format.proofs.Laws.{bind_same, told, never, ends_never, can_within, can_behind, can_go_on, first_same, stuck_as, stuck_behind, Reads, told_bind, bind_told, format_of}
 use Rattle.df_format.proofs.Choices.{Begins}
 use Rattle.df_format.proofs.ItemSteps.{onto}
 use Rattle.df_format.proofs.Backs.{Back, all_back}
@@ -53,14 +53,12 @@ pub record Each {X : Type 0} (begins : ℕ → Bool) (spell : X → List ℕ) (F
   pub some : (c : ℕ) → begins c ≡ true → CanGoOn spell Fits (c ∷ [])
 
 module _ {X : Type 0} {begins : ℕ → Bool} {spell : X → List ℕ} {Fits : X → Type 0} {read : List ℕ → Read ℕ X} (p : Each begins spell Fits read) where
+  is_shorter : (tokens : List ℕ) (x : X) (rest : List ℕ) → Found spell Fits never tokens x rest → length rest < length tokens
+  is_shorter tokens x rest f =
+      let b = p.first x f.fits in omega (arith, ap length f.parts, length-append (spell x) rest, ap length b.is)
+
   pub each_several : Several (starts begins) read
-  each_several = record {
-    none = refl;
-    some = λ tokens x rest e.
-        let f = p.item.found tokens x rest e in
-        let b = p.first x f.fits in
-        omega (arith, ap length f.parts, length-append (spell x) rest, ap length b.is);
-  }
+  each_several = record { none = refl; some = λ tokens x rest e. is_shorter tokens x rest (p.item.found tokens x rest e) }
 
   stands_some : (x : X) (rest : List ℕ) → Fits x → starts begins (spell x ++ rest) ≡ true
   stands_some x rest fits = let b = p.first x fits in ap (λ (u : List ℕ). starts begins (u ++ rest)) b.is ∙ b.test
@@ -87,29 +85,8 @@ module _ {X : Type 0} {begins : ℕ → Bool} {spell : X → List ℕ} {Fits : X
   abbrev AllFit : List X → Type 0
   AllFit xs = AllByRecursion Fits xs
 
-  each_found : (n : ℕ) (tokens : List ℕ) (xs : List X) (rest : List ℕ) → length tokens ≤ n → all_at (starts begins) read tokens ≡ Ok (xs, rest)
-      → Found (flat_map spell) AllFit goes tokens xs rest
-  each_found n [] xs rest le e =
-      subst (λ (q : List X × List ℕ). Found (flat_map spell) AllFit goes [] q.0 q.1) (ok_is ([], []) (xs, rest) e)
-      (record { parts = refl; fits = tt; ends = tt })
-  each_found zero (c ∷ cs) xs rest le e = absurd (omega arith)
-  each_found (suc n) (c ∷ cs) xs rest le e =
-      elim (told (begins c)) [
-        | inr h ↦
-            subst (λ (q : List X × List ℕ). Found (flat_map spell) AllFit goes (c ∷ cs) q.0 q.1)
-            (ok_is ([], c ∷ cs) (xs, rest) (sym (all_none each_several (c ∷ cs) h) ∙ e)) (record { parts = refl; fits = tt; ends = h })
-        | inl h ↦
-            let a = bind_ok (read (c ∷ cs)) (λ x. all_at (starts begins) read x.1 >>= onto x.0) (xs, rest) (sym (all_more each_several (c ∷ cs) h) ∙ e) in
-            let b = bind_ok (all_at (starts begins) read a.0.1) (onto a.0.0) (xs, rest) a.2 in
-            let f = p.item.found (c ∷ cs) a.0.0 a.0.1 a.1 in
-            let shorter = each_several.some (c ∷ cs) a.0.0 a.0.1 a.1 in
-            let r = each_found n a.0.1 b.0.0 b.0.1 (omega arith) b.1 in
-            subst (λ (q : List X × List ℕ). Found (flat_map spell) AllFit goes (c ∷ cs) q.0 q.1) (ok_is (a.0.0 ∷ b.0.0, b.0.1) (xs, rest) b.2) (record {
-              parts = f.parts ∙ ap (λ (u : List ℕ). spell a.0.0 ++ u) r.parts ∙ sym (append_assoc (spell a.0.0) (flat_map spell b.0.0) b.0.1);
-              fits = (f.fits, r.fits);
-              ends = here_ends (a.0.0 ∷ b.0.0) b.0.1 (ends_here b.0.0 b.0.1 r.ends);
-            })
-      ]
+  abbrev ReadsEach : List ℕ → Read ℕ (List X) → Type 0
+  ReadsEach tokens r = Reads nowhere (flat_map spell) AllFit goes (all_at (starts begins) read) tokens r
 
   first_can : (front : List ℕ) → CanGoOn spell Fits front → CanGoOn (flat_map spell) AllFit front
   first_can front v = can_within v (v.some ∷ []) (v.fits, tt) [] [] refl
@@ -117,33 +94,27 @@ module _ {X : Type 0} {begins : ℕ → Bool} {spell : X → List ℕ} {Fits : X
   behind_can : (x : X) (front : List ℕ) → Fits x → CanGoOn (flat_map spell) AllFit front → CanGoOn (flat_map spell) AllFit (spell x ++ front)
   behind_can x front fits v = can_behind v (x ∷ v.some) (fits, v.fits) (spell x) refl
 
-  each_stuck : (n : ℕ) (tokens : List ℕ) (stop : Stop ℕ) → length tokens ≤ n → all_at (starts begins) read tokens ≡ Err stop
-      → Stuck nowhere (flat_map spell) AllFit (all_at (starts begins) read) tokens stop
-  each_stuck n [] stop le e = not_both ([], []) stop e
-  each_stuck zero (c ∷ cs) stop le e = absurd (omega arith)
-  each_stuck (suc n) (c ∷ cs) stop le e =
+  each_reads : (n : ℕ) (tokens : List ℕ) → length tokens ≤ n → ReadsEach tokens (all_at (starts begins) read tokens)
+  each_reads n [] le = record { parts = refl; fits = tt; ends = tt }
+  each_reads zero (c ∷ cs) le = absurd (omega arith)
+  each_reads (suc n) (c ∷ cs) le =
       elim (told (begins c)) [
-        | inr h ↦ not_both ([], c ∷ cs) stop (sym (all_none each_several (c ∷ cs) h) ∙ e)
+        | inr h ↦ subst (ReadsEach (c ∷ cs)) (sym (all_none each_several (c ∷ cs) h)) (record { parts = refl; fits = tt; ends = h })
         | inl h ↦
-            elim (bind_err (read (c ∷ cs)) (λ x. all_at (starts begins) read x.1 >>= onto x.0) stop (sym (all_more each_several (c ∷ cs) h) ∙ e)) [
-              | inl k ↦
-                  let s = p.item.stuck (c ∷ cs) stop k in
-                  stuck_as s first_can (λ t tail other is e.
-                  let o = first_same s.front c t cs tail other (s.parts ∙ ap (λ (u : List ℕ). s.front ++ u) is) in
-                  all_stop each_several (s.front ++ t ∷ other) (Bad (t ∷ other)) (ap (starts begins) o.1 ∙ h) e) (λ front rest low. low)
-              | inr k ↦ elim (bind_err (all_at (starts begins) read k.0.1) (onto k.0.0) stop k.2) [
-                | inr m ↦ not_both (k.0.0 ∷ m.0.0, m.0.1) stop m.2
-                | inl m ↦
-                    let f = p.item.found (c ∷ cs) k.0.0 k.0.1 k.1 in
-                    let shorter = each_several.some (c ∷ cs) k.0.0 k.0.1 k.1 in
-                    let s = each_stuck n k.0.1 stop (omega arith) m in
-                    stuck_behind s (spell k.0.0) (c ∷ cs) f.parts
-                    (λ front v. behind_can k.0.0 front f.fits (can_go_on (flat_map spell) AllFit [] tt front v)) (λ t tail other is e.
-                    let left : List ℕ = s.front ++ t ∷ other in
-                    let one : read (spell k.0.0 ++ left) ≡ Ok (k.0.0, left) = p.item.again k.0.0 left f.fits (ends_never k.0.0 left) in
-                    all_step each_several (spell k.0.0 ++ left) k.0.0 left (stands_some k.0.0 left f.fits) one ∙ rw e refl) (λ rest low. low)
-              ]
-            ]
+            subst (ReadsEach (c ∷ cs)) (sym (all_more each_several (c ∷ cs) h))
+            (bind_told _ _ p.item (c ∷ cs) (λ x. all_at (starts begins) read x.1 >>= onto x.0) (λ x left f.
+            told_bind _ _ _ _ (all_at (starts begins) read left) (onto x) (each_reads n left (omega (arith, is_shorter (c ∷ cs) x left f))) (λ xs r. record {
+              parts = f.parts ∙ ap (λ (u : List ℕ). spell x ++ u) r.parts ∙ sym (append_assoc (spell x) (flat_map spell xs.0) xs.1);
+              fits = (f.fits, r.fits);
+              ends = here_ends (x ∷ xs.0) xs.1 (ends_here xs.0 xs.1 r.ends);
+            }) (λ stop s. stuck_behind s (spell x) (c ∷ cs) f.parts
+            (λ front v. behind_can x front f.fits (can_go_on (flat_map spell) AllFit [] tt front v)) (λ t tail other is e.
+            let more : List ℕ = s.front ++ t ∷ other in
+            let one : read (spell x ++ more) ≡ Ok (x, more) = p.item.again x more f.fits (ends_never x more) in
+            all_step each_several (spell x ++ more) x more (stands_some x more f.fits) one ∙ rw e refl) (λ rest low. low)))
+            (λ stop s. stuck_as s first_can (λ t tail other is e.
+            let o = first_same s.front c t cs tail other (s.parts ∙ ap (λ (u : List ℕ). s.front ++ u) is) in
+            all_stop each_several (s.front ++ t ∷ other) (Bad (t ∷ other)) (ap (starts begins) o.1 ∙ h) e) (λ front rest low. low)))
       ]
 
   each_on : (xs : List X) (c : ℕ) → AllFit xs → begins c ≡ true → CanGoOn (flat_map spell) AllFit (flat_map spell xs ++ c ∷ [])
@@ -153,9 +124,6 @@ module _ {X : Type 0} {begins : ℕ → Bool} {spell : X → List ℕ} {Fits : X
       (behind_can x (flat_map spell xs ++ c ∷ []) fits.0 (each_on xs c fits.1 g))
 
   pub each_format : Format nowhere (flat_map spell) AllFit goes (all_at (starts begins) read)
-  each_format = record {
-    found = λ tokens xs rest e. each_found (length tokens) tokens xs rest (omega arith) e;
-    again = λ xs rest fits ends. all_back each_back xs rest fits tt (ends_here xs rest ends);
-    stuck = λ tokens stop e. each_stuck (length tokens) tokens stop (omega arith) e;
-    on = each_on;
-  }
+  each_format =
+      format_of (λ tokens. each_reads (length tokens) tokens (omega arith))
+      (λ xs rest fits ends. all_back each_back xs rest fits tt (ends_here xs rest ends)) each_on

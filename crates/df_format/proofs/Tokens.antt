@@ -1,26 +1,14 @@
 -- Laws by kind of token. A reader that stops at no low place keeps its laws whatever is low.
-use Rattle.df_format.proofs.Names.{◌≡◌, ℕ, Bool, true, false, cond, List, [], ◌∷◌, ◌++◌, Option, Some, None, Ok, Err, refl, sym, ap, subst, ◌∙◌, inl, inr, Stop, Bad, Read, ◌>>=◌, as_at, text_at, behind_at, closed_at, decoded, one_at, CanGoOn, Ends, Found, Stuck, IsLocal, Format}
-use Rattle.df_format.proofs.Laws.{ok_is, err_is, not_both, bind_ok, bind_err, chosen, never, ends_never, can_behind, can_go_on, no_first, stuck_at, stuck_first, stuck_as, stuck_behind}
+use Rattle.df_format.proofs.Names.{◌≡◌, ℕ, Bool, true, false, cond, List, [], ◌∷◌, ◌++◌, Option, Some, None, Ok, Err, refl, sym, ap, ◌∙◌, inl, inr, Stop, Bad, Read, ◌>>=◌, as_at, text_at, behind_at, closed_at, decoded, one_at, CanGoOn, Ends, Found, IsLocal, Format}
+use Rattle.df_format.proofs.Laws.{err_is, not_both, chosen, never, ends_never, can_behind, can_go_on, no_first, stuck_first, stuck_behind, Reads, cond_told, bind_told, format_of}
+pub use Rattle.df_format.proofs.Laws.{low_as}
+pub use Rattle.df_format.proofs.Texts.{nowhere}
 use Rattle.df_format.proofs.Joins.{viewed, alike_format, same_read, behind_format, closed_format}
 
 -- ---- no low place
 
--- nowhere is anything low
-abbrev pub nowhere : List ℕ → List ℕ → Type 0
-nowhere front rest = ⊥
-
 pub nowhere_is_local : IsLocal nowhere
 nowhere_is_local before front rest low = low
-
--- where one place is low, another is told
-pub low_as : {T X : Type 0} {IsLow Out : List T → List T → Type 0} {spell : X → List T} {Fits : X → Type 0} {goes : X → T → Bool} {read : List T → Read T X}
-    → ((front rest : List T) → IsLow front rest → Out front rest) → Format IsLow spell Fits goes read → Format Out spell Fits goes read
-low_as low f = record {
-  found = f.found;
-  again = f.again;
-  stuck = λ tokens stop e. stuck_as (f.stuck tokens stop e) (λ front v. v) (λ t tail other is e. e) low;
-  on = f.on;
-}
 
 pub any_low : {X : Type 0} {spell : X → List ℕ} {Fits : X → Type 0} {goes : X → ℕ → Bool} {read : List ℕ → Read ℕ X} (IsLow : List ℕ → List ℕ → Type 0)
     → Format nowhere spell Fits goes read → Format IsLow spell Fits goes read
@@ -96,31 +84,18 @@ pub first_stays : {X : Type 0} (test : ℕ → Bool) (rest : ℕ → List ℕ �
 first_stays test rest c cs other stop e =
     elim (chosen (test c) (Ok (rest c cs)) (Err (Bad (c ∷ cs))) (Err stop) e) [ inl h ↦ not_both (rest c cs) stop h.1 | inr h ↦ rw (h.0) refl ]
 
-first_found : {X : Type 0} (spell : X → List ℕ) (Fits : X → Type 0) (goes : X → ℕ → Bool) (test : ℕ → Bool) (rest : ℕ → List ℕ → X × List ℕ)
-    → ((c : ℕ) (cs : List ℕ) → test c ≡ true → Found spell Fits goes (c ∷ cs) (rest c cs).0 (rest c cs).1)
-    → (bytes : List ℕ) (x : X) (left : List ℕ) → first_at test rest bytes ≡ Ok (x, left) → Found spell Fits goes bytes x left
-first_found spell Fits goes test rest found [] x left e = absurd cc
-first_found {X} spell Fits goes test rest found (c ∷ cs) x left e =
-    elim (chosen (test c) (Ok (rest c cs)) (Err (Bad (c ∷ cs))) (Ok (x, left)) e) [
-      | inl h ↦ subst (λ (q : X × List ℕ). Found spell Fits goes (c ∷ cs) q.0 q.1) (ok_is (rest c cs) (x, left) h.1) (found c cs h.0)
-      | inr h ↦ not_both (x, left) (Bad (c ∷ cs)) (sym h.1)
-    ]
-
 pub first_format : {X : Type 0} (spell : X → List ℕ) (Fits : X → Type 0) (goes : X → ℕ → Bool) (read : List ℕ → Read ℕ X) (test : ℕ → Bool)
     (rest : ℕ → List ℕ → X × List ℕ) → ((bytes : List ℕ) → first_at test rest bytes ≡ read bytes)
     → ((c : ℕ) (cs : List ℕ) → test c ≡ true → Found spell Fits goes (c ∷ cs) (rest c cs).0 (rest c cs).1)
     → ((x : X) (left : List ℕ) → Fits x → Ends goes x left → first_at test rest (spell x ++ left) ≡ Ok (x, left))
     → ((x : X) (c : ℕ) → Fits x → goes x c ≡ true → CanGoOn spell Fits (spell x ++ c ∷ [])) → Format nowhere spell Fits goes read
-first_format spell Fits goes read test rest same found again on =
-    same_read same (record {
-      found = first_found spell Fits goes test rest found;
-      again = again;
-      stuck = λ bytes stop e.
-          let bad = first_stops test rest bytes stop e in
-          stuck_at spell Fits (first_at test rest) bytes [] bytes stop bad refl tt
-          (λ c tail other is. first_stays test rest c tail other stop (ap (first_at test rest) (sym is) ∙ e));
-      on = on;
-    })
+first_format spell Fits goes read test rest same found again on = same_read same (format_of reads again on)
+  where
+    reads : (bytes : List ℕ) → Reads nowhere spell Fits goes (first_at test rest) bytes (first_at test rest bytes)
+    reads [] = stuck_first refl (λ c tail other is. no_first c tail is)
+    reads (c ∷ cs) =
+        cond_told _ _ (test c) (Ok (rest c cs)) (Err (Bad (c ∷ cs))) (λ h. found c cs h)
+        (λ h. stuck_first refl (λ d tail other is. let first : c ≡ d = cc in rw (← first, h) refl))
 
 -- ---- a byte, and behind it what it asks for
 
@@ -140,52 +115,29 @@ pub record Links {X Y : Type 0} (test : ℕ → Bool) (next : ℕ → List ℕ �
 module _ {X Y : Type 0} {test : ℕ → Bool} {next : ℕ → List ℕ → Read ℕ Y} {make : ℕ → Y → X} {sy : Y → List ℕ} {FY : ℕ → Y → Type 0} {spell : X
     → List ℕ} {Fits : X → Type 0}
     (k : Links test next make sy FY spell Fits) where
-  chain_found : (bytes : List ℕ) (x : X) (rest : List ℕ) → chain_at test next make bytes ≡ Ok (x, rest) → Found spell Fits never bytes x rest
-  chain_found [] x rest e = absurd cc
-  chain_found (c ∷ cs) x rest e =
-      elim (chosen (test c) (next c cs >>= λ y. Ok (make c y.0, y.1)) (Err (Bad (c ∷ cs))) (Ok (x, rest)) e) [
-        | inr h ↦ not_both (x, rest) (Bad (c ∷ cs)) (sym h.1)
-        | inl h ↦
-            let y = bind_ok (next c cs) (λ y. Ok (make c y.0, y.1)) (x, rest) h.1 in
-            let f = (k.item c h.0).found cs y.0.0 y.0.1 y.1 in
-            subst (λ (q : X × List ℕ). Found spell Fits never (c ∷ cs) q.0 q.1) (ok_is (make c y.0.0, y.0.1) (x, rest) y.2)
-            (record {
-              parts = ap (λ (u : List ℕ). c ∷ u) f.parts ∙ ap (λ (u : List ℕ). u ++ y.0.1) (sym (k.spelled c y.0.0 h.0 f.fits));
-              fits = k.to c y.0.0 h.0 f.fits;
-              ends = ends_never (make c y.0.0) y.0.1;
-            })
-      ]
-
   chain_can : (c : ℕ) (front : List ℕ) → test c ≡ true → CanGoOn sy (FY c) front → CanGoOn spell Fits (c ∷ front)
   chain_can c front h v = can_behind v (make c v.some) (k.to c v.some h v.fits) (c ∷ []) (k.spelled c v.some h v.fits)
 
-  chain_stuck : (bytes : List ℕ) (stop : Stop ℕ) → chain_at test next make bytes ≡ Err stop → Stuck nowhere spell Fits (chain_at test next make) bytes stop
-  chain_stuck [] stop e = stuck_first e (λ c tail other is. no_first c tail is)
-  chain_stuck (c ∷ cs) stop e =
-      elim (chosen (test c) (next c cs >>= λ y. Ok (make c y.0, y.1)) (Err (Bad (c ∷ cs))) (Err stop) e) [
-        | inr h ↦
-            stuck_first h.1 (λ d tail other is. let first : c ≡ d = cc in rw (← first, h.0) refl)
-        | inl h ↦ elim (bind_err (next c cs) (λ y. Ok (make c y.0, y.1)) stop h.1) [
-          | inr u ↦ not_both (make c u.0.0, u.0.1) stop u.2
-          | inl u ↦
-              let s = (k.item c h.0).stuck cs stop u in
-              let y = k.some c h.0 in
-              stuck_behind s (c ∷ []) (c ∷ cs) refl (λ front v. chain_can c front h.0 (can_go_on sy (FY c) y.0 y.1 front v))
-              (λ t tail other is e. rw (h.0, e) refl) (λ rest low. low)
-        ]
-      ]
+  chain_reads : (bytes : List ℕ) → Reads nowhere spell Fits never (chain_at test next make) bytes (chain_at test next make bytes)
+  chain_reads [] = stuck_first refl (λ c tail other is. no_first c tail is)
+  chain_reads (c ∷ cs) =
+      cond_told _ _ (test c) (next c cs >>= λ y. Ok (make c y.0, y.1)) (Err (Bad (c ∷ cs))) (λ h.
+      bind_told _ _ (k.item c h) cs (λ y. Ok (make c y.0, y.1)) (λ y rest f. record {
+        parts = ap (λ (u : List ℕ). c ∷ u) f.parts ∙ ap (λ (u : List ℕ). u ++ rest) (sym (k.spelled c y h f.fits));
+        fits = k.to c y h f.fits;
+        ends = ends_never (make c y) rest;
+      }) (λ stop s. let y = k.some c h in stuck_behind s (c ∷ []) (c ∷ cs) refl
+      (λ front v. chain_can c front h (can_go_on sy (FY c) y.0 y.1 front v)) (λ t tail other is e. rw (h, e) refl) (λ rest low. low)))
+      (λ h. stuck_first refl (λ d tail other is. let first : c ≡ d = cc in rw (← first, h) refl))
 
   pub chain_format : Format nowhere spell Fits never (chain_at test next make)
-  chain_format = record {
-    found = chain_found;
-    again = λ x rest fits ends.
-        let b = k.from x fits in
-        let one : chain_at test next make (b.0 ∷ (sy b.1 ++ rest)) ≡ Ok
-        (make b.0 b.1, rest) = rw (b.2, (k.item b.0 b.2).again b.1 rest b.3 (ends_never b.1 rest)) refl in
-        ap (λ (u : List ℕ). chain_at test next make (u ++ rest)) (ap spell (sym b.4) ∙ k.spelled b.0 b.1 b.2 b.3) ∙ one ∙ ap (λ (y : X). Ok (y, rest)) b.4;
-    stuck = chain_stuck;
-    on = λ x c fits g. absurd (let no : false ≡ true = g in cc);
-  }
+  chain_format =
+      format_of chain_reads (λ x rest fits ends.
+      let b = k.from x fits in
+      let one : chain_at test next make (b.0 ∷ (sy b.1 ++ rest)) ≡ Ok (make b.0 b.1, rest) =
+      rw (b.2, (k.item b.0 b.2).again b.1 rest b.3 (ends_never b.1 rest)) refl in
+      ap (λ (u : List ℕ). chain_at test next make (u ++ rest)) (ap spell (sym b.4) ∙ k.spelled b.0 b.1 b.2 b.3) ∙ one ∙ ap (λ (y : X). Ok (y, rest)) b.4)
+      (λ x c fits g. absurd (let no : false ≡ true = g in cc))
 
 -- ---- one byte that passes a test
 

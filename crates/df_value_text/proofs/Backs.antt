@@ -4,8 +4,8 @@ use Rattle.df_value_text.proofs.CountingEnds.{counted_behind}
 use Rattle.df_value_text.proofs.CountingSteps.{walked_few}
 use Rattle.df_value_text.proofs.LabelLaws.{label_format, privilege_format, tags_end_at}
 use Rattle.df_value_text.proofs.NameLaws.{name_format, name_goes}
-use Rattle.df_value_text.proofs.NumberLaws.{number_format, number_goes}
-use Rattle.df_value_text.proofs.TagLaws.{LongEnds, behind_byte, long_again, nowhere, nowhere_is_local, tag_format, top}
+use Rattle.df_value_text.proofs.NumberLaws.{number_apart, number_format, number_goes}
+use Rattle.df_value_text.proofs.TagLaws.{LongEnds, behind_byte, long_again, tag_ends_at, to_ends, nowhere, nowhere_is_local, tag_format, top}
 use Rattle.df_value_text.proofs.TagSetLaws.{tags_format, tags_goes}
 use Rattle.df_value_text.proofs.ValueAnswers.{level_fits}
 use Rattle.df_value_text.proofs.ValueLaws.{value_format, value_goes}
@@ -55,21 +55,17 @@ abbrev pub EndsPath : List ℕ → Type 0
 EndsPath [] = Unit {0}
 EndsPath (c ∷ rest) = (is_ascii_digit c ≡ false) × (eqb c 46 ≡ false)
 
-path_end : (n : ℕ) (ns rest : List ℕ) → EndsPath rest → LongEnds (n ∷ ns) rest
-path_end n [] [] end = (tt, tt)
-path_end n [] (c ∷ rest) end = (grind (arith, nat_tests, end.0), grind (arith, nat_tests, end.1))
-path_end n (m ∷ ms) rest end = path_end m ms rest end
-
 path_ends : (path rest : List ℕ) → IsTag path → EndsPath rest → LongEnds path rest
 path_ends [] rest fits end = absurd fits
-path_ends (n ∷ ns) rest fits end = path_end n ns rest end
+path_ends (n ∷ ns) [] fits end = (to_ends n ns [] tt).0
+path_ends (n ∷ ns) (c ∷ rest) fits end = (to_ends n ns (c ∷ rest) (tag_ends_at (n ∷ ns) c end.0 end.1)).0
 
 pub path_back : (path rest : List ℕ) → IsTag path → EndsPath rest → numbers_at (path_text path ++ rest) ≡ Ok (path, rest)
 path_back path rest fits end = sym (behind_byte 35 numbers_at (path_text path ++ rest)) ∙ long_again path rest fits (path_ends path rest fits end)
 
 digits_end : (n : ℕ) (rest : List ℕ) → EndsPath rest → Ends (number_goes top) n rest
 digits_end n [] end = tt
-digits_end n (c ∷ rest) end = grind (arith, nat_tests, end.0)
+digits_end n (c ∷ rest) end = number_apart top n c end.0
 
 -- a number before such a byte
 pub digits_back : (n : ℕ) (rest : List ℕ) → n < 2 ^ 32 → EndsPath rest → short_at (decimal n ++ rest) ≡ Ok (n, rest)
@@ -78,5 +74,5 @@ digits_back n rest small end = (number_format nowhere top (omega arith)).again n
 -- a set of tags before a bracket that closes
 pub braced_back : (tags : List (List ℕ)) (rest : List ℕ) → IsTagSet tags → closed_at (125 ∷ []) tags_at ((tags_text tags ++ 125 ∷ []) ++ rest) ≡ Ok (tags, rest)
 braced_back tags rest fits =
-    let ends : tags_goes tags 125 ≡ false = tags_end_at tags 125 fits refl refl refl refl in
+    let ends : tags_goes tags 125 ≡ false = tags_end_at tags 125 refl refl refl refl in
     ap (closed_at (125 ∷ []) tags_at) (append_assoc (tags_text tags) (125 ∷ []) rest) ∙ rw (tags_format.again tags (125 ∷ rest) fits ends) refl

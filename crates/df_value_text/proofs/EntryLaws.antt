@@ -1,7 +1,8 @@
 -- Items in front of a closing byte, how deep values nest, and entries, read as they are spelled.
-use Rattle.df_value_text.proofs.Names.{◌≡◌, ℕ, Bool, true, false, eqb, List, [], ◌∷◌, ◌++◌, refl, sym, ap, subst, ◌∙◌, ◌⊎◌, inl, inr, eq-eqb, Read, more_spell, items_spell, Format, never, closed_format, Begins, Follow, ItemsFit, IsText, text_format, Of, made, fitting, either_of, joined, listed, none_listed, ended_at, suc, ◌≤◌, max, arith, is_lt, name_cmp, Plain, Plains, Pairs, items, entries, no_items, item, no_entries, entry, from_list, from_pairs, node_count, items_node_count, entries_node_count, IsSpelled, AreSpelled, AreEntries, AreBehind, Ok, append_assoc, ℤ, pos, negsuc, eqb-true, and_parts, nat_tests, ◌>>=◌, items_at, ok_is, bind_ok, then_at, in_map, low_as, nowhere, append-nil, flat_map, Parts, Leads, items_goes, items_format, format_shrinks, behind_format, own, Less, int, greatest, leads_entry, higher_at, given_at, entry_at, next_entry_at, value_text, entry_text, last_of, last_split, LowWithin, MayFollow, IsOpen, Open, open_text, entries_led, then_format, ends_of_second}
+use Rattle.df_value_text.proofs.Names.{suc, is_ascii_digit, negsuc, ◌≡◌, ℕ, Bool, true, false, eqb, List, [], ◌∷◌, ◌++◌, refl, sym, ap, subst, ◌∙◌, ◌⊎◌, inl, inr, eq-eqb, Read, more_spell, items_spell, Format, never, closed_format, Begins, Follow, ItemsFit, IsText, text_format, Of, made, fitting, either_of, joined, listed, none_listed, ended_at, suc, ◌≤◌, max, arith, is_lt, name_cmp, Plain, Plains, Pairs, items, entries, no_items, item, no_entries, entry, from_list, from_pairs, node_count, items_node_count, entries_node_count, IsSpelled, AreSpelled, AreEntries, AreBehind, append_assoc, pos, negsuc, eqb-true, and_parts, nat_tests, items_at, then_at, in_map, low_as, nowhere, append-nil, flat_map, Parts, Leads, items_goes, items_format, format_shrinks, behind_format, own, int, greatest, leads_entry, given_at, entry_at, next_entry_at, value_text, entry_text, last_of, last_split, LowWithin, MayFollow, IsOpen, Open, open_text, entries_led, then_format, ends_of_second}
 use Rattle.df_value_text.proofs.PathLaws.{joined_items}
 use Rattle.df_value_text.proofs.NameLaws.{IsName, name_goes, name_format, AfterName, is_less, NearName, higher_format, greatest_fits, below_greatest}
+use Rattle.df_value_text.proofs.NumberLaws.{number_apart}
 use Rattle.df_value_text.proofs.WholeLaws.{whole_goes}
 
 -- ---- items in front of a closing byte, of which there may be none
@@ -160,17 +161,10 @@ abbrev pub value_goes : Plain → ℕ → Bool
 value_goes (int z) c = whole_goes z c
 value_goes _ c = false
 
--- a value ends before a comma and a closing bracket
-whole_apart : (z : ℤ) (c : ℕ) → (c ≡ 44) ⊎ ((c ≡ 93) ⊎ (c ≡ 41)) → whole_goes z c ≡ false
-whole_apart (pos n) c (inl h) = grind (arith, nat_tests)
-whole_apart (pos n) c (inr (inl h)) = grind (arith, nat_tests)
-whole_apart (pos n) c (inr (inr h)) = grind (arith, nat_tests)
-whole_apart (negsuc n) c (inl h) = grind (arith, nat_tests)
-whole_apart (negsuc n) c (inr (inl h)) = grind (arith, nat_tests)
-whole_apart (negsuc n) c (inr (inr h)) = grind (arith, nat_tests)
-
-pub value_apart : (p : Plain) (c : ℕ) → (c ≡ 44) ⊎ ((c ≡ 93) ⊎ (c ≡ 41)) → value_goes p c ≡ false
-value_apart (int z) c h = whole_apart z c h
+-- a number goes on with digits alone, and no other value does
+pub value_apart : (p : Plain) (c : ℕ) → is_ascii_digit c ≡ false → value_goes p c ≡ false
+value_apart (int (pos n)) c h = number_apart _ n c h
+value_apart (int (negsuc n)) c h = number_apart _ (suc n) c h
 value_apart _ c h = refl
 
 -- a name ends before `=`
@@ -291,7 +285,7 @@ module _ (n : ℕ) (inner : List ℕ → Read ℕ Plain) (f : Format LowWithin v
     fits = λ prev e fits after. (after.0.0, after.1);
     only = λ prev c cs h. eqb-true c 44 (and_parts (eqb c 44) (is_lt (name_cmp prev.0 greatest)) h).0;
     led = λ prev e more fits after. below_greatest prev.0 e.0 after.0;
-    at_sep = λ e fits. value_apart e.1 44 (inl refl);
+    at_sep = λ e fits. value_apart e.1 44 refl;
   }
 
   entries_lead : Leads LowInMap NearEntry leads_entry 44 entry_text (LevelEntry n) (LevelAfter n)
@@ -304,14 +298,3 @@ module _ (n : ℕ) (inner : List ℕ → Read ℕ Plain) (f : Format LowWithin v
   pub entries_format : Format LowInMap (items_spell 44 entry_text) (ItemsFit (LevelEntry n) (LevelAfter n)) (items_goes leads_entry entry_goes)
       (items_at leads_entry (entry_at inner) (λ prev. next_entry_at inner prev.0))
   entries_format = items_format entries_parts entries_lead (entry_at inner) entry_format
-
--- the name of an entry that is read is above the one before it
-pub is_higher : (inner : List ℕ → Read ℕ Plain) (prev text : List ℕ) (e : List ℕ × Plain) (rest : List ℕ) → next_entry_at inner prev text ≡ Ok (e, rest)
-    → name_cmp prev e.0 ≡ Less
-is_higher inner prev text e rest is =
-    let a = bind_ok (higher_at prev text) (λ x. given_at inner x.1 >>= λ y. Ok ((x.0, y.0), y.1)) (e, rest) is in
-    let b = bind_ok (given_at inner a.0.1) (λ y. Ok ((a.0.0, y.0), y.1)) (e, rest) a.2 in
-    let f = (higher_format prev).found text a.0.0 a.0.1 a.1 in
-    let made : (List ℕ × Plain) × List ℕ = ((a.0.0, b.0.0), b.0.1) in
-    let same : a.0.0 ≡ e.0 = ap (λ (q : (List ℕ × Plain) × List ℕ). q.0.0) (ok_is made (e, rest) b.2) in
-    ap (name_cmp prev) (sym same) ∙ is_less (name_cmp prev a.0.0) f.fits.1

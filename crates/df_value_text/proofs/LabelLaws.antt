@@ -1,27 +1,14 @@
 -- Labels and privileges are read as they are spelled.
-use Rattle.df_value_text.proofs.Names.{◌≡◌, ℕ, Bool, true, false, eqb, List, [], ◌∷◌, ◌++◌, Option, Some, None, refl, sym, ap, subst, append_assoc, arith, ◌⊎◌, inl, inr, is_ascii_digit, eqb-true, nat_tests, then_at, closed_at, maybe_spell, CanGoOn, Ends, Format, never, ends_never, then_second_format, then_goes, text_format, own, IsText, closed_format, Begins, MaybeFits, maybe_goes, maybe_format, last_goes, Of, led, viewed, fitting, either_of, Privilege, Right, Plus, Minus, PlusAuth, MinusAuth, tags_text, label_text, privilege_text, IsTag, AreTags, IsTagSet, IsLabel, IsPrivilege, IsLowTag, tags_at, leads_tag, label_at, auth_at, plus_of, right_at, privilege_at, then_spell, ThenFits, right_text, label_of, minus_of, privilege_of}
-use Rattle.df_value_text.proofs.TagLaws.{nowhere, nowhere_is_local, tag_goes, tag_format}
+use Rattle.df_value_text.proofs.Names.{last_ends_at, ◌≡◌, ℕ, Bool, true, false, eqb, List, [], ◌∷◌, ◌++◌, Option, Some, None, refl, sym, ap, subst, append_assoc, ◌⊎◌, inl, inr, is_ascii_digit, eqb-true, then_at, closed_at, maybe_spell, CanGoOn, Ends, Format, never, ends_never, then_second_format, then_goes, text_format, own, IsText, closed_format, Begins, MaybeFits, maybe_goes, maybe_format, Of, led, viewed, fitting, either_of, Privilege, Right, Plus, Minus, PlusAuth, MinusAuth, tags_text, label_text, privilege_text, IsTagSet, IsLabel, IsPrivilege, IsLowTag, tags_at, leads_tag, label_at, auth_at, plus_of, right_at, privilege_at, then_spell, ThenFits, right_text, label_of, minus_of, privilege_of}
+use Rattle.df_value_text.proofs.TagLaws.{nowhere, nowhere_is_local, tag_ends_at, tag_goes, tag_format}
 use Rattle.df_value_text.proofs.TagSetLaws.{tags_goes, tags_format, low_is_local}
 
 -- ---- labels
 
--- a tag goes on with digits and dots alone
-tag_ends_at : (tag : List ℕ) (c : ℕ) → IsTag tag → is_ascii_digit c ≡ false → eqb c 46 ≡ false → tag_goes tag c ≡ false
-tag_ends_at [] c h digit dot = absurd h
-tag_ends_at (n ∷ ns) c h digit dot = apart n ns
-  where
-    apart : (n : ℕ) (ns : List ℕ) → tag_goes (n ∷ ns) c ≡ false
-    apart n [] = grind (arith, nat_tests)
-    apart n (m ∷ ms) = apart m ms
-
-pub tags_end_at : (tags : List (List ℕ)) (c : ℕ) → IsTagSet tags → is_ascii_digit c ≡ false → eqb c 46 ≡ false → eqb c 44 ≡ false → eqb c 35 ≡ false
+pub tags_end_at : (tags : List (List ℕ)) (c : ℕ) → is_ascii_digit c ≡ false → eqb c 46 ≡ false → eqb c 44 ≡ false → eqb c 35 ≡ false
     → tags_goes tags c ≡ false
-tags_end_at [] c h digit dot comma hash = hash
-tags_end_at (tag ∷ tags) c h digit dot comma hash = apart tag tags h.0
-  where
-    apart : (tag : List ℕ) (tags : List (List ℕ)) → AreTags (tag ∷ tags) → last_goes leads_tag tag_goes tag tags c ≡ false
-    apart tag [] f = rw (comma, tag_ends_at tag c f.0 digit dot) refl
-    apart tag (next ∷ tags) f = apart next tags f.1
+tags_end_at [] c digit dot comma hash = hash
+tags_end_at (tag ∷ tags) c digit dot comma hash = last_ends_at leads_tag tag_goes c (λ t. rw (comma, tag_ends_at t c digit dot) refl) tag tags
 
 abbrev SetsFit : List (List ℕ) × List (List ℕ) → Type 0
 SetsFit sets = ThenFits IsTagSet IsTagSet sets
@@ -31,8 +18,8 @@ sets_text sets = then_spell (λ tags. tags_text tags ++ 124 ∷ []) (λ tags. ta
 
 sets_format : Format IsLowTag sets_text SetsFit (then_goes never) (then_at (closed_at (124 ∷ []) tags_at) (closed_at (125 ∷ []) tags_at))
 sets_format =
-    then_second_format low_is_local (closed_format 124 [] (λ tags fits. tags_end_at tags 124 fits refl refl refl refl) tags_format)
-    (closed_format 125 [] (λ tags fits. tags_end_at tags 125 fits refl refl refl refl) tags_format) [] (tt, tt)
+    then_second_format low_is_local (closed_format 124 [] (λ tags fits. tags_end_at tags 124 refl refl refl refl) tags_format)
+    (closed_format 125 [] (λ tags fits. tags_end_at tags 125 refl refl refl refl) tags_format) [] (tt, tt)
     (λ x y rest fx fy ends. ends_never x ((tags_text y ++ 125 ∷ []) ++ rest))
 
 pub label_format : Format IsLowTag label_text IsLabel never label_at
@@ -111,11 +98,11 @@ right_format =
     (λ r h. subst (λ (r : Right). Begins (λ c. eqb c 43) false (right_text r)) h.2 (minus_begins h.0 h.1)))
 
 -- a tag ends before a sign
-before_sign : (tag : List ℕ) (r : Right) (rest : List ℕ) → IsTag tag → Ends tag_goes tag (right_text r ++ rest)
-before_sign tag Plus rest fits = tag_ends_at tag 43 fits refl refl
-before_sign tag Minus rest fits = tag_ends_at tag 45 fits refl refl
-before_sign tag PlusAuth rest fits = tag_ends_at tag 43 fits refl refl
-before_sign tag MinusAuth rest fits = tag_ends_at tag 45 fits refl refl
+before_sign : (tag : List ℕ) (r : Right) (rest : List ℕ) → Ends tag_goes tag (right_text r ++ rest)
+before_sign tag Plus rest = tag_ends_at tag 43 refl refl
+before_sign tag Minus rest = tag_ends_at tag 45 refl refl
+before_sign tag PlusAuth rest = tag_ends_at tag 43 refl refl
+before_sign tag MinusAuth rest = tag_ends_at tag 45 refl refl
 
 abbrev pub privilege_goes : Privilege → ℕ → Bool
 privilege_goes p c = right_goes p.right c
@@ -123,5 +110,5 @@ privilege_goes p c = right_goes p.right c
 pub privilege_format : Format nowhere privilege_text IsPrivilege privilege_goes privilege_at
 privilege_format =
     viewed privilege_of (then_second_format nowhere_is_local (tag_format nowhere nowhere_is_local) right_format Plus tt
-    (λ tag r rest fits any ends. before_sign tag r rest fits))
+    (λ tag r rest fits any ends. before_sign tag r rest))
     (record { to = λ x fits. fits.0; from = λ p fits. ((p.tag, p.right), (fits, tt), refl); spelled = λ x fits. refl; alike = λ x c fits. refl })

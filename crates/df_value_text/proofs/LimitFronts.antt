@@ -1,5 +1,5 @@
 -- Fronts of bytes, and bytes that are cut behind a place.
-use Rattle.df_value_text.proofs.Names.{◌≡◌, ℕ, suc, ◌+◌, ◌<◌, ◌≤◌, List, [], ◌∷◌, ◌++◌, length, length-append, refl, sym, ap, subst, ◌∙◌, append_assoc, arith, ◌⊎◌, inl, inr, nat_lt, nat_tests, append_cancel_right, CanGoOn, IsLongest, told, goes_on, own, AreWithin, FirstOver, IsOver, counts_of, IsSpelled, NameStandsLow, value_text, FirstBadValue, FirstLowName, FirstTooLarge, IsWithinBefore, append_cancel_left, same_split}
+use Rattle.df_value_text.proofs.Names.{◌≡◌, ℕ, suc, ◌<◌, ◌≤◌, List, [], ◌∷◌, ◌++◌, length, length-append, refl, sym, ap, subst, ◌∙◌, append_assoc, arith, ◌⊎◌, inl, inr, nat_lt, nat_tests, append_cancel_right, CanGoOn, IsLongest, told, goes_on, own, AreWithin, FirstOver, IsOver, counts_of, IsSpelled, NameStandsLow, value_text, FirstBadValue, FirstLowName, FirstTooLarge, IsWithinBefore, append_cancel_left, same_split}
 use Rattle.df_value_text.proofs.CountingEnds.{not_both}
 use Rattle.df_value_text.proofs.CountingFronts.{never_over}
 use Rattle.df_value_text.proofs.NameLaws.{name_size, IsName}

@@ -1,5 +1,6 @@
 -- A name, and one above another, is read as it is spelled; above each but the greatest there is one.
-use Rattle.df_value_text.proofs.Names.{◌≡◌, ℕ, zero, suc, ◌<◌, ◌≤◌, Bool, true, false, cond, ◌&&◌, List, [], ◌∷◌, ◌++◌, length, take, drop, Ok, refl, sym, ap, ◌∙◌, arith, ◌⊎◌, inl, inr, length-append, nat_lt, list_all, nat_tests, append-nil, is_letter, is_name_byte, is_name, CanGoOn, Ends, Found, Format, any_low, first_at, first_format, own, name_bytes, name_at, take-append_seam, drop-append_seam, longest_name, stuck_at, eqb, Err, subst, append_assoc, nat_cmp_is, tied_itself, nat_cmp_total, nat_list_cmp_total, Ordering, Less, Equal, Greater, is_lt, nat_cmp, eqb-true, and_parts, Stop, Bad, Low, Stuck, ok_is, err_is, not_both, bind_ok, bind_err, told, chosen, Whole, is_longest, nowhere, first_stops, name_cmp, NameStandsLow, higher_at, whole_format, first_stays, higher}
+use Rattle.df_value_text.proofs.Names.{◌≡◌, ℕ, zero, suc, ◌<◌, ◌≤◌, Bool, true, false, cond, ◌&&◌, List, [], ◌∷◌, ◌++◌, length, take, drop, Ok, refl, sym, ap, ◌∙◌, arith, ◌⊎◌, inl, inr, length-append, nat_lt, list_all, nat_tests, append-nil, is_letter, is_name_byte, is_name, CanGoOn, Ends, Found, Format, any_low, first_at, first_format, own, name_bytes, name_at, take-append_seam, drop-append_seam, longest_name, stuck_at, eqb, Err, subst, append_assoc, nat_cmp_is, tied_itself, nat_cmp_total, nat_list_cmp_total, Ordering, Less, Equal, Greater, is_lt, nat_cmp, eqb-true, and_parts, Stop, Bad, Low, told, Whole, is_longest, nowhere, first_stops, name_cmp, NameStandsLow, higher_at, whole_format, first_stays, higher}
+use Rattle.df_format.proofs.Laws.{Reads, cond_told, format_of, self_told, told_bind}
 use Rattle.std.proofs.Common.{take-append-drop}
 use Rattle.std.proofs.lemmas.List.Folds.{list_all-append}
 use Rattle.df_value_text.specs.ReadValue.{greatest}
@@ -155,35 +156,18 @@ prefix_below : (name : List ℕ) (c : ℕ) (more : List ℕ) → name_cmp name (
 prefix_below [] c more = refl
 prefix_below (d ∷ ds) c more = rw (tied d) (prefix_below ds c more)
 
-higher_found : (prev bytes name rest : List ℕ) → higher_at prev bytes ≡ Ok (name, rest)
-    → (name_at bytes ≡ Ok (name, rest)) × (is_lt (name_cmp prev name) ≡ true)
-higher_found prev bytes name rest e =
-    let a = bind_ok (name_at bytes) (higher prev bytes) (name, rest) e in
-    elim (chosen (is_lt (name_cmp prev a.0.0)) (Ok a.0) (Err (Low bytes)) (Ok (name, rest)) a.2) [
-      | inl h ↦
-          let same : a.0 ≡ (name, rest) = ok_is a.0 (name, rest) h.1 in
-          (a.1 ∙ h.1, ap (λ (q : List ℕ × List ℕ). is_lt (name_cmp prev q.0)) (sym same) ∙ h.0)
-      | inr h ↦ not_both (name, rest) (Low bytes) (sym h.1)
-    ]
-
-higher_stuck : (prev bytes : List ℕ) (stop : Stop ℕ) → higher_at prev bytes ≡ Err stop → Stuck (NearName prev) own (AfterName prev) (higher_at prev) bytes stop
-higher_stuck prev bytes stop e =
-    elim (bind_err (name_at bytes) (higher prev bytes) stop e) [
-      | inl h ↦
-          stuck_at own (AfterName prev) (higher_at prev) bytes [] bytes stop (name_stops bytes stop h) refl tt
-          (λ c tail other is. rw (name_stays c tail other stop (ap name_at (sym is) ∙ h)) refl)
-      | inr h ↦
-          elim (chosen (is_lt (name_cmp prev h.0.0)) (Ok h.0) (Err (Low bytes)) (Err stop) h.2) [
-            | inl k ↦ not_both h.0 stop k.1
-            | inr k ↦
-                subst (λ (s : Stop ℕ). Stuck (NearName prev) own (AfterName prev) (higher_at prev) bytes s) (err_is (Low bytes) stop k.1) (record {
-                  front = [];
-                  parts = refl;
-                  viable = tt;
-                  cause = (refl, record { name = h.0.0; more = h.0.1; longest = is_longest name_whole bytes h.0.0 h.0.1 h.1; low = k.0 });
-                })
-          ]
-    ]
+higher_reads : (prev bytes : List ℕ) → Reads (NearName prev) own (AfterName prev) name_goes (higher_at prev) bytes (higher_at prev bytes)
+higher_reads prev bytes =
+    told_bind _ _ _ _ (name_at bytes) (higher prev bytes) (self_told (name_at bytes)) (λ x e.
+    let f = (name_format nowhere).found bytes x.0 x.1 e in
+    cond_told _ _ (is_lt (name_cmp prev x.0)) (Ok x) (Err (Low bytes)) (λ h. record { parts = f.parts; fits = (f.fits, h); ends = f.ends })
+    (λ h. record {
+      front = [];
+      parts = refl;
+      viable = tt;
+      cause = (refl, record { name = x.0; more = x.1; longest = is_longest name_whole bytes x.0 x.1 e; low = h });
+    })) (λ stop e. stuck_at own (AfterName prev) (higher_at prev) bytes [] bytes stop (name_stops bytes stop e) refl tt
+    (λ c tail other is. rw (name_stays c tail other stop (ap name_at (sym is) ∙ e)) refl))
 
 higher_on : (prev name : List ℕ) (c : ℕ) → AfterName prev name → name_goes name c ≡ true → CanGoOn own (AfterName prev) (name ++ c ∷ [])
 higher_on prev name c after g =
@@ -198,15 +182,8 @@ higher_on prev name c after g =
     }
 
 pub higher_format : (prev : List ℕ) → Format (NearName prev) own (AfterName prev) name_goes (higher_at prev)
-higher_format prev = record {
-  found = λ bytes name rest e.
-      let h = higher_found prev bytes name rest e in
-      let f = (name_format nowhere).found bytes name rest h.0 in
-      record { parts = f.parts; fits = (f.fits, h.1); ends = f.ends };
-  again = λ name rest after ends. rw ((name_format nowhere).again name rest after.0 ends, after.1) refl;
-  stuck = higher_stuck prev;
-  on = higher_on prev;
-}
+higher_format prev =
+    format_of (higher_reads prev) (λ name rest after ends. rw ((name_format nowhere).again name rest after.0 ends, after.1) refl) (higher_on prev)
 
 -- ---- the greatest name
 

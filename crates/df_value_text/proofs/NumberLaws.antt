@@ -11,6 +11,10 @@ number_goes most n c = cond (eqb n 0) false (digit_fits most n c)
 pub digit_true : (most n c : ℕ) → digit_fits most n c ≡ true → (48 ≤ c) × (c ≤ 57) × (10 * n + (c - 48) ≤ most)
 digit_true most n c h = (grind (arith, nat_tests), grind (arith, nat_tests), grind (arith, nat_tests))
 
+-- a number goes on with digits alone
+pub number_apart : (most n c : ℕ) → is_ascii_digit c ≡ false → number_goes most n c ≡ false
+number_apart most n c h = rw h (elim (eqb n 0) as (λ b. cond b false false ≡ false) [ true ↦ refl | false ↦ refl ])
+
 digit_is : (most n d : ℕ) → d < 10 → 10 * n + d ≤ most → digit_fits most n (48 + d) ≡ true
 digit_is most n d lt le = grind (arith, nat_tests)
 

@@ -30,5 +30,5 @@ label_low bytes rest (inr l) =
     let behind : List ℕ = tags_text (l.2.tags ++ l.2.prev ∷ []) ++ (44 ∷ rest) in
     let regrouped : (tags_text l.0 ++ 124 ∷ []) ++ behind ≡ tags_text l.0 ++ (124 ∷ behind) = append_assoc (tags_text l.0) (124 ∷ []) behind in
     let one : tags_at (tags_text l.0 ++ (124 ∷ behind)) ≡ Ok (l.0, 124 ∷ behind) = tags_format.again l.0 (124 ∷ behind) l.1
-    (tags_end_at l.0 124 l.1 refl refl refl refl) in
+    (tags_end_at l.0 124 refl refl refl refl) in
     ap label_at l.2.is ∙ ap (λ (u : List ℕ). label_at (123 ∷ u)) regrouped ∙ rw (one, tags_low l.2.tags l.2.prev rest l.2.set l.2.low) refl

@@ -1,10 +1,11 @@
 -- Tags are read as they are spelled.
-use Rattle.df_value_text.proofs.Names.{stuck_at, both_false, ◌≡◌, ℕ, ◌+◌, ◌-◌, ◌*◌, ◌<◌, Bool, true, false, cond, eqb, List, [], ◌∷◌, ◌++◌, Ok, Err, refl, sym, ap, subst, ◌∙◌, append_assoc, arith, inl, inr, nat_cmp_is, decimal, Less, eqb-true, nat_tests, Stop, Bad, Low, Read, ◌>>=◌, CanGoOn, IsLongest, Ends, Found, Stuck, IsLocal, Format, ok_is, err_is, not_both, bind_ok, bind_err, told, chosen, viable_of, LastEnds, last_goes, is_longest, low_as, fitting, tag_cmp, path_text, tag_text, IsTag, leads_number, longest_at, ended, tag_at}
+use Rattle.df_value_text.proofs.Names.{last_ends_at, is_ascii_digit, length, length-append, ◌≤◌, stuck_at, both_false, ◌≡◌, ℕ, ◌+◌, ◌-◌, ◌*◌, ◌<◌, Bool, true, false, cond, eqb, List, [], ◌∷◌, ◌++◌, Ok, Err, refl, sym, ap, subst, ◌∙◌, append_assoc, arith, inl, inr, nat_cmp_is, decimal, Less, eqb-true, nat_tests, Stop, Bad, Low, Read, ◌>>=◌, CanGoOn, IsLongest, Ends, Found, Stuck, IsLocal, Format, chosen, viable_of, LastEnds, last_goes, is_longest, low_as, fitting, tag_cmp, path_text, tag_text, IsTag, leads_number, longest_at, ended, tag_at}
 use Rattle.df_value_text.proofs.NameLaws.{tied}
-use Rattle.df_value_text.proofs.NumberLaws.{number_goes, digit_fits, digit_true, decimal_push}
+use Rattle.df_value_text.proofs.NumberLaws.{number_apart, number_goes, digit_fits, digit_true, decimal_push}
 pub use Rattle.df_format.proofs.Tokens.{nowhere, nowhere_is_local}
+use Rattle.df_format.proofs.Laws.{Reads, Told, cond_told, format_of, self_told, told_bind, told_on}
 pub use Rattle.df_value_text.proofs.PathLaws.{top, IsShort, short_format, short_shrinks, digit_first, joined_items, behind_byte, LongFound, LongEnds, long_found, long_again}
-use Rattle.df_value_text.proofs.PathLaws.{LongStuck, long_stuck, long_alone, long_whole}
+use Rattle.df_value_text.proofs.PathLaws.{LongStuck, long_told, long_alone, long_whole}
 
 -- ---- longer tags
 
@@ -14,6 +15,11 @@ leads_dot prev c cs = eqb c 46
 abbrev pub tag_goes : List ℕ → ℕ → Bool
 tag_goes [] c = false
 tag_goes (n ∷ ns) c = last_goes leads_dot (number_goes top) n ns c
+
+-- a tag goes on with digits and dots alone
+pub tag_ends_at : (tag : List ℕ) (c : ℕ) → is_ascii_digit c ≡ false → eqb c 46 ≡ false → tag_goes tag c ≡ false
+tag_ends_at [] c digit dot = refl
+tag_ends_at (n ∷ ns) c digit dot = last_ends_at leads_dot (number_goes top) c (λ m. rw (dot, number_apart top m c digit) refl) n ns
 
 -- a tag above this one whose spelling goes on with this byte
 pub record Longer (tag : List ℕ) (c : ℕ) : Type 0 where
@@ -84,36 +90,21 @@ ends_to [] (c ∷ rest) ends free = refl
 ends_to (n ∷ []) (c ∷ rest) ends free = rw (free, ends.0) refl
 ends_to (n ∷ m ∷ ms) (c ∷ rest) ends free = ends_to (m ∷ ms) (c ∷ rest) ends free
 
-to_ends : (n : ℕ) (ns rest : List ℕ) → Ends tag_goes (n ∷ ns) rest → LongEnds (n ∷ ns) rest × NoDot rest
+pub to_ends : (n : ℕ) (ns rest : List ℕ) → Ends tag_goes (n ∷ ns) rest → LongEnds (n ∷ ns) rest × NoDot rest
 to_ends n ns [] ends = (long_alone n ns, tt)
 to_ends n [] (c ∷ rest) ends =
     let b = both_false (eqb c 46) (number_goes top n c) ends in
     ((b.1, rw (b.0) refl), b.0)
 to_ends n (m ∷ ms) (c ∷ rest) ends = to_ends m ms (c ∷ rest) ends
 
-ended_is : (x : List ℕ × List ℕ) (tag rest : List ℕ) → ended x ≡ Ok (tag, rest) → x ≡ (tag, rest)
-ended_is (t, []) tag rest e = ok_is (t, []) (tag, rest) e
-ended_is (t, c ∷ cs) tag rest e =
-    elim (chosen (eqb c 46) (Err (Bad cs)) (Ok (t, c ∷ cs)) (Ok (tag, rest)) e) [
-      | inl h ↦ not_both (tag, rest) (Bad cs) (sym h.1)
-      | inr h ↦ ok_is (t, c ∷ cs) (tag, rest) h.1
-    ]
-
-ended_stops : (x : List ℕ × List ℕ) (stop : Stop ℕ) → ended x ≡ Err stop → (cs : List ℕ) × (x.1 ≡ 46 ∷ cs) × (stop ≡ Bad cs)
-ended_stops (t, []) stop e = not_both (t, []) stop e
-ended_stops (t, c ∷ cs) stop e =
-    elim (chosen (eqb c 46) (Err (Bad cs)) (Ok (t, c ∷ cs)) (Err stop) e) [
-      | inl h ↦ (cs, ap (λ (v : ℕ). v ∷ cs) (eqb-true c 46 h.0), sym (err_is (Bad cs) stop h.1))
-      | inr h ↦ not_both (t, c ∷ cs) stop h.1
-    ]
+-- the longest tag, where no dot stands behind it
+ended_told : (x : List ℕ × List ℕ) → Told (λ y. (x ≡ y) × NoDot x.1) (λ stop. (cs : List ℕ) × (x.1 ≡ 46 ∷ cs) × (stop ≡ Bad cs)) (ended x)
+ended_told (t, []) = (refl, tt)
+ended_told (t, c ∷ cs) = cond_told _ _ (eqb c 46) (Err (Bad cs)) (Ok (t, c ∷ cs)) (λ h. (cs, ap (λ (v : ℕ). v ∷ cs) (eqb-true c 46 h), refl)) (λ h. (refl, h))
 
 ended_free : (tag rest : List ℕ) → NoDot rest → ended (tag, rest) ≡ Ok (tag, rest)
 ended_free tag [] free = refl
 ended_free tag (c ∷ rest) free = rw free refl
-
-free_ended : (x y : List ℕ × List ℕ) → ended x ≡ Ok y → NoDot x.1
-free_ended (t, []) y e = tt
-free_ended (t, c ∷ cs) y e = elim (told (eqb c 46)) [ inl h ↦ not_both y (Bad cs) (sym e ∙ rw h refl) | inr h ↦ h ]
 
 -- the byte behind a dot tells that no number follows
 long_ends_same : (n : ℕ) (ns : List ℕ) (c : ℕ) (tail other : List ℕ) → LastEnds leads_number (number_goes top) n ns (46 ∷ c ∷ tail)
@@ -136,18 +127,6 @@ judged_at test bytes = longest_at bytes >>= judged test bytes
 abbrev pub Passes : (List ℕ → Bool) → List ℕ → Type 0
 Passes test tag = IsTag tag × (test tag ≡ true)
 
-pub judged_found : (test : List ℕ → Bool) (bytes tag rest : List ℕ) → judged_at test bytes ≡ Ok (tag, rest)
-    → Found tag_text (Passes test) tag_goes bytes tag rest
-judged_found test bytes tag rest e =
-    let a = bind_ok (longest_at bytes) (judged test bytes) (tag, rest) e in
-    elim (chosen (test a.0.0) (ended a.0) (Err (Low bytes)) (Ok (tag, rest)) a.2) [
-      | inr h ↦ not_both (tag, rest) (Low bytes) (sym h.1)
-      | inl h ↦
-          let f = long_found bytes a.0.0 a.0.1 a.1 in
-          subst (λ (q : List ℕ × List ℕ). Found tag_text (Passes test) tag_goes bytes q.0 q.1) (ended_is a.0 tag rest h.1)
-          (record { parts = f.parts; fits = (f.fits, h.0); ends = ends_to a.0.0 a.0.1 f.ends (free_ended a.0 (tag, rest) h.1) })
-    ]
-
 pub judged_again : (test : List ℕ → Bool) (tag rest : List ℕ) → Passes test tag → Ends tag_goes tag rest
     → judged_at test (tag_text tag ++ rest) ≡ Ok (tag, rest)
 judged_again test [] rest fits ends = absurd fits.0
@@ -155,6 +134,12 @@ judged_again test (n ∷ ns) rest fits ends =
     let t = to_ends n ns rest ends in
     ap (λ r. r >>= judged test (tag_text (n ∷ ns) ++ rest)) (long_again (n ∷ ns) rest fits.0 t.0)
     ∙ ap (λ b. cond b (ended (n ∷ ns, rest)) (Err (Low (tag_text (n ∷ ns) ++ rest)))) fits.1 ∙ ended_free (n ∷ ns) rest t.1
+
+pub judged_shorter : (test : List ℕ → Bool) (bytes : List ℕ) → Told (λ y. length y.1 ≤ length bytes) (λ stop. Unit {0}) (judged_at test bytes)
+judged_shorter test bytes =
+    told_bind _ _ _ _ (longest_at bytes) (judged test bytes) (long_told bytes) (λ x f.
+    cond_told _ _ (test x.0) (ended x) (Err (Low bytes)) (λ h. told_on _ _ _ _ (ended x) (ended_told x) (λ y s.
+    omega (arith, ap length f.parts, length-append (tag_text x.0) x.1, ap (λ (q : List ℕ × List ℕ). length q.1) s.0)) (λ stop s. tt)) (λ h. tt)) (λ stop s. tt)
 
 -- What a tag that fails the test makes low; a longer tag passes it too, and some tag does.
 pub record Judges (test : List ℕ → Bool) (L : List ℕ → Type 0) : Type 0 where
@@ -189,10 +174,9 @@ module _ (test : List ℕ → Bool) (L : List ℕ → Type 0) (j : Judges test L
     is = ap (λ (u : List ℕ). 35 ∷ u) (l.is ∙ sym (append_assoc (path_text tag) (c ∷ []) l.more));
   }
 
-  dangling : (bytes : List ℕ) (stop : Stop ℕ) (x : List ℕ × List ℕ) → longest_at bytes ≡ Ok x → test x.0 ≡ true
+  dangling : (bytes : List ℕ) (stop : Stop ℕ) (x : List ℕ × List ℕ) → LongFound bytes x.0 x.1 → test x.0 ≡ true
       → (cs : List ℕ) × (x.1 ≡ 46 ∷ cs) × (stop ≡ Bad cs) → IsStuck bytes stop
-  dangling bytes stop x read passes s =
-      let f = long_found bytes x.0 x.1 read in
+  dangling bytes stop x f passes s =
       let l = with_dot x.0 f.fits in
       stuck_at tag_text (Passes test) (judged_at test) bytes (tag_text x.0 ++ 46 ∷ []) s.0 stop s.2
       (f.parts ∙ ap (λ (u : List ℕ). tag_text x.0 ++ u) s.1 ∙ sym (append_assoc (tag_text x.0) (46 ∷ []) s.0))
@@ -202,24 +186,22 @@ module _ (test : List ℕ → Bool) (L : List ℕ → Type 0) (j : Judges test L
       ap (judged_at test) (append_assoc (tag_text x.0) (46 ∷ []) (c ∷ other)) ∙ ap (λ r. r >>= judged test (tag_text x.0 ++ (46 ∷ c ∷ other))) again
       ∙ ap (λ b. cond b (Err (Bad (c ∷ other))) (Err (Low (tag_text x.0 ++ (46 ∷ c ∷ other))))) passes)
 
-  judged_stuck : (bytes : List ℕ) (stop : Stop ℕ) → judged_at test bytes ≡ Err stop → IsStuck bytes stop
-  judged_stuck bytes stop e =
-      elim (bind_err (longest_at bytes) (judged test bytes) stop e) [
-        | inl h ↦ unread bytes stop (long_stuck bytes stop h)
-        | inr h ↦ elim (chosen (test h.0.0) (ended h.0) (Err (Low bytes)) (Err stop) h.2) [
-          | inl k ↦ dangling bytes stop h.0 h.1 k.0 (ended_stops h.0 stop k.1)
-          | inr k ↦
-              subst (λ (q : Stop ℕ). IsStuck bytes q) (err_is (Low bytes) stop k.1)
-              (record { front = []; parts = refl; viable = tt; cause = (refl, j.low bytes h.0.0 h.0.1 (is_longest long_whole bytes h.0.0 h.0.1 h.1) k.0) })
-        ]
-      ]
+  judged_reads : (bytes : List ℕ) → Reads Near tag_text (Passes test) tag_goes (judged_at test) bytes (judged_at test bytes)
+  judged_reads bytes =
+      told_bind _ _ _ _ (longest_at bytes) (judged test bytes) (self_told (longest_at bytes)) (λ x e.
+      let f = long_found bytes x.0 x.1 e in
+      cond_told _ _ (test x.0) (ended x) (Err (Low bytes)) (λ h.
+      told_on _ _ _ _ (ended x) (ended_told x) (λ y s. subst (λ (q : List ℕ × List ℕ). Found tag_text (Passes test) tag_goes bytes q.0 q.1) s.0
+      (record { parts = f.parts; fits = (f.fits, h); ends = ends_to x.0 x.1 f.ends s.1 })) (λ stop s. dangling bytes stop x f h s))
+      (λ h. record { front = []; parts = refl; viable = tt; cause = (refl, j.low bytes x.0 x.1 (is_longest long_whole bytes x.0 x.1 e) h) }))
+      (λ stop e. unread bytes stop (subst (Told (λ x. LongFound bytes x.0 x.1) (LongStuck bytes)) e (long_told bytes)))
 
   judged_on : (tag : List ℕ) (c : ℕ) → Passes test tag → tag_goes tag c ≡ true → CanGoOn tag_text (Passes test) (tag_text tag ++ c ∷ [])
   judged_on [] c fits g = absurd fits.0
   judged_on (n ∷ ns) c fits g = longer_can (n ∷ ns) c fits.1 (longer n ns c fits.0 g)
 
   pub judged_format : Format Near tag_text (Passes test) tag_goes (judged_at test)
-  judged_format = record { found = judged_found test; again = judged_again test; stuck = judged_stuck; on = judged_on }
+  judged_format = format_of judged_reads (judged_again test) judged_on
 
 -- ---- a tag
 

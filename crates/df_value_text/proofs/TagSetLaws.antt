@@ -1,9 +1,10 @@
 -- Sets of tags are read as they are spelled.
-use Rattle.df_value_text.proofs.Names.{viewed, ◌≡◌, ℕ, Bool, true, false, eqb, List, [], ◌∷◌, ◌++◌, Option, Some, None, refl, sym, ap, ◌∙◌, append_assoc, length-append, length, arith, decimal, nat_list_cmp_total, is_lt, eqb-true, nat_tests, more_spell, items_spell, maybe_spell, CanGoOn, IsLocal, Format, Follow, Parts, ItemsFit, Leads, last_goes, items_goes, items_format, Shrinks, MaybeFits, maybe_goes, maybe_format, tag_cmp, path_text, tag_text, tags_text, IsTag, AreTags, IsTagSet, StandsLow, IsLowTag, tag_at, next_at, leads_tag, optional, tags_at, last_behind, last_of, IsAscending}
+use Rattle.df_value_text.proofs.Names.{viewed, subst, ◌≤◌, ◌≡◌, ℕ, Bool, true, eqb, List, [], ◌∷◌, ◌++◌, Option, Some, None, refl, sym, ap, ◌∙◌, append_assoc, length, arith, decimal, nat_list_cmp_total, is_lt, eqb-true, more_spell, items_spell, maybe_spell, CanGoOn, IsLocal, Format, Follow, Parts, ItemsFit, Leads, last_goes, items_goes, items_format, Shrinks, MaybeFits, maybe_goes, maybe_format, tag_cmp, path_text, tag_text, tags_text, IsTag, AreTags, IsTagSet, StandsLow, IsLowTag, tag_at, next_at, leads_tag, optional, tags_at, last_behind, last_of, IsAscending}
 use Rattle.df_label.proofs.SetFacts.{below_trans}
 use Rattle.df_label.proofs.TagSetFacts.{tag_cmp_exact}
 use Rattle.df_value_text.proofs.NameLaws.{is_less}
-use Rattle.df_value_text.proofs.TagLaws.{with_dot, joined_items, tag_goes, tag_format, Judges, judged_found, judged_format}
+use Rattle.df_value_text.proofs.TagLaws.{tag_ends_at, with_dot, joined_items, tag_goes, tag_format, Judges, judged_shorter, judged_format}
+use Rattle.df_format.proofs.Laws.{Told}
 
 -- ---- a tag above another
 
@@ -37,16 +38,9 @@ low_is_local before front rest low = record {
   low = low.low;
 }
 
-pub tags_apart : (tag : List ℕ) → IsTag tag → tag_goes tag 44 ≡ false
-tags_apart [] h = absurd h
-tags_apart (n ∷ ns) h = apart n ns
-  where
-    apart : (n : ℕ) (ns : List ℕ) → tag_goes (n ∷ ns) 44 ≡ false
-    apart n [] = grind (arith, nat_tests)
-    apart n (m ∷ ms) = apart m ms
-
 pub next_shrinks : (prev : List ℕ) → Shrinks (next_at prev)
-next_shrinks prev bytes tag rest e = omega (arith, ap length (judged_found (is_above prev) bytes tag rest e).parts, length-append (tag_text tag) rest)
+next_shrinks prev bytes tag rest e =
+    subst (Told (λ y. length y.1 ≤ length bytes) (λ stop. Unit {0})) e (judged_shorter (is_above prev) bytes)
 
 pub tags_parts : Parts NearTag leads_tag 44 tag_text IsTag AfterTag tag_goes next_at
 tags_parts = record {
@@ -55,7 +49,7 @@ tags_parts = record {
   fits = λ prev tag fits after. after.0;
   only = λ prev c cs h. eqb-true c 44 h;
   led = λ prev tag more fits after. refl;
-  at_sep = tags_apart;
+  at_sep = λ tag fits. tag_ends_at tag 44 refl refl;
 }
 
 tags_lead : Leads IsLowTag NearTag leads_tag 44 tag_text IsTag AfterTag

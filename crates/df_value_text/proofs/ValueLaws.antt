@@ -1,9 +1,9 @@
 -- Values are read as they are spelled.
-use Rattle.df_value_text.proofs.Names.{◌≡◌, ℕ, zero, suc, ◌<◌, Bool, true, false, eqb, List, [], ◌∷◌, ◌++◌, refl, sym, ap, subst, arith, ◌⊎◌, inl, inr, ℤ, pos, negsuc, IsUtf8, codes, decimal, flat_map, eqb-true, nat_tests, Read, behind_at, Format, Begins, nowhere, nowhere_is_local, any_low, low_as, in_list, Parts, Leads, last_goes, items_format, format_shrinks, Shrinks, Of, made, led, fitting, either_of, is_letter, Plain, int, words, bytes, items, entries, from_list, from_pairs, IsSpelled, AreBytes, IsWhole, leads_value, list_of, list_at, leads_entry, next_entry_at, map_of, map_at, leaf_at, node_at, escaped, hex, value_text, items_text, entries_text, entry_text, LowWithin}
+use Rattle.df_value_text.proofs.Names.{last_ends_at, Ok, Less, name_cmp, ◌≡◌, ℕ, zero, suc, ◌<◌, Bool, true, false, eqb, List, [], ◌∷◌, ◌++◌, refl, sym, ap, subst, arith, ◌⊎◌, inl, inr, ℤ, pos, negsuc, IsUtf8, codes, decimal, flat_map, eqb-true, nat_tests, Read, behind_at, Format, Begins, nowhere, nowhere_is_local, any_low, low_as, in_list, Parts, Leads, items_format, format_shrinks, Shrinks, Of, made, led, fitting, either_of, is_letter, Plain, int, words, bytes, items, entries, from_list, from_pairs, IsSpelled, AreBytes, IsWhole, leads_value, list_of, list_at, leads_entry, next_entry_at, map_of, map_at, leaf_at, node_at, escaped, hex, value_text, items_text, entries_text, entry_text, LowWithin}
 use Rattle.df_value_text.specs.ReadValue.{value_within}
 use Rattle.df_value_text.proofs.BytesLaws.{bytes_format}
-use Rattle.df_value_text.proofs.EntryLaws.{Chain, ended_format, items_led, low_open, entries_parts, entries_format, LevelFits, LevelEntry, LevelAfter, items_to, items_from, entries_to, entries_from}
-use Rattle.df_value_text.proofs.NameLaws.{IsName}
+use Rattle.df_value_text.proofs.EntryLaws.{Chain, entry_goes, next_format, ended_format, items_led, low_open, entries_parts, entries_format, LevelFits, LevelEntry, LevelAfter, items_to, items_from, entries_to, entries_from}
+use Rattle.df_value_text.proofs.NameLaws.{IsName, is_less}
 use Rattle.df_value_text.proofs.NumberLaws.{no_digit_begins}
 use Rattle.df_value_text.proofs.Values.{items_text-joined, entries_text-joined}
 use Rattle.df_value_text.proofs.WholeLaws.{whole_format}
@@ -118,15 +118,6 @@ name_opens (c ∷ cs) rest fits =
 
 -- ---- items with commas between them
 
--- the last of these ends before a closing bracket
-items_end : (p : Plain) (ps : List Plain) → last_goes leads_value value_goes p ps 93 ≡ false
-items_end p [] = value_apart p 93 (inr (inl refl))
-items_end p (q ∷ ps) = items_end q ps
-
-entries_end : (e : List ℕ × Plain) (es : List (List ℕ × Plain)) → last_goes leads_entry (λ e. value_goes e.1) e es 41 ≡ false
-entries_end e [] = value_apart e.1 41 (inr (inr refl))
-entries_end e (d ∷ es) = entries_end d es
-
 abbrev LowInList : List ℕ → List ℕ → Type 0
 LowInList front rest = LowWithin (91 ∷ front) rest
 
@@ -146,13 +137,14 @@ module _ (n : ℕ) (inner : List ℕ → Read ℕ Plain) (f : Format LowWithin v
     fits = λ prev p fits after. after;
     only = λ prev c cs h. eqb-true c 44 h;
     led = λ prev p more fits after. refl;
-    at_sep = λ p fits. value_apart p 44 (inl refl);
+    at_sep = λ p fits. value_apart p 44 refl;
   }
 
   list_format : Format LowWithin value_text (IsListOf n) value_goes (behind_at (91 ∷ []) (list_at inner))
   list_format =
       led (91 ∷ []) list_of (λ front rest low. low) [] tt
-      (ended_format value_text (LevelFits n) (λ prev. LevelFits n) 93 (λ p fits. value_opens p fits.0) (λ ps fits. items_end ps.0 ps.1)
+      (ended_format value_text (LevelFits n) (λ prev. LevelFits n) 93 (λ p fits. value_opens p fits.0)
+      (λ ps fits. last_ends_at leads_value value_goes 93 (λ p. value_apart p 93 refl) ps.0 ps.1)
       (items_format items_parts (items_lead n) inner (low_as (λ front rest low. low_open (in_list []) front rest tt low) f)))
       (λ ps h. ap (λ (u : List ℕ). 91 ∷ (u ++ 93 ∷ [])) (items_text-joined ps)) (λ ps c h. refl)
 
@@ -160,7 +152,7 @@ module _ (n : ℕ) (inner : List ℕ → Read ℕ Plain) (f : Format LowWithin v
   map_format =
       led (40 ∷ []) map_of (λ front rest low. low) [] tt
       (ended_format entry_text (LevelEntry n) (LevelAfter n) 41 (λ e fits. name_opens e.0 (61 ∷ value_text e.1) fits.0)
-      (λ es fits. entries_end es.0 es.1) (entries_format n inner f))
+      (λ es fits. last_ends_at leads_entry entry_goes 41 (λ e. value_apart e.1 41 refl) es.0 es.1) (entries_format n inner f))
       (λ es h. ap (λ (u : List ℕ). 40 ∷ (u ++ 41 ∷ [])) (entries_text-joined es)) (λ es c h. refl)
 
   node_format : Format LowWithin value_text (LevelFits (suc n)) value_goes (node_at inner)
@@ -179,3 +171,9 @@ value_shrinks n = format_shrinks LowWithin value_text (LevelFits n) value_goes (
 
 pub next_entry_shrinks : (n : ℕ) (prev : List ℕ × Plain) → Shrinks (next_entry_at (value_within n) prev.0)
 next_entry_shrinks n = (entries_parts n (value_within n) (value_format n)).shrinks
+
+-- the name of an entry that is read is above the one before it
+pub is_higher : (n : ℕ) (prev : List ℕ × Plain) (text : List ℕ) (e : List ℕ × Plain) (rest : List ℕ)
+    → next_entry_at (value_within n) prev.0 text ≡ Ok (e, rest) → name_cmp prev.0 e.0 ≡ Less
+is_higher n prev text e rest is =
+    is_less (name_cmp prev.0 e.0) ((next_format n (value_within n) (value_format n) prev).found text e rest is).fits.0.1

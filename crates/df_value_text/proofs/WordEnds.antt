@@ -1,16 +1,10 @@
 -- A literal that is written stands there where a word ends.
-use Rattle.df_value_text.proofs.Names.{◌≡◌, ℕ, suc, Bool, true, false, cond, eqb, List, [], ◌∷◌, ◌++◌, ℤ, pos, negsuc, refl, sym, subst, inl, inr, Stands, Ends, never, ends_never, stands, Plain, int, Label, Privilege, Right, Plus, Minus, PlusAuth, MinusAuth, IsLabel, IsPrivilege, IsTag, IsValue, label_text, privilege_text, tag_text, IsLowTag, label_at, privilege_at, tag_at, value_text, EndsWord, IsBreak}
+use Rattle.df_value_text.proofs.Names.{is_ascii_digit, ◌≡◌, ℕ, Bool, false, eqb, List, [], ◌∷◌, ◌++◌, refl, sym, subst, inl, inr, Stands, Ends, never, ends_never, stands, Plain, Label, Privilege, Right, Plus, Minus, PlusAuth, MinusAuth, IsLabel, IsPrivilege, IsTag, IsValue, label_text, privilege_text, tag_text, IsLowTag, label_at, privilege_at, tag_at, value_text, EndsWord, IsBreak}
 use Rattle.df_value_text.proofs.LabelLaws.{label_format, privilege_format, privilege_goes, right_goes}
-use Rattle.df_value_text.proofs.NumberLaws.{number_goes}
-use Rattle.df_value_text.proofs.TagLaws.{nowhere, nowhere_is_local, tag_goes, tag_format}
+use Rattle.df_value_text.proofs.NumberLaws.{number_apart, number_goes}
+use Rattle.df_value_text.proofs.TagLaws.{nowhere, nowhere_is_local, tag_ends_at, tag_goes, tag_format}
 use Rattle.df_value_text.proofs.ValueAnswers.{value_ends}
-use Rattle.df_value_text.proofs.ValueLaws.{value_goes}
-use Rattle.df_value_text.proofs.WholeLaws.{whole_goes}
-
--- what goes on in neither case doesn't go on
-neither : (b : Bool) → cond b false false ≡ false
-neither true = refl
-neither false = refl
+use Rattle.df_value_text.proofs.ValueLaws.{value_apart, value_goes}
 
 -- what ends at a space and at a line feed ends where a word does
 pub at_break : (goes : ℕ → Bool) → goes 32 ≡ false → goes 10 ≡ false → (c : ℕ) → IsBreak c → goes c ≡ false
@@ -22,15 +16,11 @@ ends_word goes x [] stops h = tt
 ends_word goes x (c ∷ rest) stops h = stops c h
 
 pub number_stops : (most n c : ℕ) → IsBreak c → number_goes most n c ≡ false
-number_stops most n c h = at_break (number_goes most n) (neither (eqb n 0)) (neither (eqb n 0)) c h
-
-numbers_stop : (n : ℕ) (ns : List ℕ) (c : ℕ) → IsBreak c → tag_goes (n ∷ ns) c ≡ false
-numbers_stop n [] c h = at_break (tag_goes (n ∷ [])) (neither (eqb n 0)) (neither (eqb n 0)) c h
-numbers_stop n (k ∷ ks) c h = numbers_stop k ks c h
+number_stops most n c h = number_apart most n c (at_break is_ascii_digit refl refl c h)
 
 pub tag_stops : (tag rest : List ℕ) → EndsWord rest → Ends tag_goes tag rest
-tag_stops [] rest h = ends_word tag_goes [] rest (λ c k. refl) h
-tag_stops (n ∷ ns) rest h = ends_word tag_goes (n ∷ ns) rest (numbers_stop n ns) h
+tag_stops tag rest h =
+    ends_word tag_goes tag rest (λ c k. tag_ends_at tag c (at_break is_ascii_digit refl refl c k) (at_break (λ c. eqb c 46) refl refl c k)) h
 
 right_stops : (r : Right) (c : ℕ) → IsBreak c → right_goes r c ≡ false
 right_stops Plus c h = at_break (right_goes Plus) refl refl c h
@@ -41,13 +31,8 @@ right_stops MinusAuth c h = refl
 pub privilege_stops : (p : Privilege) (rest : List ℕ) → EndsWord rest → Ends privilege_goes p rest
 privilege_stops p rest h = ends_word privilege_goes p rest (right_stops p.right) h
 
-whole_stops : (z : ℤ) (c : ℕ) → IsBreak c → whole_goes z c ≡ false
-whole_stops (pos n) c h = number_stops _ n c h
-whole_stops (negsuc n) c h = number_stops _ (suc n) c h
-
 pub value_stops : (p : Plain) (c : ℕ) → IsBreak c → value_goes p c ≡ false
-value_stops (int z) c h = whole_stops z c h
-value_stops _ c h = refl
+value_stops p c h = value_apart p c (at_break is_ascii_digit refl refl c h)
 
 pub tag_stands : (tag rest : List ℕ) → IsTag tag → EndsWord rest → Stands tag_text IsTag (tag_text tag ++ rest) tag rest
 tag_stands tag rest fits end =

@@ -1,9 +1,8 @@
 use Rattle.df_value_text.proofs.Names.{ℕ, suc, ◌+◌, List, [], ◌∷◌, ◌++◌, length, drop, Ok, refl, sym, ap, subst, ◌∙◌, arith, err_from_is_err_and, Plain, items, entries, from_list, from_pairs, named, plain, Gives, name_at}
 use Rattle.df_value_text.specs.ReadValue.{leads_value, list_of, leads_entry, higher_at, given_at, entry_at, next_entry_at, map_of, value_within}
-use Rattle.df_value_text.proofs.EntryLaws.{is_higher}
 use Rattle.df_value_text.proofs.Loops.{fails_by, begun, left_on, left_stops, left_done, comma_led, no_comma}
 use Rattle.df_value_text.proofs.ValueSteps.{pushed, put_behind, up_to_one, up_to_more, begins_within, opened_list, opened_map, leaf_same, both_read, a_list, a_map, none_made, first_stops, inside_stops, closing_stops, inside_reads, entry_led, entry_last}
-use Rattle.df_value_text.proofs.ValueLaws.{value_shrinks, next_entry_shrinks}
+use Rattle.df_value_text.proofs.ValueLaws.{is_higher, value_shrinks, next_entry_shrinks}
 use Rattle.df_value_text.proofs.value_reader.+read.Goals as goal
 
 -- ---- values
@@ -155,7 +154,7 @@ map_at-entries-preserved t c =
     let inv = c.entries.invariant in
     let entry = named c.in_ok-entry.entry in
     let led = entry_led c.entries.last inv.0 c.args.bytes.now c.entries.place (sym c.leads_entry.ensures ∙ c.entries-test.true) in
-    let above = is_higher (value_within (suc (length c.args.bytes.now))) c.entries.last (drop (c.entries.place + 1) c.args.bytes.now) entry _
+    let above = is_higher (suc (length c.args.bytes.now)) (c.entries.last, inv.0) (drop (c.entries.place + 1) c.args.bytes.now) entry _
     (c.in_ok-entry.ensures.exact (suc (length c.args.bytes.now)) (omega arith)).1 in (
       entry.1,
       inv.1 ++ entry ∷ [],
