@@ -1,7 +1,7 @@
 -- What may be missing, and one of two kinds: the first token tells.
 use Rattle.df_format.proofs.Names.{◌≡◌, Bool, true, false, List, [], ◌∷◌, ◌++◌, Option, Some, None, Ok, refl, ap, ◌∙◌, ◌⊎◌, inl, inr, Read, ◌>>=◌, maybe_at, either_at, CanGoOn, Ends, Format}
 use Rattle.df_format.specs.Spelling.{maybe_spell}
-use Rattle.df_format.proofs.Laws.{no_first, stuck_first, stuck_as, first_same, Reads, cond_told, told_on, told_of, bind_told, format_of}
+use Rattle.df_format.proofs.Laws.{no_first, stuck_first, stuck_as, first_same, ends_as, Reads, cond_told, told_on, told_of, bind_told, format_of}
 
 -- a spelling begins with such a token
 pub record Begins {T : Type 0} (begins : T → Bool) (to : Bool) (text : List T) : Type 0 where
@@ -25,14 +25,6 @@ module _ {T X : Type 0} {IsLow : List T → List T → Type 0} (begins : T → B
   abbrev SomeCan : List T → Type 0
   SomeCan front = CanGoOn (maybe_spell spell) (MaybeFits Fits) front
 
-  ends_some : (x : X) (rest : List T) → Ends goes x rest → Ends (maybe_goes begins goes) (Some x) rest
-  ends_some x [] h = tt
-  ends_some x (t ∷ rest) h = h
-
-  some_ends : (x : X) (rest : List T) → Ends (maybe_goes begins goes) (Some x) rest → Ends goes x rest
-  some_ends x [] h = tt
-  some_ends x (t ∷ rest) h = h
-
   maybe_none : (rest : List T) → Ends (maybe_goes begins goes) None rest → maybe_at begins read rest ≡ Ok (None, rest)
   maybe_none [] h = refl
   maybe_none (t ∷ rest) h = rw h refl
@@ -50,14 +42,15 @@ module _ {T X : Type 0} {IsLow : List T → List T → Type 0} (begins : T → B
   maybe_again starts (Some x) rest fits ends =
       let s = starts x fits in
       maybe_some (spell x ++ rest) s.first (s.others ++ rest) (ap (λ (u : List T). u ++ rest) s.is) s.test
-      ∙ rw (fx.again x rest fits (some_ends x rest ends)) refl
+      ∙ rw (fx.again x rest fits (ends_as (maybe_goes begins goes) goes (Some x) x rest (λ t. refl) ends)) refl
 
   maybe_reads : (tokens : List T)
       → Reads IsLow (maybe_spell spell) (MaybeFits Fits) (maybe_goes begins goes) (maybe_at begins read) tokens (maybe_at begins read tokens)
   maybe_reads [] = record { parts = refl; fits = tt; ends = tt }
   maybe_reads (t ∷ ts) =
       cond_told _ _ (begins t) (read (t ∷ ts) >>= λ x. Ok (Some x.0, x.1)) (Ok (None, t ∷ ts)) (λ h.
-      bind_told _ _ fx (t ∷ ts) (λ x. Ok (Some x.0, x.1)) (λ x rest f. record { parts = f.parts; fits = f.fits; ends = ends_some x rest f.ends })
+      bind_told _ _ fx (t ∷ ts) (λ x. Ok (Some x.0, x.1)) (λ x rest f.
+      record { parts = f.parts; fits = f.fits; ends = ends_as goes (maybe_goes begins goes) x (Some x) rest (λ t. refl) f.ends })
       (λ stop s. stuck_as s some_can (λ u tail other is e.
       let o = first_same s.front t u ts tail other (s.parts ∙ ap (λ (v : List T). s.front ++ v) is) in
       maybe_some (s.front ++ u ∷ other) t o.0 o.1 h ∙ rw e refl) (λ front rest low. low))) (λ h. record { parts = refl; fits = tt; ends = h })

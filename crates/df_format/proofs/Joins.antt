@@ -1,6 +1,6 @@
 -- Another view of what is read, the same reader in another form, and fixed bytes before and behind.
 use Rattle.df_format.proofs.Names.{◌≡◌, ℕ, Bool, false, List, [], ◌∷◌, ◌++◌, Ok, Err, refl, sym, ap, subst, ◌∙◌, Read, ◌>>=◌, as_at, text_at, behind_at, closed_at, CanGoOn, Ends, Format}
-use Rattle.df_format.proofs.Laws.{never, ends_never, stuck_as, Reads, told_on, told_of, bind_told, format_of}
+use Rattle.df_format.proofs.Laws.{ends_as, never, ends_never, stuck_as, Reads, told_on, told_of, bind_told, format_of}
 use Rattle.df_format.proofs.Thens.{then_format, ends_of_second}
 use Rattle.df_format.proofs.Texts.{text_format}
 
@@ -16,14 +16,6 @@ pub record Views {T X Y : Type 0} (make : X → Y) (sx : X → List T) (FX : X �
 
 module _ {T X Y : Type 0} {IsLow : List T → List T → Type 0} (make : X → Y) {sx : X → List T} {FX : X → Type 0} {gx : X → T → Bool} {rx : List T → Read T X}
     {sy : Y → List T} {FY : Y → Type 0} {gy : Y → T → Bool} (fx : Format IsLow sx FX gx rx) (v : Views make sx FX gx sy FY gy) where
-  ends_to : (x : X) (rest : List T) → FX x → Ends gx x rest → Ends gy (make x) rest
-  ends_to x [] fits h = tt
-  ends_to x (t ∷ rest) fits h = v.alike x t fits ∙ h
-
-  ends_from : (x : X) (rest : List T) → FX x → Ends gy (make x) rest → Ends gx x rest
-  ends_from x [] fits h = tt
-  ends_from x (t ∷ rest) fits h = sym (v.alike x t fits) ∙ h
-
   as_can : (front : List T) → CanGoOn sx FX front → CanGoOn sy FY front
   as_can front c = record { some = make c.some; fits = v.to c.some c.fits; more = c.more; is = v.spelled c.some c.fits ∙ c.is }
 
@@ -32,10 +24,10 @@ module _ {T X Y : Type 0} {IsLow : List T → List T → Type 0} (make : X → Y
       format_of (λ tokens. bind_told _ _ fx tokens (λ x. Ok (make x.0, x.1)) (λ x rest f. record {
         parts = f.parts ∙ ap (λ (u : List T). u ++ rest) (sym (v.spelled x f.fits));
         fits = v.to x f.fits;
-        ends = ends_to x rest f.fits f.ends;
+        ends = ends_as gx gy x (make x) rest (λ t. v.alike x t f.fits) f.ends;
       }) (λ stop s. stuck_as s as_can (λ t tail other is e. rw e refl) (λ front rest low. low))) (λ y rest fits ends.
       let b = v.from y fits in
-      let end = ends_from b.0 rest b.1 (subst (λ (z : Y). Ends gy z rest) (sym b.2) ends) in
+      let end = ends_as gy gx y b.0 rest (λ t. sym (v.alike b.0 t b.1) ∙ ap (λ (z : Y). gy z t) b.2) ends in
       let here : as_at make rx (sx b.0 ++ rest) ≡ Ok (make b.0, rest) = rw (fx.again b.0 rest b.1 end) refl in
       ap (λ (u : List T). as_at make rx (u ++ rest)) (ap sy (sym b.2) ∙ v.spelled b.0 b.1) ∙ here ∙ ap (λ (z : Y). Ok (z, rest)) b.2) (λ y t fits g.
       let b = v.from y fits in

@@ -61,6 +61,12 @@ pub stop_ends : {T X : Type 0} (goes : X → T → Bool) (x : X) (left front : L
     → Ends goes x (front ++ t ∷ other)
 stop_ends {T} goes x left front t tail other parts ends = ends_first goes x front t tail other (subst (λ (v : List T). Ends goes x v) parts ends)
 
+-- what goes on alike ends alike
+pub ends_as : {T X Y : Type 0} (gx : X → T → Bool) (gy : Y → T → Bool) (x : X) (y : Y) (rest : List T) → ((t : T) → gy y t ≡ gx x t) → Ends gx x rest
+    → Ends gy y rest
+ends_as gx gy x y [] alike h = tt
+ends_as gx gy x y (t ∷ rest) alike h = alike t ∙ h
+
 -- what never goes on ends everywhere
 abbrev pub never : {T X : Type 0} → X → T → Bool
 never x t = false

@@ -37,7 +37,7 @@ name_back name rest fits end =
 -- ---- values
 
 -- a value has no more nodes than bytes
-node_count-text : (p : Plain) → IsSpelled p → node_count p ≤ length (value_text p)
+pub node_count-text : (p : Plain) → IsSpelled p → node_count p ≤ length (value_text p)
 node_count-text p fits =
     let exact = counted_behind p fits [] in
     omega (arith, exact.nodes, (walked_few start (value_text p ++ [])).nodes, ap length (append-nil (value_text p)))

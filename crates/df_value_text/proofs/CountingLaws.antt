@@ -3,7 +3,7 @@ use Rattle.df_value_text.proofs.Names.{◌≡◌, ℕ, ◌+◌, max, Bool, true,
 use Rattle.df_value_text.specs.declared.place.Place.TheVariants as place
 use Rattle.std.proofs.Math.Utf8.{encode}
 use Rattle.df_value_text.proofs.BytesLaws.{digit_is}
-use Rattle.df_value_text.proofs.WordsLaws.{IsChar, ascii_small, least_is, most_is, encoded_char}
+use Rattle.df_value_text.proofs.WordsLaws.{IsChar, itself_is, ascii_small, least_is, most_is, encoded_char}
 use Rattle.df_value_text.proofs.WideLaws.{IsTrail, between_is}
 
 -- a walk at this place, within these brackets, with these counts
@@ -122,7 +122,7 @@ itself_adds os c k unquoted free e =
     let quote : eqb c 34 ≡ false = grind (arith, nat_tests) in
     let slash : eqb c 92 ≡ false = grind (arith, nat_tests) in
     let one : InWords os (c ∷ []) k = passes refl (rw (quote, slash) refl) refl (rw quote e) in
-    subst (λ (u : List ℕ). InWords os u k) (sym (let is : escaped c ≡ c ∷ [] = rw (unquoted, free) refl in is)) one
+    subst (λ (u : List ℕ). InWords os u k) (sym (itself_is c unquoted free)) one
 
 ascii_adds : (os : List Bool) (c : ℕ) → c < 128 → InWords os (escaped c) 1
 ascii_adds os c lt = by (is_quoted c) (is_control c) refl refl

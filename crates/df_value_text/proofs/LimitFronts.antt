@@ -1,5 +1,5 @@
 -- Fronts of bytes, and bytes that are cut behind a place.
-use Rattle.df_value_text.proofs.Names.{◌≡◌, ℕ, suc, ◌<◌, ◌≤◌, List, [], ◌∷◌, ◌++◌, length, length-append, refl, sym, ap, subst, ◌∙◌, append_assoc, arith, ◌⊎◌, inl, inr, nat_lt, nat_tests, append_cancel_right, CanGoOn, IsLongest, told, goes_on, own, AreWithin, FirstOver, IsOver, counts_of, IsSpelled, NameStandsLow, value_text, FirstBadValue, FirstLowName, FirstTooLarge, IsWithinBefore, append_cancel_left, same_split}
+use Rattle.df_value_text.proofs.Names.{◌≡◌, ℕ, suc, ◌<◌, ◌≤◌, List, [], ◌∷◌, ◌++◌, length, length-append, refl, sym, ap, subst, ◌∙◌, append_assoc, arith, ◌⊎◌, inl, inr, nat_lt, nat_tests, append_cancel_right, CanGoOn, IsLongest, told, goes_on, own, AreWithin, FirstOver, IsOver, counts_of, IsSpelled, NameStandsLow, LowWithin, value_text, FirstBadValue, FirstLowName, FirstTooLarge, IsWithinBefore, append_cancel_left, same_split}
 use Rattle.df_value_text.proofs.CountingEnds.{not_both}
 use Rattle.df_value_text.proofs.CountingFronts.{never_over}
 use Rattle.df_value_text.proofs.NameLaws.{name_size, IsName}
@@ -146,30 +146,33 @@ low_shorter prev here behind room low =
       low = low.low;
     }
 
+-- behind the same bytes a low name stands where the last name has one
+pub low_there : (front here there : List ℕ) → ((prev : List ℕ) → NameStandsLow prev here → NameStandsLow prev there) → LowWithin front here
+    → LowWithin front there
+low_there front here there f w = record {
+  opened = w.opened;
+  are = w.are;
+  es = w.es;
+  last = w.last;
+  other = w.other;
+  may = w.may;
+  is = w.is;
+  low = f w.last.0 w.low;
+}
+
 -- a low name stays low
 low_longer : (text here behind : List ℕ) → (behind ≡ []) ⊎ (32 ≤ length here) → FirstLowName text here → FirstLowName (text ++ behind) (here ++ behind)
-low_longer text here behind room low =
-    let stands = low.low.low in
-    record {
-      front = low.front;
-      parts = longer_parts text low.front here behind low.parts;
-      viable = low.viable;
-      low = record {
-        opened = low.low.opened;
-        are = low.low.are;
-        es = low.low.es;
-        last = low.low.last;
-        other = low.low.other;
-        may = low.low.may;
-        is = low.low.is;
-        low = record {
-          name = stands.name;
-          more = stands.more ++ behind;
-          longest = longest_longer here stands.name stands.more behind room stands.longest;
-          low = stands.low;
-        };
-      };
-    }
+low_longer text here behind room low = record {
+  front = low.front;
+  parts = longer_parts text low.front here behind low.parts;
+  viable = low.viable;
+  low = low_there low.front here (here ++ behind) (λ prev s. record {
+    name = s.name;
+    more = s.more ++ behind;
+    longest = longest_longer here s.name s.more behind room s.longest;
+    low = s.low;
+  }) low.low;
+}
 
 -- ---- bad or low
 

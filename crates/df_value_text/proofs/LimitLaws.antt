@@ -9,7 +9,7 @@ use Rattle.df_value_text.proofs.Loops.{between_places}
 use Rattle.df_value_text.proofs.LowLaws.{low_read}
 use Rattle.df_value_text.proofs.ValueAnswers.{Enough, only_fault, stands_once, stands_low, first_bad_value, first_low_value, no_low_name, stops_low}
 use Rattle.df_value_text.proofs.ValueLaws.{value_format}
-use Rattle.df_value_text.proofs.LimitFronts.{viable_before, with_over, over_length, over_parts, within_in_front, over_behind, first_too_large, over_once, Faulty, faulty_front, faulty_longer, over_shorter, longer_parts, inside_of, low_shorter}
+use Rattle.df_value_text.proofs.LimitFronts.{low_there, viable_before, with_over, over_length, over_parts, within_in_front, over_behind, first_too_large, over_once, Faulty, faulty_front, faulty_longer, over_shorter, longer_parts, inside_of, low_shorter}
 use Rattle.df_value_text.specs.declared.refused.Fault.TheVariants as fault
 use Rattle.df_value_text.specs.declared.refused.TextRefused.TheVariants as refused
 
@@ -134,18 +134,8 @@ module _ {text : List ℕ} {at over end : ℕ} (c : IsCut text at over end) wher
               | inl k ↦ inl (drop_all end text (omega (arith, k)))
               | inr k ↦ inr (omega (arith, k, size, long, c.before, c.within, length-drop end text, length-drop over text))
             ] in
-            let l = low.2 in
-            let stands = low_shorter l.last.0 i.more (drop end text) room (subst (NameStandsLow l.last.0) i.is l.low) in
-            record {
-              more = i.more;
-              is = i.is;
-              long = long;
-              low = (
-                low.0,
-                i.parts,
-                record { opened = l.opened; are = l.are; es = l.es; last = l.last; other = l.other; may = l.may; is = l.is; low = stands },
-              );
-            }
+            let inside = low_there low.0 rest i.more (λ prev s. low_shorter prev i.more (drop end text) room (subst (NameStandsLow prev) i.is s)) low.2 in
+            record { more = i.more; is = i.is; long = long; low = (low.0, i.parts, inside) }
       ]
 
   -- where such a name stands, a fault in the cut is told as its place

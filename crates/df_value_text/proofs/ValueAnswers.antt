@@ -1,5 +1,5 @@
 -- What reading, with as many levels as a text may need, says of the values that stand in it.
-use Rattle.df_value_text.proofs.Names.{◌≡◌, ℕ, suc, ◌+◌, ◌<◌, ◌≤◌, true, false, take, List, [], ◌∷◌, ◌++◌, length, drop, Ok, Err, refl, sym, ap, subst, ◌∙◌, arith, ◌⊎◌, inl, inr, append_assoc, length-drop, length-take-le, drop_all, pos, append_cancel_right, Stop, Bad, Low, CanGoOn, Stands, Ends, ok_is, err_is, not_both, told, can_go_on, IsWithinLimits, Plain, int, node_count, Fails, refusal, IsFound, IsSpelled, IsValue, LowInValue, value_text, Fault, FirstBad, IsViable, viable_map, no_longer, first_bad, FirstLow, LowWithin}
+use Rattle.df_value_text.proofs.Names.{Read, ◌≡◌, ℕ, suc, ◌+◌, ◌<◌, ◌≤◌, true, false, take, List, [], ◌∷◌, ◌++◌, length, drop, Ok, Err, refl, sym, ap, subst, ◌∙◌, arith, ◌⊎◌, inl, inr, append_assoc, length-drop, length-take-le, drop_all, pos, append_cancel_right, Stop, Bad, Low, CanGoOn, Stands, Ends, ok_is, err_is, not_both, told, can_go_on, IsWithinLimits, Plain, int, node_count, Fails, refusal, IsFound, IsSpelled, IsValue, LowInValue, value_text, Fault, FirstBad, IsViable, viable_map, no_longer, first_bad, FirstLow, LowWithin}
 use Rattle.df_value_text.specs.ReadValue.{value_within}
 use Rattle.df_value_text.proofs.Answering.{no_refusal}
 use Rattle.df_value_text.proofs.CountingEnds.{front_whole}
@@ -26,13 +26,13 @@ value_ends p c fits g on =
     (level_on n (value_text p ++ c ∷ []) on (omega arith))
 
 -- what goes on is a number, and a longer one is within the limits too
-value_on : (p : Plain) (c : ℕ) → IsSpelled p → value_goes p c ≡ true → CanGoOn value_text IsValue (value_text p ++ c ∷ [])
+pub value_on : (p : Plain) (c : ℕ) → IsSpelled p → value_goes p c ≡ true → CanGoOn value_text IsValue (value_text p ++ c ∷ [])
 value_on (int z) c fits g =
     let v = (whole_format nowhere nowhere_is_local).on z c fits g in
     record { some = int v.some; fits = (v.fits, record { nodes = omega arith; bytes = omega arith; flat = omega arith }); more = v.more; is = v.is }
 value_on _ c fits g = absurd (let no_end : false ≡ true = g in cc)
 
-stands_ends : (p : Plain) (rest : List ℕ) → IsSpelled p
+pub stands_ends : (p : Plain) (rest : List ℕ) → IsSpelled p
     → ((c : ℕ) (tail : List ℕ) → rest ≡ c ∷ tail → CanGoOn value_text IsValue (value_text p ++ c ∷ []) → ⊥) → Ends value_goes p rest
 stands_ends p [] fits ends = tt
 stands_ends p (c ∷ rest) fits ends = elim (told (value_goes p c)) [ inl h ↦ absurd (ends c rest refl (value_on p c fits h)) | inr h ↦ h ]
@@ -59,20 +59,31 @@ found_value n text at end p q is limits h =
 abbrev pub Enough : (text : List ℕ) → ℕ → (ℕ → Type 0) → Type 0
 Enough text at P = (n : ℕ) → length text < at + n → P n
 
+-- from some number of levels on, reading gives this
+abbrev Gives : List ℕ → Read ℕ Plain → Type 0
+Gives text r = (k : ℕ) × ((n : ℕ) → k ≤ n → value_within n text ≡ r)
+
+-- it gives one thing
+one_given : (text : List ℕ) (r s : Read ℕ Plain) → Gives text r → Gives text s → r ≡ s
+one_given text r s g h = sym (g.1 (g.0 + h.0) (omega arith)) ∙ h.1 (g.0 + h.0) (omega arith)
+
+given : (text : List ℕ) (at : ℕ) (r : Read ℕ Plain) → Enough text at (λ n. value_within n (drop at text) ≡ r) → Gives (drop at text) r
+given text at r h = (suc (length text), λ n le. h n (omega (arith, le)))
+
+standing : (text : List ℕ) (p : Plain) (rest : List ℕ) → Stands value_text IsValue text p rest → Gives text (Ok (p, rest))
+standing text p rest s = (node_count p, λ n le. value_read n text p rest le s)
+
 -- one value stands there
 pub stands_once : (text : List ℕ) (p : Plain) (behind : List ℕ) → Stands value_text IsValue text p behind → (y : Plain) (rest : List ℕ)
     → Stands value_text IsValue text y rest → (p ≡ y) × (behind ≡ rest)
 stands_once text p behind s y rest other =
-    let n : ℕ = node_count p + node_count y in
-    let both = ok_is (p, behind) (y, rest) (sym (value_read n text p behind (omega arith) s) ∙ value_read n text y rest (omega arith) other) in
+    let both = ok_is (p, behind) (y, rest) (one_given text (Ok (p, behind)) (Ok (y, rest)) (standing text p behind s) (standing text y rest other)) in
     (ap (λ (q : Plain × List ℕ). q.0) both, ap (λ (q : Plain × List ℕ). q.1) both)
 
 -- and no low name
 pub stands_low : (text : List ℕ) (p : Plain) (behind : List ℕ) → Stands value_text IsValue text p behind → (rest : List ℕ) → LowInValue text rest → ⊥
 stands_low text p behind s rest low =
-    let l = low_read text rest low in
-    let n : ℕ = node_count p + l.0 in
-    not_both (p, behind) (Low rest) (sym (value_read n text p behind (omega arith) s) ∙ l.1 n (omega arith))
+    not_both (p, behind) (Low rest) (one_given text (Ok (p, behind)) (Err (Low rest)) (standing text p behind s) (low_read text rest low))
 
 pub only_fault : (text : List ℕ) (at : ℕ) (e : Fault) → Enough text at (λ n. Fails text e (value_within n (drop at text))) → (y : Plain) (rest : List ℕ)
     → Stands value_text IsValue (drop at text) y rest → refusal e ≡ refused.NoMemory
@@ -148,14 +159,10 @@ first_low_value text at rest h =
 pub no_low_name : (text : List ℕ) (at : ℕ) (x : Plain × List ℕ) → Enough text at (λ n. value_within n (drop at text) ≡ Ok x) → (rest : List ℕ)
     → LowInValue (drop at text) rest → ⊥
 no_low_name text at x h rest low =
-    let l = low_read (drop at text) rest low in
-    let n : ℕ = suc (length text) + l.0 in
-    not_both x (Low rest) (sym (h n (omega arith)) ∙ l.1 n (omega arith))
+    not_both x (Low rest) (one_given (drop at text) (Ok x) (Err (Low rest)) (given text at (Ok x) h) (low_read (drop at text) rest low))
 
 -- where reading stops, it does so there
 pub stops_low : (text : List ℕ) (at : ℕ) (stop : Stop ℕ) → Enough text at (λ n. value_within n (drop at text) ≡ Err stop) → (rest : List ℕ)
     → LowInValue (drop at text) rest → stop ≡ Low rest
 stops_low text at stop h rest low =
-    let l = low_read (drop at text) rest low in
-    let n : ℕ = suc (length text) + l.0 in
-    err_is stop (Low rest) (sym (h n (omega arith)) ∙ l.1 n (omega arith))
+    err_is stop (Low rest) (one_given (drop at text) (Err stop) (Err (Low rest)) (given text at (Err stop) h) (low_read (drop at text) rest low))

@@ -85,11 +85,11 @@ pub escaped_is : (c : ℕ) → IsEscaped c → escaped c ≡ 92 ∷ behind_slash
 escaped_is c (inl h) = rw h refl
 escaped_is c (inr h) = rw (not_quoted c h, h) refl
 
+pub itself_is : (c : ℕ) → is_quoted c ≡ false → is_control c ≡ false → escaped c ≡ c ∷ []
+itself_is c h k = rw (h, k) refl
+
 pub plain_is : (c : ℕ) → IsPlain c → escaped c ≡ c ∷ []
-plain_is c h =
-    let unquoted : is_quoted c ≡ false = grind (arith, nat_tests) in
-    let no_control : is_control c ≡ false = grind (arith, nat_tests) in
-    rw (unquoted, no_control) refl
+plain_is c h = itself_is c (grind (arith, nat_tests)) (grind (arith, nat_tests))
 
 plain_other : (c : ℕ) → IsPlain c → eqb c 92 ≡ false
 plain_other c h = grind (arith, nat_tests)
@@ -112,12 +112,10 @@ abbrev pub IsAscii : List ℕ → Type 0
 IsAscii x = Of alone (λ c. IsEscaped c ⊎ IsPlain c) x
 
 ascii_all : (c : ℕ) → c < 128 → IsEscaped c ⊎ IsPlain c
-ascii_all c h = by (is_quoted c) (is_control c) refl refl
-  where
-    by : (q t : Bool) → is_quoted c ≡ q → is_control c ≡ t → IsEscaped c ⊎ IsPlain c
-    by true t e f = inl (inl e)
-    by false true e f = inl (inr f)
-    by false false e f = inr (grind (arith, nat_tests))
+ascii_all c h = elim (told (is_quoted c)) [
+  | inl e ↦ inl (inl e)
+  | inr e ↦ elim (told (is_control c)) [ inl f ↦ inl (inr f) | inr f ↦ inr (grind (arith, nat_tests)) ]
+]
 
 pub ascii_small : (c : ℕ) → (IsEscaped c ⊎ IsPlain c) → c < 128
 ascii_small c (inl (inl h)) = grind (arith, nat_tests)
@@ -132,10 +130,7 @@ AreHigh [] = Unit {0}
 AreHigh (b ∷ bs) = (128 ≤ b) × AreHigh bs
 
 high_escaped : (b : ℕ) → 128 ≤ b → escaped b ≡ b ∷ []
-high_escaped b l =
-    let unquoted : is_quoted b ≡ false = grind (arith, nat_tests) in
-    let no_control : is_control b ≡ false = grind (arith, nat_tests) in
-    rw (unquoted, no_control) refl
+high_escaped b l = itself_is b (grind (arith, nat_tests)) (grind (arith, nat_tests))
 
 high_text : (x : List ℕ) → AreHigh x → chars_text x ≡ x
 high_text [] h = refl
