@@ -1,6 +1,8 @@
 -- A journal that is gone over, as far as it was read.
-use Rattle.df_journal_file.proofs.Names.{◌≡◌, ℕ, ◌+◌, ◌≤◌, Bool, true, List, [], ◌∷◌, ◌++◌, IsTrue, drop, eqb, length, refl, sym, ap, ◌∙◌, append_assoc, arith, ◌↔◌, flat_map, starts_with, Decides-eqb, drop-drop, flat_map_more, length-drop, All-nil, All-push, starts_is, ended, RootStart, Noted, noted_text, start_text, AreRootsAt, roots_text-numbered, CursorState, HasPassed, front_text, IsJournalOf, journal_by, EndsFile, IsWholeBy, IsFirstAt, first_of, IsHere}
+use Rattle.df_journal_file.proofs.Names.{◌≡◌, ℕ, ◌+◌, ◌≤◌, Bool, true, List, [], ◌∷◌, ◌++◌, IsTrue, drop, eqb, length, refl, sym, ap, ◌∙◌, append_assoc, arith, ◌↔◌, flat_map, starts_with, Decides-eqb, drop-drop, flat_map_more, All-nil, All-push, ended, RootStart, Noted, noted_text, start_text, AreRootsAt, roots_text-numbered, CursorState, HasPassed, front_text, IsJournalOf, journal_by, EndsFile, IsWholeBy, IsFirstAt, first_of, IsHere}
 use Rattle.df_journal_file.proofs.Texts.{journal_is, regroup, run_line}
+use Rattle.std.proofs.lemmas.List.{length-drop}
+use Rattle.std.proofs.lemmas.Slice.Eq.{starts_is}
 
 -- the cursor at a place
 abbrev pub cursor_at : Bool → List ℕ → ℕ → CursorState

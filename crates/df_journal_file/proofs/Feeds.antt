@@ -1,9 +1,8 @@
 -- The lines of a journal have no line feed but their last byte.
-use Rattle.df_journal_file.proofs.Names.{◌≡◌, ℕ, ◌<◌, ◌^◌, true, List, [], ◌∷◌, ◌++◌, map, codes, decimal, refl, sym, ap, subst, ◌∙◌, append_assoc, AllByRecursion, flat_map-append, recursion_from_All, Label, IsLine, ended, Part, Spot, Call, EventName, UnitName, PartRead, Reply, IsLabel, IsPrivilege, label_text, privilege_text, value_text, call_words, call_line, part_line, read_line, spot_line, ArePrivileges, IsCalled, IsEvent, IsPart, IsPartRead, IsReply, IsSpot, spaced, word, event_text, unit_text, reply_words, Avoids, Avoids-line, Avoids-words, IsLine-value, IsLine-word, AreWords-privileges, is_word, is_word-actor, is_word-append, is_word-decimal, is_word-label, is_word-name, is_word-privilege, is_word-tag, number_word, event_line, note_line}
+use Rattle.df_journal_file.proofs.Names.{event_line, note_line, call_words, call_line, part_line, read_line, spot_line, ArePrivileges, IsCalled, IsEvent, IsPart, IsPartRead, IsReply, IsSpot, spaced, word, event_text, unit_text, reply_words, Label, IsLine, ended, Spot, Part, Avoids, Avoids-line, Avoids-words, IsLine-value, IsLine-word, AreWords-privileges, is_word, is_word-actor, is_word-append, is_word-decimal, is_word-label, is_word-name, is_word-privilege, is_word-tag, number_word, Call, EventName, UnitName, PartRead, Reply, IsLabel, IsPrivilege, label_text, privilege_text, value_text, List, [], ap, append_assoc, codes, decimal, map, refl, subst, sym, true, ℕ, ◌++◌, ◌<◌, ◌^◌, ◌∙◌, ◌∷◌, ◌≡◌, flat_map-append, recursion_from_All, AllByRecursion, Avoids-text}
 use Rattle.df_label.specs.declared.privilege.Privilege.{Privilege}
 use Rattle.df_unit.specs.declared.reply.Reply.TheVariants as reply
 use Rattle.df_script_text.proofs.Calls.{Avoids-call}
-use Rattle.df_script_text.proofs.Splits.{Avoids-text}
 use Rattle.df_journal_file.proofs.Fronts.{same_line, same_rest}
 
 -- this is a line with its line feed

@@ -1,36 +1,85 @@
--- Texts that begin alike, and texts whose first lines are the same.
-use Rattle.df_journal_file.proofs.Names.{◌≡◌, ℕ, ◌<◌, ◌&&◌, true, false, Bool, eqb, List, [], ◌∷◌, ◌++◌, length, refl, sym, ap, subst, ◌∙◌, arith, append_assoc, ◌⊎◌, inl, inr, eqb-true, append_cancel_left, flat_map-append, All-cons, All-nil, EndsLine, IsLine, ended, lines_text, begins_with, begins_pair}
+-- Texts that begin alike, and what their first bytes tell.
+use Rattle.df_journal_file.proofs.Names.{IsCallFront, IsPartFront, IsShownFront, IsValueFront, more_first, unit_first, word, unit_text, begins_pair, Label, EndsLine, IsLine, UnitName, label_text, begins_with, begins_digit, Bool, List, [], ap, arith, codes, decimal, eqb, false, inl, inr, length, length-append, refl, subst, sym, true, ℕ, ◌&&◌, ◌++◌, ◌<◌, ◌∙◌, ◌∷◌, ◌≡◌, ◌⊎◌, append_cancel_left, All-cons, All-nil, is_ascii_digit, nat_tests}
 use Rattle.df_format.proofs.Laws.{told}
 use Rattle.df_lines.proofs.Splits.{pieces, pieces-line, some_pieces}
+use Rattle.std.proofs.lemmas.Bool.{eqb-true}
 
 -- a test has one result
 pub one_result : {A : Type 0} {b : Bool} → b ≡ true → b ≡ false → A
 one_result is isn't = absurd (let both : true ≡ false = sym is ∙ isn't in cc)
-
--- the same byte stands in front, and the same mark with a space behind it
-abbrev pub Alike : List ℕ → List ℕ → Type 0
-Alike s t = (m : ℕ) → (begins_with m s ≡ begins_with m t) × (eqb 10 m ≡ false → begins_pair m 32 s ≡ begins_pair m 32 t)
-
--- the same text
-pub alike_same : (s t : List ℕ) → s ≡ t → Alike s t
-alike_same s t e = λ m. (ap (begins_with m) e, λ _. ap (begins_pair m 32) e)
 
 -- a test that fails decides
 pub and_false : (b : Bool) → (b && false) ≡ false
 and_false true = refl
 and_false false = refl
 
--- behind the same line
-pub alike_line : (w x y : List ℕ) → Alike (w ++ 10 ∷ x) (w ++ 10 ∷ y)
-alike_line [] x y = λ m. (refl, λ h. rw h refl)
-alike_line (a ∷ []) x y = λ m. (refl, λ h. refl)
-alike_line (a ∷ b ∷ w) x y = λ m. (refl, λ h. refl)
+-- ---- the first bytes
 
--- behind the same two bytes and more
-pub alike_long : (w x y : List ℕ) → 1 < length w → Alike (w ++ x) (w ++ y)
-alike_long [] x y h = absurd (omega arith)
-alike_long (a ∷ []) x y h = absurd (omega arith)
-alike_long (a ∷ b ∷ w) x y h = λ m. (refl, λ h. refl)
+-- a digit is another byte
+digit_other : (c m : ℕ) → is_ascii_digit c ≡ true → is_ascii_digit m ≡ false → eqb c m ≡ false
+digit_other c m digit none = grind (arith, nat_tests)
+
+-- what begins with a digit begins with no other byte or mark
+pub digit_begins : (m : ℕ) (u : List ℕ) → begins_digit u ≡ true → is_ascii_digit m ≡ false → (begins_with m u ≡ false) × (begins_pair m 32 u ≡ false)
+digit_begins m [] digit none = absurd cc
+digit_begins m (c ∷ cs) digit none = let e = digit_other c m digit none in (e, rw e refl)
+
+-- a mark with a space begins with the mark
+pub pair_with : (m : ℕ) (u : List ℕ) → begins_pair m 32 u ≡ true → begins_with m u ≡ true
+pair_with m [] h = absurd cc
+pair_with m (c ∷ cs) h = elim (eqb c m) as (λ b. (b && begins_with 32 cs) ≡ true → b ≡ true) [ true ↦ λ h. refl | false ↦ λ h. h ] h
+
+-- ---- in front of a value
+
+-- the words of a call that adds a part, up to its value
+abbrev pub add_front : UnitName → ℕ → Label × List ℕ → List ℕ
+add_front actor h n = unit_text actor ++ (word (codes "add") ++ (word (decimal h) ++ (word (label_text n.0) ++ word n.1)))
+
+-- it begins with a digit
+call_first : (front more : List ℕ) → IsCallFront front → begins_digit (front ++ more) ≡ true
+call_first front more c =
+    subst (λ (f : List ℕ). begins_digit (f ++ more) ≡ true) (sym c.6)
+    (more_first (add_front c.0 c.1 c.2) more (more_first (unit_text c.0) _ (unit_first c.0 c.3)))
+
+-- one or the other
+abbrev When : Bool → Type 0 → Type 0 → Type 0
+When true A B = A
+When false A B = B
+
+-- what stands in front of a value and begins with this byte
+abbrev pub IsFrontOf : ℕ → List ℕ → Type 0
+IsFrontOf m front = When (is_ascii_digit m) (IsCallFront front)
+    (When (eqb 58 m) (IsShownFront front) (When (eqb 43 m) (IsPartFront (codes "+") front) (When (eqb 46 m) (IsPartFront (codes ".") front) ⊥)))
+
+-- the first byte tells it
+marked_front : (m k : ℕ) (front text more : List ℕ) → front ≡ text → begins_with m (front ++ more) ≡ true → begins_with m (text ++ more) ≡ eqb k m
+    → IsFrontOf k front → IsFrontOf m front
+marked_front m k front text more is b byte w =
+    subst (λ (n : ℕ). IsFrontOf n front) (eqb-true k m (sym byte ∙ ap (λ (f : List ℕ). begins_with m (f ++ more)) (sym is) ∙ b)) w
+
+pub is_front : (m : ℕ) (front more : List ℕ) → IsValueFront front → begins_with m (front ++ more) ≡ true → IsFrontOf m front
+is_front m front more (inl c) b = elim (told (is_ascii_digit m)) [
+  | inl digit ↦ rw digit c
+  | inr none ↦ one_result b (digit_begins m (front ++ more) (call_first front more c) none).0
+]
+is_front m front more (inr (inl s)) b = marked_front m 58 front _ more s.2 b refl s
+is_front m front more (inr (inr (inl p))) b = marked_front m 43 front _ more p.2 b refl p
+is_front m front more (inr (inr (inr p))) b = marked_front m 46 front _ more p.2 b refl p
+
+-- and a digit a call
+pub is_call_front : (front more : List ℕ) → IsValueFront front → begins_digit (front ++ more) ≡ true → IsCallFront front
+is_call_front front more (inl c) b = c
+is_call_front front more (inr (inl s)) b = one_result b (ap (λ (f : List ℕ). begins_digit (f ++ more)) s.2)
+is_call_front front more (inr (inr (inl p))) b = one_result b (ap (λ (f : List ℕ). begins_digit (f ++ more)) p.2)
+is_call_front front more (inr (inr (inr p))) b = one_result b (ap (λ (f : List ℕ). begins_digit (f ++ more)) p.2)
+
+-- it has two bytes
+pub front_long : (front : List ℕ) → IsValueFront front → 1 < length front
+front_long front (inl c) =
+    omega (arith, ap length c.6, length-append (unit_text c.0) (word (codes "add") ++ (word (decimal c.1) ++ (word (label_text c.2.0) ++ word c.2.1))))
+front_long front (inr (inl s)) = omega (arith, ap length s.2)
+front_long front (inr (inr (inl p))) = omega (arith, ap length p.2)
+front_long front (inr (inr (inr p))) = omega (arith, ap length p.2)
 
 -- ---- the same first line
 
@@ -54,23 +103,32 @@ not_open bad l rest hb hl e =
     let both : bad ∷ [] ≡ l ∷ pieces rest = sym (pieces-line bad [] hb tt) ∙ ap pieces e ∙ pieces-line l (10 ∷ rest) hl refl in
     omega (arith, ap length both, some_pieces rest)
 
--- two texts are the same or go on behind the same line
-abbrev pub SameFirst : List ℕ → List ℕ → Type 0
-SameFirst s t = (s ≡ t) ⊎ ((w x y : List ℕ) × IsLine w × (s ≡ w ++ 10 ∷ x) × (t ≡ w ++ 10 ∷ y))
+-- ---- texts that begin alike
 
--- texts with the same first line begin alike
-pub first_alike : (s t : List ℕ) → SameFirst s t → Alike s t
-first_alike s t (inl e) = alike_same s t e
-first_alike s t (inr f) =
-    subst (λ (u : List ℕ). Alike u t) (sym f.4)
-    (subst (λ (u : List ℕ). Alike (f.0 ++ 10 ∷ f.1) u) (sym f.5) (alike_line f.0 f.1 f.2))
+-- the texts are the same, or they go on behind the same line, or behind the same front of a value
+abbrev pub Like : List ℕ → List ℕ → Type 0
+Like s t = (s ≡ t) ⊎ (((w x y : List ℕ) × IsLine w × (s ≡ w ++ 10 ∷ x) × (t ≡ w ++ 10 ∷ y))
+    ⊎ ((front x y : List ℕ) × IsValueFront front × (s ≡ front ++ x) × (t ≡ front ++ y)))
 
--- ---- lines behind one another
+-- the same byte stands in front, and the same mark with a space behind it
+abbrev Alike : List ℕ → List ℕ → Type 0
+Alike s t = (m : ℕ) → (begins_with m s ≡ begins_with m t) × (eqb 10 m ≡ false → begins_pair m 32 s ≡ begins_pair m 32 t)
 
--- lines, more lines, and a rest
-pub lines_join : (front before : List (List ℕ)) (rest : List ℕ) → lines_text front ++ (lines_text before ++ rest) ≡ lines_text (front ++ before) ++ rest
-lines_join front before rest =
-    sym (append_assoc (lines_text front) (lines_text before) rest) ∙ ap (λ (u : List ℕ). u ++ rest) (sym (flat_map-append ended front before))
+alike_line : (w x y : List ℕ) → Alike (w ++ 10 ∷ x) (w ++ 10 ∷ y)
+alike_line [] x y = λ m. (refl, λ h. rw h refl)
+alike_line (a ∷ []) x y = λ m. (refl, λ h. refl)
+alike_line (a ∷ b ∷ w) x y = λ m. (refl, λ h. refl)
+
+alike_long : (w x y : List ℕ) → 1 < length w → Alike (w ++ x) (w ++ y)
+alike_long [] x y h = absurd (omega arith)
+alike_long (a ∷ []) x y h = absurd (omega arith)
+alike_long (a ∷ b ∷ w) x y h = λ m. (refl, λ h. refl)
+
+-- in all three cases
+pub alike : (s t : List ℕ) → Like s t → Alike s t
+alike s t (inl e) = λ m. (ap (begins_with m) e, λ _. ap (begins_pair m 32) e)
+alike s t (inr (inl f)) = rw (f.4, f.5) (alike_line f.0 f.1 f.2)
+alike s t (inr (inr f)) = rw (f.4, f.5) (alike_long f.0 f.1 f.2 (front_long f.0 f.3))
 
 -- the line at the head of a text
 pub record FirstLine (t : List ℕ) : Type 0 where

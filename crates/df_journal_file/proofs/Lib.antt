@@ -5,10 +5,9 @@ pub mod Fronts
 pub mod Ontos
 pub mod Feeds
 pub mod LineKinds
-pub mod Runs
+pub mod Rows
 pub mod Opens
 pub mod Heads
-pub mod Values
 pub mod Steps
 pub mod Roots
 pub mod Refusals

@@ -1,27 +1,88 @@
--- The kinds of lines below that of a call.
-use Rattle.df_journal_file.proofs.Names.{◌≡◌, ℕ, Bool, true, false, eqb, List, [], ◌∷◌, ◌++◌, codes, refl, sym, subst, inl, inr, is_ascii_digit, Part, IsLabel, part_line, read_line, spot_line, IsEvent, IsPart, IsPartRead, IsSpot, IsLargePart, IsLargeShown, begins_pair, is_word, event_line, note_line, IsPartFront, IsValueFront, AddsFrom, BehindSome, EditFrom, EffectFrom, EntriesFrom, Many, ReadFrom, IsCommitMark}
+-- The kinds of lines of an entry, and their rows in the table.
+use Rattle.df_journal_file.proofs.Names.{event_line, note_line, IsPartFront, IsValueFront, AddsFrom, BehindSome, CommitFrom, EditFrom, EffectFrom, EntriesFrom, GivenFrom, HandedFrom, part_line, read_line, spot_line, IsCalled, IsEvent, IsPart, IsPartRead, IsSpot, IsLargeCalled, IsLargePart, IsLargeShown, word, unit_text, begins_pair, Label, Part, is_word, UnitName, IsLabel, label_text, begins_with, begins_digit, value_text, Bool, List, [], ap, append_assoc, arith, codes, decimal, eqb, false, inl, inr, refl, subst, sym, true, ℕ, ◌++◌, ◌∙◌, ◌∷◌, ◌≡◌, All-nil, is_ascii_digit, called_line, part_text, shown_text}
+use Rattle.df_unit.specs.declared.call.Call.TheVariants.{AddPart}
 use Rattle.df_unit.specs.declared.reply.Reply.TheVariants as reply
-use Rattle.df_journal_file.proofs.Feeds.{event_feeds, note_feeds, part_feeds, shown_feeds, spot_feeds}
-use Rattle.df_journal_file.proofs.Heads.{adds_begin, edit_some, effect_begins, entries_begin, parts_some, read_some}
-use Rattle.df_journal_file.proofs.Runs.{IsBareKind, IsRun}
-use Rattle.df_journal_file.proofs.Values.{added_front, given_front, marked_large, part_large, part_small, shown_large, shown_small}
+use Rattle.df_journal_file.proofs.Feeds.{CallTold, call_feeds, event_feeds, note_feeds, part_feeds, shown_feeds, spot_feeds, told_line}
+use Rattle.df_journal_file.proofs.Fronts.{IsFrontOf, add_front, is_call_front, is_front, pair_with}
+use Rattle.df_journal_file.proofs.Heads.{adds_begin, an_event, effect_begins, entries_begin, event_fits, label_fits, no_label, part_fits, part_with, read_fits, read_with, zero_fits, zero_value}
+use Rattle.df_journal_file.proofs.Opens.{called_begins, none_left}
+use Rattle.df_journal_file.proofs.Rows.{IsKind, IsRow, IsRun, bare_kind, row_some, run_row, then_row}
+use Rattle.df_journal_file.specs.code.Marks.{IsCommitMark}
+
+-- the last word of a line, and its end
+abbrev zero_word : List ℕ
+zero_word = (word (value_text zero_value) ++ []) ++ 10 ∷ []
 
 -- ---- one line
 
 -- a contamination that is noted
-pub note_kind : IsBareKind note_line IsLabel
-note_kind = record { feeds = note_feeds; byte = 64; other = (refl, refl, refl, refl); begins = λ label rest. refl }
+pub note_kind : IsKind note_line IsLabel (λ _. ⊥)
+note_kind = bare_kind 64 (λ front no. no) note_feeds (λ label u. refl)
 
 -- an event that is handed over
-pub handed_kind : IsBareKind (event_line (codes "<")) IsEvent
-handed_kind = record { feeds = event_feeds (codes "<") refl; byte = 60; other = (refl, refl, refl, refl); begins = λ event rest. refl }
+pub handed_kind : IsKind (event_line (codes "<")) IsEvent (λ _. ⊥)
+handed_kind = bare_kind 60 (λ front no. no) (event_feeds (codes "<") refl) (λ event u. refl)
 
 -- the event of a commit, by a call or by the world
-pub commit_kind : (mark : List ℕ) → IsCommitMark mark → IsBareKind (event_line mark) IsEvent
-commit_kind mark (inl e) = subst (λ (m : List ℕ). IsBareKind (event_line m) IsEvent) (sym e)
-    (record { feeds = event_feeds (codes "=") refl; byte = 61; other = (refl, refl, refl, refl); begins = λ event rest. refl })
-commit_kind mark (inr e) = subst (λ (m : List ℕ). IsBareKind (event_line m) IsEvent) (sym e)
-    (record { feeds = event_feeds (codes "emitted") refl; byte = 101; other = (refl, refl, refl, refl); begins = λ event rest. refl })
+pub commit_kind : (mark : List ℕ) → IsCommitMark mark → IsKind (event_line mark) IsEvent (λ _. ⊥)
+commit_kind mark (inl e) = subst (λ (m : List ℕ). IsKind (event_line m) IsEvent (λ _. ⊥)) (sym e)
+    (bare_kind 61 (λ front no. no) (event_feeds (codes "=") refl) (λ event u. refl))
+commit_kind mark (inr e) = subst (λ (m : List ℕ). IsKind (event_line m) IsEvent (λ _. ⊥)) (sym e)
+    (bare_kind 101 (λ front no. no) (event_feeds (codes "emitted") refl) (λ event u. refl))
+
+-- words behind one another, and a rest
+five_words : (u a h l n rest : List ℕ) → (u ++ (a ++ (h ++ (l ++ n)))) ++ rest ≡ u ++ (a ++ (h ++ (l ++ (n ++ rest))))
+five_words u a h l n rest = simp append_assoc
+
+-- words of a call in other groups
+add_group : (u a h l n v w f : List ℕ) → (u ++ ((a ++ (h ++ (l ++ (n ++ v)))) ++ w)) ++ f ≡ (u ++ (a ++ (h ++ (l ++ n)))) ++ ((v ++ w) ++ f)
+add_group u a h l n v w f = simp append_assoc
+
+-- a call that adds a part, and is answered `ok`
+abbrev add_call : UnitName → ℕ → Label × List ℕ → CallTold
+add_call actor h n = (actor, AddPart h n.0 n.1 zero_value, reply.Ok)
+
+-- a call with its reply
+pub called_kind : IsKind told_line IsCalled IsLargeCalled
+called_kind = record {
+  feeds = call_feeds;
+  small = λ c f u front more rest w e l.
+      let p = is_call_front front more w (ap begins_digit e ∙ called_begins c u f) in
+      let n = p.2 in
+      let named : List ℕ = word (label_text n.0) ++ (word n.1 ++ rest) in (
+        p.0,
+        word (codes "add") ++ (word (decimal p.1) ++ named),
+        p.3,
+        ap (λ (f : List ℕ). f ++ rest) p.6
+            ∙ five_words (unit_text p.0) (word (codes "add")) (word (decimal p.1)) (word (label_text n.0)) (word n.1) rest,
+        record {
+          h = p.1;
+          rest = named;
+          parts = refl;
+          small = p.4;
+          large = record { label = n.0; name = n.1; rest = rest; parts = refl; label_fits = p.5.0; name_fits = p.5.1; large = l };
+        },
+      );
+  large = λ bad l.
+      let call = l.4 in
+      let named = call.large in
+      let n : Label × List ℕ = (named.label, named.name) in
+      let words = call.parts ∙ ap (λ (u : List ℕ). word (codes "add") ++ (word (decimal call.h) ++ u)) named.parts in
+      let five = five_words (unit_text l.0) (word (codes "add")) (word (decimal call.h)) (word (label_text n.0)) (word n.1) named.rest in
+      record {
+        front = add_front l.0 call.h n;
+        rest = named.rest;
+        parts = l.3 ∙ ap (λ (u : List ℕ). unit_text l.0 ++ u) words ∙ sym five;
+        wanting = inl (l.0, call.h, n, l.2, call.small, (named.label_fits, named.name_fits), refl);
+        large = named.large;
+        item = add_call l.0 call.h n;
+        fits = (l.2, (call.small, named.label_fits, named.name_fits, zero_fits), (tt, tt));
+        more = ((word (value_text zero_value) ++ []) ++ (codes " ->" ++ word (codes "ok"))) ++ 10 ∷ [];
+        is = called_line l.0 (AddPart call.h n.0 n.1 zero_value) reply.Ok
+            ∙ add_group (unit_text l.0) (word (codes "add")) (word (decimal call.h)) (word (label_text n.0)) (word n.1) (word (value_text zero_value) ++ [])
+            (codes " ->" ++ word (codes "ok")) (10 ∷ []);
+      };
+}
 
 -- ---- as many lines as there are
 
@@ -29,47 +90,83 @@ module _ (has : Bool) where
   -- what a commit deletes
   pub spots_run : IsRun spot_line IsSpot 45 (λ _. ⊥) (AddsFrom has)
   spots_run = record {
-    feeds = spot_feeds;
+    kind = bare_kind 45 (λ front no. no) spot_feeds (λ spot u. refl);
     free = refl;
     marks = λ spot u. refl;
     ends = adds_begin has;
-    some = edit_some has;
-    small = λ n bad behind b l. marked_large (EditFrom has n) bad behind l 45 (refl, refl, refl, refl) b;
-    large = λ n bad none. absurd none;
+    some = λ n. ([], ([], [], All-nil IsPart, (omega arith, none_left has [] (inl refl)), refl));
+    one = (record { name = codes "a"; label = no_label }, (refl, label_fits));
   }
 
   -- parts behind a mark, which tells them from other values
   part_run : (mark : ℕ) → is_word (mark ∷ []) ≡ true → eqb 10 mark ≡ false → is_ascii_digit mark ≡ false
       → ((part : Part) (u : List ℕ) → begins_pair mark 32 (part_line (mark ∷ []) part ++ u) ≡ true)
-      → ((front more : List ℕ) → IsValueFront front → begins_pair mark 32 (front ++ more) ≡ true → IsPartFront (mark ∷ []) front)
-      → ((front : List ℕ) → IsPartFront (mark ∷ []) front → IsValueFront front)
+      → ((front : List ℕ) → IsFrontOf mark front → IsPartFront (mark ∷ []) front) → ((front : List ℕ) → IsPartFront (mark ∷ []) front → IsValueFront front)
       → IsRun (part_line (mark ∷ [])) IsPart mark (IsLargePart (mark ∷ [])) (BehindSome (EntriesFrom has))
-  part_run mark word free digit marks back front = record {
-    feeds = part_feeds (mark ∷ []) word;
+  part_run mark one free digit marks is wanting = record {
+    kind = record {
+      feeds = part_feeds (mark ∷ []) one;
+      small = λ part f u front more rest w e l.
+          let p = is front (is_front mark front more w (ap (begins_with mark) e ∙ pair_with mark (part_line (mark ∷ []) part ++ u) (marks part u))) in
+          (p.0, rest, p.1, ap (λ (f : List ℕ). f ++ rest) p.2, l);
+      large = λ bad l. record {
+        front = (mark ∷ []) ++ (word (label_text l.0.0) ++ word l.0.1);
+        rest = l.1;
+        parts = l.3;
+        wanting = wanting _ (l.0, l.2, refl);
+        large = l.4;
+        item = part_with l.0.0 l.0.1;
+        fits = part_fits l.0.0 l.0.1 l.2.0 l.2.1;
+        more = zero_word;
+        is = part_text (mark ∷ []) (part_with l.0.0 l.0.1) ∙ append_assoc ((mark ∷ []) ++ (word (label_text l.0.0) ++ word l.0.1)) _ (10 ∷ []);
+      };
+    };
     free = free;
     marks = marks;
     ends = λ n u t. entries_begin has u t.1 mark digit;
-    some = parts_some has (mark ∷ []);
-    small = λ n bad behind b l. part_small (Many (part_line (mark ∷ [])) IsPart (BehindSome (EntriesFrom has)) n) bad behind l mark back b;
-    large = part_large (mark ∷ []) front has;
+    some = λ n. ([], (omega arith, none_left has [] (inl refl)));
+    one = (part_with no_label (codes "a"), part_fits no_label (codes "a") label_fits refl);
   }
 
   -- what it adds
   pub adds_run : IsRun (part_line (codes "+")) IsPart 43 (IsLargePart (codes "+")) (BehindSome (EntriesFrom has))
-  adds_run = part_run 43 refl refl refl (λ part u. refl) added_front (λ front p. inr (inr (inl p)))
+  adds_run = part_run 43 refl refl refl (λ part u. refl) (λ front p. p) (λ front p. inr (inr (inl p)))
 
   -- the parts of an event that is handed over
   pub given_run : IsRun (part_line (codes ".")) IsPart 46 (IsLargePart (codes ".")) (BehindSome (EntriesFrom has))
-  given_run = part_run 46 refl refl refl (λ part u. refl) given_front (λ front p. inr (inr (inr p)))
+  given_run = part_run 46 refl refl refl (λ part u. refl) (λ front p. p) (λ front p. inr (inr (inr p)))
 
   -- what a read shows
   pub read_run : IsRun read_line IsPartRead 58 IsLargeShown (BehindSome (EffectFrom has (reply.Parts [])))
   read_run = record {
-    feeds = shown_feeds;
+    kind = record {
+      feeds = shown_feeds;
+      small = λ part f u front more rest w e l.
+          let s = is_front 58 front more w (ap (begins_with 58) e) in
+          (s.0, rest, s.1, ap (λ (f : List ℕ). f ++ rest) s.2, l);
+      large = λ bad l. record {
+        front = codes ":" ++ word (label_text l.0);
+        rest = l.1;
+        parts = l.3;
+        wanting = inr (inl (l.0, l.2, refl));
+        large = l.4;
+        item = read_with l.0;
+        fits = read_fits l.0 l.2;
+        more = zero_word;
+        is = shown_text (read_with l.0) ∙ append_assoc (codes ":" ++ word (label_text l.0)) _ (10 ∷ []);
+      };
+    };
     free = refl;
     marks = λ part u. refl;
     ends = λ n u t. effect_begins has (reply.Parts []) u t.1 58 refl refl refl;
-    some = read_some has;
-    small = λ n bad behind b l. shown_small (ReadFrom has n) bad behind l b;
-    large = shown_large has;
+    some = λ n. ([], (omega arith, inl (none_left has [] (inl refl))));
+    one = (read_with no_label, read_fits no_label label_fits);
   }
+
+  -- a commit
+  pub commit_row : (mark : List ℕ) → IsRow (event_line mark) IsEvent (CommitFrom has mark) (λ _. EditFrom has 0) (λ _. ⊥)
+  commit_row mark = then_row (event_line mark) IsEvent (EditFrom has 0) an_event event_fits (row_some spots_run.kind (run_row spots_run 0))
+
+  -- an event that is handed over
+  pub handed_row : IsRow (event_line (codes "<")) IsEvent (HandedFrom has) (λ _. GivenFrom has 0) (λ _. ⊥)
+  handed_row = then_row (event_line (codes "<")) IsEvent (GivenFrom has 0) an_event event_fits (row_some given_run.kind (run_row given_run 0))

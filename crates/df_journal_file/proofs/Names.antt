@@ -5,34 +5,33 @@ pub use Rattle.df_journal_file.specs.Cursor.{CursorState, HasPassed, front_text}
 pub use Rattle.df_journal_file.specs.Either.{First, IsEitherText, IsFirstOf, IsJournalOf, IsSecondOf, Journal, Second, journal_by, journal_in}
 pub use Rattle.df_journal_file.specs.Journal.{ChangesSome, EditsSome, EndsFile, HasNote, IsNotedText, IsPlainText, IsRead, IsWholeEntry, ShowsSome}
 pub use Rattle.df_journal_file.specs.TooLarge.{IsCallFront, IsLargeIn, IsPartFront, IsShownFront, IsValueFront}
-pub use Rattle.df_journal_file.specs.code.Entries.{IsGivenFor, IsNoteBy, IsShownBy, IsSomeCommit, IsSomeEdit, IsSomeEffectOf, IsWholeBy, commit_lines}
+pub use Rattle.df_journal_file.specs.code.Entries.{IsNoteBy, IsShownBy, IsSomeCommit, IsSomeEffectOf, IsWholeBy, commit_lines}
 pub use Rattle.df_journal_file.specs.code.Files.{AreKept, IsEitherFirst, IsFirstAt, IsKeptOf, IsText, IsWanted, StopsFirst, answered, first_of}
 pub use Rattle.df_journal_file.specs.code.Languages.{AddsFrom, BehindSome, CommitFrom, DoneFrom, EditFrom, EffectFrom, EntriesFrom, GivenFrom, HandedFrom, HeadFrom, IsHanding, Many, NoteFrom, NotesNone, ReadFrom, ShownFrom, ShowsNone, Then}
-pub use Rattle.df_journal_file.specs.code.Marks.{IsCommitMark, IsUnitHere}
 pub use Rattle.df_journal_file.specs.code.Places.{AreMarked, ArePassed, IsHere, IsLineHere, IsSpelled, MarkedStop, StopsLine, TellsAt, finished}
 pub use Rattle.df_journal_file.specs.code.Stops.{IsStop, Onto, StopsIn}
+pub use Rattle.df_journal_text.proofs.Frames.{unended}
 pub use Rattle.df_journal_text.proofs.JournalBacks.{journal_back, more_first, unit_first}
+pub use Rattle.df_journal_text.proofs.LineTells.{answer_text, called, called_line, part_text, shown_text}
 pub use Rattle.df_journal_text.proofs.Wholes.{WholeLine, told}
 pub use Rattle.df_journal_text.specs.Call.{call_words}
-pub use Rattle.df_journal_text.specs.Entry.{call_line, edit_text, effect_text, entry_text, given_text, note_text, noted_text, part_line, read_line, reads_text, spot_line}
+pub use Rattle.df_journal_text.specs.Entry.{call_line, effect_text, entry_text, note_text, noted_text, part_line, read_line, reads_text, spot_line}
 pub use Rattle.df_journal_text.specs.Fits.{ArePrivileges, AreRoots, IsAnswer, IsBare, IsCalled, IsCommit, IsEffectOf, IsEntry, IsEvent, IsJournal, IsNoteOf, IsNoted, IsPart, IsPartRead, IsReply, IsRoot, IsSpot}
-pub use Rattle.df_journal_text.specs.Large.{IsLargeCalled, IsLargePart, IsLargeShown}
+pub use Rattle.df_journal_text.specs.Large.{IsLargeCalled, IsLargePart, IsLargeShown, IsLargeWord}
 pub use Rattle.df_journal_text.specs.Line.{line, spaced, word}
 pub use Rattle.df_journal_text.specs.Name.{event_text, unit_text}
-pub use Rattle.df_journal_text.specs.ReadEntry.{EndsJournal, IsUnmarked, deleted_at, journal_at, spot_of}
-pub use Rattle.df_journal_text.specs.ReadName.{event_at, event_of, unit_at}
 pub use Rattle.df_journal_text.specs.ReadWords.{begins_pair, word_at}
 pub use Rattle.df_journal_text.specs.Reply.{reply_words}
 pub use Rattle.df_journal_text.specs.Start.{root_text, roots_text, start_text}
-pub use Rattle.df_journal_text.specs.code.Judging.{TellsLine, answer_at, call_text}
 pub use Rattle.df_label.specs.declared.label.Label.{Label}
 pub use Rattle.df_lines.specs.FirstBad.{Begins, IsFirstBad}
 pub use Rattle.df_lines.specs.Lines.{EndsLine, IsLine, ended, lines_text}
 pub use Rattle.df_lines.specs.declared.fault.FileFault.{FileFault}
+pub use Rattle.df_lines.specs.declared.fault.FileFault.TheVariants.{Bad}
 pub use Rattle.df_part.specs.declared.edit.Spot.{Spot}
 pub use Rattle.df_part.specs.declared.part.Part.{Part}
-pub use Rattle.df_script_text.proofs.Files.{AreLines-roots, front_is, roots_text-numbered, run}
-pub use Rattle.df_script_text.proofs.Splits.{AreWords-root, Avoids, Avoids-line, Avoids-words}
+pub use Rattle.df_script_text.proofs.Files.{front_is, roots_text-numbered, run}
+pub use Rattle.df_script_text.proofs.Splits.{AreWords-root, Avoids, Avoids-line, Avoids-text, Avoids-words}
 pub use Rattle.df_script_text.proofs.Values.{IsLine-value, IsLine-word}
 pub use Rattle.df_script_text.proofs.Words.{AreWords-privileges, is_word, is_word-actor, is_word-append, is_word-decimal, is_word-label, is_word-name, is_word-privilege, is_word-tag, number_word}
 pub use Rattle.df_script_text.specs.code.Stops.{AreRootsAt, IsHeadLine, RootsStop, StopsAt, StopsRoot}
@@ -45,19 +44,18 @@ pub use Rattle.df_unit.specs.declared.entry.Entry.TheVariants.{Done, Emitted}
 pub use Rattle.df_unit.specs.declared.entry.Noted.{Noted}
 pub use Rattle.df_unit.specs.declared.name.EventName.{EventName}
 pub use Rattle.df_unit.specs.declared.name.UnitName.{UnitName}
+pub use Rattle.df_unit.specs.declared.name.UnitName.TheVariants.{Root}
 pub use Rattle.df_unit.specs.declared.parts.PartRead.{PartRead}
 pub use Rattle.df_unit.specs.declared.reply.Reply.{Reply}
 pub use Rattle.df_value_text.specs.Fits.{IsLabel, IsPrivilege, IsValue}
-pub use Rattle.df_value_text.specs.Label.{label_text, privilege_text, tag_text}
+pub use Rattle.df_value_text.specs.Label.{label_text, privilege_text}
 pub use Rattle.df_value_text.specs.Number.{begins_with}
 pub use Rattle.df_value_text.specs.ReadTag.{begins_digit}
 pub use Rattle.df_value_text.specs.Value.{value_text}
-pub use Rattle.std.proofs.Common.{Bool, Err, IfErr, IfOk, IsTrue, List, None, Ok, Option, Result, Some, [], ap, append-nil, append_assoc, arith, codes, cond, decimal, drop, eqb, false, get_or, inl, inr, length, length-append, lit<, lit≤, map, pos, refl, rules, subst, suc, sym, take, true, ℕ, ◌&&◌, ◌++◌, ◌+◌, ◌-◌, ◌<◌, ◌^◌, ◌↔◌, ◌∙◌, ◌∷◌, ◌≡◌, ◌≢◌, ◌≤◌, ◌⊎◌}
-pub use Rattle.std.proofs.lemmas.Bool.{eqb-true}
-pub use Rattle.std.proofs.lemmas.Bool.Decides.{Decides-eqb}
-pub use Rattle.std.proofs.lemmas.List.{append_cancel_left, drop-drop, drop_all, flat_map_more, length-drop, map-append, map-id, take_all}
+pub use Rattle.std.proofs.Common.{Bool, Err, IfErr, IfOk, IsTrue, List, None, Ok, Option, Result, Some, [], ap, append-nil, append_assoc, arith, codes, decimal, drop, eqb, false, inl, inr, length, length-append, length-drop, lit<, lit≤, map, pos, refl, rules, subst, suc, sym, true, ℕ, ◌&&◌, ◌++◌, ◌+◌, ◌-◌, ◌<◌, ◌^◌, ◌↔◌, ◌∙◌, ◌∷◌, ◌≡◌, ◌≤◌, ◌⊎◌}
+pub use Rattle.std.proofs.lemmas.Bool.Decides.{Decides-eqb, nat_tests}
+pub use Rattle.std.proofs.lemmas.List.{append_cancel_left, drop-drop, drop_all, flat_map_more, map-append, map-id}
 pub use Rattle.std.proofs.lemmas.List.Concat.{flat_map-append}
 pub use Rattle.std.proofs.lemmas.List.Elements.{All-append, All-cons, All-head, All-map, All-nil, All-push, All-tail, All-weaker, recursion_from_All}
-pub use Rattle.std.proofs.lemmas.Slice.Eq.{slice_eq-Decides, starts_is}
 pub use Rattle.std.specs.Char.{is_ascii_digit}
 pub use Rattle.std.specs.List.{All, AllByRecursion, flat_map, starts_with}

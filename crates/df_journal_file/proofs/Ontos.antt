@@ -1,50 +1,39 @@
 -- The first bad line behind other lines, and the first bad line where a line is to stand.
-use Rattle.df_journal_file.proofs.Names.{◌≡◌, ℕ, ◌<◌, ◌≤◌, List, [], ◌∷◌, ◌++◌, length, drop, codes, decimal, refl, sym, ap, subst, ◌∙◌, arith, append_assoc, append-nil, length-append, inl, inr, Result, Ok, Err, IfErr, All, All-append, All-cons, All-nil, Begins, IsFirstBad, EndsLine, IsLine, ended, lines_text, FileFault, label_text, word, unit_text, StopsAt, IsLargeIn, IsValueFront, IsSpelled, StopsLine, IsStop, Onto, StopsIn}
+use Rattle.df_journal_file.proofs.Names.{IsLargeIn, IsValueFront, IsText, IsStop, Onto, StopsIn, line, Begins, IsFirstBad, EndsLine, IsLine, ended, lines_text, FileFault, StopsAt, Err, IfErr, List, Ok, Result, [], ap, append_assoc, drop, inl, inr, length, refl, subst, sym, ℕ, ◌++◌, ◌∙◌, ◌∷◌, ◌≡◌, ◌≤◌, flat_map-append, All-append, All-head, All-nil, All}
 use Rattle.std.specs.Prelude.{IsErrAnd}
 use Rattle.df_lines.specs.declared.fault.FileFault.TheVariants as stop
-use Rattle.df_journal_file.proofs.Feeds.{IsFed}
-use Rattle.df_journal_file.proofs.Fronts.{Alike, SameFirst, alike_line, alike_long, alike_same, first_alike, first_line, lines_join, not_open, same_line}
+use Rattle.df_journal_file.proofs.Fronts.{Like, first_line, not_open, same_line}
 
 -- a step that stopped
 pub stopped : {X : Type 0} (P : FileFault → Type 0) {f : FileFault} (r : Result X FileFault) → IsErrAnd r (λ e. e ≡ f) → P f → IfErr r P
 stopped P (Ok x) h p = absurd h
 stopped P (Err e) h p = subst P (sym h) p
 
--- what stands in front of a value has two bytes
-front_long : (front : List ℕ) → IsValueFront front → 1 < length front
-front_long front (inl c) =
-    omega (arith, ap length c.6, length-append (unit_text c.0) (word (codes "add") ++ (word (decimal c.1) ++ (word (label_text c.2.0) ++ word c.2.1))))
-front_long front (inr (inl s)) = omega (arith, ap length s.2)
-front_long front (inr (inr (inl p))) = omega (arith, ap length p.2)
-front_long front (inr (inr (inr p))) = omega (arith, ap length p.2)
-
 -- ---- behind lines
 
--- what begins alike behind the same lines
-alike_behind : (here : List ℕ) (before : List (List ℕ)) (w x y : List ℕ) → here ≡ lines_text before ++ (w ++ y)
-    → Alike ((lines_text before ++ w) ++ x) ((lines_text before ++ w) ++ y) → Alike (lines_text before ++ (w ++ x)) here
-alike_behind here before w x y e like =
-    subst (λ (u : List ℕ). Alike u here) (append_assoc (lines_text before) w x)
-    (subst (Alike ((lines_text before ++ w) ++ x)) (sym (e ∙ sym (append_assoc (lines_text before) w y))) like)
+-- lines, more lines, and a rest
+lines_join : (front before : List (List ℕ)) (rest : List ℕ) → lines_text front ++ (lines_text before ++ rest) ≡ lines_text (front ++ before) ++ rest
+lines_join front before rest =
+    sym (append_assoc (lines_text front) (lines_text before) rest) ∙ ap (λ (u : List ℕ). u ++ rest) (sym (flat_map-append ended front before))
+
+-- the first of several lines
+head_line : (l : List ℕ) (ls : List (List ℕ)) (rest : List ℕ) → lines_text (l ∷ ls) ++ rest ≡ l ++ 10 ∷ (lines_text ls ++ rest)
+head_line l ls rest = append_assoc (ended l) (lines_text ls) rest ∙ append_assoc l (10 ∷ []) (lines_text ls ++ rest)
 
 -- what begins with the same lines and the bad one
-alike_dead : (here : List ℕ) (before : List (List ℕ)) (bad behind more rest : List ℕ) → here ≡ lines_text before ++ (bad ++ behind)
-    → behind ≡ 10 ∷ more → Alike (lines_text (before ++ bad ∷ []) ++ rest) here
-alike_dead here before bad behind more rest e feed =
-    let last : lines_text (before ++ bad ∷ []) ++ rest ≡ lines_text before ++ (bad ++ 10 ∷ rest) =
-    sym (lines_join before (bad ∷ []) rest)
-    ∙ ap (λ (u : List ℕ). lines_text before ++ u) (ap (λ (u : List ℕ). u ++ rest) (append-nil (ended bad)) ∙ append_assoc bad (10 ∷ []) rest) in
-    subst (λ (u : List ℕ). Alike u here) (sym last)
-    (alike_behind here before bad (10 ∷ rest) (10 ∷ more) (e ∙ ap (λ (u : List ℕ). lines_text before ++ (bad ++ u)) feed)
-    (alike_line (lines_text before ++ bad) rest more))
+like_dead : (here : List ℕ) (before : List (List ℕ)) (bad behind more rest : List ℕ) → All IsLine before → IsLine bad
+    → here ≡ lines_text before ++ (bad ++ behind) → behind ≡ 10 ∷ more → Like (lines_text (before ++ bad ∷ []) ++ rest) here
+like_dead here [] bad behind more rest free line e feed =
+    inr (inl (bad, rest, more, line, head_line bad [] rest, e ∙ ap (λ (u : List ℕ). bad ++ u) feed))
+like_dead here (l ∷ ls) bad behind more rest free line e feed =
+    inr (inl (l, _, _, All-head IsLine l ls free, head_line l (ls ++ bad ∷ []) rest, e ∙ head_line l ls (bad ++ behind)))
 
 -- what begins with the same lines and the same front of a value
-alike_front : (here : List ℕ) (before : List (List ℕ)) (front rest behind more : List ℕ) → IsValueFront front
-    → here ≡ lines_text before ++ ((front ++ rest) ++ behind) → Alike (lines_text before ++ (front ++ more)) here
-alike_front here before front rest behind more wanting e =
-    let long : 1 < length (lines_text before ++ front) = omega (arith, front_long front wanting, length-append (lines_text before) front) in
-    alike_behind here before front more (rest ++ behind) (e ∙ ap (λ (u : List ℕ). lines_text before ++ u) (append_assoc front rest behind))
-    (alike_long (lines_text before ++ front) more (rest ++ behind) long)
+like_front : (here : List ℕ) (before : List (List ℕ)) (front x y : List ℕ) → All IsLine before → IsValueFront front
+    → here ≡ lines_text before ++ (front ++ y) → Like (lines_text before ++ (front ++ x)) here
+like_front here [] front x y free wanting e = inr (inr (front, x, y, wanting, refl, e))
+like_front here (l ∷ ls) front x y free wanting e =
+    inr (inl (l, _, _, All-head IsLine l ls free, head_line l ls (front ++ x), e ∙ head_line l ls (front ++ y)))
 
 -- a value that is too large in another text
 large_as : {IsText IsRest : List ℕ → Type 0} {before after : List (List ℕ)} {bad : List ℕ} (l : IsLargeIn IsText before bad)
@@ -54,7 +43,7 @@ large_as l viable = record { front = l.front; rest = l.rest; parts = l.parts; wa
 -- Behind these lines, which stand from one place to the other, one language goes on as the other.
 module _ (IsText IsRest : List ℕ → Type 0) (bytes : List ℕ) (at place : ℕ) (front : List (List ℕ)) (lines : All IsLine front)
     (is : drop at bytes ≡ lines_text front ++ drop place bytes)
-    (from : (u : List ℕ) → Alike u (drop place bytes) → IsText (lines_text front ++ u) → IsRest u)
+    (from : (u : List ℕ) → Like u (drop place bytes) → IsText (lines_text front ++ u) → IsRest u)
     (to : (u : List ℕ) → IsRest u → IsText (lines_text front ++ u)) where
   -- more lines behind them
   joined : (before : List (List ℕ)) (rest : List ℕ) → drop place bytes ≡ lines_text before ++ rest → drop at bytes ≡ lines_text (front ++ before) ++ rest
@@ -71,12 +60,11 @@ module _ (IsText IsRest : List ℕ → Type 0) (bytes : List ℕ) (at place : �
     end = f.end;
     viable = (f.viable.0, subst IsText (lines_join front before f.viable.0) (to (lines_text before ++ f.viable.0) f.viable.1));
     dead = λ more feed b.
-        let rest : List ℕ = lines_text (before ++ bad ∷ []) ++ b.0 in
-        let whole : lines_text ((front ++ before) ++ bad ∷ []) ++ b.0 ≡ lines_text front ++ rest =
+        let whole : lines_text ((front ++ before) ++ bad ∷ []) ++ b.0 ≡ lines_text front ++ (lines_text (before ++ bad ∷ []) ++ b.0) =
         ap (λ (ls : List (List ℕ)). lines_text ls ++ b.0) (append_assoc front before (bad ∷ [])) ∙ sym (lines_join front (before ++ bad ∷ []) b.0) in
-        let like = alike_dead (drop place bytes) before bad f.behind more b.0 f.parts feed in
-        f.dead more feed (b.0, from rest like (subst IsText whole b.1));
-    none = λ r. f.none (from (drop place bytes) (alike_same (drop place bytes) (drop place bytes) refl) (subst IsText is r));
+        let like = like_dead (drop place bytes) before bad f.behind more b.0 f.lines f.line f.parts feed in
+        f.dead more feed (b.0, from _ like (subst IsText whole b.1));
+    none = λ r. f.none (from (drop place bytes) (inl refl) (subst IsText is r));
   }
 
   -- its place
@@ -97,46 +85,69 @@ module _ (IsText IsRest : List ℕ → Type 0) (bytes : List ℕ) (at place : �
       large_as l (more, subst IsText (grouped before l.front more) (to (lines_text before ++ (l.front ++ more)) behind))
 
   -- is too large with them
-  large_from : (before : List (List ℕ)) (bad behind : List ℕ) → drop place bytes ≡ lines_text before ++ (bad ++ behind)
+  large_from : (before : List (List ℕ)) (bad : List ℕ) (f : IsFirstBad IsRest (drop place bytes) before bad)
       → IsLargeIn IsText (front ++ before) bad → IsLargeIn IsRest before bad
-  large_from before bad behind e l =
+  large_from before bad f l =
       let more : List ℕ = l.viable.0 in
-      let rest : List ℕ = lines_text before ++ (l.front ++ more) in
-      let like : Alike rest (drop place bytes) = alike_front (drop place bytes) before l.front l.rest behind more l.wanting
-      (e ∙ ap (λ (b : List ℕ). lines_text before ++ (b ++ behind)) l.parts) in
-      let viable : IsRest rest = from rest like (subst IsText (sym (grouped before l.front more)) l.viable.1) in
+      let here = f.parts ∙ ap (λ (b : List ℕ). lines_text before ++ (b ++ f.behind)) l.parts
+      ∙ ap (λ (u : List ℕ). lines_text before ++ u) (append_assoc l.front l.rest f.behind) in
+      let like = like_front (drop place bytes) before l.front more (l.rest ++ f.behind) f.lines l.wanting here in
+      let viable = from _ like (subst IsText (sym (grouped before l.front more)) l.viable.1) in
       large_as l (more, subst IsRest (sym (append_assoc (lines_text before) l.front more)) viable)
 
   -- where reading stops behind the lines, it stops as well in front of them
   pub onto : Onto IsText bytes at IsRest place
   onto stop.NoMemory s = tt
-  onto (stop.Bad here) s = (front ++ s.0, s.1, stop_behind here s.0 s.1 s.2, λ l. s.3 (large_from s.0 s.1 s.2.first.behind s.2.first.parts l))
+  onto (stop.Bad here) s = (front ++ s.0, s.1, stop_behind here s.0 s.1 s.2, λ l. s.3 (large_from s.0 s.1 s.2.first l))
   onto (stop.TooLarge here) s = (front ++ s.0, s.1, stop_behind here s.0 s.1 s.2, large_behind s.0 s.1 s.3)
 
 -- the same place
-pub onto_here : (IsText IsRest : List ℕ → Type 0) (bytes : List ℕ) (at : ℕ) → ((u : List ℕ) → Alike u (drop at bytes) → IsText u → IsRest u)
+pub onto_here : (IsText IsRest : List ℕ → Type 0) (bytes : List ℕ) (at : ℕ) → ((u : List ℕ) → Like u (drop at bytes) → IsText u → IsRest u)
     → ((u : List ℕ) → IsRest u → IsText u) → Onto IsText bytes at IsRest at
 onto_here IsText IsRest bytes at from to = onto IsText IsRest bytes at at [] (All-nil IsLine) refl from to
 
--- behind one line
-pub onto_fed : {text : List ℕ} → IsFed text → (IsText IsRest : List ℕ → Type 0) (bytes : List ℕ) (at place : ℕ)
-    → drop at bytes ≡ text ++ drop place bytes → ((u : List ℕ) → IsText (text ++ u) → IsRest u) → ((u : List ℕ) → IsRest u → IsText (text ++ u))
-    → Onto IsText bytes at IsRest place
-onto_fed {text} l IsText IsRest bytes at place is from to =
-    let one : (u : List ℕ) → text ++ u ≡ lines_text (l.line ∷ []) ++ u = λ u. ap (λ (v : List ℕ). v ++ u) (l.is ∙ sym (append-nil (ended l.line))) in
-    onto IsText IsRest bytes at place (l.line ∷ []) (All-cons IsLine l.line [] l.free (All-nil IsLine)) (is ∙ one (drop place bytes))
-    (λ u like t. from u (subst IsText (sym (one u)) t)) (λ u r. subst IsText (one u) (to u r))
+-- ---- lines behind one another
+
+-- lines, behind which one language goes on as the other
+pub record IsPath (IsText IsRest : List ℕ → Type 0) (text : List ℕ) : Type 0 where
+  pub lines : List (List ℕ)
+  pub free : All IsLine lines
+  pub is : text ≡ lines_text lines
+  pub behind : (u : List ℕ) → IsText (text ++ u) → IsRest u
+  pub front : (u : List ℕ) → IsRest u → IsText (text ++ u)
+
+-- none
+pub no_path : {IsText IsRest : List ℕ → Type 0} → ((u : List ℕ) → IsText u → IsRest u) → ((u : List ℕ) → IsRest u → IsText u) → IsPath IsText IsRest []
+no_path behind front = record { lines = []; free = All-nil IsLine; is = refl; behind = behind; front = front }
+
+-- and more behind them
+pub both_path : {IsText IsMid IsRest : List ℕ → Type 0} {text more : List ℕ} → IsPath IsText IsMid text → IsPath IsMid IsRest more
+    → IsPath IsText IsRest (text ++ more)
+both_path {IsText} {IsMid} {IsRest} {text} {more} p q = record {
+  lines = p.lines ++ q.lines;
+  free = All-append IsLine p.lines q.lines p.free q.free;
+  is = ap (λ (u : List ℕ). u ++ more) p.is ∙ ap (λ (u : List ℕ). lines_text p.lines ++ u) q.is ∙ sym (flat_map-append ended p.lines q.lines);
+  behind = λ u t. q.behind u (p.behind (more ++ u) (subst IsText (append_assoc text more u) t));
+  front = λ u t. subst IsText (sym (append_assoc text more u)) (p.front (more ++ u) (q.front u t));
+}
+
+-- where reading stops behind them, it stops as well in front of them
+pub path_onto : {IsText IsRest : List ℕ → Type 0} {text : List ℕ} → IsPath IsText IsRest text → (bytes : List ℕ) (at place : ℕ)
+    → drop at bytes ≡ text ++ drop place bytes → Onto IsText bytes at IsRest place
+path_onto {IsText} {IsRest} {text} p bytes at place is =
+    let fed : (u : List ℕ) → text ++ u ≡ lines_text p.lines ++ u = λ u. ap (λ (v : List ℕ). v ++ u) p.is in
+    onto IsText IsRest bytes at place p.lines p.free (is ∙ fed (drop place bytes)) (λ u like t. p.behind u (subst IsText (sym (fed u)) t))
+    (λ u r. subst IsText (fed u) (p.front u r))
 
 -- ---- at a line
 
 -- Each text that begins like the bytes at this place begins with one of these lines.
 module _ (IsText Is : List ℕ → Type 0) (bytes : List ℕ) (at : ℕ) (inside : at ≤ length bytes) (some : Begins IsText [])
-    (goes : (u : List ℕ) → SameFirst u (drop at bytes) → IsText u
-    → (l : List ℕ) × (rest : List ℕ) × IsLine l × Is l × (u ≡ l ++ 10 ∷ rest)) where
+    (goes : (u : List ℕ) → Like u (drop at bytes) → IsText u → (l : List ℕ) × (rest : List ℕ) × IsLine l × Is l × (u ≡ l ++ 10 ∷ rest)) where
   -- no text goes on with the bad line
   no_dead : (bad : List ℕ) (s : StopsAt Is (drop at bytes) bad) (more : List ℕ) → s.behind ≡ 10 ∷ more → (u : List ℕ) → ¬ IsText (bad ++ 10 ∷ u)
   no_dead bad s more feed u t =
-      let g = goes (bad ++ 10 ∷ u) (inr (bad, u, more, s.line, refl, s.parts ∙ ap (λ (v : List ℕ). bad ++ v) feed)) t in
+      let g = goes (bad ++ 10 ∷ u) (inr (inl (bad, u, more, s.line, refl, s.parts ∙ ap (λ (v : List ℕ). bad ++ v) feed))) t in
       s.refused more feed (subst Is (sym (same_line bad g.0 u g.1 s.line g.2 g.4)) g.3)
 
   -- nor is this one
@@ -151,7 +162,7 @@ module _ (IsText Is : List ℕ → Type 0) (bytes : List ℕ) (at : ℕ) (inside
       refused bs (ap (λ (c : ℕ). c ∷ bs) end) (subst Is (sym (same_line bad g.0 bs g.1 line g.2 (sym fed ∙ g.4))) g.3)
 
   -- a line that is none of them is the first bad one
-  stop_here : (bad : List ℕ) → StopsAt Is (drop at bytes) bad → IsStop IsText bytes at at [] bad
+  pub stop_here : (bad : List ℕ) → StopsAt Is (drop at bytes) bad → IsStop IsText bytes at at [] bad
   stop_here bad s = record {
     inside = inside;
     parts = refl;
@@ -162,63 +173,31 @@ module _ (IsText Is : List ℕ → Type 0) (bytes : List ℕ) (at : ℕ) (inside
       line = s.line;
       end = s.end;
       viable = some;
-      dead = λ more feed b.
-          let whole = ap (λ (u : List ℕ). u ++ b.0) (append-nil (ended bad)) ∙ append_assoc bad (10 ∷ []) b.0 in
-          no_dead bad s more feed b.0 (subst IsText whole b.1);
+      dead = λ more feed b. no_dead bad s more feed b.0 (subst IsText (head_line bad [] b.0) b.1);
       none = no_text bad s.behind s.line s.end s.refused s.parts;
     };
   }
 
-  -- and told so, where no value may stand
-  pub bad_here : ((bad : List ℕ) → ¬ IsLargeIn IsText [] bad) → (place : ℕ)
-      → (place ≡ at) × ((bad : List ℕ) × StopsAt Is (drop at bytes) bad) → StopsIn IsText bytes at (stop.Bad place)
-  bad_here small place s = subst (λ (p : ℕ). StopsIn IsText bytes at (stop.Bad p)) (sym s.0) ([], s.1.0, stop_here s.1.0 s.1.1, small s.1.0)
-
--- The line of something is to stand here: each text that begins like these bytes begins with one, and a value in it is too
--- large in the text as in the line.
-pub record Awaits {X : Type 0} (text : X → List ℕ) (Fits : X → Type 0) (IsLarge IsText : List ℕ → Type 0) (here : List ℕ) : Type 0 where
-  pub feeds : (x : X) → Fits x → IsFed (text x)
-  pub some : Begins IsText []
-  pub goes : (u : List ℕ) → SameFirst u here → IsText u → (x : X) × Fits x × ((rest : List ℕ) × (u ≡ text x ++ rest))
-  pub small : (bad behind : List ℕ) → here ≡ bad ++ behind → IsLargeIn IsText [] bad → IsLarge bad
-  pub large : (bad : List ℕ) → IsLarge bad → IsLargeIn IsText [] bad
-
-module _ {X : Type 0} {text : X → List ℕ} {Fits : X → Type 0} {IsLarge IsText : List ℕ → Type 0} (bytes : List ℕ) (at : ℕ)
-    (inside : at ≤ length bytes) (a : Awaits text Fits IsLarge IsText (drop at bytes)) where
-  -- the line is spelled so
-  spelled_first : (u : List ℕ) → SameFirst u (drop at bytes) → IsText u
-      → (l : List ℕ) × (rest : List ℕ) × IsLine l × IsSpelled text Fits l × (u ≡ l ++ 10 ∷ rest)
-  spelled_first u like t =
-      let g = a.goes u like t in
-      let l = a.feeds g.0 g.1 in
-      let rest = g.2.0 in
-      (l.line, rest, l.free, (g.0, g.1, sym l.is), g.2.1 ∙ ap (λ (v : List ℕ). v ++ rest) l.is ∙ append_assoc l.line (10 ∷ []) rest)
-
-  -- it is the first bad one, where it isn't
-  spelled_stop : (bad : List ℕ) → StopsAt (IsSpelled text Fits) (drop at bytes) bad → IsStop IsText bytes at at [] bad
-  spelled_stop = stop_here IsText (IsSpelled text Fits) bytes at inside a.some spelled_first
-
-  -- where no such line is read, reading stops
-  pub line_stop : (f : FileFault) → StopsLine text Fits IsLarge bytes at f → StopsIn IsText bytes at f
-  line_stop stop.NoMemory s = tt
-  line_stop (stop.Bad place) s =
-      subst (λ (p : ℕ). StopsIn IsText bytes at (stop.Bad p)) (sym s.0)
-      ([], s.1.0, spelled_stop s.1.0 s.1.1, λ l. s.1.2 (a.small s.1.0 s.1.1.behind s.1.1.parts l))
-  line_stop (stop.TooLarge place) s =
-      subst (λ (p : ℕ). StopsIn IsText bytes at (stop.TooLarge p)) (sym s.0) ([], s.1.0, spelled_stop s.1.0 s.1.1, a.large s.1.0 s.1.2)
+  -- a value that is too large in it begins a text like the bytes
+  pub value_like : (bad : List ℕ) → StopsAt Is (drop at bytes) bad → (l : IsLargeIn IsText [] bad) → Like (l.front ++ l.viable.0) (drop at bytes)
+  value_like bad s l = inr (inr (
+    l.front,
+    l.viable.0,
+    l.rest ++ s.behind,
+    l.wanting,
+    refl,
+    s.parts ∙ ap (λ (b : List ℕ). b ++ s.behind) l.parts ∙ append_assoc l.front l.rest s.behind,
+  ))
 
 -- where no text that begins alike may stand
 pub never_stop : (IsText : List ℕ → Type 0) (bytes : List ℕ) (at : ℕ) → at ≤ length bytes → Begins IsText []
-    → ((u : List ℕ) → Alike u (drop at bytes) → ¬ IsText u) → StopsIn IsText bytes at (stop.Bad at)
+    → ((u : List ℕ) → Like u (drop at bytes) → ¬ IsText u) → StopsIn IsText bytes at (stop.Bad at)
 never_stop IsText bytes at inside some never =
     let f = first_line (drop at bytes) in
     let at_line : StopsAt (λ _. ⊥) (drop at bytes) f.bad =
     record { behind = f.behind; parts = f.parts; line = f.line; end = f.end; refused = λ more feed h. h } in (
       [],
       f.bad,
-      stop_here IsText (λ _. ⊥) bytes at inside some (λ u same t. absurd (never u (first_alike u (drop at bytes) same) t)) f.bad at_line,
-      λ l.
-          never (l.front ++ l.viable.0)
-          (alike_front (drop at bytes) [] l.front l.rest f.behind l.viable.0 l.wanting (f.parts ∙ ap (λ (b : List ℕ). b ++ f.behind) l.parts))
-          l.viable.1,
+      stop_here IsText (λ _. ⊥) bytes at inside some (λ u like t. absurd (never u like t)) f.bad at_line,
+      λ l. never _ (value_like IsText (λ _. ⊥) bytes at inside some (λ u like t. absurd (never u like t)) f.bad at_line l) l.viable.1,
     )

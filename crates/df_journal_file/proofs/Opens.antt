@@ -1,22 +1,10 @@
 -- What stands at the head of entries, and entries of what stands there.
-use Rattle.df_journal_file.proofs.Names.{◌≡◌, ℕ, ◌+◌, ◌<◌, Bool, true, false, eqb, List, [], ◌∷◌, ◌++◌, length, Option, Some, None, codes, refl, sym, ap, subst, ◌∙◌, arith, append_assoc, ◌⊎◌, inl, inr, is_ascii_digit, All, flat_map, All-cons, All-head, All-nil, All-tail, Label, Call, Commit, Effect, Entry, Done, Emitted, Noted, UnitName, PartRead, Reply, IsLabel, begins_with, begins_digit, call_words, effect_text, entry_text, note_text, noted_text, reads_text, spot_line, IsAnswer, IsCalled, IsCommit, IsEffectOf, IsEntry, IsNoteOf, IsPartRead, IsReply, spaced, unit_text, begins_pair, reply_words, more_first, unit_first, event_line, ChangesSome, EditsSome, EndsFile, HasNote, ShowsSome, IsNoteBy, IsShownBy, IsSomeCommit, IsSomeEffectOf, IsWholeBy, commit_lines, AddsFrom, CommitFrom, DoneFrom, EditFrom, EffectFrom, EntriesFrom, GivenFrom, NoteFrom, ShownFrom, ShowsNone}
-use Rattle.std.proofs.lemmas.Bool.Decides.{nat_tests}
+use Rattle.df_journal_file.proofs.Names.{event_line, ChangesSome, EditsSome, EndsFile, HasNote, ShowsSome, IsNoteBy, IsShownBy, IsSomeCommit, IsSomeEffectOf, IsWholeBy, commit_lines, AddsFrom, CommitFrom, DoneFrom, EditFrom, EffectFrom, EntriesFrom, GivenFrom, NoteFrom, ShownFrom, ShowsNone, more_first, unit_first, call_words, effect_text, entry_text, note_text, noted_text, reads_text, spot_line, IsAnswer, IsCalled, IsCommit, IsEffectOf, IsEntry, IsNoteOf, IsPartRead, IsReply, spaced, unit_text, reply_words, Label, Call, Commit, Effect, Entry, Done, Emitted, Noted, UnitName, PartRead, Reply, IsLabel, begins_digit, Bool, List, None, Option, Some, [], ap, append_assoc, arith, codes, false, inl, inr, length, refl, subst, sym, true, ℕ, ◌++◌, ◌+◌, ◌<◌, ◌∙◌, ◌∷◌, ◌≡◌, ◌⊎◌, All-cons, All-head, All-nil, All-tail, All, flat_map}
 use Rattle.df_unit.specs.declared.commit.Given.{Given}
 use Rattle.df_unit.specs.declared.entry.Effect.TheVariants as effect
 use Rattle.df_unit.specs.declared.reply.Reply.TheVariants as reply
-use Rattle.df_journal_file.proofs.Feeds.{CallTold, told_line}
 use Rattle.df_journal_file.proofs.Entries.{alone, done_of, done_spelled, done_whole, emitted_whole, no_note, some_note}
-
--- ---- the first bytes
-
--- a digit is another byte
-digit_other : (c m : ℕ) → is_ascii_digit c ≡ true → is_ascii_digit m ≡ false → eqb c m ≡ false
-digit_other c m digit none = grind (arith, nat_tests)
-
--- what begins with a digit begins with no other byte or mark
-pub digit_begins : (m : ℕ) (u : List ℕ) → begins_digit u ≡ true → is_ascii_digit m ≡ false → (begins_with m u ≡ false) × (begins_pair m 32 u ≡ false)
-digit_begins m [] digit none = absurd cc
-digit_begins m (c ∷ cs) digit none = let e = digit_other c m digit none in (e, rw e refl)
+use Rattle.df_journal_file.proofs.Feeds.{CallTold, told_line}
 
 -- a call's line begins with a digit
 pub called_begins : (c : CallTold) (rest : List ℕ) → IsCalled c → begins_digit (told_line c ++ rest) ≡ true
@@ -99,9 +87,9 @@ note_from true bare None rest n t = inl (inr n, t)
 note_from false bare (Some label) rest n t = absurd cc
 note_from false bare None rest n t = inl (inl refl, t)
 
--- the entry of a unit, or of what the world emitted
+-- an end, what the world emitted, or the entry of a unit
 abbrev pub AtHead : Bool → List ℕ → Type 0
-AtHead has s = DoneFrom has s ⊎ CommitFrom has (codes "emitted") s
+AtHead has s = (EndsFile s ⊎ CommitFrom has (codes "emitted") s) ⊎ DoneFrom has s
 
 -- the lines of the entry of a unit
 unit_head : (has : Bool) (actor : UnitName) (call : Call) (r : Reply) (e : Effect) (note : Option Label) (tail : List ℕ)
@@ -118,25 +106,25 @@ entry_head : (has : Bool) (entry : Entry) (note : Option Label) (tail : List ℕ
     → EntriesFrom has tail → AtHead has (entry_text note entry ++ tail)
 entry_head true (Done actor call r e) (Some label) tail w t =
     let fits : (l : Label) → Some label ≡ Some l → IsLabel l = λ l is. subst (λ (o : Option Label). IsNoteOf (Done actor call r e) o) is w.0.1 in
-    inl (unit_head true actor call r e (Some label) tail w.0.0 w.1.0 w.1.1 (λ bare f. note_by bare r (Some label) f w.2 fits) t)
+    inr (unit_head true actor call r e (Some label) tail w.0.0 w.1.0 w.1.1 (λ bare f. note_by bare r (Some label) f w.2 fits) t)
 entry_head true (Done actor call r e) None tail w t =
-    inl (unit_head true actor call r e None tail w.0.0 w.1.0 w.1.1 (λ bare f. note_by bare r None f w.2 (λ l is. absurd cc)) t)
+    inr (unit_head true actor call r e None tail w.0.0 w.1.0 w.1.1 (λ bare f. note_by bare r None f w.2 (λ l is. absurd cc)) t)
 entry_head true (Emitted commit) (Some label) tail w t = absurd w.0.1
-entry_head true (Emitted commit) None tail w t = inr (commit_from true (codes "emitted") commit tail w.0.0 w.1 t)
-entry_head false (Done actor call r e) note tail w t = inl (unit_head false actor call r e note tail w.0.0 w.0.1.0 w.0.1.1 (λ bare f. w.1) t)
+entry_head true (Emitted commit) None tail w t = inl (inr (commit_from true (codes "emitted") commit tail w.0.0 w.1 t))
+entry_head false (Done actor call r e) note tail w t = inr (unit_head false actor call r e note tail w.0.0 w.0.1.0 w.0.1.1 (λ bare f. w.1) t)
 entry_head false (Emitted commit) (Some label) tail w t = absurd (let no = w.1 in cc)
-entry_head false (Emitted commit) None tail w t = inr (commit_from false (codes "emitted") commit tail w.0.0 w.0.1 t)
+entry_head false (Emitted commit) None tail w t = inl (inr (commit_from false (codes "emitted") commit tail w.0.0 w.0.1 t))
 
 -- entries are none, or one stands at the head
-pub opened : (has : Bool) (s : List ℕ) → EntriesFrom has s → EndsFile s ⊎ AtHead has s
+pub opened : (has : Bool) (s : List ℕ) → EntriesFrom has s → AtHead has s
 opened has s t = cut t.0 t.1 t.2 t.3 t.4
   where
-    cut : (noted : List Noted) (end : List ℕ) → All (IsWholeBy has) noted → EndsFile end → s ≡ flat_map noted_text noted ++ end → EndsFile s ⊎ AtHead has s
-    cut [] end f ends e = inl (subst EndsFile (sym e) ends)
+    cut : (noted : List Noted) (end : List ℕ) → All (IsWholeBy has) noted → EndsFile end → s ≡ flat_map noted_text noted ++ end → AtHead has s
+    cut [] end f ends e = inl (inl (subst EndsFile (sym e) ends))
     cut (n ∷ ns) end f ends e =
         let tail : EntriesFrom has (flat_map noted_text ns ++ end) = (ns, end, All-tail (IsWholeBy has) n ns f, ends, refl) in
         let head = entry_head has n.entry n.contamination _ (All-head (IsWholeBy has) n ns f) tail in
-        inr (subst (AtHead has) (sym (e ∙ append_assoc (noted_text n) (flat_map noted_text ns) end)) head)
+        subst (AtHead has) (sym (e ∙ append_assoc (noted_text n) (flat_map noted_text ns) end)) head
 
 -- ---- to entries
 

@@ -1,6 +1,6 @@
 -- What is spelled from one place to another, and lines at a place.
-use Rattle.df_journal_file.proofs.Names.{◌≡◌, ℕ, ◌≤◌, List, [], ◌∷◌, ◌++◌, length, drop, Option, Some, None, Result, Ok, Err, refl, sym, ap, subst, ◌∙◌, arith, append_assoc, append-nil, flat_map, flat_map-append, All-push, TellsLine, StopsAt, ArePassed, IsHere, IsLineHere, IsSpelled, TellsAt, finished}
-use Rattle.df_journal_text.specs.code.Judging.{ended}
+use Rattle.df_journal_file.proofs.Names.{◌≡◌, ℕ, ◌≤◌, List, [], ◌∷◌, ◌++◌, length, drop, Option, Some, None, Result, Ok, Err, refl, sym, ap, subst, ◌∙◌, arith, append_assoc, append-nil, flat_map, flat_map-append, All-push, StopsAt, ArePassed, IsHere, IsLineHere, IsSpelled, TellsAt, finished}
+use Rattle.df_journal_text.specs.code.Judging.{TellsLine, ended}
 use Rattle.df_journal_text.specs.declared.line_fault.LineFault.{LineFault}
 use Rattle.df_journal_text.specs.declared.line_fault.LineFault.TheVariants as fault
 

@@ -1,19 +1,21 @@
 -- What is read of an entry, step by step, and where that stops.
-use Rattle.df_journal_file.proofs.Names.{◌≡◌, ℕ, ◌≤◌, Bool, true, false, List, [], ◌∷◌, ◌++◌, length, drop, codes, refl, sym, ap, subst, ◌∙◌, arith, ◌⊎◌, inl, inr, ok_is, FileFault, Spot, Part, Call, UnitName, PartRead, Reply, IsLabel, begins_with, begins_digit, part_line, spot_line, IsCalled, IsPart, IsSpot, IsLargeCalled, unit_text, unit_at, begins_pair, answer_at, call_text, note_line, EditsSome, EndsFile, CommitFrom, EditFrom, EffectFrom, EntriesFrom, HandedFrom, IsHanding, NoteFrom, NotesNone, ReadFrom, ShownFrom, ShowsNone, Then, IsUnitHere, AreMarked, IsHere, StopsLine, Onto, StopsIn}
+use Rattle.df_journal_file.proofs.Names.{ok_is, note_line, EditsSome, EndsFile, CommitFrom, EditFrom, EffectFrom, EntriesFrom, HandedFrom, IsHanding, NoteFrom, NotesNone, ReadFrom, ShownFrom, ShowsNone, Then, AreMarked, StopsLine, Onto, StopsIn, part_line, spot_line, IsAnswer, IsCalled, IsPart, IsSpot, IsLargeCalled, unit_text, begins_pair, Begins, FileFault, Spot, Part, Call, UnitName, PartRead, Reply, IsLabel, begins_with, begins_digit, Bool, List, [], ap, arith, codes, drop, false, inl, inr, length, lit<, refl, subst, sym, true, ℕ, ◌++◌, ◌∙◌, ◌∷◌, ◌≡◌, ◌≤◌, ◌⊎◌, Root, unended, answer_text, called, called_line}
 use Rattle.df_lines.specs.declared.fault.FileFault.TheVariants as stop
+use Rattle.df_unit.specs.declared.call.Call.TheVariants.{Get}
 use Rattle.df_unit.specs.declared.reply.Reply.TheVariants as reply
 use Rattle.df_journal_text.specs.ReadCall.{call_at}
-use Rattle.df_journal_text.proofs.Frames.{unended}
-use Rattle.df_journal_text.proofs.LineTells.{answer_text, called, called_line}
-use Rattle.df_journal_file.proofs.Feeds.{CallTold, call_feeds, fed_rest, fed_same, told_line}
-use Rattle.df_journal_file.proofs.Fronts.{SameFirst, first_alike, one_result}
-use Rattle.df_journal_file.proofs.Heads.{edit_some, entries_begin, entries_some}
-use Rattle.df_journal_file.proofs.LineKinds.{adds_run, spots_run}
 use Rattle.df_journal_file.proofs.Ends.{same_end}
-use Rattle.df_journal_file.proofs.Ontos.{line_stop, never_stop, onto_fed, onto_here}
-use Rattle.df_journal_file.proofs.Opens.{AtHead, called_begins, digit_begins, done_to, effect_parts, emitted_to, opened}
-use Rattle.df_journal_file.proofs.Runs.{run_none}
-use Rattle.df_journal_file.proofs.Values.{called_large, called_small}
+use Rattle.df_journal_file.proofs.Entries.{bare_parts}
+use Rattle.df_journal_file.proofs.Feeds.{CallTold, told_line}
+use Rattle.df_journal_file.proofs.Fronts.{alike, digit_begins, one_result}
+use Rattle.df_journal_file.proofs.Heads.{entries_begin, label_fits, no_label}
+use Rattle.df_journal_file.proofs.LineKinds.{adds_run, called_kind, note_kind, read_run, spots_run}
+use Rattle.df_journal_file.proofs.Ontos.{never_stop, onto_here}
+use Rattle.df_journal_file.proofs.Opens.{AtHead, called_begins, done_to, effect_parts, emitted_to, none_left, opened, shows_or_not}
+use Rattle.df_journal_file.proofs.Rows.{IsRow, row_some, row_stop, run_none, run_row, then_row}
+use Rattle.df_journal_file.specs.code.Marks.{IsUnitHere}
+use Rattle.df_journal_text.specs.ReadName.{unit_at}
+use Rattle.df_journal_text.specs.code.Judging.{answer_at, call_text}
 
 -- lines of calls that are the same have the same reply
 same_reply : (c d : CallTold) → IsCalled c → IsCalled d → told_line c ≡ told_line d → c.2 ≡ d.2
@@ -26,24 +28,66 @@ same_reply c d f g e =
     let call = ok_is _ _ (sym (middle c f) ∙ ap (λ (q : UnitName × List ℕ). call_at q.1) unit ∙ middle d g) in
     ap (λ (q : Reply × List ℕ). q.0) (ok_is _ _ (sym (called.tail_back c.2 f.2) ∙ ap (λ (q : Call × List ℕ). answer_at q.1) call ∙ called.tail_back d.2 g.2))
 
+-- a contamination is noted, or none
+noted_or_not : (has : Bool) (r : Reply) → NotesNone has r ⊎ ¬ NotesNone has r
+noted_or_not false r = inl (inl refl)
+noted_or_not true reply.NoSuchUnit = inl (inr refl)
+noted_or_not true _ = inr (λ none. elim none [ inl e ↦ cc | inr e ↦ cc ])
+
+-- ---- rows of the table
+
+-- in front of no entry of a unit stands a digit
+no_digit : (has : Bool) (u : List ℕ) → EndsFile u ⊎ CommitFrom has (codes "emitted") u → begins_digit u ≡ false
+no_digit has u (inl (inl e)) = ap begins_digit e
+no_digit has u (inl (inr e)) = ap begins_digit e.1
+no_digit has u (inr m) = ap begins_digit m.4
+
+module _ (has : Bool) where
+  -- something may be shown behind a reply
+  shown_some : (bare : Reply) → IsAnswer bare → Begins (ShownFrom has bare) []
+  shown_some bare f =
+      elim (shows_or_not bare) [
+        | inl p ↦ let r = row_some (read_run has).kind (run_row (read_run has) 0) in (r.0, inr (bare_parts bare p.0 f p.1, r.1))
+        | inr none ↦ ([], inl (none, inl (none_left has [] (inl refl))))
+      ]
+
+  -- a contamination that is noted
+  pub note_row : (bare : Reply) → IsAnswer bare → IsRow note_line IsLabel (Then note_line IsLabel (ShownFrom has bare)) (λ _. ShownFrom has bare) (λ _. ⊥)
+  note_row bare f = then_row note_line IsLabel (ShownFrom has bare) no_label label_fits (shown_some bare f)
+
+  note_some : (bare : Reply) → IsAnswer bare → Begins (NoteFrom has bare) []
+  note_some bare f =
+      elim (noted_or_not has bare) [
+        | inl none ↦ let s = shown_some bare f in (s.0, inl (none, s.1))
+        | inr some ↦ let s = row_some note_kind (note_row bare f) in (s.0, inr (some, s.1))
+      ]
+
+  -- an entry of a unit
+  pub called_row : IsRow told_line IsCalled (EntriesFrom has) (λ c. NoteFrom has c.2) (λ u. EndsFile u ⊎ CommitFrom has (codes "emitted") u)
+  called_row = record {
+    from = opened has;
+    to = λ c u f n. done_to has _ (c, u, f, n, refl);
+    others = λ u o. elim o [ inl e ↦ none_left has u e | inr m ↦ emitted_to has u m ];
+    apart = λ c u f o. one_result (called_begins c u f) (no_digit has _ o);
+    same = λ c d f g e u n. subst (λ (r : Reply). NoteFrom has r u) (sym (same_reply c d f g e)) n;
+    some = λ c f. note_some c.2 f.2;
+    one = ((Root (0 ∷ []), Get, reply.Ok), ((lit< tt, tt), tt, (tt, tt)));
+  }
+
 module _ (has : Bool) (bytes : List ℕ) (at : ℕ) where
   -- ---- edits
 
-  -- nothing is deleted or added
-  no_edit : (u : List ℕ) → begins_pair 45 32 u ≡ false → begins_pair 43 32 u ≡ false → ¬ EditFrom has 0 u
-  no_edit u no_spot no_part t =
-      let some = run_none (adds_run has) 0 u no_part (run_none (spots_run has) 0 u no_spot t) in
-      omega (arith, some.0)
-
-  -- so reading stops
+  -- nothing is deleted or added, so reading stops
   pub no_edit_stop : (behind end : ℕ) (spots : List Spot) (added : List Part) → at ≤ length bytes
       → AreMarked spot_line IsSpot 45 bytes at spots behind → AreMarked (part_line (codes "+")) IsPart 43 bytes behind added end
       → ¬ EditsSome (spots, added) → StopsIn (EditFrom has 0) bytes at (stop.Bad at)
   no_edit_stop behind end [] [] inside d a none =
       let no_spot : begins_pair 45 32 (drop at bytes) ≡ false = ap (begins_pair 45 32) d.0.parts ∙ d.1 in
       let no_part : begins_pair 43 32 (drop at bytes) ≡ false = ap (begins_pair 43 32) (d.0.parts ∙ a.0.parts) ∙ a.1 in
-      never_stop (EditFrom has 0) bytes at inside (edit_some has 0)
-      (λ u like t. no_edit u ((like 45).1 refl ∙ no_spot) ((like 43).1 refl ∙ no_part) t)
+      never_stop (EditFrom has 0) bytes at inside (row_some (spots_run has).kind (run_row (spots_run has) 0))
+      (λ u like t.
+      let adds = run_none (spots_run has) 0 u ((alike u _ like 45).1 refl ∙ no_spot) t in
+      let some = run_none (adds_run has) 0 u ((alike u _ like 43).1 refl ∙ no_part) adds in omega (arith, some.0))
   no_edit_stop behind end (x ∷ spots) added inside d a none = absurd (none (omega arith))
   no_edit_stop behind end [] (y ∷ added) inside d a none = absurd (none (omega arith))
 
@@ -51,7 +95,7 @@ module _ (has : Bool) (bytes : List ℕ) (at : ℕ) where
 
   -- a commit, where its mark stands
   pub commit_onto : (r : Reply) → begins_pair 61 32 (drop at bytes) ≡ true → Onto (EffectFrom has r) bytes at (CommitFrom has (codes "=")) at
-  commit_onto r marked = onto_here _ _ _ _ (λ u like t. cut u ((like 61).1 refl ∙ marked) t) (λ u t. inr (inl t))
+  commit_onto r marked = onto_here _ _ _ _ (λ u like t. cut u ((alike u _ like 61).1 refl ∙ marked) t) (λ u t. inr (inl t))
     where
       cut : (u : List ℕ) → begins_pair 61 32 u ≡ true → EffectFrom has r u → CommitFrom has (codes "=") u
       cut u b (inl t) = one_result b (entries_begin has u t 61 refl)
@@ -60,7 +104,7 @@ module _ (has : Bool) (bytes : List ℕ) (at : ℕ) where
 
   -- an event that is handed over, where its mark stands
   pub handed_onto : (r : Reply) → IsHanding r → begins_pair 60 32 (drop at bytes) ≡ true → Onto (EffectFrom has r) bytes at (HandedFrom has) at
-  handed_onto r hands marked = onto_here _ _ _ _ (λ u like t. cut u ((like 60).1 refl ∙ marked) t) (λ u t. inr (inr (hands, t)))
+  handed_onto r hands marked = onto_here _ _ _ _ (λ u like t. cut u ((alike u _ like 60).1 refl ∙ marked) t) (λ u t. inr (inr (hands, t)))
     where
       cut : (u : List ℕ) → begins_pair 60 32 u ≡ true → EffectFrom has r u → HandedFrom has u
       cut u b (inl t) = one_result b (entries_begin has u t 60 refl)
@@ -71,7 +115,7 @@ module _ (has : Bool) (bytes : List ℕ) (at : ℕ) where
   pub nothing_onto : (r : Reply) → begins_pair 61 32 (drop at bytes) ≡ false → (IsHanding r → begins_pair 60 32 (drop at bytes) ≡ false)
       → Onto (EffectFrom has r) bytes at (EntriesFrom has) at
   nothing_onto r no_commit no_given =
-      onto_here _ _ _ _ (λ u like t. cut u ((like 61).1 refl ∙ no_commit) (λ h. (like 60).1 refl ∙ no_given h) t) (λ u t. inl t)
+      onto_here _ _ _ _ (λ u like t. cut u ((alike u _ like 61).1 refl ∙ no_commit) (λ h. (alike u _ like 60).1 refl ∙ no_given h) t) (λ u t. inl t)
     where
       cut : (u : List ℕ) → begins_pair 61 32 u ≡ false → (IsHanding r → begins_pair 60 32 u ≡ false) → EffectFrom has r u → EntriesFrom has u
       cut u a b (inl t) = t
@@ -104,46 +148,22 @@ module _ (has : Bool) (bytes : List ℕ) (at : ℕ) where
 
   -- ---- calls
 
-  -- behind the line of a call
-  pub called_onto : {c : CallTold} {next : ℕ} → IsHere told_line IsCalled bytes at c next → Onto (EntriesFrom has) bytes at (NoteFrom has c.2) next
-  called_onto {c} {next} h =
-      onto_fed (call_feeds c h.fits) _ _ _ _ _ h.parts (λ u m. cut u (opened has _ m)) (λ u n. done_to has _ (c, u, h.fits, n, refl))
-    where
-      cut : (u : List ℕ) → EndsFile (told_line c ++ u) ⊎ AtHead has (told_line c ++ u) → NoteFrom has c.2 u
-      cut u (inl (inl e)) = one_result (called_begins c u h.fits) (ap begins_digit e)
-      cut u (inl (inr e)) = one_result (called_begins c u h.fits) (ap begins_digit e.1)
-      cut u (inr (inl d)) =
-          let feeds = call_feeds c h.fits in
-          let same = same_reply c d.0 h.fits d.2 (fed_same _ _ feeds (call_feeds d.0 d.2) d.4) in
-          subst (NoteFrom has c.2) (sym (fed_rest _ _ feeds (call_feeds d.0 d.2) d.4)) (subst (λ (r : Reply). NoteFrom has r d.1) (sym same) d.3)
-      cut u (inr (inr m)) = one_result (called_begins c u h.fits) (ap begins_digit m.4)
-
-  -- a line that is none is bad
+  -- a line that is none of a call is bad
   pub called_stop : at ≤ length bytes → IsUnitHere (drop at bytes) → (f : FileFault) → StopsLine told_line IsCalled IsLargeCalled bytes at f
       → StopsIn (EntriesFrom has) bytes at f
-  called_stop inside here f s =
-      line_stop bytes at inside (record {
-        feeds = call_feeds;
-        some = entries_some has;
-        goes = λ u same t. cut u same (opened has u t);
-        small = λ bad behind is l. called_small has bad l;
-        large = called_large has;
-      }) f s
-    where
-      cut : (u : List ℕ) → SameFirst u (drop at bytes) → EndsFile u ⊎ AtHead has u → (c : CallTold) × IsCalled c × ((rest : List ℕ) × (u ≡ told_line c ++ rest))
-      cut u same (inl e) = absurd (here.0 (same_end u (drop at bytes) same e))
-      cut u same (inr (inl d)) = (d.0, d.2, (d.1, d.4))
-      cut u same (inr (inr m)) = one_result (ap (begins_with 101) m.4) ((first_alike u (drop at bytes) same 101).0 ∙ here.1)
+  called_stop inside here =
+      row_stop called_kind (called_row has) bytes at inside (λ u like o. elim o [
+        | inl e ↦ here.0 (same_end u (drop at bytes) like e)
+        | inr m ↦ one_result (ap (begins_with 101) m.4) ((alike u (drop at bytes) like 101).0 ∙ here.1)
+      ])
 
   -- what the world emitted, where its mark begins
   pub emitted_onto : begins_with 101 (drop at bytes) ≡ true → Onto (EntriesFrom has) bytes at (CommitFrom has (codes "emitted")) at
   emitted_onto marked =
-      onto_here _ _ _ _ (λ u like t. cut u ((like 101).0 ∙ marked) (opened has u t)) (λ u t. emitted_to has u t)
+      onto_here _ _ _ _ (λ u like t. cut u ((alike u _ like 101).0 ∙ marked) (opened has u t)) (λ u t. emitted_to has u t)
     where
-      cut : (u : List ℕ) → begins_with 101 u ≡ true → EndsFile u ⊎ AtHead has u → CommitFrom has (codes "emitted") u
-      cut u b (inl (inl e)) = one_result b (ap (begins_with 101) e)
-      cut u b (inl (inr e)) = one_result b (ap (begins_with 101) e.1)
-      cut u b (inr (inl d)) =
-          let digit = subst (λ (v : List ℕ). begins_digit v ≡ true) (sym d.4) (called_begins d.0 d.1 d.2) in
-          one_result b (digit_begins 101 u digit refl).0
-      cut u b (inr (inr m)) = m
+      cut : (u : List ℕ) → begins_with 101 u ≡ true → AtHead has u → CommitFrom has (codes "emitted") u
+      cut u b (inl (inl (inl e))) = one_result b (ap (begins_with 101) e)
+      cut u b (inl (inl (inr e))) = one_result b (ap (begins_with 101) e.1)
+      cut u b (inl (inr m)) = m
+      cut u b (inr d) = one_result b (digit_begins 101 u (ap begins_digit d.4 ∙ called_begins d.0 d.1 d.2) refl).0

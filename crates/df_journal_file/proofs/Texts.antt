@@ -1,13 +1,12 @@
 -- Whole journals: their first line, their roots and their entries.
-use Rattle.df_journal_file.proofs.Names.{◌≡◌, ℕ, Bool, true, false, List, [], ◌∷◌, ◌++◌, drop, map, Option, Some, None, Ok, codes, refl, sym, ap, subst, ◌∙◌, arith, lit<, append_assoc, inl, inr, All, AllByRecursion, flat_map, append_cancel_left, All-map, All-weaker, recursion_from_All, ok_is, Label, Begins, IsLine, ended, FileFault, RootStart, Entry, Done, Emitted, Noted, begins_with, noted_text, AreRoots, IsJournal, IsNoteOf, IsNoted, line, EndsJournal, journal_at, start_text, journal_back, front_text, First, IsJournalOf, Journal, Second, journal_by, EndsFile, IsWholeEntry, IsLargeIn, IsWholeBy, IsEitherFirst, IsFirstAt, IsText, IsWanted, StopsFirst, first_of, EntriesFrom, HeadFrom, Onto, StopsIn}
+use Rattle.df_journal_file.proofs.Names.{ok_is, front_text, First, IsJournalOf, Journal, Second, journal_by, EndsFile, IsWholeEntry, IsWholeBy, IsEitherFirst, IsFirstAt, IsText, IsWanted, StopsFirst, first_of, EntriesFrom, HeadFrom, Onto, StopsIn, journal_back, noted_text, AreRoots, IsJournal, IsNoteOf, IsNoted, line, start_text, Label, IsLine, ended, FileFault, run, StopsAt, RootStart, Entry, Done, Emitted, Noted, begins_with, Bool, List, None, Ok, Option, Some, [], ap, append_assoc, arith, codes, drop, false, inl, inr, lit<, map, refl, subst, sym, true, ℕ, ◌++◌, ◌∙◌, ◌∷◌, ◌≡◌, append_cancel_left, All-map, All-weaker, recursion_from_All, All, AllByRecursion, flat_map, unended, Avoids-text}
 use mathlib.Core.Bool.{beq, not}
 use Rattle.std.proofs.lemmas.List.Folds.{flat_map-map}
 use Rattle.df_lines.specs.declared.fault.FileFault.TheVariants as stop
-use Rattle.df_script_text.proofs.Splits.{Avoids-text}
-use Rattle.df_journal_file.proofs.Feeds.{IsFed}
-use Rattle.df_journal_file.proofs.Ontos.{bad_here, onto_fed}
+use Rattle.df_journal_file.proofs.Ontos.{path_onto}
 use Rattle.df_journal_file.proofs.Roots.{head_some}
-use Rattle.df_journal_file.proofs.Values.{never_large}
+use Rattle.df_journal_file.proofs.Rows.{IsKind, IsRow, bare_kind, bare_stop, line_path, row_stop}
+use Rattle.df_journal_text.specs.ReadEntry.{EndsJournal, journal_at}
 
 -- ---- the text of a journal
 
@@ -123,15 +122,18 @@ with_first has rest h =
       (t.1, t.3, whole ∙ sym (regroup (ended (first_of has)) (start_text h.0) run_line (flat_map noted_text t.0) t.1)),
     )
 
--- it is a line of its version, and begins with a letter
-first_feeds : (has : Bool) → IsFed (ended (first_of has))
-first_feeds true = record { line = codes "defcon-journal 2"; free = Avoids-text (codes "defcon-journal 2") refl; is = refl }
-first_feeds false = record { line = codes "defcon-journal 1"; free = Avoids-text (codes "defcon-journal 1") refl; is = refl }
+-- it is a line of its version
+first_free : (has : Bool) → IsLine (first_of has)
+first_free true = Avoids-text (first_of true) refl
+first_free false = Avoids-text (first_of false) refl
 
-first_line : (has : Bool) → IsLine (first_of has) × IsEitherFirst (first_of has) × ((u : List ℕ) → begins_with 100 (ended (first_of has) ++ u) ≡ true)
-unfolding first_feeds
-first_line true = ((first_feeds true).free, inr refl, λ u. refl)
-first_line false = ((first_feeds false).free, inl refl, λ u. refl)
+first_byte : (has : Bool) (u : List ℕ) → begins_with 100 (ended (first_of has) ++ u) ≡ true
+first_byte true u = refl
+first_byte false u = refl
+
+either_first : (has : Bool) → IsEitherFirst (first_of has)
+either_first true = inr refl
+either_first false = inl refl
 
 -- which tells the version
 same_first : (has k : Bool) (u v : List ℕ) → ended (first_of has) ++ u ≡ ended (first_of k) ++ v → (has ≡ k) × (u ≡ v)
@@ -140,50 +142,52 @@ same_first false false u v e = (refl, append_cancel_left (ended (first_of false)
 same_first true false u v e = absurd (let no : false ≡ true = ap (λ (w : List ℕ). begins_with 49 (drop 15 w)) e in cc)
 same_first false true u v e = absurd (let no : true ≡ false = ap (λ (w : List ℕ). begins_with 49 (drop 15 w)) e in cc)
 
+-- the first line of a journal in a version that is wanted
+abbrev first_line : Bool → List ℕ
+first_line has = ended (first_of has)
+
+first_kind : (wanted : Option Bool) → IsKind first_line (IsWanted wanted) (λ _. ⊥)
+first_kind wanted = bare_kind 100 (λ front no. no) (λ has w. record { line = first_of has; free = first_free has; is = refl }) first_byte
+
+some_wanted : (wanted : Option Bool) → (has : Bool) × IsWanted wanted has
+some_wanted (Some has) = (has, refl)
+some_wanted None = (false, tt)
+
 module _ (wanted : Option Bool) where
-  -- the first line of a journal, and what stands behind it
-  front : (u : List ℕ) → IsText wanted u → (has : Bool) × IsWanted wanted has × (rest : List ℕ) × HeadFrom has 0 rest × (u ≡ ended (first_of has) ++ rest)
-  front u t =
-      let j = journal_of wanted u t in
-      let r = by_version u j.0 j.2 in
-      let end = r.read.1.0 in
-      let entries : EntriesFrom (version_of j.0) (flat_map noted_text r.notes ++ end) = (r.notes, end, r.read.0.1, r.read.1.1, refl) in
-      let head : HeadFrom (version_of j.0) 0 (tail_of r.roots r.notes end) = (r.roots, _, omega (arith, r.read.0.0.0), r.read.0.0.1, entries, refl) in
-      (version_of j.0, j.1, tail_of r.roots r.notes end, head, behind_first (version_of j.0) u r.roots r.notes r.read)
+  -- the first line, and what stands behind it
+  text_row : IsRow first_line (IsWanted wanted) (IsText wanted) (λ has. HeadFrom has 0) (λ _. ⊥)
+  text_row = record {
+    from = λ u t.
+        let j = journal_of wanted u t in
+        let r = by_version u j.0 j.2 in
+        let end = r.read.1.0 in
+        let entries : EntriesFrom (version_of j.0) (flat_map noted_text r.notes ++ end) = (r.notes, end, r.read.0.1, r.read.1.1, refl) in
+        let head : HeadFrom (version_of j.0) 0 (tail_of r.roots r.notes end) = (r.roots, _, omega (arith, r.read.0.0.0), r.read.0.0.1, entries, refl) in
+        inr (version_of j.0, tail_of r.roots r.notes end, j.1, head, behind_first (version_of j.0) u r.roots r.notes r.read);
+    to = λ has u w h. wanted_text wanted has (first_line has ++ u) w (with_first has u h);
+    others = λ u no. absurd no;
+    apart = λ has u w no. no;
+    same = λ has k w v e u h. subst (λ (b : Bool). HeadFrom b 0 u) (sym (same_first has k [] [] (ap (λ (l : List ℕ). l ++ []) e)).0) h;
+    some = λ has w. head_some has 0 (lit< tt);
+    one = some_wanted wanted;
+  }
 
   -- behind the first line
   pub text_onto : (has : Bool) → IsWanted wanted has → (bytes : List ℕ) (place : ℕ) → IsFirstAt (first_of has) bytes place
       → Onto (IsText wanted) bytes 0 (HeadFrom has 0) place
-  text_onto has w bytes place i =
-      onto_fed (first_feeds has) (IsText wanted) (HeadFrom has 0) bytes 0 place i.1
-      (λ u t.
-      let f = front (ended (first_of has) ++ u) t in
-      let s = same_first has f.0 u f.2 f.4 in
-      subst (λ (k : Bool). HeadFrom k 0 u) (sym s.0) (subst (HeadFrom f.0 0) (sym s.1) f.3))
-      (λ u h. wanted_text wanted has (ended (first_of has) ++ u) w (with_first has u h))
-
-  -- there is a journal
-  text_some : Begins (IsText wanted) []
-  text_some =
-      let some : (has : Bool) × IsWanted wanted has = elim wanted as (λ w. (has : Bool) × IsWanted w has) [ Some has ↦ (has, refl) | None ↦ (false, tt) ] in
-      let h = head_some some.0 0 (lit< tt) in
-      (ended (first_of some.0) ++ h.0, wanted_text wanted some.0 _ some.1 (with_first some.0 h.0 h.1))
-
-  -- no value is too large in a first line
-  small : (bad : List ℕ) → ¬ IsLargeIn (IsText wanted) [] bad
-  small =
-      never_large (IsText wanted) 100 (refl, refl, refl, refl)
-      (λ u t. let f = front u t in ap (begins_with 100) f.4 ∙ (first_line f.0).2 f.2)
+  text_onto has w bytes place i = path_onto (line_path (first_kind wanted) text_row has w) bytes 0 place i.1
 
   -- another line is bad
+  first_stop : {Is : List ℕ → Type 0} (bytes bad : List ℕ) → ((has : Bool) → IsWanted wanted has → Is (first_of has)) → StopsAt Is bytes bad
+      → StopsIn (IsText wanted) bytes 0 (stop.Bad 0)
+  first_stop {Is} bytes bad is s =
+      row_stop (first_kind wanted) text_row bytes 0 (omega arith) (λ u like no. no) (stop.Bad 0)
+      (bare_stop (λ line has w e. subst Is (sym (unended line (first_of has) e)) (is has w)) bytes 0 0 (refl, (bad, s)))
+
   pub text_stop : (bytes : List ℕ) (f : FileFault) → StopsFirst IsEitherFirst bytes f → StopsIn (IsText wanted) bytes 0 f
   text_stop bytes stop.NoMemory s = tt
   text_stop bytes (stop.Bad place) s =
-      bad_here (IsText wanted) IsEitherFirst bytes 0 (omega arith) text_some
-      (λ u same t.
-      let f = front u t in
-      let l = first_line f.0 in
-      (first_of f.0, f.2, l.0, l.1, f.4 ∙ append_assoc (first_of f.0) (10 ∷ []) f.2)) small place s
+      subst (λ (p : ℕ). StopsIn (IsText wanted) bytes 0 (stop.Bad p)) (sym s.0) (first_stop bytes s.1.0 (λ has w. either_first has) s.1.1)
   text_stop bytes (stop.TooLarge place) s = absurd s
 
 -- whether two versions are the same, as the test tells it
@@ -197,22 +201,13 @@ same_version false true = (λ t e. let no : false ≡ true = e in cc, λ t. let 
 pub other_stop : (has k : Bool) → (k ≡ has → ⊥) → (bytes : List ℕ) (at : ℕ) → IsFirstAt (first_of k) bytes at
     → StopsIn (IsText (Some has)) bytes 0 (stop.Bad 0)
 other_stop has k other bytes at i =
-    bad_here (IsText (Some has)) (λ l. l ≡ first_of has) bytes 0 (omega arith) (text_some (Some has))
-    (λ u same t.
-    let f = front (Some has) u t in
-    (first_of f.0, f.2, (first_line f.0).0, ap first_of (sym f.1), f.4 ∙ append_assoc (first_of f.0) (10 ∷ []) f.2)) (small (Some has)) 0 (
-      refl,
-      (
-        first_of k,
-        record {
-          behind = 10 ∷ drop at bytes;
-          parts = i.1 ∙ append_assoc (first_of k) (10 ∷ []) (drop at bytes);
-          line = (first_line k).0;
-          end = refl;
-          refused = λ more e is. other (same_first k has [] [] (ap (λ (l : List ℕ). ended l ++ []) is)).0;
-        },
-      ),
-    )
+    first_stop (Some has) {Is = λ l. l ≡ first_of has} bytes (first_of k) (λ h w. ap first_of (sym w)) (record {
+      behind = 10 ∷ drop at bytes;
+      parts = i.1 ∙ append_assoc (first_of k) (10 ∷ []) (drop at bytes);
+      line = first_free k;
+      end = refl;
+      refused = λ more e is. other (same_first k has [] [] (ap (λ (l : List ℕ). ended l ++ []) is)).0;
+    })
 
 -- ---- a text is that of one journal
 

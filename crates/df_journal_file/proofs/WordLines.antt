@@ -1,5 +1,5 @@
 -- The lines that have no value.
-use Rattle.df_journal_file.proofs.Names.{◌≡◌, ℕ, List, [], ◌∷◌, ◌++◌, Ok, codes, decimal, refl, sym, ap, ◌∙◌, append_assoc, append-nil, inl, Label, Spot, EventName, IsLabel, label_text, spot_line, IsEvent, IsSpot, word, event_text, unit_text, deleted_at, spot_of, event_at, event_of, word_at, event_line, note_line, WholeLine}
+use Rattle.df_journal_file.proofs.Names.{◌≡◌, ℕ, List, [], ◌∷◌, ◌++◌, Ok, codes, decimal, refl, sym, ap, ◌∙◌, append_assoc, append-nil, inl, Label, Spot, EventName, IsLabel, label_text, spot_line, IsEvent, IsSpot, word, event_text, unit_text, word_at, event_line, note_line, WholeLine}
 use Rattle.df_format.specs.Reading.{behind_at}
 use Rattle.df_value_text.specs.ReadLabel.{label_at}
 use Rattle.df_value_text.specs.ReadName.{name_at}
@@ -9,6 +9,8 @@ use Rattle.df_journal_text.proofs.Founds.{Finds, finds_as, finds_behind, finds_t
 use Rattle.df_journal_text.proofs.NameBacks.{event_word}
 use Rattle.df_journal_text.proofs.StartBacks.{behind_back}
 use Rattle.df_journal_text.proofs.WordBacks.{label_word, name_word}
+use Rattle.df_journal_text.specs.ReadEntry.{deleted_at, spot_of}
+use Rattle.df_journal_text.specs.ReadName.{event_at, event_of}
 
 -- a line of one word
 one_word : (mark text : List ℕ) → (mark ++ (word text ++ [])) ++ 10 ∷ [] ≡ ended (mark ++ word text)

@@ -136,13 +136,13 @@ fn contamination_at(
     has_notes: bool,
     reply: &Reply,
 ) -> Result<(Option<Label>, usize), FileFault>
-    requires { at ≤ length bytes.now }
+    requires inside { at ≤ length bytes.now }
+    requires bare { IsAnswer reply.now }
     ensures read { IfOk result (λ r.
         IsHere note_text (IsNoteBy has_notes reply.now) bytes.now at r.0 r.1) }
     ensures onto { IfOk result (λ r. Onto (NoteFrom has_notes reply.now) bytes.now at
         (ShownFrom has_notes reply.now) r.1) }
-    ensures stops { IsAnswer reply.now
-        → IfErr result (StopsIn (NoteFrom has_notes reply.now) bytes.now at) }
+    ensures stops { IfErr result (StopsIn (NoteFrom has_notes reply.now) bytes.now at) }
 {
     if notes_none(has_notes, reply) {
         return Ok((None, at));

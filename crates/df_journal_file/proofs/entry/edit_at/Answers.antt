@@ -1,9 +1,9 @@
-use Rattle.df_journal_file.proofs.Names.{sym, subst, arith, refl, EditsSome, EntriesFrom}
+use Rattle.df_journal_file.proofs.Names.{EditsSome, EntriesFrom, arith, refl, subst, sym}
 use Rattle.df_journal_file.proofs.Fronts.{one_result}
 use Rattle.df_journal_file.proofs.LineKinds.{adds_run, spots_run}
 use Rattle.df_journal_file.proofs.Ontos.{stopped}
 use Rattle.df_journal_file.proofs.Places.{both_here}
-use Rattle.df_journal_file.proofs.Runs.{filled_onto, run_onto, run_stop}
+use Rattle.df_journal_file.proofs.Rows.{filled_onto, run_onto, run_stop}
 use Rattle.df_journal_file.proofs.Steps.{no_edit_stop}
 use Rattle.df_journal_file.proofs.entry.edit_at.Goals as goal
 

@@ -1,7 +1,7 @@
-use Rattle.df_journal_file.proofs.Names.{sym, ◌∙◌, inl, refl}
+use Rattle.df_journal_file.proofs.Names.{inl, refl, sym, ◌∙◌}
+use Rattle.df_journal_file.proofs.Ontos.{stopped}
 use Rattle.df_journal_file.proofs.Places.{as_here, none_here}
 use Rattle.df_journal_file.proofs.Steps.{commit_onto, handed_onto, nothing_onto}
-use Rattle.df_journal_file.proofs.Ontos.{stopped}
 use Rattle.df_journal_file.proofs.entry.effect_at.Goals as goal
 
 pub returns-then-mark_stands-clause-read : goal.returns-then-mark_stands-clause-read

@@ -1,8 +1,8 @@
 use Rattle.df_journal_file.proofs.Names.{inr, refl, sym, ◌∙◌}
 use Rattle.df_journal_file.proofs.Entries.{emitted_whole}
+use Rattle.df_journal_file.proofs.Ontos.{stopped}
 use Rattle.df_journal_file.proofs.Places.{as_here}
 use Rattle.df_journal_file.proofs.Steps.{emitted_onto}
-use Rattle.df_journal_file.proofs.Ontos.{stopped}
 use Rattle.df_journal_file.proofs.entry.entry_at.Goals as goal
 
 pub returns-clause-read : goal.returns-clause-read

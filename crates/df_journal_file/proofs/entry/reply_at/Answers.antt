@@ -1,11 +1,10 @@
-use Rattle.df_journal_file.proofs.Names.{arith, refl, sym, true, ◌∙◌, [], inl, inr, EffectFrom}
+use Rattle.df_journal_file.proofs.Names.{EffectFrom, [], arith, inl, inr, refl, sym, true, ◌∙◌, Bad}
 use Rattle.df_unit.specs.declared.reply.Reply.TheVariants as reply
-use Rattle.df_lines.specs.declared.fault.FileFault.TheVariants.{Bad}
 use Rattle.df_journal_file.proofs.Entries.{alone, bare_parts}
 use Rattle.df_journal_file.proofs.LineKinds.{read_run}
 use Rattle.df_journal_file.proofs.Ontos.{stopped}
 use Rattle.df_journal_file.proofs.Places.{as_here, none_here}
-use Rattle.df_journal_file.proofs.Runs.{empty_stop, filled_onto, run_stop, some_marked}
+use Rattle.df_journal_file.proofs.Rows.{empty_stop, filled_onto, run_stop, some_marked}
 use Rattle.df_journal_file.proofs.Steps.{alone_onto, bare_onto, parts_onto}
 use Rattle.df_journal_file.proofs.entry.reply_at.Goals as goal
 

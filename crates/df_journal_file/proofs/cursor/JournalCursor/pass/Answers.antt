@@ -1,5 +1,5 @@
-use Rattle.df_journal_text.proofs.Between.{all_behind}
 use Rattle.df_journal_file.proofs.Names.{subst, sym, ◌∙◌, CursorState, HasPassed, IsWholeBy}
+use Rattle.df_journal_text.proofs.Between.{all_behind}
 use Rattle.df_journal_file.proofs.Cursors.{StandIf, lines_stand, passed_lines}
 use Rattle.df_journal_file.proofs.cursor.JournalCursor.pass.Goals as goal
 
