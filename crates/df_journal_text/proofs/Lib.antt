@@ -1,4 +1,3 @@
-mod Digits
 mod Names
 pub mod Stopped
 pub mod Appends

@@ -5,15 +5,14 @@ ghost use Rattle.df_journal_text.specs.Line.{line, word};
 ghost use Rattle.df_journal_text.specs.Name.{event_text};
 ghost use Rattle.df_journal_text.specs.Entry.{edit_text, effect_text, given_text, part_line, read_line, spot_line};
 
-use crate::line::{
-    append_label_word, append_name_word, append_privilege_words, append_value_word, put_few,
-};
+use crate::line::{append_label_word, append_name_word, append_privilege_words, append_value_word};
 use crate::name::append_event_word;
 use crate::note::is_empty;
 use df_label::Label;
 use df_memory::NoMemory;
 use df_part::{Edit, Part, PartRef, Spot};
 use df_unit::{Commit, Effect, EventName, Given, PartRead, UnitName};
+use df_value_text::put_few;
 
 /// Appends a label behind a mark. Most have no tag.
 fn append_marked(mark: u8, label: &Label, to: &mut Vec<u8>) -> Result<(), NoMemory>

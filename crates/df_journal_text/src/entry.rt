@@ -13,14 +13,14 @@ ghost use Rattle.df_journal_text.specs.code.Outcome.{answer_text, outcome_text};
 
 use crate::call::append_call;
 use crate::effect::{append_edit, append_effect, append_event_line, append_reads};
-use crate::line::{append_label_word, append_number_word, append_word, put_all, put_few};
+use crate::line::{append_label_word, append_number_word, append_word, put_all};
 use crate::name::append_unit;
 use crate::note::Note;
 use crate::reply::append_reply;
 use df_label::Label;
 use df_memory::NoMemory;
 use df_unit::{Commit, Effect, Entry, Reply};
-use df_value_text::append_number;
+use df_value_text::{append_number, put_few};
 
 /// Appends a handle behind the words of its call, and ends the line.
 #[inline(always)]

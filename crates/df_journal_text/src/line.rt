@@ -11,7 +11,7 @@ use df_frozen::{Frozen, Name, Value};
 use df_label::{Label, Privilege, Tag};
 use df_memory::NoMemory;
 use df_value_text::{
-    append_label, append_number, append_privilege, append_tag, append_value, append_whole,
+    append_label, append_number, append_privilege, append_tag, append_value, append_whole, put_few,
 };
 
 /// Appends a word.
@@ -35,42 +35,6 @@ pub fn put_all(bytes: &[u8], to: &mut Vec<u8>)
     for byte in bytes {
         to.push_reserved(*byte);
     }
-}
-
-/// Puts a number below 100 where there is room for its digits.
-#[inline(always)]
-#[tactic(auto, using(std::proofs::lemmas::Fmt::decimal_digit, crate::proofs::Digits::two_digits))]
-fn put_two(number: u32, to: &mut Vec<u8>)
-    requires few { number < 100 }
-    requires room { vec_len to.old + 2 ≤ vec_capacity to.old }
-    ensures digits { to.new.items ≡ to.old.items ++ decimal number }
-    ensures capacity { vec_capacity to.new ≡ vec_capacity to.old }
-    ensures len { vec_len to.new ≤ vec_len to.old + 2 }
-{
-    if number < 10 {
-        to.push_reserved(b'0' + number as u8);
-        return;
-    }
-    to.push_reserved(b'0' + (number / 10) as u8);
-    to.push_reserved(b'0' + (number % 10) as u8);
-}
-
-/// Puts a number below 10,000 where there is room for its digits.
-#[inline(always)]
-#[tactic(auto, using(crate::proofs::Digits::last_two))]
-pub fn put_few(number: u32, to: &mut Vec<u8>)
-    requires few { number < 10000 }
-    requires room { vec_len to.old + 4 ≤ vec_capacity to.old }
-    ensures digits { to.new.items ≡ to.old.items ++ decimal number }
-    ensures capacity { vec_capacity to.new ≡ vec_capacity to.old }
-    ensures len { vec_len to.new ≤ vec_len to.old + 4 }
-{
-    if number < 100 {
-        return put_two(number, to);
-    }
-    put_two(number / 10 / 10, to);
-    to.push_reserved(b'0' + (number / 10 % 10) as u8);
-    to.push_reserved(b'0' + (number % 10) as u8);
 }
 
 /// Appends a number of several digits. Most have four at most.
@@ -151,11 +115,7 @@ fn append_integer_word(number: i64, to: &mut Vec<u8>) -> Result<(), NoMemory>
 {
     to.reserve(5)?;
     to.push_reserved(b' ');
-    if number < 0 || number >= 10_000 {
-        return append_whole(number, to);
-    }
-    put_few(number as u32, to);
-    Ok(())
+    append_whole(number, to)
 }
 
 /// Appends a value as a word.

@@ -2,16 +2,18 @@
 
 ghost use Rattle.std.specs.Prelude.{◌≡◌, ◌<◌, IfOk, OnOk, option_copied, vec_len};
 
-use crate::note::Note;
+use crate::note::{Note, is_empty};
 use df_label::Label;
 use df_memory::NoMemory;
 use std::alloc::Global;
 
 /// The note that was written last of each unit, so that a contamination is spelled once for as
-/// long as it stands.
+/// long as it stands. Units whose contamination has no tag, as most are, share one.
 #[derive(Drop)]
 pub struct Notes {
     alloc: Global,
+    /// Of the contamination without tags, once a unit had it.
+    bare: Note,
     notes: Vec<Note>,
     /// Of a unit that isn't there.
     of_none: Note,
@@ -36,6 +38,7 @@ impl Notes {
     pub fn new(alloc: Global) -> Notes {
         Notes {
             alloc,
+            bare: Note::new(alloc),
             notes: Vec::new(alloc),
             of_none: Note::new(alloc),
         }
@@ -44,6 +47,24 @@ impl Notes {
     /// The note of this contamination, which the unit at a place has.
     #[inline(always)]
     pub fn of(
+        &mut self,
+        place: Option<usize>,
+        contamination: Option<&Label>,
+    ) -> Result<&Note, NoMemory>
+        ensures { IfOk result (λ note. note.now ≡ option_copied contamination.entry) }
+    {
+        match contamination {
+            Some(label) if is_empty(label) => {
+                self.bare.set(contamination)?;
+                Ok(&self.bare)
+            }
+            _ => self.own(place, contamination),
+        }
+    }
+
+    /// The note of this contamination that is kept of the unit at a place.
+    #[inline(never)]
+    fn own(
         &mut self,
         place: Option<usize>,
         contamination: Option<&Label>,

@@ -1,4 +1,5 @@
 mod Names
+mod Digits
 pub mod Joins
 pub mod Values
 pub mod NumberLaws

@@ -29,7 +29,7 @@ pub use df_label::{append_number, append_path, append_separator, append_tag};
 pub use label::{append_label, append_tags};
 pub use label_reader::{label_at, privilege_at, text_at};
 pub use name_reader::name_at;
-pub use number::append_whole;
+pub use number::{append_whole, put_few};
 pub use number_reader::{byte_at, byte_stands, number_at, short_at, whole_at};
 pub use privilege::append_privilege;
 pub use readers::{read_label, read_privilege, read_tag, read_value};
