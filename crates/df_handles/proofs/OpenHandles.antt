@@ -7,6 +7,12 @@ least_free_within [] = omega arith
 least_free_within (None ∷ hs) = omega arith
 least_free_within (Some h ∷ hs) = omega (arith, least_free_within hs)
 
+-- no more handles are open than there are numbers
+pub open_count_within : (hs : List (Option Handle)) → open_count hs ≤ length hs
+open_count_within [] = omega arith
+open_count_within (None ∷ hs) = omega (arith, open_count_within hs)
+open_count_within (Some h ∷ hs) = omega (arith, open_count_within hs)
+
 -- a free number within the list is written over
 pub opened_in : (d : Handle) (hs : List (Option Handle)) → least_free hs < length hs → set hs (least_free hs) (Some d) ≡ opened d hs
 opened_in d [] h = absurd (omega arith)

@@ -71,10 +71,11 @@ impl Handles {
     }
 
     /// Whether no handle more may be opened.
+    #[tactic(auto, using(crate::proofs::OpenHandles::open_count_within))]
     pub fn is_full(&self) -> bool
         ensures { result ≡ is_full self.now }
     {
-        self.count() >= MOST_HANDLES
+        self.slots.len() >= MOST_HANDLES && self.count() >= MOST_HANDLES
     }
 
     /// The number that the next handle gets.
