@@ -1,11 +1,12 @@
 -- Tests of fields are read as they are spelled.
-use Rattle.df_filter_text.proofs.Names.{◌≡◌, ℕ, Bool, false, eqb, List, [], ◌∷◌, ◌++◌, Option, Some, None, drop, refl, sym, ap, subst, ◌∙◌, arith, ◌⊎◌, inl, inr, ℤ, pos, negsuc, is_ascii_digit, nat_tests, Begins, either_at, then_at, closed_at, Format, ends_never, then_second_format, then_goes, behind_format, closed_format, nowhere, nowhere_is_local, Of, made, told_as, either_of, FieldTest, then_spell, ThenFits, field_test_text, IsFieldTest}
+use Rattle.df_filter_text.proofs.Names.{◌≡◌, ℕ, Bool, false, eqb, List, [], ◌∷◌, ◌++◌, Option, Some, None, drop, refl, sym, ap, subst, ◌∙◌, arith, ◌⊎◌, inl, inr, ℤ, pos, is_ascii_digit, either_at, then_at, closed_at, Format, ends_never, then_second_format, then_goes, behind_format, closed_format, nowhere, nowhere_is_local, Of, made, told_as, either_of, FieldTest, then_spell, ThenFits, field_test_text, IsFieldTest}
 use Rattle.std.specs.Prelude.{IsUtf8}
+use Rattle.df_frozen.specs.Plain.{int}
 use Rattle.std.specs.Fmt.{signed_decimal}
 use Rattle.std.proofs.lemmas.Str.{IsUtf8-nil}
 use Rattle.df_value_text.specs.ReadWhole.{IsWhole, whole_at}
 use Rattle.df_filter.specs.declared.field_test.FieldTest.TheVariants.{IntEq, IntLess, IntMore, IntIn, TextEq, TextPrefix}
-use Rattle.df_value_text.proofs.NumberLaws.{no_digit_begins}
+use Rattle.df_value_text.proofs.ValueLaws.{int_opens, value_apart}
 use Rattle.df_value_text.proofs.WholeLaws.{whole_goes, whole_format}
 use Rattle.df_value_text.proofs.WordsLaws.{words_format}
 use Rattle.df_filter_text.specs.ReadFieldTest.{words_equal_at, whole_equal_at, equal_at, below_at, above_at, range_of, range_at, prefix_at, field_test_at}
@@ -29,8 +30,7 @@ goes_last (Some z) c = whole_goes z c
 -- a number goes on with digits alone
 pub ends_last : (last : Option ℤ) (c : ℕ) → is_ascii_digit c ≡ false → goes_last last c ≡ false
 ends_last None c h = refl
-ends_last (Some (pos n)) c h = grind (arith, nat_tests)
-ends_last (Some (negsuc n)) c h = grind (arith, nat_tests)
+ends_last (Some z) c h = value_apart (int z) c h
 
 abbrev pub field_test_goes : FieldTest → ℕ → Bool
 field_test_goes t c = goes_last (last_number t) c
@@ -42,11 +42,6 @@ zero_fits = omega arith
 
 whole_law : Format nowhere signed_decimal IsWhole whole_goes whole_at
 whole_law = whole_format nowhere nowhere_is_local
-
--- a whole number begins with no quote
-begins_whole : (z : ℤ) → IsWhole z → Begins (λ c. eqb c 34) false (signed_decimal z)
-begins_whole (pos n) fits = no_digit_begins 34 (inl (omega arith)) n (omega (arith, fits))
-begins_whole (negsuc n) fits = record { first = 45; others = _; is = refl; test = refl }
 
 abbrev IsEqual : FieldTest → Type 0
 IsEqual t = Of (λ text. TextEq text) IsUtf8 t ⊎ Of (λ n. IntEq n) IsWhole t
@@ -60,7 +55,7 @@ equal_law =
     either_of (λ c. eqb c 34) (made (λ text. TextEq text) words_format (λ text h. refl) (λ text c h. refl))
     (made (λ n. IntEq n) whole_law (λ z h. refl) (λ z c h. refl))
     (λ t h. record { first = 34; others = _; is = ap behind_sign (sym h.2); test = refl })
-    (λ t h. let b = begins_whole h.0 h.1 in record { first = b.first; others = b.others; is = ap behind_sign (sym h.2) ∙ b.is; test = b.test })
+    (λ t h. let b = int_opens 34 (inl (omega arith)) h.0 h.1 in record { first = b.first; others = b.others; is = ap behind_sign (sym h.2) ∙ b.is; test = b.test })
 
 equal_signed : (t : FieldTest) → IsEqual t → field_test_text t ≡ 61 ∷ behind_sign t
 equal_signed t (inl m) = subst (λ (u : FieldTest). field_test_text u ≡ 61 ∷ behind_sign u) m.2 refl

@@ -1,6 +1,7 @@
 -- Kinds of things that the first byte of their spelling tells apart.
-use Rattle.df_filter_text.proofs.Names.{◌≡◌, ℕ, Bool, false, eqb, eq-eqb, List, [], ◌∷◌, ◌++◌, refl, sym, ap, subst, ◌∙◌, ◌⊎◌, inl, inr, nat_tests, arith, Read, as_at, then_at, behind_at, either_at, Ends, Format, own, then_second_format, then_goes, behind_format, nowhere, nowhere_is_local, Of, made, fitting, either_of, then_spell, ThenFits, IsName, name_goes, name_format}
+use Rattle.df_filter_text.proofs.Names.{◌≡◌, ℕ, Bool, false, eqb, eq-eqb, List, [], ◌∷◌, ◌++◌, refl, sym, ap, subst, ◌∙◌, ◌⊎◌, inl, inr, Read, as_at, then_at, behind_at, either_at, Ends, Format, own, then_second_format, then_goes, behind_format, nowhere, nowhere_is_local, Of, made, fitting, either_of, then_spell, ThenFits, IsName, name_goes, name_format}
 use Rattle.std.specs.List.{AllByRecursion}
+use Rattle.df_value_text.proofs.NameLaws.{name_apart}
 use Rattle.df_frozen.specs.Name.{is_name_byte}
 use Rattle.df_value_text.specs.ReadName.{name_at}
 
@@ -57,10 +58,6 @@ choose {Y} {F = F} {signs = signs} w f g apart = record {
     only : (y : Y) (h : F y) → (f.first y h).0 ≡ w
     only y h = of_each (λ c. c ≡ w) (w ∷ []) (f.first y h).0 (refl, tt) (f.first y h).2
 
--- a name ends before a byte that is none of a name
-name_ends : (name : List ℕ) (c : ℕ) → is_name_byte c ≡ false → name_goes name c ≡ false
-name_ends name c h = grind (arith, nat_tests)
-
 -- a name, and this kind behind it
 pub named : {Y : Type 0} {text : Y → List ℕ} {goes : Y → ℕ → Bool} {Fits : Y → Type 0} {read : List ℕ → Read ℕ Y} {signs : List ℕ}
     → Kind text goes signs Fits read → AllByRecursion (λ c. is_name_byte c ≡ false) signs → (y : Y) → Fits y
@@ -69,4 +66,4 @@ named {text = text} {goes = goes} {Fits = Fits} {read = read} {signs = signs} k 
     then_second_format nowhere_is_local (name_format nowhere) k.law y fits
     (λ name z rest fx fz ends.
     let s = k.first z fz in
-    subst (λ (u : List ℕ). Ends name_goes name (u ++ rest)) (sym s.3) (name_ends name s.0 (of_each (λ c. is_name_byte c ≡ false) signs s.0 stops s.2)))
+    subst (λ (u : List ℕ). Ends name_goes name (u ++ rest)) (sym s.3) (name_apart name s.0 (of_each (λ c. is_name_byte c ≡ false) signs s.0 stops s.2)))

@@ -1,9 +1,9 @@
 -- A literal that is spelled is read back, where a word ends, and what stands behind it is left.
-use Rattle.df_value_text.proofs.Names.{◌≡◌, ℕ, ◌<◌, ◌≤◌, ◌^◌, true, false, eqb, List, [], ◌∷◌, ◌++◌, length, Ok, decimal, refl, sym, ap, ◌∙◌, append_assoc, arith, length-append, is_ascii_digit, append-nil, nat_tests, closed_at, Ends, ends_never, is_name, Plain, node_count, Label, Privilege, start, IsLabel, IsPrivilege, IsSpelled, IsTag, IsTagSet, label_text, path_text, privilege_text, tag_text, tags_text, number_at, label_at, privilege_at, name_at, numbers_at, short_at, tag_at, tags_at, value_text, EndsWord, value_at}
+use Rattle.df_value_text.proofs.Names.{is_name_byte, ◌≡◌, ℕ, ◌<◌, ◌≤◌, ◌^◌, true, false, eqb, List, [], ◌∷◌, ◌++◌, length, Ok, decimal, refl, sym, ap, ◌∙◌, append_assoc, arith, length-append, is_ascii_digit, append-nil, closed_at, Ends, ends_never, is_name, Plain, node_count, Label, Privilege, start, IsLabel, IsPrivilege, IsSpelled, IsTag, IsTagSet, label_text, path_text, privilege_text, tag_text, tags_text, number_at, label_at, privilege_at, name_at, numbers_at, short_at, tag_at, tags_at, value_text, EndsWord, value_at}
 use Rattle.df_value_text.proofs.CountingEnds.{counted_behind}
 use Rattle.df_value_text.proofs.CountingSteps.{walked_few}
 use Rattle.df_value_text.proofs.LabelLaws.{label_format, privilege_format, tags_end_at}
-use Rattle.df_value_text.proofs.NameLaws.{name_format, name_goes}
+use Rattle.df_value_text.proofs.NameLaws.{name_apart, name_format, name_goes}
 use Rattle.df_value_text.proofs.NumberLaws.{number_apart, number_format, number_goes}
 use Rattle.df_value_text.proofs.TagLaws.{LongEnds, behind_byte, long_again, tag_ends_at, to_ends, nowhere, nowhere_is_local, tag_format, top}
 use Rattle.df_value_text.proofs.TagSetLaws.{tags_format, tags_goes}
@@ -32,7 +32,7 @@ privilege_back p rest fits end = privilege_format.again p rest fits (privilege_s
 pub name_back : (name rest : List ℕ) → is_name name ≡ true → EndsWord rest → name_at (name ++ rest) ≡ Ok (name, rest)
 name_back name rest fits end =
     (name_format nowhere).again name rest fits (ends_word name_goes name rest
-    (at_break (name_goes name) (grind (arith, nat_tests)) (grind (arith, nat_tests))) end)
+    (λ c k. name_apart name c (at_break is_name_byte refl refl c k)) end)
 
 -- ---- values
 

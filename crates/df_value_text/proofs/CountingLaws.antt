@@ -1,8 +1,9 @@
 -- Walking over a value's spelling counts its nodes, its bytes and its depth.
-use Rattle.df_value_text.proofs.Names.{◌≡◌, ℕ, ◌+◌, max, Bool, true, false, List, [], ◌∷◌, ◌++◌, length, refl, ap, subst, ◌∙◌, sym, append_assoc, arith, Place, Walk, begins, weight, next, nested, walk, walked, zero, suc, ◌/◌, ◌%◌, ◌^◌, ◌<◌, ◌≤◌, eqb, ◌&&◌, length-append, inl, inr, ℤ, pos, negsuc, IsUtf8, nat_lt, is_ascii_digit, decimal, signed_decimal, flat_map, list_all, scalar, scalars, encodes, and_parts, nat_tests, decimal_by_steps, flat_map-append, is_name, is_name_byte, is_letter, hex, hex_digit, escaped, is_hex, AreBytes, is_quoted, is_control, IsWhole, is_lead, trail_length, least_second, most_second, character, Plain, Plains, Pairs, int, words, bytes, items, entries, no_items, item, no_entries, entry, node_count, items_node_count, entries_node_count, byte_count, depth, value_text, items_text, entries_text, IsSpelled, AreSpelled, AreEntries, closed, items_byte_count, entries_byte_count, items_depth, entries_depth, behind}
+use Rattle.df_value_text.proofs.Names.{◌≡◌, ℕ, ◌+◌, max, Bool, true, false, List, [], ◌∷◌, ◌++◌, length, refl, ap, subst, ◌∙◌, sym, append_assoc, arith, Place, Walk, begins, weight, next, nested, walk, walked, zero, suc, ◌/◌, ◌%◌, ◌^◌, ◌<◌, ◌≤◌, eqb, length-append, inl, inr, ℤ, pos, negsuc, IsUtf8, is_ascii_digit, decimal, signed_decimal, flat_map, list_all, scalar, scalars, encodes, and_parts, nat_tests, decimal_by_steps, flat_map-append, is_name, is_name_byte, hex, hex_digit, escaped, is_hex, AreBytes, is_quoted, is_control, IsWhole, is_lead, trail_length, least_second, most_second, character, Plain, Plains, Pairs, int, words, bytes, items, entries, no_items, item, no_entries, entry, node_count, items_node_count, entries_node_count, byte_count, depth, value_text, items_text, entries_text, IsSpelled, AreSpelled, AreEntries, closed, items_byte_count, entries_byte_count, items_depth, entries_depth, behind}
 use Rattle.df_value_text.specs.declared.place.Place.TheVariants as place
 use Rattle.std.proofs.Math.Utf8.{encode}
 use Rattle.df_value_text.proofs.BytesLaws.{digit_is}
+use Rattle.df_value_text.proofs.NameLaws.{name_size}
 use Rattle.df_value_text.proofs.WordsLaws.{IsChar, itself_is, ascii_small, least_is, most_is, encoded_char}
 use Rattle.df_value_text.proofs.WideLaws.{IsTrail, between_is}
 
@@ -201,25 +202,14 @@ byte_adds os c h =
     let round : eqb c 41 ≡ false = grind (arith, nat_tests) in
     passes refl (rw (equals, h) refl) (rw (bracket, round) refl) (rw h refl)
 
-name_more : (os : List Bool) (c : ℕ) (name : List ℕ) → is_name_byte c ≡ true → Adds place.Name os name place.Name os 0 (length name) 0
-    → Adds place.Name os (c ∷ name) place.Name os 0 (suc (length name)) 0
-name_more os c name h rest = told (joins (byte_adds os c h) rest) refl (omega arith) refl
-
 name_bytes_add : (os : List Bool) (name : List ℕ) → list_all is_name_byte name ≡ true → Adds place.Name os name place.Name os 0 (length name) 0
 name_bytes_add os [] h = nothing place.Name os
 name_bytes_add os (c ∷ name) h =
     let both = and_parts (is_name_byte c) (list_all is_name_byte name) h in
-    name_more os c name both.0 (name_bytes_add os name both.1)
+    told (joins (byte_adds os c both.0) (name_bytes_add os name both.1)) refl (omega arith) refl
 
 pub name_adds : (os : List Bool) (name : List ℕ) → is_name name ≡ true → Adds place.Name os name place.Name os 0 (length name) 0
-name_adds os [] h = nothing place.Name os
-name_adds os (c ∷ name) h =
-    let both = and_parts (is_letter c) (nat_lt (length name) 32 && list_all is_name_byte name) h in
-    let others = and_parts (nat_lt (length name) 32) (list_all is_name_byte name) both.1 in
-    name_more os c name (letter c both.0) (name_bytes_add os name others.1)
-  where
-    letter : (c : ℕ) → is_letter c ≡ true → is_name_byte c ≡ true
-    letter c h = grind (arith, nat_tests)
+name_adds os name h = name_bytes_add os name (name_size name h).0
 
 -- where a value ends
 abbrev pub ended : Plain → Place

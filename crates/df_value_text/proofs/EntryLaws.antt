@@ -1,7 +1,7 @@
 -- Items in front of a closing byte, how deep values nest, and entries, read as they are spelled.
-use Rattle.df_value_text.proofs.Names.{suc, is_ascii_digit, negsuc, ◌≡◌, ℕ, Bool, true, false, eqb, List, [], ◌∷◌, ◌++◌, refl, sym, ap, subst, ◌∙◌, ◌⊎◌, inl, inr, eq-eqb, Read, more_spell, items_spell, Format, never, closed_format, Begins, Follow, ItemsFit, IsText, text_format, Of, made, fitting, either_of, joined, listed, none_listed, ended_at, suc, ◌≤◌, max, arith, is_lt, name_cmp, Plain, Plains, Pairs, items, entries, no_items, item, no_entries, entry, from_list, from_pairs, node_count, items_node_count, entries_node_count, IsSpelled, AreSpelled, AreEntries, AreBehind, append_assoc, pos, negsuc, eqb-true, and_parts, nat_tests, items_at, then_at, in_map, low_as, nowhere, append-nil, flat_map, Parts, Leads, items_goes, items_format, format_shrinks, behind_format, own, int, greatest, leads_entry, given_at, entry_at, next_entry_at, value_text, entry_text, last_of, last_split, LowWithin, MayFollow, IsOpen, Open, open_text, entries_led, then_format, ends_of_second}
+use Rattle.df_value_text.proofs.Names.{suc, is_ascii_digit, negsuc, ◌≡◌, ℕ, Bool, true, false, eqb, List, [], ◌∷◌, ◌++◌, refl, sym, ap, subst, ◌∙◌, ◌⊎◌, inl, inr, eq-eqb, Read, more_spell, items_spell, Format, never, closed_format, Begins, Follow, ItemsFit, IsText, text_format, Of, made, fitting, either_of, joined, listed, none_listed, ended_at, suc, ◌≤◌, max, arith, is_lt, name_cmp, Plain, Plains, Pairs, items, entries, no_items, item, no_entries, entry, from_list, from_pairs, node_count, items_node_count, entries_node_count, IsSpelled, AreSpelled, AreEntries, AreBehind, append_assoc, pos, negsuc, eqb-true, and_parts, items_at, then_at, in_map, low_as, nowhere, append-nil, flat_map, Parts, Leads, items_goes, items_format, format_shrinks, behind_format, own, int, greatest, leads_entry, given_at, entry_at, next_entry_at, value_text, entry_text, last_of, last_split, LowWithin, MayFollow, IsOpen, Open, open_text, entries_led, then_format, ends_of_second}
 use Rattle.df_value_text.proofs.PathLaws.{joined_items}
-use Rattle.df_value_text.proofs.NameLaws.{IsName, name_goes, name_format, AfterName, is_less, NearName, higher_format, greatest_fits, below_greatest}
+use Rattle.df_value_text.proofs.NameLaws.{name_apart, IsName, name_goes, name_format, AfterName, is_less, NearName, higher_format, greatest_fits, below_greatest}
 use Rattle.df_value_text.proofs.NumberLaws.{number_apart}
 use Rattle.df_value_text.proofs.WholeLaws.{whole_goes}
 
@@ -167,10 +167,6 @@ value_apart (int (pos n)) c h = number_apart _ n c h
 value_apart (int (negsuc n)) c h = number_apart _ (suc n) c h
 value_apart _ c h = refl
 
--- a name ends before `=`
-pub name_apart : (name : List ℕ) → name_goes name 61 ≡ false
-name_apart name = grind (arith, nat_tests)
-
 -- `=` and a value
 abbrev given_text : Plain → List ℕ
 given_text p = 61 ∷ value_text p
@@ -266,7 +262,7 @@ module _ (n : ℕ) (inner : List ℕ → Read ℕ Plain) (f : Format LowWithin v
       → Format (λ front rest. Near front rest ⊎ LowEntry F front rest) entry_text (λ e. F e.0 × LevelFits n e.1) entry_goes (then_at name (given_at inner))
   named_format {F} {name} Near fx =
       then_format (λ front rest low. inl low) (λ x front rest fits low. inr (x, low.0, fits, ap (λ (u : List ℕ). x ++ u) low.1, low.2)) fx given_format
-      (int (pos 0)) (omega arith, omega arith) (ends_of_second given_format (λ x p rest fits fits_p ends. name_apart x))
+      (int (pos 0)) (omega arith, omega arith) (ends_of_second given_format (λ x p rest fits fits_p ends. name_apart x 61 refl))
 
   pub entry_format : Format LowInMap entry_text (LevelEntry n) entry_goes (entry_at inner)
   entry_format = low_as first (named_format nowhere (name_format nowhere))

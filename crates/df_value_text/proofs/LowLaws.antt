@@ -1,8 +1,8 @@
 -- Where the path of what is open leads to a low name, reading stops there.
 use Rattle.df_value_text.proofs.Names.{◌≡◌, ℕ, Bool, true, List, [], ◌∷◌, ◌++◌, Ok, Err, refl, ap, ◌∙◌, Stop, Read, more_of, items_at, Format, Follow, Parts, more_step, same_split, zero, suc, ◌+◌, ◌≤◌, eqb, length, sym, subst, append_assoc, length-append, arith, inl, inr, flat_map, eqb-true, Bad, Low, err_is, told, longest_read, Plain, from_list, from_pairs, items_node_count, entries_node_count, NameStandsLow, in_list, in_map, LowInValue, ended_at, leads_value, list_at, leads_entry, entry_at, next_entry_at, map_at, entry_text, nowhere, Open, values_led, entries_led, open_text, LowWithin, MayFollow, IsOpen, AreOpen}
-use Rattle.df_value_text.proofs.EntryLaws.{Chain, led, led_one, LowInMap, NearEntry, entry_goes, entry_format, entries_parts, name_apart, LevelEntry, LevelAfter, items_nest_few, entries_nest_few, list_chain, entries_chain}
+use Rattle.df_value_text.proofs.EntryLaws.{Chain, led, led_one, LowInMap, NearEntry, entry_goes, entry_format, entries_parts, LevelEntry, LevelAfter, items_nest_few, entries_nest_few, list_chain, entries_chain}
 use Rattle.df_value_text.specs.ReadValue.{value_within}
-use Rattle.df_value_text.proofs.NameLaws.{AfterName, name_whole, higher_format, below_greatest, IsName, name_format}
+use Rattle.df_value_text.proofs.NameLaws.{name_apart, AfterName, name_whole, higher_format, below_greatest, IsName, name_format}
 use Rattle.df_value_text.proofs.ValueLaws.{items_parts, value_format}
 use Rattle.df_value_text.proofs.ValueSteps.{within_empty}
 
@@ -124,11 +124,11 @@ leads_on last name inner after = below_greatest last.0 name after
 
 entry_stops : (read : List ℕ → Read ℕ Plain) (name text : List ℕ) (stop : Stop ℕ) → IsName name → read text ≡ Err stop
     → entry_at read (name ++ (61 ∷ text)) ≡ Err stop
-entry_stops read name text stop fits e = rw ((name_format nowhere).again name (61 ∷ text) fits (name_apart name), e) refl
+entry_stops read name text stop fits e = rw ((name_format nowhere).again name (61 ∷ text) fits (name_apart name 61 refl), e) refl
 
 next_stops : (read : List ℕ → Read ℕ Plain) (prev name text : List ℕ) (stop : Stop ℕ) → AfterName prev name → read text ≡ Err stop
     → next_entry_at read prev (name ++ (61 ∷ text)) ≡ Err stop
-next_stops read prev name text stop after e = rw ((higher_format prev).again name (61 ∷ text) after (name_apart name), e) refl
+next_stops read prev name text stop after e = rw ((higher_format prev).again name (61 ∷ text) after (name_apart name 61 refl), e) refl
 
 low_stops : (read : List ℕ → Read ℕ Plain) (prev rest : List ℕ) → NameStandsLow prev rest → next_entry_at read prev rest ≡ Err (Low rest)
 low_stops read prev rest s = rw (longest_read name_whole rest s.name s.more s.longest, s.low) refl

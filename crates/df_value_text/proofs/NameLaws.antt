@@ -12,6 +12,10 @@ IsName name = is_name name ≡ true
 abbrev pub name_goes : List ℕ → ℕ → Bool
 name_goes name c = nat_lt (length name) longest_name && is_name_byte c
 
+-- a name goes on with its bytes alone
+pub name_apart : (name : List ℕ) (c : ℕ) → is_name_byte c ≡ false → name_goes name c ≡ false
+name_apart name c h = grind (arith, nat_tests)
+
 -- so many bytes are counted at most, or the byte isn't one of a name
 abbrev counts_on : ℕ → List ℕ → ℕ → Bool
 counts_on most ds c = nat_lt (length ds) most && is_name_byte c

@@ -1,5 +1,5 @@
 -- A number is read as it is spelled.
-use Rattle.df_value_text.proofs.Names.{◌≡◌, ℕ, zero, suc, ◌+◌, ◌-◌, ◌*◌, ◌/◌, ◌%◌, ◌^◌, ◌<◌, ◌≤◌, Bool, true, false, cond, ◌&&◌, eqb, List, [], ◌∷◌, ◌++◌, Ok, Err, refl, sym, ap, subst, ◌∙◌, append_assoc, arith, ◌⊎◌, inl, inr, nat_le, is_ascii_digit, decimal, eqb-true, nat_tests, append-nil, decimal_by_steps, Stop, Bad, CanGoOn, Ends, Found, Format, chosen, Begins, any_low, first_at, first_stops, first_format, number_at, digits_at, decimal_digit, decimal_step}
+use Rattle.df_value_text.proofs.Names.{positive_at, not_both, ◌≡◌, ℕ, zero, suc, ◌+◌, ◌-◌, ◌*◌, ◌/◌, ◌%◌, ◌^◌, ◌<◌, ◌≤◌, Bool, true, false, cond, ◌&&◌, eqb, List, [], ◌∷◌, ◌++◌, Ok, Err, refl, sym, ap, subst, ◌∙◌, append_assoc, arith, ◌⊎◌, inl, inr, nat_le, is_ascii_digit, decimal, eqb-true, nat_tests, append-nil, decimal_by_steps, Stop, Bad, CanGoOn, Ends, Found, Format, chosen, Begins, any_low, first_at, first_stops, first_format, number_at, digits_at, decimal_digit, decimal_step}
 
 -- c is a digit with which a number goes on from n
 abbrev pub digit_fits : ℕ → ℕ → ℕ → Bool
@@ -106,13 +106,13 @@ number_found most c cs wide h = by (eqb c 48) refl
 
 -- digits read so far
 abbrev ReadSo : ℕ → ℕ → List ℕ → Type 0
-ReadSo most n ds = 0 < n → n ≤ most → (rest : List ℕ) → number_at most (ds ++ rest) ≡ Ok (digits_at most n rest)
+ReadSo most n ds = 0 < n → n ≤ most → (rest : List ℕ) → positive_at most (ds ++ rest) ≡ Ok (digits_at most n rest)
 
 read_one : (most n : ℕ) → n < 10 → ReadSo most n ((48 + n) ∷ [])
 read_one most n lt pos le rest =
     let is_not : eqb (48 + n) 48 ≡ false = grind (arith, nat_tests) in
     let same : (48 + n) - 48 ≡ n = omega arith in
-    rw (first_is most n lt le, is_not, same) refl
+    rw (is_not, first_is most n lt le, same) refl
 
 read_more : (most n : ℕ) (ds : List ℕ) → 10 ≤ n → ReadSo most (n / 10) ds → ReadSo most n (ds ++ (48 + n % 10) ∷ [])
 read_more most n ds ge so pos le rest =
@@ -120,7 +120,7 @@ read_more most n ds ge so pos le rest =
     let test : digit_fits most (n / 10) (48 + n % 10) ≡ true = digit_is most (n / 10) (n % 10) (omega arith) (omega arith) in
     let digit : (48 + n % 10) - 48 ≡ n % 10 = omega arith in
     let step : digits_at most (n / 10) ((48 + n % 10) ∷ rest) ≡ digits_at most n rest = rw (test, digit, whole) refl in
-    ap (number_at most) (append_assoc ds ((48 + n % 10) ∷ []) rest) ∙ so (omega arith) (omega arith) ((48 + n % 10) ∷ rest) ∙ ap (λ (q : ℕ × List ℕ). Ok q) step
+    ap (positive_at most) (append_assoc ds ((48 + n % 10) ∷ []) rest) ∙ so (omega arith) (omega arith) ((48 + n % 10) ∷ rest) ∙ ap (λ (q : ℕ × List ℕ). Ok q) step
 
 digits_stop : (most n : ℕ) (rest : List ℕ) → 0 < n → Ends (number_goes most) n rest → digits_at most n rest ≡ (n, rest)
 digits_stop most n [] pos h = refl
@@ -129,12 +129,24 @@ digits_stop most n (c ∷ rest) pos h =
     let test : digit_fits most n c ≡ false = sym (ap (λ b. cond b false (digit_fits most n c)) nonzero) ∙ h in
     rw test refl
 
+pub positive_again : (most n : ℕ) (rest : List ℕ) → most < 2 ^ 64 → 0 < n → n ≤ most → Ends (number_goes most) n rest
+    → positive_at most (decimal n ++ rest) ≡ Ok (n, rest)
+positive_again most n rest wide pos le h =
+    decimal_by_steps (ReadSo most) (read_one most) (read_more most) n (omega arith) pos le rest
+    ∙ ap (λ (q : ℕ × List ℕ). Ok q) (digits_stop most n rest pos h)
+
+positive_number : (most : ℕ) (bytes : List ℕ) (x : ℕ × List ℕ) → positive_at most bytes ≡ Ok x → number_at most bytes ≡ Ok x
+positive_number most [] x e = absurd cc
+positive_number most (c ∷ cs) x e = elim (chosen (eqb c 48) (Err (Bad (c ∷ cs))) (number_at most (c ∷ cs)) (Ok x) e) [
+  | inl h ↦ not_both x (Bad (c ∷ cs)) (sym h.1)
+  | inr h ↦ h.1
+]
+
 number_again : (most n : ℕ) (rest : List ℕ) → most < 2 ^ 64 → n ≤ most → Ends (number_goes most) n rest → number_at most (decimal n ++ rest) ≡ Ok (n, rest)
 number_again most zero rest wide le h =
     ap (λ (x : List ℕ). number_at most (x ++ rest)) (decimal_digit 0 (omega arith)) ∙ rw (first_is most 0 (omega arith) (omega arith)) refl
 number_again most (suc n) rest wide le h =
-    decimal_by_steps (ReadSo most) (read_one most) (read_more most) (suc n) (omega arith) (omega arith) le rest
-    ∙ ap (λ (q : ℕ × List ℕ). Ok q) (digits_stop most (suc n) rest (omega arith) h)
+    positive_number most (decimal (suc n) ++ rest) (suc n, rest) (positive_again most (suc n) rest wide (omega arith) le h)
 
 -- one more digit is a longer number
 pub number_on : (most n c : ℕ) → most < 2 ^ 64 → number_goes most n c ≡ true → CanGoOn decimal (λ n. (0 < n) × (n ≤ most)) (decimal n ++ c ∷ [])
@@ -158,10 +170,6 @@ number_format IsLow most wide =
 -- a number stops at its first byte
 pub number_stops : (most : ℕ) (bytes : List ℕ) (stop : Stop ℕ) → number_at most bytes ≡ Err stop → stop ≡ Bad bytes
 number_stops most bytes stop e = first_stops (first_fits most) (number_of most) bytes stop (number_first most bytes ∙ e)
-
--- a zero is a number of its own
-pub zero_read : (most : ℕ) (cs : List ℕ) → number_at most (48 ∷ cs) ≡ Ok (0, cs)
-zero_read most cs = rw (first_is most 0 (omega arith) (omega arith)) refl
 
 -- ---- a number begins with a digit
 

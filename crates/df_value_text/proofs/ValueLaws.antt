@@ -18,11 +18,11 @@ IsScalar p = Of bytes AreBytes p ⊎ Of int IsWhole p
 abbrev pub IsLeaf : Plain → Type 0
 IsLeaf p = Of words IsUtf8 p ⊎ IsScalar p
 
-abbrev OpensBy : ℕ → Bool → Plain → Type 0
+abbrev pub OpensBy : ℕ → Bool → Plain → Type 0
 OpensBy w to p = Begins (λ c. eqb c w) to (value_text p)
 
 -- neither a digit nor `-`
-abbrev IsOther : ℕ → Type 0
+abbrev pub IsOther : ℕ → Type 0
 IsOther w = (w < 45) ⊎ (57 < w)
 
 words_open : (w : ℕ) (to : Bool) (s : List ℕ) → eqb 34 w ≡ to → OpensBy w to (words s)
@@ -31,7 +31,7 @@ words_open w to s h = record { first = 34; others = flat_map escaped s ++ codes 
 bytes_open : (w : ℕ) (to : Bool) (s : List ℕ) → eqb 120 w ≡ to → OpensBy w to (bytes s)
 bytes_open w to s h = record { first = 120; others = 34 ∷ (flat_map hex s ++ codes "\""); is = refl; test = h }
 
-int_opens : (w : ℕ) → IsOther w → (z : ℤ) → IsWhole z → OpensBy w false (int z)
+pub int_opens : (w : ℕ) → IsOther w → (z : ℤ) → IsWhole z → OpensBy w false (int z)
 int_opens w other (pos n) h = no_digit_begins w (elim other [ inl k ↦ inl (omega (arith, k)) | inr k ↦ inr k ]) n (omega (arith, h))
 int_opens w (inl other) (negsuc n) h = record { first = 45; others = decimal (suc n); is = refl; test = grind (arith, nat_tests) }
 int_opens w (inr other) (negsuc n) h = record { first = 45; others = decimal (suc n); is = refl; test = grind (arith, nat_tests) }

@@ -1,6 +1,6 @@
 -- A whole number is read as it is spelled.
-use Rattle.df_value_text.proofs.Names.{◌≡◌, ℕ, suc, ◌-◌, ◌^◌, ◌<◌, ◌≤◌, Bool, true, false, cond, eqb, List, [], ◌∷◌, ◌++◌, Ok, Err, refl, sym, ap, ◌∙◌, arith, ◌⊎◌, inl, inr, ℤ, pos, negsuc, decimal, signed_decimal, eqb-true, Bad, Found, IsLocal, Format, ok_is, told, Begins, nowhere, any_low, Of, made, led, fitting, either_of, first_at, first_format, number_at, digits_at, IsWhole, positive_at, minus, whole_at}
-use Rattle.df_value_text.proofs.NumberLaws.{number_goes, first_fits, number_of, number_read, number_found, number_on, number_format, zero_read, no_digit_begins}
+use Rattle.df_value_text.proofs.Names.{◌≡◌, ℕ, suc, ◌-◌, ◌^◌, ◌<◌, ◌≤◌, Bool, true, false, cond, eqb, List, [], ◌∷◌, ◌++◌, Ok, Err, refl, sym, ap, ◌∙◌, arith, ◌⊎◌, inl, inr, ℤ, pos, negsuc, decimal, signed_decimal, Bad, Found, IsLocal, Format, told, Begins, nowhere, any_low, Of, made, led, fitting, either_of, first_at, first_format, digits_at, IsWhole, positive_at, minus, whole_at}
+use Rattle.df_value_text.proofs.NumberLaws.{number_goes, first_fits, number_of, number_read, number_found, number_on, number_format, positive_again, no_digit_begins}
 
 -- ---- numbers above 0
 
@@ -29,26 +29,11 @@ positive_found most c cs wide h =
           record { parts = f.parts; fits = (rw z (number_read most c cs wide digit z).positive, f.fits); ends = f.ends }
     ]
 
-positive_is : (most c : ℕ) (cs : List ℕ) → eqb c 48 ≡ false → positive_at most (c ∷ cs) ≡ number_at most (c ∷ cs)
-positive_is most c cs h = rw h refl
-
--- where a number above 0 is read, its first byte isn't `0`
-read_positive : (most n : ℕ) (bytes rest : List ℕ) → 0 < n → number_at most bytes ≡ Ok (n, rest) → positive_at most bytes ≡ Ok (n, rest)
-read_positive most n [] rest above e = absurd cc
-read_positive most n (c ∷ cs) rest above e =
-    elim (told (eqb c 48)) [
-      | inr h ↦ positive_is most c cs h ∙ e
-      | inl h ↦
-          let here : ℕ × List ℕ = (0, cs) in
-          let both = ok_is here (n, rest) (sym (zero_read most cs) ∙ ap (λ (v : ℕ). number_at most (v ∷ cs)) (sym (eqb-true c 48 h)) ∙ e) in
-          absurd (let none : 0 ≡ n = ap (λ (q : ℕ × List ℕ). q.0) both in omega (arith, none, above))
-    ]
-
 pub positive_format : (most : ℕ) → most < 2 ^ 64 → Format nowhere decimal (IsPositive most) (number_goes most) (positive_at most)
 positive_format most wide =
     first_format decimal (IsPositive most) (number_goes most) (positive_at most) (positive_fits most) (number_of most) (positive_first most)
     (λ c cs h. positive_found most c cs wide h) (λ n rest fits ends. positive_first most (decimal n ++ rest)
-    ∙ read_positive most n (decimal n ++ rest) rest fits.0 ((number_format nowhere most wide).again n rest fits.1 ends))
+    ∙ positive_again most n rest wide fits.0 fits.1 ends)
     (λ n c fits g. number_on most n c wide g)
 
 -- ---- both signs
