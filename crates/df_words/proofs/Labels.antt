@@ -23,27 +23,21 @@ longer word x end within short only l spells =
 
 -- the purge at the label is what the words ask for, and nothing else
 asked_back : (word name : List ℕ) (label : Label) → IsLabelIn word (Ok label) → (c : Command) → Ask (codes "purge" ∷ word ∷ name ∷ []) c → Purge label 2 ≡ c
-asked_back word name label is (Steps file) ask = absurd (let no : ⊥ = cc in no)
-asked_back word name label is (Check journal) ask = absurd (let no : ⊥ = cc in no)
-asked_back word name label is (Upgrade journal) ask = absurd (let no : ⊥ = cc in no)
 asked_back word name label is (Why journal place) ask =
     let letter : 112 ≡ 119 = ap (λ (words : List (List ℕ)). get_or (get_or words 0 []) 0 0) ask.1 in
     absurd (omega (arith, letter))
-asked_back word name label is (Auction orders) ask = absurd (let no : ⊥ = cc in no)
-asked_back word name label is (Lint script) ask = absurd (let no : ⊥ = cc in no)
-asked_back word name label is (Gen key n) ask = absurd (let no : ⊥ = cc in no)
 asked_back word name label is (Floor config ticks) ask =
     let letter : 112 ≡ 102 = ap (λ (words : List (List ℕ)). get_or (get_or words 0 []) 0 0) ask.2 in
     absurd (omega (arith, letter))
 asked_back word name label is (FloorWorkers config ticks workers) ask =
     let count : 3 ≡ 5 = ap (λ (words : List (List ℕ)). length words) ask.2 in
     absurd (omega (arith, count))
-asked_back word name label is (Load key n) ask = absurd (let no : ⊥ = cc in no)
 asked_back word name label is (Purge l journal) ask =
     let spelled : word ≡ label_text l = cc in
     let same : label ≡ l = (is l).1 (spelled, ask.2) in
     let place : journal ≡ 2 = ask.4 in
     cc
+asked_back word name label is _ ask = absurd (let no : ⊥ = cc in no)
 
 pub purge_asked : (word name : List ℕ) (label : Label) → IsLabelIn word (Ok label) → 0 < length name
     → IsCommandOf (codes "purge" ∷ word ∷ name ∷ []) (Ok (Purge label 2))
