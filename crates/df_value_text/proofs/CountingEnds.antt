@@ -1,5 +1,5 @@
 -- Behind the whole value nothing counts.
-use Rattle.df_value_text.proofs.Names.{◌≡◌, ℕ, ◌+◌, ◌<◌, ◌≤◌, max, Bool, true, false, cond, List, [], ◌∷◌, ◌++◌, length, take, drop, refl, sym, ap, subst, ◌∙◌, append_assoc, arith, inl, inr, ltb-true, append-nil, length-take-le, is_ascii_digit, goes_on, IsWithinLimits, Plain, int, node_count, byte_count, depth, value_text, IsSpelled, Place, Walk, closed, closes, walked, start, counts_of, AreWithin, IsOver, FirstOver, NeverOver, ltb, ◌↔◌, ltb-false, drop-append-le, take-append-drop, most_nodes, most_bytes, most_depth, AreCountsOf}
+use Rattle.df_value_text.proofs.Names.{told, nat_lt, nat_tests, ◌≡◌, ℕ, ◌+◌, ◌<◌, ◌≤◌, max, Bool, true, false, cond, List, [], ◌∷◌, ◌++◌, length, take, drop, refl, sym, ap, subst, ◌∙◌, append_assoc, arith, inl, inr, append-nil, length-take-le, is_ascii_digit, goes_on, IsWithinLimits, Plain, int, node_count, byte_count, depth, value_text, IsSpelled, Place, Walk, closed, closes, walked, start, counts_of, AreWithin, IsOver, FirstOver, NeverOver, ◌↔◌, drop-append-le, take-append-drop, most_nodes, most_bytes, most_depth, AreCountsOf}
 use Rattle.df_value_text.proofs.CountingLaws.{at, Adds, same, passes, walked-append, ended}
 use Rattle.df_value_text.proofs.CountingFronts.{counted_value, never_over}
 use Rattle.df_value_text.specs.declared.place.Place.TheVariants as place
@@ -26,11 +26,10 @@ done_still (c ∷ cs) os n b d = still_by place.Done place.Done os c cs n b d (p
 
 pub ended_still : (p : Plain) (cs : List ℕ) (n b d : ℕ) → Counts (walked (at (ended p) [] n b d) cs) n b d
 ended_still p [] n b d = record { nodes_are = refl; bytes_are = refl; deep_is = refl }
-ended_still (int z) (c ∷ cs) n b d = by (ended_still (int z) cs n b d) (is_ascii_digit c) refl
-  where
-    by : Counts (walked (at place.Number [] n b d) cs) n b d → (t : Bool) → is_ascii_digit c ≡ t → Counts (walked (at place.Number [] n b d) (c ∷ cs)) n b d
-    by rest true e = still_by place.Number place.Number [] c cs n b d (passes refl (rw e refl) (none_closed c) refl) rest
-    by rest false e = still_by place.Number place.Done [] c cs n b d (passes refl (rw e refl) (none_closed c) refl) (done_still cs [] n b d)
+ended_still (int z) (c ∷ cs) n b d = elim (told (is_ascii_digit c)) [
+  | inl e ↦ still_by place.Number place.Number [] c cs n b d (passes refl (rw e refl) (none_closed c) refl) (ended_still (int z) cs n b d)
+  | inr e ↦ still_by place.Number place.Done [] c cs n b d (passes refl (rw e refl) (none_closed c) refl) (done_still cs [] n b d)
+]
 ended_still _ (c ∷ cs) n b d = still_by place.Behind place.Done [] c cs n b d (passes refl refl (none_closed c) refl) (done_still cs [] n b d)
 
 -- a walk whose counts are within the limits
@@ -85,15 +84,15 @@ value_over p fits rest left over h =
 
 -- and its byte stands within the value
 pub over_inside : (p : Plain) → IsSpelled p → (rest left : List ℕ) → FirstOver (value_text p ++ rest) left → length rest < length left
-over_inside p fits rest left over = by (ltb (length rest) (length left)) refl
-  where
-    by : (t : Bool) → ltb (length rest) (length left) ≡ t → length rest < length left
-    by true e = ltb-true (length rest) (length left) e
-    by false e =
-        let parts : value_text p ++ rest ≡ over.front ++ left = over.parts ∙ ap (λ (u : List ℕ). over.front ++ u) (sym over.is) in
-        let on = goes_on (value_text p) rest over.front left parts (ltb-false (length rest) (length left) e) in
-        let counts : AreCountsOf p (counts_of over.front) = subst (λ (u : List ℕ). AreCountsOf p (counts_of u)) (sym on.1) (counted_behind p fits on.0) in
-        absurd (value_over p fits rest left over ((within_counts p (counts_of over.front) counts).1 over.within))
+over_inside p fits rest left over =
+    elim (told (nat_lt (length rest) (length left))) [
+      | inl e ↦ grind (arith, nat_tests)
+      | inr e ↦
+          let parts : value_text p ++ rest ≡ over.front ++ left = over.parts ∙ ap (λ (u : List ℕ). over.front ++ u) (sym over.is) in
+          let on = goes_on (value_text p) rest over.front left parts (grind (arith, nat_tests)) in
+          let counts : AreCountsOf p (counts_of over.front) = subst (λ (u : List ℕ). AreCountsOf p (counts_of u)) (sym on.1) (counted_behind p fits on.0) in
+          absurd (value_over p fits rest left over ((within_counts p (counts_of over.front) counts).1 over.within))
+    ]
 
 -- what stands in front of a place, and behind it
 pub front_whole : (text : List ℕ) (stop n : ℕ) → stop ≤ length text → n ≤ stop → drop n (take stop text) ++ drop stop text ≡ drop n text

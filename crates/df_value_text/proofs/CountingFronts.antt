@@ -1,5 +1,5 @@
 -- Walking on never lowers a count.
-use Rattle.df_value_text.proofs.Names.{◌≡◌, ℕ, ◌+◌, ◌≤◌, max, Bool, true, false, cond, ◌||◌, eqb, List, [], ◌∷◌, length, drop, refl, sym, ap, subst, ◌∙◌, arith, ◌⊎◌, inl, inr, nat_tests, told, Plain, node_count, byte_count, depth, value_text, IsSpelled, Place, Walk, begins, nested, closed, closes, walk, walked, start, counts_of, AreWithin, NeverOver, IsCounted}
+use Rattle.df_value_text.proofs.Names.{length-drop, ◌≡◌, ℕ, ◌+◌, ◌≤◌, max, Bool, true, false, cond, ◌||◌, eqb, List, [], ◌∷◌, length, drop, refl, sym, ap, subst, ◌∙◌, arith, ◌⊎◌, inl, inr, nat_tests, told, Plain, node_count, byte_count, depth, value_text, IsSpelled, Place, Walk, begins, nested, closed, closes, walk, walked, start, counts_of, AreWithin, NeverOver, IsCounted}
 use Rattle.df_value_text.proofs.CountingLaws.{at, same, walked-append, ended, walked_value}
 use Rattle.df_value_text.specs.declared.place.Place.TheVariants as place
 
@@ -52,15 +52,10 @@ counted_value p fits =
 -- ---- how deep the brackets nest is counted
 
 pub closed_low : (brackets : List Bool) (c : ℕ) → length (closed brackets c) ≤ length brackets
-closed_low brackets c = by (closes c)
-  where
-    shorter : (brackets : List Bool) → length (drop 1 brackets) ≤ length brackets
-    shorter [] = omega arith
-    shorter (b ∷ brackets) = omega arith
-
-    by : (t : Bool) → length (cond t (drop 1 brackets) brackets) ≤ length brackets
-    by true = shorter brackets
-    by false = omega arith
+closed_low brackets c = elim (closes c) as (λ t. length (cond t (drop 1 brackets) brackets) ≤ length brackets) [
+  | true ↦ omega (arith, length-drop 1 brackets)
+  | false ↦ omega arith
+]
 
 -- a byte that opens a bracket
 abbrev pub brackets_on : ℕ → Bool
@@ -72,12 +67,13 @@ pub record IsOpening (p : Place) (brackets : List Bool) (c : ℕ) : Type 0 where
   pub low : length (nested p brackets c) ≤ length brackets + 1
 
 pub nested_low : (p : Place) (brackets : List Bool) (c : ℕ) → (length (nested p brackets c) ≤ length brackets) ⊎ IsOpening p brackets c
-nested_low place.Before brackets c = by (eqb c 91) (eqb c 40) refl refl
-  where
-    by : (x y : Bool) → eqb c 91 ≡ x → eqb c 40 ≡ y → (length (nested place.Before brackets c) ≤ length brackets) ⊎ IsOpening place.Before brackets c
-    by true y e e' = inr (record { on = rw e refl; begins = grind (arith, nat_tests); low = rw e (omega arith) })
-    by false true e e' = inr (record { on = rw (e, e') refl; begins = grind (arith, nat_tests); low = rw (e, e') (omega arith) })
-    by false false e e' = inl (rw (e, e') (closed_low brackets c))
+nested_low place.Before brackets c = elim (told (eqb c 91)) [
+  | inl e ↦ inr (record { on = rw e refl; begins = grind (arith, nat_tests); low = rw e (omega arith) })
+  | inr e ↦ elim (told (eqb c 40)) [
+    | inl k ↦ inr (record { on = rw (e, k) refl; begins = grind (arith, nat_tests); low = rw (e, k) (omega arith) })
+    | inr k ↦ inl (rw (e, k) (closed_low brackets c))
+  ]
+]
 nested_low place.Number brackets c = inl (closed_low brackets c)
 nested_low place.Name brackets c = inl (closed_low brackets c)
 nested_low place.Behind brackets c = inl (closed_low brackets c)

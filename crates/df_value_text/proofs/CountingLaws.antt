@@ -1,6 +1,7 @@
 -- Walking over a value's spelling counts its nodes, its bytes and its depth.
 use Rattle.df_value_text.proofs.Names.{◌≡◌, ℕ, ◌+◌, max, Bool, true, false, List, [], ◌∷◌, ◌++◌, length, refl, ap, subst, ◌∙◌, sym, append_assoc, arith, Place, Walk, begins, weight, next, nested, walk, walked, zero, suc, ◌/◌, ◌%◌, ◌^◌, ◌<◌, ◌≤◌, eqb, length-append, inl, inr, ℤ, pos, negsuc, IsUtf8, is_ascii_digit, decimal, signed_decimal, flat_map, list_all, scalar, scalars, encodes, and_parts, nat_tests, decimal_by_steps, flat_map-append, is_name, is_name_byte, hex, hex_digit, escaped, is_hex, AreBytes, is_quoted, is_control, IsWhole, is_lead, trail_length, least_second, most_second, character, Plain, Plains, Pairs, int, words, bytes, items, entries, no_items, item, no_entries, entry, node_count, items_node_count, entries_node_count, byte_count, depth, value_text, items_text, entries_text, IsSpelled, AreSpelled, AreEntries, closed, items_byte_count, entries_byte_count, items_depth, entries_depth, behind}
 use Rattle.df_value_text.specs.declared.place.Place.TheVariants as place
+use Rattle.df_format.proofs.Laws.{told as which}
 use Rattle.std.proofs.Math.Utf8.{encode}
 use Rattle.df_value_text.proofs.BytesLaws.{digit_is}
 use Rattle.df_value_text.proofs.NameLaws.{name_size}
@@ -126,15 +127,13 @@ itself_adds os c k unquoted free e =
     subst (λ (u : List ℕ). InWords os u k) (sym (itself_is c unquoted free)) one
 
 ascii_adds : (os : List Bool) (c : ℕ) → c < 128 → InWords os (escaped c) 1
-ascii_adds os c lt = by (is_quoted c) (is_control c) refl refl
-  where
-    one : character c ≡ 1
-    one = grind (arith, nat_tests)
-
-    by : (q k : Bool) → is_quoted c ≡ q → is_control c ≡ k → InWords os (escaped c) 1
-    by true k e e' = subst (λ (u : List ℕ). InWords os u 1) (sym (let is : escaped c ≡ 92 ∷ c ∷ [] = rw e refl in is)) (quoted_adds os c e)
-    by false true e e' = subst (λ (u : List ℕ). InWords os u 1) (sym (let is : escaped c ≡ 92 ∷ hex c = rw (e, e') refl in is)) (control_adds os c lt)
-    by false false e e' = itself_adds os c 1 e e' one
+ascii_adds os c lt = elim (which (is_quoted c)) [
+  | inl e ↦ subst (λ (u : List ℕ). InWords os u 1) (sym (let is : escaped c ≡ 92 ∷ c ∷ [] = rw e refl in is)) (quoted_adds os c e)
+  | inr e ↦ elim (which (is_control c)) [
+    | inl k ↦ subst (λ (u : List ℕ). InWords os u 1) (sym (let is : escaped c ≡ 92 ∷ hex c = rw (e, k) refl in is)) (control_adds os c lt)
+    | inr k ↦ itself_adds os c 1 e k (grind (arith, nat_tests))
+  ]
+]
 
 -- a byte of a longer character
 high_adds : (os : List Bool) (c k : ℕ) → 128 ≤ c → character c ≡ k → InWords os (escaped c) k

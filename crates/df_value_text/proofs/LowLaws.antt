@@ -61,11 +61,11 @@ abbrev entry_parts : (n : ℕ) → Parts NearEntry leads_entry 44 entry_text (Le
     (λ prev. next_entry_at (value_within n) prev.0)
 entry_parts n = entries_parts n (value_within n) (value_format n)
 
--- from some number of levels on, reading stops at a low name here
-abbrev pub Eventually : List ℕ → List ℕ → Type 0
-Eventually text rest = (k : ℕ) × ((n : ℕ) → k ≤ n → value_within n text ≡ Err (Low rest))
+-- from some number of levels on, reading gives this
+abbrev pub Eventually : List ℕ → Read ℕ Plain → Type 0
+Eventually text r = (k : ℕ) × ((n : ℕ) → k ≤ n → value_within n text ≡ r)
 
-one_more : (k : ℕ) (text rest : List ℕ) → ((n : ℕ) → k ≤ n → value_within (suc n) text ≡ Err (Low rest)) → Eventually text rest
+one_more : (k : ℕ) (text rest : List ℕ) → ((n : ℕ) → k ≤ n → value_within (suc n) text ≡ Err (Low rest)) → Eventually text (Err (Low rest))
 one_more k text rest f = (suc k, stops)
   where
     stops : (n : ℕ) → suc k ≤ n → value_within n text ≡ Err (Low rest)
@@ -156,7 +156,7 @@ module _ (n : ℕ) (es : List (List ℕ × Plain)) (name : List ℕ) (may : MayF
       (leads_on last name (name ++ (61 ∷ text)) a, next_stops (value_within n) last.0 name text (Low rest) a e))
 
 -- one list or map around
-open_stops : (o : Open) → IsOpen o → (text rest : List ℕ) → Eventually text rest → Eventually (open_text o ++ text) rest
+open_stops : (o : Open) → IsOpen o → (text rest : List ℕ) → Eventually text (Err (Low rest)) → Eventually (open_text o ++ text) (Err (Low rest))
 open_stops (in_list ps) fits text rest h =
     one_more (h.0 + items_node_count (from_list ps)) (open_text (in_list ps) ++ text) rest
     (λ n le. list_stops n ps text rest fits (omega (arith, le)) (h.1 n (omega (arith, le))))
@@ -164,14 +164,14 @@ open_stops (in_map es name) may text rest h =
     one_more (h.0 + entries_node_count (from_pairs (es ++ (name, may.0) ∷ []))) (open_text (in_map es name) ++ text) rest
     (λ n le. given_stops n es name may (omega (arith, le)) text rest (h.1 n (omega (arith, le))))
 
-all_stop : (os : List Open) → AreOpen os → (text rest : List ℕ) → Eventually text rest → Eventually (flat_map open_text os ++ text) rest
+all_stop : (os : List Open) → AreOpen os → (text rest : List ℕ) → Eventually text (Err (Low rest)) → Eventually (flat_map open_text os ++ text) (Err (Low rest))
 all_stop [] are text rest h = h
 all_stop (o ∷ os) are text rest h =
-    subst (λ (u : List ℕ). Eventually u rest) (sym (append_assoc (open_text o) (flat_map open_text os) text))
+    subst (λ (u : List ℕ). Eventually u (Err (Low rest))) (sym (append_assoc (open_text o) (flat_map open_text os) text))
     (open_stops o are.0 (flat_map open_text os ++ text) rest (all_stop os are.1 text rest h))
 
 innermost_stops : (es : List (List ℕ × Plain)) (last : List ℕ × Plain) (other rest : List ℕ) → MayFollow (es ++ last ∷ []) other → NameStandsLow last.0 rest
-    → Eventually ((40 ∷ entries_led (es ++ last ∷ [])) ++ rest) rest
+    → Eventually ((40 ∷ entries_led (es ++ last ∷ [])) ++ rest) (Err (Low rest))
 innermost_stops es last other rest may low =
     let all : List (List ℕ × Plain) = es ++ last ∷ [] in
     one_more (entries_node_count (from_pairs (all ++ (other, may.0) ∷ []))) ((40 ∷ entries_led all) ++ rest) rest (λ n le.
@@ -179,10 +179,11 @@ innermost_stops es last other rest may low =
     (λ before l is h. let stands = subst (λ (d : List ℕ × Plain). NameStandsLow d.0 rest) (last_same es before last l is) low in
     (leads_on l other rest (after n all other may le before l is), low_stops (value_within n) l.0 rest stands)))
 
-pub low_read : (text rest : List ℕ) → LowInValue text rest → Eventually text rest
+pub low_read : (text rest : List ℕ) → LowInValue text rest → Eventually text (Err (Low rest))
 low_read text rest l =
     let w = l.2 in
     let inner : List ℕ = 40 ∷ entries_led (w.es ++ w.last ∷ []) in
     let parts : text ≡ flat_map open_text w.opened ++ (inner ++ rest) = l.1 ∙ ap (λ (u : List ℕ). u ++ rest) w.is
     ∙ append_assoc (flat_map open_text w.opened) inner rest in
-    subst (λ (u : List ℕ). Eventually u rest) (sym parts) (all_stop w.opened w.are (inner ++ rest) rest (innermost_stops w.es w.last w.other rest w.may w.low))
+    subst (λ (u : List ℕ). Eventually u (Err (Low rest))) (sym parts)
+    (all_stop w.opened w.are (inner ++ rest) rest (innermost_stops w.es w.last w.other rest w.may w.low))

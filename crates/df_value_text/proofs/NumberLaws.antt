@@ -120,7 +120,8 @@ read_more most n ds ge so pos le rest =
     let test : digit_fits most (n / 10) (48 + n % 10) ≡ true = digit_is most (n / 10) (n % 10) (omega arith) (omega arith) in
     let digit : (48 + n % 10) - 48 ≡ n % 10 = omega arith in
     let step : digits_at most (n / 10) ((48 + n % 10) ∷ rest) ≡ digits_at most n rest = rw (test, digit, whole) refl in
-    ap (positive_at most) (append_assoc ds ((48 + n % 10) ∷ []) rest) ∙ so (omega arith) (omega arith) ((48 + n % 10) ∷ rest) ∙ ap (λ (q : ℕ × List ℕ). Ok q) step
+    ap (positive_at most) (append_assoc ds ((48 + n % 10) ∷ []) rest)
+    ∙ so (omega arith) (omega arith) ((48 + n % 10) ∷ rest) ∙ ap (λ (q : ℕ × List ℕ). Ok q) step
 
 digits_stop : (most n : ℕ) (rest : List ℕ) → 0 < n → Ends (number_goes most) n rest → digits_at most n rest ≡ (n, rest)
 digits_stop most n [] pos h = refl

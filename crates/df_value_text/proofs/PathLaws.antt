@@ -18,14 +18,12 @@ short_format IsLow = number_format IsLow top (omega arith)
 pub short_shrinks : (prev : ℕ) → Shrinks short_at
 short_shrinks prev = format_shrinks nowhere decimal IsShort (number_goes top) short_at (short_format nowhere)
 
-is_digit : (c : ℕ) → 48 ≤ c → c ≤ 57 → is_ascii_digit c ≡ true
-is_digit c low high = grind (arith, nat_tests)
-
 -- a number begins with a digit
 pub digit_first : (n : ℕ) (more : List ℕ) → IsShort n → begins_digit (decimal n ++ more) ≡ true
 digit_first n more fits =
     let d = first_digit n (omega (arith, fits)) in
-    ap (λ (u : List ℕ). begins_digit (u ++ more)) d.is ∙ is_digit d.first d.low d.high
+    let digit : is_ascii_digit d.first ≡ true = grind (arith, nat_tests, d.low, d.high) in
+    ap (λ (u : List ℕ). begins_digit (u ++ more)) d.is ∙ digit
 
 numbers_parts : Parts (λ prev. nowhere) leads_number 46 decimal IsShort (λ prev. IsShort) (number_goes top) (λ prev. short_at)
 numbers_parts = record {

@@ -4,7 +4,7 @@ use Rattle.df_value_text.specs.ReadValue.{value_within}
 use Rattle.df_value_text.proofs.Answering.{no_refusal}
 use Rattle.df_value_text.proofs.CountingEnds.{front_whole}
 use Rattle.df_value_text.proofs.EntryLaws.{LevelFits, nest_few}
-use Rattle.df_value_text.proofs.LowLaws.{low_read}
+use Rattle.df_value_text.proofs.LowLaws.{Eventually, low_read}
 use Rattle.df_value_text.proofs.TagLaws.{nowhere, nowhere_is_local}
 use Rattle.df_value_text.proofs.ValueLaws.{value_goes, value_format}
 use Rattle.df_value_text.proofs.WholeLaws.{whole_format}
@@ -59,18 +59,14 @@ found_value n text at end p q is limits h =
 abbrev pub Enough : (text : List ℕ) → ℕ → (ℕ → Type 0) → Type 0
 Enough text at P = (n : ℕ) → length text < at + n → P n
 
--- from some number of levels on, reading gives this
-abbrev Gives : List ℕ → Read ℕ Plain → Type 0
-Gives text r = (k : ℕ) × ((n : ℕ) → k ≤ n → value_within n text ≡ r)
-
--- it gives one thing
-one_given : (text : List ℕ) (r s : Read ℕ Plain) → Gives text r → Gives text s → r ≡ s
+-- reading gives one thing
+one_given : (text : List ℕ) (r s : Read ℕ Plain) → Eventually text r → Eventually text s → r ≡ s
 one_given text r s g h = sym (g.1 (g.0 + h.0) (omega arith)) ∙ h.1 (g.0 + h.0) (omega arith)
 
-given : (text : List ℕ) (at : ℕ) (r : Read ℕ Plain) → Enough text at (λ n. value_within n (drop at text) ≡ r) → Gives (drop at text) r
+given : (text : List ℕ) (at : ℕ) (r : Read ℕ Plain) → Enough text at (λ n. value_within n (drop at text) ≡ r) → Eventually (drop at text) r
 given text at r h = (suc (length text), λ n le. h n (omega (arith, le)))
 
-standing : (text : List ℕ) (p : Plain) (rest : List ℕ) → Stands value_text IsValue text p rest → Gives text (Ok (p, rest))
+standing : (text : List ℕ) (p : Plain) (rest : List ℕ) → Stands value_text IsValue text p rest → Eventually text (Ok (p, rest))
 standing text p rest s = (node_count p, λ n le. value_read n text p rest le s)
 
 -- one value stands there

@@ -14,11 +14,7 @@ high_hex : (a : ℕ) → is_high a ≡ true → is_hex a ≡ true
 high_hex a h = grind (arith, nat_tests)
 
 low_hex : (a b : ℕ) → is_low a b ≡ true → is_hex b ≡ true
-low_hex a b h = by (eqb a 55) h
-  where
-    by : (t : Bool) → cond t (eqb b 102) (is_hex b) ≡ true → is_hex b ≡ true
-    by true h = grind (arith, nat_tests)
-    by false h = h
+low_hex a b h = elim (told (eqb a 55)) [ inl e ↦ grind (arith, nat_tests) | inr e ↦ grind (arith, nat_tests) ]
 
 pair_control : (a b : ℕ) → is_high a ≡ true → is_low a b ≡ true → IsControl (hex_byte a b)
 pair_control a b ha hb = grind (arith, nat_tests)
