@@ -55,7 +55,8 @@ equal_law =
     either_of (λ c. eqb c 34) (made (λ text. TextEq text) words_format (λ text h. refl) (λ text c h. refl))
     (made (λ n. IntEq n) whole_law (λ z h. refl) (λ z c h. refl))
     (λ t h. record { first = 34; others = _; is = ap behind_sign (sym h.2); test = refl })
-    (λ t h. let b = int_opens 34 (inl (omega arith)) h.0 h.1 in record { first = b.first; others = b.others; is = ap behind_sign (sym h.2) ∙ b.is; test = b.test })
+    (λ t h. let b = int_opens 34 (inl (omega arith)) h.0 h.1
+    in record { first = b.first; others = b.others; is = ap behind_sign (sym h.2) ∙ b.is; test = b.test })
 
 equal_signed : (t : FieldTest) → IsEqual t → field_test_text t ≡ 61 ∷ behind_sign t
 equal_signed t (inl m) = subst (λ (u : FieldTest). field_test_text u ≡ 61 ∷ behind_sign u) m.2 refl
