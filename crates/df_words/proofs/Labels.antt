@@ -7,7 +7,7 @@ use Rattle.df_value_text.specs.Label.{label_text}
 use Rattle.df_value_text.specs.declared.refused.TextRefused.TheVariants as refused
 use Rattle.df_words.specs.Words.{Ask, IsCommandOf, IsLabelIn, Spells}
 use Rattle.df_words.specs.declared.command.Command.{Command}
-use Rattle.df_words.specs.declared.command.Command.TheVariants.{Steps, Check, Purge, Upgrade, Why, Auction, Lint, Gen, Floor, FloorWorkers, Load}
+use Rattle.df_words.specs.declared.command.Command.TheVariants.{Purge, Why, Floor, FloorWorkers}
 
 -- a label that the word spells stands there, in front of nothing
 pub stands : (word : List ℕ) (l : Label) → Spells word l → Stands label_text IsLabel word l []

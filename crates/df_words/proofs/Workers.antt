@@ -1,8 +1,8 @@
 -- Words that ask for a floor with workers.
-use Rattle.std.proofs.Common.{◌≡◌, ℕ, ◌<◌, List, [], ◌∷◌, length, get_or, Ok, Some, codes, decimal, refl, ap, subst, arith}
+use Rattle.std.proofs.Common.{◌≡◌, ℕ, ◌<◌, List, [], ◌∷◌, length, get_or, Ok, Some, codes, decimal, refl, ap, subst}
 use Rattle.df_words.specs.Words.{Ask, IsCommandOf, IsCountIn}
 use Rattle.df_words.specs.declared.command.Command.{Command}
-use Rattle.df_words.specs.declared.command.Command.TheVariants.{Steps, Check, Purge, Upgrade, Why, Auction, Lint, Gen, Floor, FloorWorkers, Load}
+use Rattle.df_words.specs.declared.command.Command.TheVariants.{FloorWorkers}
 
 module _ (one other count : List ℕ) (w : ℕ) (is : IsCountIn 16 count (Some w)) where
   abbrev words : List (List ℕ)
