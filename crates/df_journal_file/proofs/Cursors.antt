@@ -1,8 +1,8 @@
 -- A journal that is gone over, as far as it was read.
-use Rattle.df_journal_file.proofs.Names.{◌≡◌, ℕ, ◌+◌, ◌≤◌, Bool, true, List, [], ◌∷◌, ◌++◌, IsTrue, drop, eqb, length, refl, sym, ap, ◌∙◌, append_assoc, arith, ◌↔◌, flat_map, starts_with, Decides-eqb, drop-drop, flat_map_more, All-nil, All-push, ended, RootStart, Noted, noted_text, start_text, AreRootsAt, roots_text-numbered, CursorState, HasPassed, front_text, IsJournalOf, journal_by, EndsFile, IsWholeBy, IsFirstAt, first_of, IsHere}
-use Rattle.df_journal_file.proofs.Texts.{journal_is, regroup, run_line}
+use Rattle.df_journal_file.proofs.Names.{CursorState, HasPassed, front_text, IsJournalOf, journal_by, EndsFile, IsWholeBy, AreLeft, IsFirstAt, first_of, IsHere, noted_text, start_text, ended, roots_text-numbered, AreRootsAt, RootStart, Noted, Bool, IsTrue, List, [], ap, append-nil, append_assoc, arith, drop, eqb, length, refl, sym, true, ℕ, ◌++◌, ◌+◌, ◌↔◌, ◌∙◌, ◌∷◌, ◌≡◌, ◌≤◌, Decides-eqb, drop-drop, flat_map_more, All-nil, All-push, flat_map, starts_with}
 use Rattle.std.proofs.lemmas.List.{length-drop}
 use Rattle.std.proofs.lemmas.Slice.Eq.{starts_is}
+use Rattle.df_journal_file.proofs.Texts.{journal_is, regroup, run_line}
 
 -- the cursor at a place
 abbrev pub cursor_at : Bool → List ℕ → ℕ → CursorState
@@ -67,3 +67,13 @@ module _ (has : Bool) (bytes : List ℕ) where
 pub all_read : (has : Bool) (bytes : List ℕ) (roots : List RootStart) (notes : List Noted) (place : ℕ)
     → HasPassed roots notes (cursor_at has bytes place) → EndsFile (drop place bytes) → IsJournalOf (journal_by has roots notes) bytes
 all_read has bytes roots notes place p ends = journal_is bytes roots has notes ((p.begun, p.fit), (drop place bytes, ends, p.text))
+
+-- where entries and an end stand behind a first line and roots, the bytes are a journal
+pub whole_of : (has : Bool) (bytes : List ℕ) (at place : ℕ) (roots : List RootStart) (notes : List Noted) → IsFirstAt (first_of has) bytes at
+    → AreRootsAt bytes at roots place → AreLeft has bytes place notes → IsJournalOf (journal_by has roots notes) bytes
+whole_of has bytes at place roots notes i r k =
+    let p = begun has bytes at roots place i r in
+    let front = front_text has roots in
+    let text = p.text ∙ ap (λ (u : List ℕ). u ++ drop place bytes) (append-nil front) ∙ ap (λ (u : List ℕ). front ++ u) k.3
+    ∙ sym (append_assoc front (flat_map noted_text notes) k.0) in
+    journal_is bytes roots has notes ((p.begun, k.1), (k.0, k.2, text))

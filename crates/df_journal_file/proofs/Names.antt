@@ -6,7 +6,7 @@ pub use Rattle.df_journal_file.specs.Either.{First, IsEitherText, IsFirstOf, IsJ
 pub use Rattle.df_journal_file.specs.Journal.{ChangesSome, EditsSome, EndsFile, HasNote, IsNotedText, IsPlainText, IsRead, IsWholeEntry, ShowsSome}
 pub use Rattle.df_journal_file.specs.TooLarge.{IsCallFront, IsLargeIn, IsPartFront, IsShownFront, IsValueFront}
 pub use Rattle.df_journal_file.specs.code.Entries.{IsNoteBy, IsShownBy, IsSomeCommit, IsSomeEffectOf, IsWholeBy, commit_lines}
-pub use Rattle.df_journal_file.specs.code.Files.{AreKept, IsEitherFirst, IsFirstAt, IsKeptOf, IsText, IsWanted, StopsFirst, answered, first_of}
+pub use Rattle.df_journal_file.specs.code.Files.{AreLeft, IsEitherFirst, IsFirstAt, IsText, IsWanted, StopsFirst, answered, first_of}
 pub use Rattle.df_journal_file.specs.code.Languages.{AddsFrom, BehindSome, CommitFrom, DoneFrom, EditFrom, EffectFrom, EntriesFrom, GivenFrom, HandedFrom, HeadFrom, IsHanding, Many, NoteFrom, NotesNone, ReadFrom, ShownFrom, ShowsNone, Then}
 pub use Rattle.df_journal_file.specs.code.Places.{AreMarked, ArePassed, IsHere, IsLineHere, IsSpelled, MarkedStop, StopsLine, TellsAt, finished}
 pub use Rattle.df_journal_file.specs.code.Stops.{IsStop, Onto, StopsIn}
@@ -37,8 +37,6 @@ pub use Rattle.df_script_text.proofs.Words.{AreWords-privileges, is_word, is_wor
 pub use Rattle.df_script_text.specs.code.Stops.{AreRootsAt, IsHeadLine, RootsStop, StopsAt, StopsRoot}
 pub use Rattle.df_start.specs.declared.start.RootStart.{RootStart}
 pub use Rattle.df_unit.specs.declared.call.Call.{Call}
-pub use Rattle.df_unit.specs.declared.commit.Commit.{Commit}
-pub use Rattle.df_unit.specs.declared.entry.Effect.{Effect}
 pub use Rattle.df_unit.specs.declared.entry.Entry.{Entry}
 pub use Rattle.df_unit.specs.declared.entry.Entry.TheVariants.{Done, Emitted}
 pub use Rattle.df_unit.specs.declared.entry.Noted.{Noted}
@@ -54,7 +52,7 @@ pub use Rattle.df_value_text.specs.ReadTag.{begins_digit}
 pub use Rattle.df_value_text.specs.Value.{value_text}
 pub use Rattle.std.proofs.Common.{Bool, Err, IfErr, IfOk, IsTrue, List, None, Ok, Option, Result, Some, [], ap, append-nil, append_assoc, arith, codes, decimal, drop, eqb, false, inl, inr, length, length-append, length-drop, lit<, lit≤, map, pos, refl, rules, subst, suc, sym, true, ℕ, ◌&&◌, ◌++◌, ◌+◌, ◌-◌, ◌<◌, ◌^◌, ◌↔◌, ◌∙◌, ◌∷◌, ◌≡◌, ◌≤◌, ◌⊎◌}
 pub use Rattle.std.proofs.lemmas.Bool.Decides.{Decides-eqb, nat_tests}
-pub use Rattle.std.proofs.lemmas.List.{append_cancel_left, drop-drop, drop_all, flat_map_more, map-append, map-id}
+pub use Rattle.std.proofs.lemmas.List.{append_cancel_left, drop-drop, drop_all, flat_map_more, map-id}
 pub use Rattle.std.proofs.lemmas.List.Concat.{flat_map-append}
 pub use Rattle.std.proofs.lemmas.List.Elements.{All-append, All-cons, All-head, All-map, All-nil, All-push, All-tail, All-weaker, recursion_from_All}
 pub use Rattle.std.specs.Char.{is_ascii_digit}

@@ -4,14 +4,11 @@ use Rattle.df_lines.specs.declared.fault.FileFault.TheVariants as stop
 use Rattle.df_unit.specs.declared.call.Call.TheVariants.{Get}
 use Rattle.df_unit.specs.declared.reply.Reply.TheVariants as reply
 use Rattle.df_journal_text.specs.ReadCall.{call_at}
-use Rattle.df_journal_file.proofs.Ends.{same_end}
-use Rattle.df_journal_file.proofs.Entries.{bare_parts}
+use Rattle.df_journal_file.proofs.Fronts.{alike, digit_begins, one_result, same_end}
+use Rattle.df_journal_file.proofs.Opens.{AtHead, bare_parts, called_begins, done_to, effect_parts, emitted_to, none_left, opened, shows_or_not}
 use Rattle.df_journal_file.proofs.Feeds.{CallTold, told_line}
-use Rattle.df_journal_file.proofs.Fronts.{alike, digit_begins, one_result}
-use Rattle.df_journal_file.proofs.Heads.{entries_begin, label_fits, no_label}
-use Rattle.df_journal_file.proofs.LineKinds.{adds_run, called_kind, note_kind, read_run, spots_run}
+use Rattle.df_journal_file.proofs.LineKinds.{adds_run, called_kind, entries_begin, label_fits, no_label, note_kind, read_run, spots_run}
 use Rattle.df_journal_file.proofs.Ontos.{never_stop, onto_here}
-use Rattle.df_journal_file.proofs.Opens.{AtHead, called_begins, done_to, effect_parts, emitted_to, none_left, opened, shows_or_not}
 use Rattle.df_journal_file.proofs.Rows.{IsRow, row_some, row_stop, run_none, run_row, then_row}
 use Rattle.df_journal_file.specs.code.Marks.{IsUnitHere}
 use Rattle.df_journal_text.specs.ReadName.{unit_at}

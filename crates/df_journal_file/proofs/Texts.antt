@@ -1,12 +1,12 @@
 -- Whole journals: their first line, their roots and their entries.
-use Rattle.df_journal_file.proofs.Names.{ok_is, front_text, First, IsJournalOf, Journal, Second, journal_by, EndsFile, IsWholeEntry, IsWholeBy, IsEitherFirst, IsFirstAt, IsText, IsWanted, StopsFirst, first_of, EntriesFrom, HeadFrom, Onto, StopsIn, journal_back, noted_text, AreRoots, IsJournal, IsNoteOf, IsNoted, line, start_text, Label, IsLine, ended, FileFault, run, StopsAt, RootStart, Entry, Done, Emitted, Noted, begins_with, Bool, List, None, Ok, Option, Some, [], ap, append_assoc, arith, codes, drop, false, inl, inr, lit<, map, refl, subst, sym, true, ℕ, ◌++◌, ◌∙◌, ◌∷◌, ◌≡◌, append_cancel_left, All-map, All-weaker, recursion_from_All, All, AllByRecursion, flat_map, unended, Avoids-text}
-use mathlib.Core.Bool.{beq, not}
+use Rattle.df_journal_file.proofs.Names.{ok_is, front_text, First, IsJournalOf, Journal, Second, journal_by, EndsFile, IsWholeEntry, IsWholeBy, IsEitherFirst, IsFirstAt, IsText, IsWanted, StopsFirst, first_of, EntriesFrom, HeadFrom, Onto, StopsIn, unended, journal_back, noted_text, AreRoots, IsJournal, IsNoteOf, IsNoted, line, start_text, Label, IsLine, ended, FileFault, Bad, run, Avoids-text, StopsAt, RootStart, Entry, Done, Emitted, Noted, begins_with, Bool, IsTrue, List, None, Ok, Option, Some, [], ap, append_assoc, arith, codes, drop, false, inl, inr, lit<, map, refl, subst, sym, true, ℕ, ◌++◌, ◌↔◌, ◌∙◌, ◌∷◌, ◌≡◌, append_cancel_left, All-map, All-weaker, recursion_from_All, All, AllByRecursion, flat_map}
+use mathlib.Core.Bool.{beq}
 use Rattle.std.proofs.lemmas.List.Folds.{flat_map-map}
 use Rattle.df_lines.specs.declared.fault.FileFault.TheVariants as stop
+use Rattle.df_journal_text.specs.ReadEntry.{EndsJournal, journal_at}
 use Rattle.df_journal_file.proofs.Ontos.{path_onto}
 use Rattle.df_journal_file.proofs.Roots.{head_some}
 use Rattle.df_journal_file.proofs.Rows.{IsKind, IsRow, bare_kind, bare_stop, line_path, row_stop}
-use Rattle.df_journal_text.specs.ReadEntry.{EndsJournal, journal_at}
 
 -- ---- the text of a journal
 
@@ -190,24 +190,24 @@ module _ (wanted : Option Bool) where
       subst (λ (p : ℕ). StopsIn (IsText wanted) bytes 0 (stop.Bad p)) (sym s.0) (first_stop bytes s.1.0 (λ has w. either_first has) s.1.1)
   text_stop bytes (stop.TooLarge place) s = absurd s
 
--- whether two versions are the same, as the test tells it
-pub same_version : (has k : Bool) → (not (beq has k) ≡ true → has ≡ k → ⊥) × (not (beq has k) ≡ false → has ≡ k)
-same_version true true = (λ t e. let no : false ≡ true = t in cc, λ t. refl)
-same_version false false = (λ t e. let no : false ≡ true = t in cc, λ t. refl)
-same_version true false = (λ t e. let no : true ≡ false = e in cc, λ t. let no : true ≡ false = t in cc)
-same_version false true = (λ t e. let no : false ≡ true = e in cc, λ t. let no : true ≡ false = t in cc)
-
--- so is that of another version
-pub other_stop : (has k : Bool) → (k ≡ has → ⊥) → (bytes : List ℕ) (at : ℕ) → IsFirstAt (first_of k) bytes at
-    → StopsIn (IsText (Some has)) bytes 0 (stop.Bad 0)
-other_stop has k other bytes at i =
-    first_stop (Some has) {Is = λ l. l ≡ first_of has} bytes (first_of k) (λ h w. ap first_of (sym w)) (record {
+-- so is that of a version that isn't wanted
+pub other_stop : (wanted : Option Bool) (k : Bool) → ¬ IsWanted wanted k → (bytes : List ℕ) (at : ℕ) → IsFirstAt (first_of k) bytes at
+    → StopsIn (IsText wanted) bytes 0 (stop.Bad 0)
+other_stop wanted k none bytes at i =
+    first_stop wanted {Is = λ l. (has : Bool) × IsWanted wanted has × (l ≡ first_of has)} bytes (first_of k) (λ has w. (has, w, refl)) (record {
       behind = 10 ∷ drop at bytes;
       parts = i.1 ∙ append_assoc (first_of k) (10 ∷ []) (drop at bytes);
       line = first_free k;
       end = refl;
-      refused = λ more e is. other (same_first k has [] [] (ap (λ (l : List ℕ). ended l ++ []) is)).0;
+      refused = λ more e is. none (subst (IsWanted wanted) (sym (same_first k is.0 [] [] (ap (λ (l : List ℕ). ended l ++ []) is.2)).0) is.1);
     })
+
+-- whether a version is the one that is wanted, as the test tells it
+pub same_version : (has k : Bool) → IsTrue (beq has k) ↔ has ≡ k
+same_version true true = (λ t. refl, λ e. refl)
+same_version false false = (λ t. refl, λ e. refl)
+same_version true false = (λ t. absurd (let no : false ≡ true = t in cc), λ e. absurd (let no : true ≡ false = e in cc))
+same_version false true = (λ t. absurd (let no : false ≡ true = t in cc), λ e. absurd (let no : false ≡ true = e in cc))
 
 -- ---- a text is that of one journal
 

@@ -1,5 +1,5 @@
 //! Whole journals.
-ghost use Rattle.std.specs.Prelude.{◌≡◌, ◌≤◌, ◌+◌, ◌++◌, ◌↔◌, List, ℕ, Bool, Option, Some, IfErr, IfOk, IsTrue, drop, length};
+ghost use Rattle.std.specs.Prelude.{◌≡◌, ◌≤◌, ◌+◌, ◌++◌, ◌↔◌, List, ℕ, IfErr, IfOk, IsTrue, drop, length, map};
 ghost use Rattle.df_lines.specs.FirstBad.{IsFirstBad};
 ghost use Rattle.df_lines.specs.Refused.{IsRefused, NamesBadLine};
 ghost use Rattle.df_lines.specs.code.Faults.{IsInside};
@@ -8,15 +8,16 @@ ghost use Rattle.df_start.specs.declared.start.RootStart.{RootStart};
 ghost use Rattle.df_unit.specs.declared.entry.Entry.{Entry};
 ghost use Rattle.df_unit.specs.declared.entry.Noted.{Noted};
 ghost use Rattle.df_journal_text.specs.Start.{journal_text};
-ghost use Rattle.df_journal_file.specs.Either.{IsEitherText, IsFirstOf, IsJournalOf, IsSecondOf, journal_in};
+ghost use Rattle.df_journal_file.specs.Either.{First, IsEitherText, IsFirstOf, IsJournalOf, IsSecondOf, Second, journal_by, journal_in};
 ghost use Rattle.df_journal_file.specs.Journal.{EndsFile, IsNotedJournal, IsNotedText, IsPlainJournal, IsPlainText, IsRead, plain_text};
 ghost use Rattle.df_journal_file.specs.TooLarge.{IsLargeIn};
-ghost use Rattle.df_journal_file.specs.code.Files.{AreKept, IsEitherFirst, IsFirstAt, IsKeptOf, IsText, IsWanted, StopsFirst, answered, first_of};
+ghost use Rattle.df_journal_file.specs.code.Files.{AreLeft, IsEitherFirst, IsFirstAt, IsText, IsWanted, StopsFirst, answered, first_of};
 ghost use Rattle.df_journal_file.specs.code.Languages.{EntriesFrom};
 ghost use Rattle.df_journal_file.specs.code.Stops.{StopsIn};
 
 use crate::entry::entry_at;
 use df_lines::{FileFault, FileRefused, file_refused, line_at};
+use df_memory::NoMemory;
 use df_script_text::roots_at;
 use df_start::Start;
 use df_unit::{Entry, Noted};
@@ -27,30 +28,6 @@ use std::alloc::Global;
 pub enum Journal {
     First { start: Start, entries: Vec<Entry> },
     Second { start: Start, noted: Vec<Noted> },
-}
-
-/// What a version keeps of an entry that was read.
-trait Kept: Drop {
-    ghost kept: { Noted → Self };
-
-    fn of(noted: Noted) -> Self
-        ensures { result ≡ kept noted };
-}
-
-impl Kept for Entry {
-    ghost kept = { λ n. n.entry };
-
-    fn of(noted: Noted) -> Entry {
-        noted.entry
-    }
-}
-
-impl Kept for Noted {
-    ghost kept = { λ n. n };
-
-    fn of(noted: Noted) -> Noted {
-        noted
-    }
 }
 
 /// Whether the line is this one.
@@ -88,58 +65,84 @@ pub fn is_end(bytes: &[u8], place: usize) -> bool
     }
 }
 
+/// Whether this version is wanted.
+fn is_wanted(wanted: Option<bool>, has_notes: bool) -> bool
+    ensures { IsTrue result ↔ IsWanted wanted has_notes }
+{
+    match wanted {
+        Some(wanted) => wanted == has_notes,
+        None => true,
+    }
+}
+
 /// The entries from the place on.
-fn entries_at<X: Kept>(
+fn entries_at(
     alloc: Global,
     bytes: &[u8],
     at: usize,
     has_notes: bool,
-) -> Result<Vec<X>, FileFault>
+) -> Result<Vec<Noted>, FileFault>
     requires { at ≤ length bytes.now }
-    ensures read { IfOk result (λ v. AreKept X.kept has_notes bytes.now at v.items) }
+    ensures read { IfOk result (λ v. AreLeft has_notes bytes.now at v.items) }
     ensures stops { IfErr result (StopsIn (EntriesFrom has_notes) bytes.now at) }
 {
     let mut entries = Vec::new(alloc);
     let mut place = at;
     'entries: while !is_end(bytes, place) {
         let (noted, next) = entry_at(alloc, bytes, place, has_notes)?;
-        entries.push(X::of(noted))?;
+        entries.push(noted)?;
         place = next;
     }
     Ok(entries)
 }
 
-/// The roots and the entries behind the first line.
-fn journal_at<X: Kept>(
+/// The journal that these bytes are, in a version that is wanted: its version, its roots and its
+/// entries, of which the first version notes nothing.
+fn whole(
     alloc: Global,
     bytes: &[u8],
-    at: usize,
-    has_notes: bool,
-) -> Result<(Start, Vec<X>), FileFault>
-    requires { IsFirstAt (first_of has_notes) bytes.now at }
-    ensures read { IfOk result (λ s. IsKeptOf X.kept has_notes bytes.now s.0 s.1.items) }
-    ensures stops { (wanted : Option Bool) → IsWanted wanted has_notes
-        → IfErr result (StopsIn (IsText wanted) bytes.now 0) }
+    wanted: Option<bool>,
+) -> Result<(bool, Start, Vec<Noted>), FileFault>
+    ensures version { IfOk result (λ w. IsWanted wanted w.0) }
+    ensures read { IfOk result (λ w. IsJournalOf (journal_by w.0 w.1 w.2.items) bytes.now) }
+    ensures stops { IfErr result (StopsIn (IsText wanted) bytes.now 0) }
 {
-    let (start, place) = roots_at(alloc, bytes, at)?;
-    let entries = entries_at(alloc, bytes, place, has_notes)?;
-    Ok((start, entries))
-}
-
-/// The journal in this version that these bytes are.
-fn version_whole<X: Kept>(
-    alloc: Global,
-    bytes: &[u8],
-    has_notes: bool,
-) -> Result<(Start, Vec<X>), FileFault>
-    ensures read { IfOk result (λ s. IsKeptOf X.kept has_notes bytes.now s.0 s.1.items) }
-    ensures stops { IfErr result (StopsIn (IsText (Some has_notes)) bytes.now 0) }
-{
-    let (version, at) = version_at(bytes)?;
-    if version != has_notes {
+    let (has_notes, at) = version_at(bytes)?;
+    if !is_wanted(wanted, has_notes) {
         return Err(FileFault::Bad(0));
     }
-    journal_at(alloc, bytes, at, has_notes)
+    let (start, place) = roots_at(alloc, bytes, at)?;
+    let noted = entries_at(alloc, bytes, place, has_notes)?;
+    Ok((has_notes, start, noted))
+}
+
+/// The entries without what is noted of them.
+fn entries_of(alloc: Global, noted: Vec<Noted>) -> Result<Vec<Entry>, NoMemory>
+    ensures { IfOk result (λ v. v.items ≡ map (λ n. n.entry) noted.items) }
+{
+    let mut entries = Vec::new(alloc);
+    'noted: for n in noted {
+        entries.push(n.entry)?;
+    }
+    Ok(entries)
+}
+
+/// The journal in its first version that these bytes are.
+fn plain_whole(alloc: Global, bytes: &[u8]) -> Result<(Start, Vec<Entry>), FileFault>
+    ensures read { IfOk result (λ s. IsJournalOf (First s.0 s.1.items) bytes.now) }
+    ensures stops { IfErr result (StopsIn IsPlainText bytes.now 0) }
+{
+    let (_, start, noted) = whole(alloc, bytes, Some(false))?;
+    Ok((start, entries_of(alloc, noted)?))
+}
+
+/// The journal in its second version that these bytes are.
+fn noted_whole(alloc: Global, bytes: &[u8]) -> Result<(Start, Vec<Noted>), FileFault>
+    ensures read { IfOk result (λ s. IsJournalOf (Second s.0 s.1.items) bytes.now) }
+    ensures stops { IfErr result (StopsIn IsNotedText bytes.now 0) }
+{
+    let (_, start, noted) = whole(alloc, bytes, Some(true))?;
+    Ok((start, noted))
 }
 
 /// The journal in one of its versions that these bytes are.
@@ -147,12 +150,11 @@ fn either_whole(alloc: Global, bytes: &[u8]) -> Result<Journal, FileFault>
     ensures read { IfOk result (λ j. IsJournalOf (journal_in j) bytes.now) }
     ensures stops { IfErr result (StopsIn IsEitherText bytes.now 0) }
 {
-    let (has_notes, at) = version_at(bytes)?;
+    let (has_notes, start, noted) = whole(alloc, bytes, None)?;
     if has_notes {
-        let (start, noted) = journal_at(alloc, bytes, at, true)?;
         return Ok(Journal::Second { start, noted });
     }
-    let (start, entries) = journal_at(alloc, bytes, at, false)?;
+    let entries = entries_of(alloc, noted)?;
     Ok(Journal::First { start, entries })
 }
 
@@ -183,7 +185,7 @@ pub fn read_journal(alloc: Global, bytes: &[u8]) -> Result<(Start, Vec<Entry>), 
         → IsFirstBad IsPlainText bytes.now before bad → IsLargeIn IsPlainText before bad
         → IsRefused (refused.TooLarge (length before + 1)) result }
 {
-    answered(bytes, version_whole(alloc, bytes, false))
+    answered(bytes, plain_whole(alloc, bytes))
 }
 
 /// Reads a journal in its second version, with what is noted of each entry.
@@ -202,7 +204,7 @@ pub fn read_noted(alloc: Global, bytes: &[u8]) -> Result<(Start, Vec<Noted>), Fi
         → IsFirstBad IsNotedText bytes.now before bad → IsLargeIn IsNotedText before bad
         → IsRefused (refused.TooLarge (length before + 1)) result }
 {
-    answered(bytes, version_whole(alloc, bytes, true))
+    answered(bytes, noted_whole(alloc, bytes))
 }
 
 /// Reads a journal in the version that its first line names.

@@ -1,16 +1,17 @@
 -- What is read of a whole journal: its first line, its roots and its entries.
-use Rattle.std.specs.Prelude.{◌≡◌, ℕ, ◌≤◌, Bool, true, false, List, ◌++◌, length, drop, map, codes, Option, Some, None, Result, Ok, Err, ⊤, ◌⊎◌}
+use Rattle.std.specs.Prelude.{◌≡◌, ℕ, ◌≤◌, Bool, true, false, List, ◌++◌, length, drop, codes, Option, Some, None, Result, Ok, Err, ⊤, ◌⊎◌}
+use Rattle.std.specs.List.{All, flat_map}
 use Rattle.df_lines.specs.Lines.{ended}
 use Rattle.df_lines.specs.code.Faults.{refusal}
 use Rattle.df_lines.specs.declared.fault.FileFault.{FileFault}
 use Rattle.df_lines.specs.declared.fault.FileFault.TheVariants as stop
 use Rattle.df_lines.specs.declared.refused.FileRefused.{FileRefused}
-use Rattle.df_start.specs.declared.start.RootStart.{RootStart}
 use Rattle.df_unit.specs.declared.entry.Noted.{Noted}
 use Rattle.df_script_text.specs.code.Stops.{StopsAt}
-use Rattle.df_journal_file.specs.Either.{IsEitherText, IsJournalOf, journal_by}
-use Rattle.df_journal_file.specs.Journal.{IsNotedText, IsPlainText}
-use Rattle.df_journal_file.specs.code.Languages.{EntriesFrom}
+use Rattle.df_journal_text.specs.Entry.{noted_text}
+use Rattle.df_journal_file.specs.Either.{IsEitherText}
+use Rattle.df_journal_file.specs.Journal.{EndsFile, IsNotedText, IsPlainText}
+use Rattle.df_journal_file.specs.code.Entries.{IsWholeBy}
 
 -- the first line, in the second version or the first
 abbrev pub first_of : Bool → List ℕ
@@ -42,14 +43,10 @@ IsText (Some true) bytes = IsNotedText bytes
 IsText (Some false) bytes = IsPlainText bytes
 IsText None bytes = IsEitherText bytes
 
--- from the place on stand entries and an end, and this is kept of them
-abbrev pub AreKept : {X : Type 0} → (Noted → X) → Bool → List ℕ → ℕ → List X → Type 0
-AreKept kept has bytes at xs = (entries : EntriesFrom has (drop at bytes)) × (xs ≡ map kept entries.0)
-
--- the bytes are a journal in this version, of whose entries this is kept
-abbrev pub IsKeptOf : {X : Type 0} → (Noted → X) → Bool → List ℕ → List RootStart → List X → Type 0
-IsKeptOf kept has bytes roots xs = (notes : List Noted) × (xs ≡ map kept notes)
-    × IsJournalOf (journal_by has roots notes) bytes
+-- from the place on stand these entries and an end
+abbrev pub AreLeft : Bool → List ℕ → ℕ → List Noted → Type 0
+AreLeft has bytes at notes = (end : List ℕ) × All (IsWholeBy has) notes × EndsFile end
+    × (drop at bytes ≡ flat_map noted_text notes ++ end)
 
 -- what was read, or the refusal of its fault
 abbrev pub answered : {X : Type 0} → List ℕ → Result X FileFault → Result X FileRefused

@@ -1,5 +1,5 @@
 use Rattle.df_journal_file.proofs.Names.{refl}
-use Rattle.df_journal_file.proofs.Entries.{no_note, some_note}
+use Rattle.df_journal_file.proofs.Opens.{no_note, some_note}
 use Rattle.df_journal_file.proofs.Fronts.{one_result}
 use Rattle.df_journal_file.proofs.LineKinds.{note_kind}
 use Rattle.df_journal_file.proofs.Ontos.{stopped}

@@ -1,5 +1,5 @@
 use Rattle.df_journal_file.proofs.Names.{arith}
-use Rattle.df_journal_file.proofs.Entries.{done_read}
+use Rattle.df_journal_file.proofs.Opens.{done_read}
 use Rattle.df_journal_file.proofs.LineKinds.{called_kind}
 use Rattle.df_journal_file.proofs.Ontos.{stopped}
 use Rattle.df_journal_file.proofs.Rows.{row_onto}

@@ -1,5 +1,5 @@
 use Rattle.df_journal_file.proofs.Names.{inr, refl, sym, ◌∙◌}
-use Rattle.df_journal_file.proofs.Entries.{emitted_whole}
+use Rattle.df_journal_file.proofs.Opens.{emitted_whole}
 use Rattle.df_journal_file.proofs.Ontos.{stopped}
 use Rattle.df_journal_file.proofs.Places.{as_here}
 use Rattle.df_journal_file.proofs.Steps.{emitted_onto}

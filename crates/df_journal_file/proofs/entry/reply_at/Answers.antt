@@ -1,6 +1,6 @@
 use Rattle.df_journal_file.proofs.Names.{EffectFrom, [], arith, inl, inr, refl, sym, true, ◌∙◌, Bad}
 use Rattle.df_unit.specs.declared.reply.Reply.TheVariants as reply
-use Rattle.df_journal_file.proofs.Entries.{alone, bare_parts}
+use Rattle.df_journal_file.proofs.Opens.{alone, bare_parts}
 use Rattle.df_journal_file.proofs.LineKinds.{read_run}
 use Rattle.df_journal_file.proofs.Ontos.{stopped}
 use Rattle.df_journal_file.proofs.Places.{as_here, none_here}

@@ -1,16 +1,17 @@
-use Rattle.df_journal_file.proofs.Names.{[], ◌∷◌, ◌++◌, ap, ◌∙◌, drop, rules, EndsFile}
-use Rattle.df_journal_file.proofs.Versions.{all_kept, more_read, none_read}
+use Rattle.df_journal_file.proofs.Names.{EndsFile, IsWholeBy, drop, refl, rules, All-nil}
+use Rattle.df_journal_file.proofs.Places.{more_passed, none_here}
 use Rattle.df_journal_file.proofs.file.entries_at.Goals as goal
 
 pub entries-init : goal.entries-init
-entries-init g c = none_read g.X.Kept.kept _ _ _ _ c.new-entries.ensures.items c.requires
+entries-init c = (rw c.new-entries.ensures.items (none_here c.requires (All-nil (IsWholeBy c.args.has_notes)) refl), λ f s. s)
 
 pub entries-preserved : goal.entries-preserved
-entries-preserved g c =
+entries-preserved c =
     let read = c.in_ok-noted.ensures in
-    let pushed = c.in_ok-push.ensures.items ∙ ap (λ x. c.entries.entries.items ++ x ∷ []) c.of.ensures in
-    more_read g.X.Kept.kept _ _ _ _ _ _ _ _ c.entries.invariant read.read read.onto pushed
+    (more_passed _ _ _ c.entries.invariant.0 read.read c.in_ok-push.ensures.items, λ f s. c.entries.invariant.1 f (read.onto f s))
 
 pub returns-clause-read : goal.returns-clause-read
-returns-clause-read g c =
-    let ends : EndsFile (drop c.entries.place c.args.bytes.now) = search rules in all_kept g.X.Kept.kept _ _ _ _ _ c.entries.invariant ends
+returns-clause-read c =
+    let ends : EndsFile (drop c.entries.place c.args.bytes.now) = search rules in
+    let passed = c.entries.invariant.0 in
+    (drop c.entries.place c.args.bytes.now, passed.fits, ends, passed.parts)

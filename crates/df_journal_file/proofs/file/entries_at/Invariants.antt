@@ -1,10 +1,10 @@
-use Rattle.df_journal_file.proofs.Names.{◌-◌, length}
-use Rattle.df_journal_file.proofs.Versions.{IsReadTo}
+use Rattle.df_journal_file.proofs.Names.{◌-◌, length, noted_text, EntriesFrom, IsWholeBy, ArePassed, Onto}
 use Rattle.df_journal_file.proofs.file.entries_at.Given as goal
 
--- the entries so far stand in front of the place
+-- the entries so far stand in front of the place, and more of them and an end may stand behind
 abbrev pub invariant-entries : goal.invariant-entries
-invariant-entries g l = IsReadTo g.X.Kept.kept l.has_notes l.bytes l.at l.entries.items l.place
+invariant-entries l = ArePassed noted_text (IsWholeBy l.has_notes) l.bytes l.at l.entries.items l.place
+    × Onto (EntriesFrom l.has_notes) l.bytes l.at (EntriesFrom l.has_notes) l.place
 
 abbrev pub decreases-entries : goal.decreases-entries
-decreases-entries g l = length l.bytes - l.place
+decreases-entries l = length l.bytes - l.place

@@ -1,5 +1,5 @@
 use Rattle.df_journal_file.proofs.Names.{drop, length, Decides-eqb}
-use Rattle.df_journal_file.proofs.Ends.{line_ends, open_ends}
+use Rattle.df_journal_file.proofs.Fronts.{line_ends, open_ends}
 use Rattle.df_journal_file.proofs.file.is_end.Goals as goal
 
 pub returns-in-Some : goal.returns-in-Some
