@@ -98,10 +98,13 @@ release_effect out d = if is_accepted (release_reply out d)
     else Effect.Commit (edited d.event d.named (relabelled out d.drafted))
     else Effect.Nothing
 
--- a publish of the handle is accepted and has this effect, whichever deliveries are left
-abbrev pub IsPublished : LocalState → ℕ → Effect → Type 0
-IsPublished l h effect = (left : List Given) →
-    row_answer l left (Call.Publish h) ≡ (Reply.Ok, effect)
+-- the effect of a call with this reply, where it is accepted
+abbrev pub accepted_effect : Reply → Effect → Option Effect
+accepted_effect r f = if is_accepted r then Some f else None
+
+-- the call is answered with Ok and has this effect, whichever deliveries are left
+abbrev pub IsDone : LocalState → Call → Effect → Type 0
+IsDone l call effect = (left : List Given) → row_answer l left call ≡ (Reply.Ok, effect)
 
 -- whether the call is made of the unit's own state alone and has no effect
 abbrev pub is_alone : Call → Bool

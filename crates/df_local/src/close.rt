@@ -1,13 +1,10 @@
 //! Closing a handle, and the commit that goes with it.
 
-ghost use Rattle.std.specs.Prelude.{◌≡◌, [], IfOk, IfSome, None, false, option_copied};
+ghost use Rattle.std.specs.Prelude.{◌≡◌, IfOk, IfSome, option_copied};
 ghost use Rattle.df_unit.specs.Drafts.{relabelled};
 ghost use Rattle.df_unit.specs.Handles.{closed};
-ghost use Rattle.df_unit.specs.Rows.{is_accepted, reply, unwritable};
-ghost use Rattle.df_unit.specs.declared.call.Call.{Call};
-ghost use Rattle.df_unit.specs.declared.entry.Effect.{Effect};
-ghost use Rattle.df_unit.specs.declared.reply.Reply.{Reply};
-ghost use Rattle.df_local.specs.Locally.{IsPublished, edited, publish_effect, publish_reply, release_effect, release_reply, with_own};
+ghost use Rattle.df_unit.specs.Rows.{unwritable};
+ghost use Rattle.df_local.specs.Locally.{IsDone, accepted_effect, closing, edited, publish_effect, publish_reply, release_effect, release_reply, with_own};
 
 use crate::Local;
 use crate::answer::{Answer, quiet};
@@ -34,26 +31,52 @@ impl Local {
         self.handles.close(h);
     }
 
-    /// The effect of a publish of this handle, where it is accepted.
-    pub fn published(&self, h: u32) -> Result<Option<Effect>, NoMemory>
-        ensures made { IfOk result (λ made. IfSome made (IsPublished self.now h)) }
-        ensures refused { IfOk result (λ made. made ≡ None → is_accepted
-            (reply self.now.unit self.now.own [] (Call.Publish h)) ≡ false) }
+    /// The effect of a publish or a release of this handle, where it is answered with Ok.
+    pub fn closing(&self, h: u32, how: Close) -> Result<Option<Effect>, NoMemory>
+        ensures { IfOk result (λ made. IfSome made (IsDone self.now (closing how h))) }
     {
         let Some(handle) = self.handles.get(h) else {
             return Ok(None);
         };
-        if handle.is_view || handle.drafted.as_slice().is_empty() {
-            return Ok(None);
+        match how {
+            Close::Publish => published(self.alloc, &self.writing.output, handle),
+            Close::Release => released(self.alloc, &self.writing.output, handle),
         }
-        let alloc = self.alloc;
-        let made = commit_of(alloc, &self.writing.output, handle, Vec::new(alloc))?;
-        Ok(Some(Effect::Commit(made)))
     }
 }
 
-/// What a publish of an open handle is answered.
+/// The effect of a publish of an open handle, where it is accepted.
 #[inline(always)]
+fn published(alloc: Global, output: &Label, handle: &Handle) -> Result<Option<Effect>, NoMemory>
+    ensures { IfOk result (λ made. made ≡ accepted_effect (publish_reply handle.now)
+        (publish_effect output.now handle.now)) }
+{
+    if handle.is_view || handle.drafted.as_slice().is_empty() {
+        return Ok(None);
+    }
+    let made = commit_of(alloc, output, handle, Vec::new(alloc))?;
+    Ok(Some(Effect::Commit(made)))
+}
+
+/// The effect of a release of an open handle, where it is accepted.
+fn released(alloc: Global, output: &Label, handle: &Handle) -> Result<Option<Effect>, NoMemory>
+    ensures { IfOk result (λ made. made ≡ accepted_effect (release_reply output.now handle.now)
+        (release_effect output.now handle.now)) }
+{
+    let named = handle.named.as_slice();
+    if !handle.is_view || unwritable(output, named).is_some() {
+        return Ok(None);
+    }
+    if named.is_empty() && handle.drafted.as_slice().is_empty() {
+        return Ok(Some(Effect::Nothing));
+    }
+    let deleted = copies_of(alloc, named)?;
+    let made = commit_of(alloc, output, handle, deleted)?;
+    Ok(Some(Effect::Commit(made)))
+}
+
+/// What a publish of an open handle is answered.
+#[inline(never)]
 pub(crate) fn publish_answer(
     alloc: Global,
     output: &Label,
@@ -65,10 +88,13 @@ pub(crate) fn publish_answer(
     if handle.is_view {
         return Ok(quiet(Reply::NotDraft));
     }
-    if handle.drafted.as_slice().is_empty() {
-        return Ok(quiet(Reply::EmptyEvent));
+    match published(alloc, output, handle)? {
+        Some(effect) => Ok(Answer {
+            reply: Reply::Ok,
+            effect,
+        }),
+        None => Ok(quiet(Reply::EmptyEvent)),
     }
-    committed(alloc, output, handle, Vec::new(alloc))
 }
 
 /// What a release of an open handle is answered.
@@ -84,34 +110,16 @@ pub(crate) fn release_answer(
     if !handle.is_view {
         return Ok(quiet(Reply::NotReceived));
     }
-    let named = handle.named.as_slice();
-    if let Some(spot) = unwritable(output, named) {
+    if let Some(spot) = unwritable(output, handle.named.as_slice()) {
         return Ok(quiet(cannot_write(output, &spot.label)?));
     }
-    if named.is_empty() && handle.drafted.as_slice().is_empty() {
-        return Ok(quiet(Reply::Ok));
+    match released(alloc, output, handle)? {
+        Some(effect) => Ok(Answer {
+            reply: Reply::Ok,
+            effect,
+        }),
+        None => Ok(quiet(Reply::Ok)),
     }
-    let deleted = copies_of(alloc, named)?;
-    committed(alloc, output, handle, deleted)
-}
-
-/// The answer of a handle that commits what is drafted, with these deletions.
-#[inline(always)]
-fn committed(
-    alloc: Global,
-    output: &Label,
-    handle: &Handle,
-    deleted: Vec<Spot>,
-) -> Result<Answer, NoMemory>
-    ensures reply { IfOk result (λ a. a.reply ≡ Reply.Ok) }
-    ensures effect { IfOk result (λ a. a.effect ≡ Effect.Commit (edited handle.now.event
-        deleted.items (relabelled output.now handle.now.drafted))) }
-{
-    let commit = commit_of(alloc, output, handle, deleted)?;
-    Ok(Answer {
-        reply: Reply::Ok,
-        effect: Effect::Commit(commit),
-    })
 }
 
 /// The commit of what is drafted at a handle, with these deletions.

@@ -14,7 +14,7 @@ pub use Rattle.df_label.specs.declared.label.Label.{Label}
 pub use Rattle.df_label.specs.declared.privilege.Privilege.{Privilege}
 pub use Rattle.df_local.specs.Births.{record_of}
 pub use Rattle.df_local.specs.Brief.{MakesBriefly, accepted_reply, brief_call}
-pub use Rattle.df_local.specs.Locally.{IsMadeAlone, IsPublished, counted, is_alone, row_answer, with_own}
+pub use Rattle.df_local.specs.Locally.{IsMadeAlone, counted, is_alone, row_answer, with_own}
 pub use Rattle.df_local.specs.code.LocalState.{LocalState}
 pub use Rattle.df_local.specs.declared.answer.Answer.{Answer}
 pub use Rattle.df_memory.specs.declared.NoMemory.{NoMemory}

@@ -6,7 +6,7 @@ ghost use Rattle.std.specs.Option.{option_map};
 ghost use Rattle.df_label.specs.declared.label.Label.{Label};
 ghost use Rattle.df_label.specs.declared.privilege.Privilege.{Privilege};
 ghost use Rattle.df_rules.specs.Commits.{commit_in};
-ghost use Rattle.df_unit.specs.declared.call.Call.TheVariants.{Get, Instantiate, Publish, Subscribe, SubscribeManaged};
+ghost use Rattle.df_unit.specs.declared.call.Call.TheVariants.{Get, Instantiate, Subscribe, SubscribeManaged};
 ghost use Rattle.df_unit.specs.declared.entry.Effect.{Effect};
 ghost use Rattle.df_unit.specs.declared.name.UnitName.{UnitName};
 ghost use Rattle.df_unit.specs.declared.name.UnitName.TheVariants.{Root};
@@ -15,6 +15,7 @@ ghost use Rattle.df_unit.specs.declared.reply.Reply.TheVariants.{Sub};
 ghost use Rattle.df_unit.specs.UnitOrder.{unit_cmp};
 ghost use Rattle.df_label.specs.Ascending.{IsAscending};
 ghost use Rattle.df_local.specs.Brief.{accepted_reply, brief_call};
+ghost use Rattle.df_local.specs.Locally.{closing};
 ghost use Rattle.df_tables.specs.Births.{IsEnrolled, IsNewborn, beside_of, rows_in};
 ghost use Rattle.df_tables.specs.Board.{AreBorn, HasRoom, IsBoard, IsBooked, IsBornBoard, IsChildBoard, IsKept, IsMade, IsMovedBoard, IsRenewed, MakesAlone, TellsOf, answer_from, place_on, row_by, row_on, units_in};
 ghost use Rattle.df_tables.specs.Hand.{IsAnsweredAt, IsCalm};
@@ -31,7 +32,7 @@ use df_filter::Filter;
 use df_index::Index;
 use df_instances::{Managed, Marks};
 use df_label::{Label, Privileges, TagSet};
-use df_local::{Accepted, Answer, Brief};
+use df_local::{Accepted, Answer, Brief, Close};
 use df_memory::NoMemory;
 use df_roll::Roll;
 use df_unit::{Call, Effect, Reply, UnitName};
@@ -505,29 +506,41 @@ impl Board {
         give_at(self.rows.as_mut_slice(), place)
     }
 
-    /// The effect of a publish of a handle by the unit at a place, where it is accepted.
-    pub fn published(&self, place: Option<usize>, h: u32) -> Result<Option<Effect>, NoMemory>
+    /// The effect of a publish or a release of a handle by the unit at a place, where it is answered
+    /// with Ok.
+    pub fn closing(
+        &self,
+        place: Option<usize>,
+        h: u32,
+        how: Close,
+    ) -> Result<Option<Effect>, NoMemory>
         ensures { IfOk result (λ made. IfSome made (λ effect.
-            answer_from (row_by self.now place) (Publish h) ≡ (Reply.Ok, effect))) }
+            answer_from (row_by self.now place) (closing how h) ≡ (Reply.Ok, effect))) }
     {
         match self.row(place) {
-            Some(unit) => unit.local.published(h),
+            Some(unit) => unit.local.closing(h, how),
             None => Ok(None),
         }
     }
 
-    /// Publishes the draft of a handle of the unit at a place. Without memory the tables agree with
+    /// Publishes or releases a handle of the unit at a place. Without memory the tables agree with
     /// the journal as before.
-    fn publish(&mut self, place: Option<usize>, h: u32, call: &Call) -> Result<Answer, NoMemory>
+    fn make_closing(
+        &mut self,
+        place: Option<usize>,
+        h: u32,
+        how: Close,
+        call: &Call,
+    ) -> Result<Answer, NoMemory>
         requires board { IsBoard self.old }
         requires seated { (actor : UnitName) × (place_on self.old actor ≡ place) }
-        requires publish { call.now ≡ Publish h }
+        requires closing { call.now ≡ closing how h }
         ensures board { IsBoard self.new }
         ensures made { IfOk result (λ a. IsMade place call.now (a.reply, a.effect)
             self.old self.new) }
         ensures kept { OnErr result (IsKept self.old self.new) }
     {
-        let Some(effect) = self.published(place, h)? else {
+        let Some(effect) = self.closing(place, h, how)? else {
             return self.answer_first(place, call);
         };
         self.book(place, call, &Reply::Ok, &effect)?;
@@ -566,7 +579,8 @@ impl Board {
     {
         match (place, call) {
             (Some(place), Call::Get) => self.give(place),
-            (_, Call::Publish { h }) => self.publish(place, *h, call),
+            (_, Call::Publish { h }) => self.make_closing(place, *h, Close::Publish, call),
+            (_, Call::Release { h }) => self.make_closing(place, *h, Close::Release, call),
             _ => self.answer_first(place, call),
         }
     }
