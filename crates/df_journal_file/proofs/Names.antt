@@ -5,7 +5,7 @@ pub use Rattle.df_journal_file.specs.Cursor.{CursorState, HasPassed, front_text}
 pub use Rattle.df_journal_file.specs.Either.{First, IsEitherText, IsFirstOf, IsJournalOf, IsSecondOf, Journal, Second, journal_by, journal_in}
 pub use Rattle.df_journal_file.specs.Journal.{ChangesSome, EditsSome, EndsFile, HasNote, IsNotedText, IsPlainText, IsRead, IsWholeEntry, ShowsSome}
 pub use Rattle.df_journal_file.specs.TooLarge.{IsCallFront, IsLargeIn, IsPartFront, IsShownFront, IsValueFront}
-pub use Rattle.df_journal_file.specs.code.Entries.{IsNoteBy, IsShownBy, IsSomeCommit, IsSomeEffectOf, IsWholeBy, commit_lines}
+pub use Rattle.df_journal_file.specs.code.Entries.{IsNoteBy, IsShownBy, IsSomeCommit, IsSomeEffectOf, IsWholeBy, bare_of, commit_lines}
 pub use Rattle.df_journal_file.specs.code.Files.{AreLeft, IsEitherFirst, IsFirstAt, IsText, IsWanted, StopsFirst, answered, first_of}
 pub use Rattle.df_journal_file.specs.code.Languages.{AddsFrom, BehindSome, CommitFrom, DoneFrom, EditFrom, EffectFrom, EntriesFrom, GivenFrom, HandedFrom, HeadFrom, IsHanding, Many, NoteFrom, NotesNone, ReadFrom, ShownFrom, ShowsNone, Then}
 pub use Rattle.df_journal_file.specs.code.Places.{AreMarked, ArePassed, IsHere, IsLineHere, IsSpelled, MarkedStop, StopsLine, TellsAt, finished}
@@ -16,7 +16,7 @@ pub use Rattle.df_journal_text.proofs.LineTells.{answer_text, called, called_lin
 pub use Rattle.df_journal_text.proofs.Wholes.{WholeLine, told}
 pub use Rattle.df_journal_text.specs.Call.{call_words}
 pub use Rattle.df_journal_text.specs.Entry.{call_line, effect_text, entry_text, note_text, noted_text, part_line, read_line, reads_text, spot_line}
-pub use Rattle.df_journal_text.specs.Fits.{ArePrivileges, AreRoots, IsAnswer, IsBare, IsCalled, IsCommit, IsEffectOf, IsEntry, IsEvent, IsJournal, IsNoteOf, IsNoted, IsPart, IsPartRead, IsReply, IsRoot, IsSpot}
+pub use Rattle.df_journal_text.specs.Fits.{ArePrivileges, AreRoots, IsAnswer, IsCalled, IsCommit, IsEffectOf, IsEntry, IsEvent, IsJournal, IsNoteOf, IsNoted, IsPart, IsPartRead, IsReply, IsRoot, IsSpot}
 pub use Rattle.df_journal_text.specs.Large.{IsLargeCalled, IsLargePart, IsLargeShown, IsLargeWord}
 pub use Rattle.df_journal_text.specs.Line.{line, spaced, word}
 pub use Rattle.df_journal_text.specs.Name.{event_text, unit_text}

@@ -1,34 +1,28 @@
 -- Entries and the lines below them, put together, and what stands at their head.
-use Rattle.df_journal_file.proofs.Names.{event_line, ChangesSome, EditsSome, EndsFile, HasNote, ShowsSome, IsNoteBy, IsShownBy, IsSomeCommit, IsSomeEffectOf, IsWholeBy, commit_lines, AddsFrom, CommitFrom, DoneFrom, EditFrom, EffectFrom, EntriesFrom, GivenFrom, NoteFrom, NotesNone, ShownFrom, ShowsNone, IsHere, more_first, unit_first, call_words, call_line, effect_text, entry_text, note_text, noted_text, reads_text, spot_line, IsAnswer, IsBare, IsCalled, IsCommit, IsEffectOf, IsEntry, IsNoteOf, IsPartRead, IsReply, spaced, unit_text, reply_words, Label, Call, Entry, Done, Emitted, Noted, UnitName, PartRead, Reply, IsLabel, begins_digit, Bool, List, None, Option, Some, [], ap, append_assoc, arith, codes, false, inl, inr, length, refl, subst, sym, true, ℕ, ◌++◌, ◌+◌, ◌<◌, ◌∙◌, ◌∷◌, ◌≡◌, ◌⊎◌, All-cons, All-head, All-nil, All-tail, All, flat_map}
+use Rattle.df_journal_file.proofs.Names.{event_line, ChangesSome, EditsSome, EndsFile, HasNote, ShowsSome, bare_of, IsNoteBy, IsShownBy, IsSomeCommit, IsSomeEffectOf, IsWholeBy, commit_lines, AddsFrom, CommitFrom, DoneFrom, EditFrom, EffectFrom, EntriesFrom, GivenFrom, NoteFrom, NotesNone, ShownFrom, ShowsNone, IsHere, more_first, unit_first, call_words, call_line, effect_text, entry_text, note_text, noted_text, reads_text, spot_line, IsAnswer, IsCalled, IsCommit, IsEffectOf, IsEntry, IsNoteOf, IsPartRead, IsReply, spaced, unit_text, reply_words, Label, Call, Entry, Done, Emitted, Noted, UnitName, PartRead, Reply, IsLabel, begins_digit, Bool, List, None, Option, Some, [], ap, append_assoc, arith, codes, false, inl, inr, length, refl, subst, sym, true, ℕ, ◌++◌, ◌+◌, ◌↔◌, ◌∙◌, ◌∷◌, ◌≡◌, ◌⊎◌, All-cons, All-head, All-nil, All-tail, All, flat_map}
 use Rattle.df_unit.specs.declared.commit.Given.{Given}
 use Rattle.df_unit.specs.declared.entry.Effect.TheVariants as effect
 use Rattle.df_unit.specs.declared.reply.Reply.TheVariants as reply
-use Rattle.df_journal_file.proofs.Feeds.{CallTold, told_line}
 use Rattle.df_unit.specs.declared.commit.Commit.{Commit}
 use Rattle.df_unit.specs.declared.entry.Effect.{Effect}
+use Rattle.df_journal_file.proofs.Feeds.{CallTold, told_line}
 
 -- ---- entries of units
 
 -- the line is the same with what a read shows
-same_call : (actor : UnitName) (call : Call) (bare r : Reply) → IsShownBy bare r → call_line actor call bare ≡ call_line actor call r
-same_call actor call bare r f =
-    elim f.2 [
-      | inl same ↦ ap (call_line actor call) (sym same)
-      | inr s ↦ ap (call_line actor call) s.0 ∙ sym (ap (call_line actor call) s.1.1)
-    ]
+bare_line : (actor : UnitName) (call : Call) (r : Reply) → call_line actor call (bare_of r) ≡ call_line actor call r
+bare_line actor call (reply.Parts parts) = refl
+bare_line actor call _ = refl
+
+-- so is what tells whether the unit exists
+bare_unit : (r : Reply) → (bare_of r ≡ reply.NoSuchUnit) ↔ (r ≡ reply.NoSuchUnit)
+bare_unit (reply.Parts parts) = (λ e. absurd cc, λ e. absurd cc)
+bare_unit _ = (λ e. e, λ e. e)
 
 -- what is noted of the reply on the line is noted of the whole
-has_note : (bare r : Reply) (note : Option Label) → IsShownBy bare r → IsNoteBy true bare note → HasNote r note
-has_note bare r (Some label) f n =
-    elim f.2 [
-      | inl same ↦ λ none. n.1 (sym same ∙ none)
-      | inr s ↦ λ none. let no : reply.Parts s.1.0 ≡ reply.NoSuchUnit = sym s.1.1 ∙ none in cc
-    ]
-has_note bare r None f n =
-    elim f.2 [
-      | inl same ↦ same ∙ n
-      | inr s ↦ absurd (let no : reply.Parts [] ≡ reply.NoSuchUnit = sym s.0 ∙ n in cc)
-    ]
+has_note : (r : Reply) (note : Option Label) → IsNoteBy true (bare_of r) note → HasNote r note
+has_note r (Some label) n = λ none. n.1 ((bare_unit r).1 none)
+has_note r None n = (bare_unit r).0 n
 
 -- and fits the entry
 fits_note : (actor : UnitName) (call : Call) (r : Reply) (effect : Effect) (bare : Reply) (note : Option Label) → IsNoteBy true bare note
@@ -50,13 +44,15 @@ pub done_spelled : (c : CallTold) (r : Reply) (note : Option Label) (effect : Ef
     → s ≡ told_line c ++ below → below ≡ note_text note ++ shown → shown ≡ reads_text r ++ change → change ≡ effect_text effect ++ tail
     → IsShownBy c.2 r → s ≡ noted_text (done_of c r effect note) ++ tail
 done_spelled c r note effect s below shown change tail one n m e f =
-    one ∙ ap (λ (u : List ℕ). u ++ below) (same_call c.0 c.1 c.2 r f)
+    one ∙ ap (λ (u : List ℕ). u ++ below) (ap (call_line c.0 c.1) f.2 ∙ bare_line c.0 c.1 r)
     ∙ grouped (call_line c.0 c.1 r) (note_text note) (reads_text r) (effect_text effect) below shown change tail n m e
 
 -- it is whole
 pub done_whole : (has : Bool) (c : CallTold) (r : Reply) (note : Option Label) (effect : Effect) → IsCalled c → IsNoteBy has c.2 note
     → IsShownBy c.2 r → IsSomeEffectOf r effect → IsWholeBy has (done_of c r effect note)
-done_whole true c r note effect f n s e = (((f.0, f.1, s.0, e.0), fits_note c.0 c.1 r effect c.2 note n), (s.1, e.1), has_note c.2 r note s n)
+done_whole true c r note effect f n s e =
+    let noted = has_note r note (subst (λ (bare : Reply). IsNoteBy true bare note) s.2 n) in
+    (((f.0, f.1, s.0, e.0), fits_note c.0 c.1 r effect c.2 note n), (s.1, e.1), noted)
 done_whole false c r contamination effect f n s e = (((f.0, f.1, s.0, e.0), (s.1, e.1)), n)
 
 -- such an entry that was read
@@ -96,9 +92,9 @@ bare_parts r parts f is =
     is ∙ ap (λ (ps : List PartRead). reply.Parts ps) bare.1
 
 -- each other reply stands on its line alone
-pub alone : (r : Reply) → ShowsNone r → ShowsSome r × (reads_text r ≡ []) × IsBare r
+pub alone : (r : Reply) → ShowsNone r → ShowsSome r × (reads_text r ≡ []) × (r ≡ bare_of r)
 alone (reply.Parts parts) none = absurd (none parts refl)
-alone _ none = (tt, refl, tt)
+alone _ none = (tt, refl, refl)
 
 -- a call's line begins with a digit
 pub called_begins : (c : CallTold) (rest : List ℕ) → IsCalled c → begins_digit (told_line c ++ rest) ≡ true
@@ -113,20 +109,16 @@ pub shows_or_not : (r : Reply) → ((parts : List PartRead) × (r ≡ reply.Part
 shows_or_not (reply.Parts parts) = inl (parts, refl)
 shows_or_not _ = inr (λ parts e. cc)
 
--- the reply as its line tells it
-bare_for : (r : Reply) → IsReply r → ShowsSome r → (bare : Reply) × IsAnswer bare × IsShownBy bare r
-bare_for r f some =
-    elim (shows_or_not r) [
-      | inl p ↦ (reply.Parts [], (All-nil IsPartRead, refl), (f, some, inr (refl, (p.0, p.1))))
-      | inr none ↦ (r, (f, (alone r none).2), (f, some, inl refl))
-    ]
+-- a reply that fits does so as its line tells it
+bare_fits : (r : Reply) → IsReply r → IsAnswer (bare_of r)
+bare_fits (reply.Parts parts) f = (All-nil IsPartRead, refl)
+bare_fits _ f = (f, tt)
 
 -- what is noted of the reply is noted of its line's
-note_by : (bare r : Reply) (note : Option Label) → IsShownBy bare r → HasNote r note → ((label : Label) → note ≡ Some label → IsLabel label)
-    → IsNoteBy true bare note
-note_by bare r (Some label) f n fits =
-    (fits label refl, elim f.2 [ inl same ↦ λ none. n (same ∙ none) | inr s ↦ λ none. let no : reply.Parts [] ≡ reply.NoSuchUnit = sym s.0 ∙ none in cc ])
-note_by bare r None f n fits = elim f.2 [ inl same ↦ sym same ∙ n | inr s ↦ absurd (let no : reply.Parts s.1.0 ≡ reply.NoSuchUnit = sym s.1.1 ∙ n in cc) ]
+note_by : (actor : UnitName) (call : Call) (r : Reply) (e : Effect) (note : Option Label) → HasNote r note → IsNoteOf (Done actor call r e) note
+    → IsNoteBy true (bare_of r) note
+note_by actor call r e (Some label) h f = (f, λ none. h ((bare_unit r).0 none))
+note_by actor call r e None h f = (bare_unit r).1 h
 
 -- ---- from entries
 
@@ -155,23 +147,9 @@ effect_parts has ps qs s (inr (inl t)) = inr (inl t)
 effect_parts has ps qs s (inr (inr t)) = absurd (let no = t.0.2 in cc)
 
 -- those of what a read shows
-shown_from : (has : Bool) (bare r : Reply) (rest : List ℕ) → IsAnswer bare → IsShownBy bare r → EffectFrom has r rest
-    → ShownFrom has bare (reads_text r ++ rest)
-shown_from has bare r rest answer (f, some, inl same) t =
-    elim (shows_or_not r) [
-      | inl p ↦
-          absurd (let none : p.0 ≡ [] = (subst IsAnswer (sym same ∙ p.1) answer).1 in
-          let filled : 0 < length p.0 = subst ShowsSome p.1 some in omega (arith, filled, ap length none))
-      | inr none ↦
-          let empty = (alone r none).1 in
-          let behind = subst (λ (q : Reply). EffectFrom has q rest) same t in
-          inl (subst ShowsNone same none, subst (λ (u : List ℕ). EffectFrom has bare (u ++ rest)) (sym empty) behind)
-    ]
-shown_from has bare r rest answer (f, some, inr (b, (parts, is))) t =
-    let filled : 0 < length parts = subst ShowsSome is some in
-    let fit : All IsPartRead parts = subst IsReply is f in
-    let behind : EffectFrom has (reply.Parts []) rest = effect_parts has parts [] rest (subst (λ (q : Reply). EffectFrom has q rest) is t) in
-    inr (b, (parts, rest, fit, (omega (arith, filled), behind), ap (λ (q : Reply). reads_text q ++ rest) is))
+shown_from : (has : Bool) (r : Reply) (rest : List ℕ) → IsReply r → ShowsSome r → EffectFrom has r rest → ShownFrom has (bare_of r) (reads_text r ++ rest)
+shown_from has (reply.Parts parts) rest f some t = inr (refl, (parts, rest, f, (omega (arith, some), effect_parts has parts [] rest t), refl))
+shown_from has _ rest f some t = inl ((λ parts e. cc), t)
 
 -- the line of a note
 note_from : (has : Bool) (bare : Reply) (note : Option Label) (rest : List ℕ) → IsNoteBy has bare note → ShownFrom has bare rest
@@ -187,25 +165,21 @@ AtHead has s = (EndsFile s ⊎ CommitFrom has (codes "emitted") s) ⊎ DoneFrom 
 
 -- the lines of the entry of a unit
 unit_head : (has : Bool) (actor : UnitName) (call : Call) (r : Reply) (e : Effect) (note : Option Label) (tail : List ℕ)
-    → IsEntry (Done actor call r e) → ShowsSome r → ChangesSome e → ((bare : Reply) → IsShownBy bare r → IsNoteBy has bare note)
-    → EntriesFrom has tail → DoneFrom has (entry_text note (Done actor call r e) ++ tail)
-unit_head has actor call r e note tail f shows changes notes t =
-    let bare = bare_for r f.2 shows in
-    let c : CallTold = (actor, call, bare.0) in
-    let behind = note_from has bare.0 note _ (notes bare.0 bare.2) (shown_from has bare.0 r _ bare.1 bare.2 (effect_from has r e tail f.3 changes t)) in
-    (c, _, (f.0, f.1, bare.1), behind, sym (done_spelled c r note e _ _ _ _ tail refl refl refl refl bare.2))
+    → IsEntry (Done actor call r e) → ShowsSome r → ChangesSome e → IsNoteBy has (bare_of r) note → EntriesFrom has tail
+    → DoneFrom has (entry_text note (Done actor call r e) ++ tail)
+unit_head has actor call r e note tail f shows changes noted t =
+    let c : CallTold = (actor, call, bare_of r) in
+    let behind = note_from has (bare_of r) note _ noted (shown_from has r _ f.2 shows (effect_from has r e tail f.3 changes t)) in
+    (c, _, (f.0, f.1, bare_fits r f.2), behind, sym (done_spelled c r note e _ _ _ _ tail refl refl refl refl (f.2, shows, refl)))
 
 -- those of any entry
 entry_head : (has : Bool) (entry : Entry) (note : Option Label) (tail : List ℕ) → IsWholeBy has (record { entry = entry; contamination = note })
     → EntriesFrom has tail → AtHead has (entry_text note entry ++ tail)
-entry_head true (Done actor call r e) (Some label) tail w t =
-    let fits : (l : Label) → Some label ≡ Some l → IsLabel l = λ l is. subst (λ (o : Option Label). IsNoteOf (Done actor call r e) o) is w.0.1 in
-    inr (unit_head true actor call r e (Some label) tail w.0.0 w.1.0 w.1.1 (λ bare f. note_by bare r (Some label) f w.2 fits) t)
-entry_head true (Done actor call r e) None tail w t =
-    inr (unit_head true actor call r e None tail w.0.0 w.1.0 w.1.1 (λ bare f. note_by bare r None f w.2 (λ l is. absurd cc)) t)
+entry_head true (Done actor call r e) note tail w t =
+    inr (unit_head true actor call r e note tail w.0.0 w.1.0 w.1.1 (note_by actor call r e note w.2 w.0.1) t)
 entry_head true (Emitted commit) (Some label) tail w t = absurd w.0.1
 entry_head true (Emitted commit) None tail w t = inl (inr (commit_from true (codes "emitted") commit tail w.0.0 w.1 t))
-entry_head false (Done actor call r e) note tail w t = inr (unit_head false actor call r e note tail w.0.0 w.0.1.0 w.0.1.1 (λ bare f. w.1) t)
+entry_head false (Done actor call r e) note tail w t = inr (unit_head false actor call r e note tail w.0.0 w.0.1.0 w.0.1.1 w.1 t)
 entry_head false (Emitted commit) (Some label) tail w t = absurd (let no = w.1 in cc)
 entry_head false (Emitted commit) None tail w t = inl (inr (commit_from false (codes "emitted") commit tail w.0.0 w.0.1 t))
 
@@ -247,8 +221,8 @@ effect_to has r s (inr (inr ((h, sub, is), t))) =
 shown_to : (has : Bool) (bare : Reply) (s : List ℕ) → IsAnswer bare → ShownFrom has bare s → Split reads_text (IsShownBy bare) (EffectFrom has) s
 shown_to has bare s f (inl (none, t)) =
     let a = alone bare none in
-    (bare, s, (f.0, a.0, inl refl), t, ap (λ (u : List ℕ). u ++ s) (sym a.1))
-shown_to has bare s f (inr (b, m)) = (reply.Parts m.0, m.1, (m.2, omega (arith, m.3.0), inr (b, (m.0, refl))), effect_parts has [] m.0 m.1 m.3.1, m.4)
+    (bare, s, (f.0, a.0, a.2), t, ap (λ (u : List ℕ). u ++ s) (sym a.1))
+shown_to has bare s f (inr (b, m)) = (reply.Parts m.0, m.1, (m.2, omega (arith, m.3.0), b), effect_parts has [] m.0 m.1 m.3.1, m.4)
 
 -- a note
 note_to : (has : Bool) (bare : Reply) (s : List ℕ) → NoteFrom has bare s → Split note_text (IsNoteBy has bare) (λ _. ShownFrom has bare) s

@@ -1,12 +1,11 @@
 -- What is read of entries from a place on.
-use Rattle.std.specs.Prelude.{◌≡◌, ◌≢◌, ℕ, ◌<◌, Bool, true, false, List, [], ◌++◌, length, Option, Some, None, ◌⊎◌}
+use Rattle.std.specs.Prelude.{◌≡◌, ◌≢◌, ℕ, ◌<◌, Bool, true, false, List, [], ◌++◌, length, Option, Some, None}
 use Rattle.std.specs.List.{All}
 use Rattle.df_label.specs.declared.label.Label.{Label}
 use Rattle.df_part.specs.declared.part.Part.{Part}
 use Rattle.df_part.specs.declared.edit.Spot.{Spot}
 use Rattle.df_unit.specs.declared.commit.Commit.{Commit}
 use Rattle.df_unit.specs.declared.commit.Given.{Given}
-use Rattle.df_unit.specs.declared.parts.PartRead.{PartRead}
 use Rattle.df_unit.specs.declared.reply.Reply.{Reply}
 use Rattle.df_unit.specs.declared.reply.Reply.TheVariants as reply
 use Rattle.df_unit.specs.declared.entry.Effect.{Effect}
@@ -43,10 +42,14 @@ IsNoteBy true r (Some label) = IsLabel label × (r ≢ reply.NoSuchUnit)
 IsNoteBy true r None = r ≡ reply.NoSuchUnit
 IsNoteBy false r note = note ≡ None
 
+-- a reply as its line tells it
+abbrev pub bare_of : Reply → Reply
+bare_of (reply.Parts parts) = reply.Parts []
+bare_of r = r
+
 -- the reply of the line, with what a read shows
 abbrev pub IsShownBy : Reply → Reply → Type 0
-IsShownBy bare r = IsReply r × ShowsSome r
-    × ((r ≡ bare) ⊎ ((bare ≡ reply.Parts []) × ((parts : List PartRead) × (r ≡ reply.Parts parts))))
+IsShownBy bare r = IsReply r × ShowsSome r × (bare ≡ bare_of r)
 
 -- a whole entry, with its note where notes stand
 abbrev pub IsWholeBy : Bool → Noted → Type 0

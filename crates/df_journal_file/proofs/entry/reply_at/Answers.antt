@@ -1,8 +1,8 @@
-use Rattle.df_journal_file.proofs.Names.{EffectFrom, [], arith, inl, inr, refl, sym, true, ◌∙◌, Bad}
+use Rattle.df_journal_file.proofs.Names.{EffectFrom, Bad, [], arith, refl, sym, true, ◌∙◌}
 use Rattle.df_unit.specs.declared.reply.Reply.TheVariants as reply
-use Rattle.df_journal_file.proofs.Opens.{alone, bare_parts}
 use Rattle.df_journal_file.proofs.LineKinds.{read_run}
 use Rattle.df_journal_file.proofs.Ontos.{stopped}
+use Rattle.df_journal_file.proofs.Opens.{alone, bare_parts}
 use Rattle.df_journal_file.proofs.Places.{as_here, none_here}
 use Rattle.df_journal_file.proofs.Rows.{empty_stop, filled_onto, run_stop, some_marked}
 use Rattle.df_journal_file.proofs.Steps.{alone_onto, bare_onto, parts_onto}
@@ -12,11 +12,11 @@ pub returns-in_ok-parts-in-Parts-clause-read : goal.returns-in_ok-parts-in-Parts
 returns-in_ok-parts-in-Parts-clause-read c =
     let read = c.in_ok-parts-in-Parts.ensures.read in
     let some = some_marked (read_run true) _ read (sym c.mark_stands.ensures ∙ c.if-not-mark_stands.false) in
-    rw c.new.ensures (as_here read.0 (read.0.fits, some, inr (bare_parts _ _ c.requires.bare c.in-Parts.is, (_, refl))) refl)
+    rw c.new.ensures (as_here read.0 (read.0.fits, some, bare_parts _ _ c.requires.bare c.in-Parts.is) refl)
 
 pub returns-in_default-clause-read : goal.returns-in_default-clause-read
 returns-in_default-clause-read c =
-    let a = alone c.args.reply c.in_default.not-Parts in none_here c.requires.inside (c.requires.bare.0, a.0, inl refl) a.1
+    let a = alone c.args.reply c.in_default.not-Parts in none_here c.requires.inside (c.requires.bare.0, a.0, a.2) a.1
 
 pub returns-in_err-parts-in-Parts-clause-stops : goal.returns-in_err-parts-in-Parts-clause-stops
 returns-in_err-parts-in-Parts-clause-stops c = λ has.
