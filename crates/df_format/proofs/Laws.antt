@@ -23,12 +23,6 @@ pub bind_ok : {T A B : Type 0} (r : Result A (Stop T)) (f : A → Result B (Stop
 bind_ok (Ok x) f y e = (x, refl, e)
 bind_ok (Err s) f y e = absurd cc
 
--- a step that stopped, or the one after it
-pub bind_err : {T A B : Type 0} (r : Result A (Stop T)) (f : A → Result B (Stop T)) (s : Stop T) → (r >>= f) ≡ Err s
-    → (r ≡ Err s) ⊎ ((x : A) × (r ≡ Ok x) × (f x ≡ Err s))
-bind_err (Ok x) f s e = inr (x, refl, e)
-bind_err (Err t) f s e = inl cc
-
 -- what follows a step matters only for what the step gave
 pub bind_same : {T A B : Type 0} (r : Result A (Stop T)) (f g : A → Result B (Stop T)) → ((x : A) → r ≡ Ok x → f x ≡ g x) → (r >>= f) ≡ (r >>= g)
 bind_same (Ok x) f g h = h x refl

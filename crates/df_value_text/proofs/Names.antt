@@ -3,7 +3,7 @@ pub use Rattle.df_format.proofs.Choices.{Begins, MaybeFits, either_of, maybe_for
 pub use Rattle.df_format.proofs.ItemSteps.{Shrinks, format_shrinks, item_failed, item_read, more_step, no_more, onto, regroup}
 pub use Rattle.df_format.proofs.Items.{Follow, ItemsFit, LastEnds, Leads, Parts, items_again, items_format, items_goes, items_told, last_behind, last_ends_at, last_goes, last_of, last_split}
 pub use Rattle.df_format.proofs.Joins.{behind_format, closed_format, same_read, viewed}
-pub use Rattle.df_format.proofs.Laws.{stuck_at, both_false, bind_err, bind_ok, can_go_on, chosen, ends_never, err_is, first_bad, is_read, never, no_longer, not_both, ok_is, stands, told, viable_map, viable_of}
+pub use Rattle.df_format.proofs.Laws.{stuck_at, both_false, bind_ok, can_go_on, chosen, ends_never, err_is, first_bad, is_read, never, no_longer, not_both, ok_is, stands, told, viable_map, viable_of}
 pub use Rattle.df_format.proofs.Longest.{Whole, goes_on, is_longest, longest_read, same_split, whole_format}
 pub use Rattle.df_format.proofs.Several.{Each, all_none, all_step, all_stop, each_format, each_several}
 pub use Rattle.df_format.proofs.Texts.{IsText, own, text_format, text_found}
