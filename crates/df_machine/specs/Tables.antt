@@ -1,7 +1,7 @@
 -- When the tables of a machine agree with its state.
 use Rattle.std.specs.Prelude.{◌≡◌, ℕ, Option, None, Some, map}
 use Rattle.df_start.specs.Begun.{begun}
-use Rattle.df_tables.specs.Board.{IsBoard, TellsOf, place_on}
+use Rattle.df_tables.specs.Board.{IsBoard, TellsOf, answer_from, place_on, row_by}
 use Rattle.df_unit.specs.declared.call.Call.{Call}
 use Rattle.df_unit.specs.declared.entry.Effect.{Effect}
 use Rattle.df_unit.specs.declared.name.UnitName.{UnitName}
@@ -23,6 +23,10 @@ pub record IsStep (core : State) (actor : UnitName) (call : Call) (told : Reply 
     (tables : Tables) : Type 0 where
   pub answer : answer_in core actor call ≡ told
   pub entry : AgreesWith (appended actor call core) tables
+
+-- the reply to a call of the unit at a place is Ok, and it has this effect
+abbrev pub Does : Tables → Option ℕ → Call → Effect → Type 0
+Does tables place call effect = answer_from (row_by tables.board place) call ≡ (Reply.Ok, effect)
 
 -- a call that its unit makes of its own state alone is a step; at any other the tables agree with
 -- what they agreed with, and rows stand where they stood

@@ -1,22 +1,24 @@
 //! The tables of a machine, which keep no journal.
 
-ghost use Rattle.std.specs.Prelude.{◌≡◌, ◌^◌, ◌<◌, ◌∷◌, [], length, IfOk, OnErr, OnOk, map, option_copied};
+ghost use Rattle.std.specs.Prelude.{◌≡◌, ◌^◌, ◌<◌, ◌∷◌, [], length, IfOk, IfSome, OnErr, OnOk, map, option_copied};
 ghost use Rattle.std.specs.Option.{option_map};
 ghost use Rattle.df_local.specs.Brief.{accepted_reply, brief_call};
+ghost use Rattle.df_local.specs.Locally.{closing};
 ghost use Rattle.df_start.specs.Begun.{begun};
 ghost use Rattle.df_tables.specs.Table.{rows_from};
 ghost use Rattle.df_unit.specs.declared.entry.Entry.TheVariants.{Emitted};
+ghost use Rattle.df_unit.specs.declared.reply.Reply.TheVariants as Reply;
 ghost use Rattle.df_unit.specs.declared.name.UnitName.{UnitName};
 ghost use Rattle.df_unit.specs.declared.name.UnitName.TheVariants.{Root};
 ghost use Rattle.df_machine.specs.Journal.{State, answer_in, appended, contamination_in};
-ghost use Rattle.df_machine.specs.Tables.{AgreesWith, IsStep, StepsAlone, place_in};
+ghost use Rattle.df_machine.specs.Tables.{AgreesWith, Does, IsStep, StepsAlone, place_in};
 
 use df_label::Label;
-use df_local::{Accepted, Answer, Brief};
+use df_local::{Accepted, Answer, Brief, Close};
 use df_memory::NoMemory;
 use df_start::{RootStart, Start};
 use df_tables::{Board, Unit, first_unit};
-use df_unit::{Call, Commit, Path, Reply, UnitName};
+use df_unit::{Call, Commit, Effect, Path, Reply, UnitName};
 use std::alloc::Global;
 
 /// The tables of a machine. The journal of which they tell is kept by the caller, or by nobody.
@@ -146,6 +148,39 @@ impl Tables {
             AgreesWith core self.new) }
     {
         self.board.answer_and_book(place, call)
+    }
+
+    /// The effect of a publish or a release of a handle by the unit at a place, where its reply is
+    /// Ok.
+    pub fn closing(
+        &self,
+        place: Option<usize>,
+        h: u32,
+        how: Close,
+    ) -> Result<Option<Effect>, NoMemory>
+        ensures { IfOk result (λ made. IfSome made (Does self.now place (closing how h))) }
+    {
+        self.board.closing(place, h, how)
+    }
+
+    /// Makes a call whose reply is Ok and that has this effect. Without memory the tables agree with
+    /// what they agreed with.
+    pub fn accept(
+        &mut self,
+        place: Option<usize>,
+        call: &Call,
+        effect: &Effect,
+    ) -> Result<(), NoMemory>
+        requires agrees { (core : State) × AgreesWith core self.old }
+        requires seated { (actor : UnitName) × (place ≡ place_in self.old actor) }
+        requires told { Does self.old place call.now effect.now }
+        ensures step { OnOk result ((core : State) (actor : UnitName) →
+            AgreesWith core self.old → place ≡ place_in self.old actor →
+            IsStep core actor call.now (Reply.Ok, effect.now) self.new) }
+        ensures kept { OnErr result ((core : State) → AgreesWith core self.old →
+            AgreesWith core self.new) }
+    {
+        self.board.book(place, call, &Reply::Ok, effect)
     }
 
     /// Takes in an emitted commit. Whatever journal the tables agreed with, they agree with it and
