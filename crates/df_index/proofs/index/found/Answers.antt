@@ -34,19 +34,25 @@ returns-clause-due g c p =
     let o = c.args.occasion.now in
     let test : Subscription g.row.F.Denot → Bool = is_due_on g.F.Listed.matches o in
     let looked = c.in_ok-places.ensures in
-    let is = c.in_ok-found.ensures.due ∙ ap (λ (l : List (Subscription g.row.F.Denot)). pairs_at test l c.in_ok-places.places.now) c.as_slice.ensures.list ∙ ap (pairs_at test c.args.listing.now) looked.places in
+    let is =
+    c.in_ok-found.ensures.due
+    ∙ ap (λ (l : List (Subscription g.row.F.Denot)). pairs_at test l c.in_ok-places.places.now) c.as_slice.ensures.list
+    ∙ ap (pairs_at test c.args.listing.now) looked.places in
     let covers = subst (λ (parts : List Part). (n : List ℕ) → Contains (names_of parts) n → Contains looked.names n) c.parts.ensures looked.all in (
       (λ h. found_due g.F.Listed.first_of g.F.Listed.matches o.labels.now o.handed.now o.contents.now o.edit.now c.args.listing.now looked.names p
           (subst (λ (l : List Pair). Contains l p) is
-          (Contains-permutation _ _ p (IsPermutation-sym _ _ c.sort_unstable.ensures.permutation) (Contains-from_dedup _ _ p (rw (dedup_is _ _ _ c.dedup.ensures.filtered) at h))))),
+          (Contains-permutation _ _ p (IsPermutation-sym _ _ c.sort_unstable.ensures.permutation)
+          (Contains-from_dedup _ _ p (rw (dedup_is _ _ _ c.dedup.ensures.filtered) at h))))),
       (λ h. rw (dedup_is _ _ _ c.dedup.ensures.filtered)
-          (Contains-dedup pair_equiv same_pair _ p (Contains-permutation _ _ p c.sort_unstable.ensures.permutation (subst (λ (l : List Pair). Contains l p) (sym is)
-          (due_found g.F.Listed.first_of g.F.Listed.matches o.labels.now o.handed.now o.contents.now o.edit.now c.args.listing.now looked.names g.met.F.Listed.has_first c.as_slice.ensures.named covers p h))))),
+          (Contains-dedup pair_equiv same_pair _ p (Contains-permutation _ _ p c.sort_unstable.ensures.permutation
+          (subst (λ (l : List Pair). Contains l p) (sym is)
+          (due_found g.F.Listed.first_of g.F.Listed.matches o.labels.now o.handed.now o.contents.now o.edit.now c.args.listing.now looked.names
+          g.met.F.Listed.has_first c.as_slice.ensures.named covers p h))))),
     )
 
 -- at most as many places were looked up as subscriptions are listed under these names
-bounded : {F : Type 0} (first : F → Option (List ℕ)) (parts contents : List Part) (xs : List (Subscription F)) (found : List ℕ) → parts ≡ contents → AreLookedUp first parts xs found
-    → length found ≤ listed_under first (names_of contents) xs
+bounded : {F : Type 0} (first : F → Option (List ℕ)) (parts contents : List Part) (xs : List (Subscription F)) (found : List ℕ)
+    → parts ≡ contents → AreLookedUp first parts xs found → length found ≤ listed_under first (names_of contents) xs
 bounded first parts contents xs found same looked =
     let among = subst (λ (ps : List Part). (n : List ℕ) → Contains looked.names n → Contains (names_of ps) n) same looked.among in
     let b = places_bound first looked.names (names_of contents) xs looked.ascending among in

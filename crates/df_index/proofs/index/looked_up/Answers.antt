@@ -10,7 +10,8 @@ alone [] p some few is = absurd (omega (arith, some))
 alone (q ∷ []) p some few is = ap (λ (x : Part). x ∷ []) (sym is)
 alone (q ∷ r ∷ more) p some few is = absurd (omega (arith, few))
 
-looked_alone : {F : Type 0} (first : F → Option (List ℕ)) (xs : List (Subscription F)) (p : Part) (found : List ℕ) → found ≡ places_of first p.name xs → AreLookedUp first (p ∷ []) xs found
+looked_alone : {F : Type 0} (first : F → Option (List ℕ)) (xs : List (Subscription F)) (p : Part) (found : List ℕ)
+    → found ≡ places_of first p.name xs → AreLookedUp first (p ∷ []) xs found
 unfolding Rattle.std.specs.List.Sorted.IsStrictlySortedBy
 looked_alone first xs p found is = record {
   names = p.name ∷ [];
