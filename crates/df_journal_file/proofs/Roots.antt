@@ -114,7 +114,8 @@ module _ (has : Bool) where
       passed_onto bytes at rs r.place r.passed f (path_onto (line_path (head_kind k few) (head_row k few) None tt) bytes r.place end r.run f s)
 
   -- a line that is none of these is bad
-  root_stop : (n : ℕ) → n < 2 ^ 32 → (bytes : List ℕ) (at : ℕ) → at ≤ length bytes → (f : FileFault) → StopsRoot n bytes at f → StopsIn (HeadFrom has n) bytes at f
+  root_stop : (n : ℕ) → n < 2 ^ 32 → (bytes : List ℕ) (at : ℕ) → at ≤ length bytes → (f : FileFault) → StopsRoot n bytes at f
+      → StopsIn (HeadFrom has n) bytes at f
   root_stop n few bytes at inside stop.NoMemory s = tt
   root_stop n few bytes at inside (stop.Bad place) s =
       row_stop (head_kind n few) (head_row n few) bytes at inside (λ u like no. no) (stop.Bad place)

@@ -26,8 +26,8 @@ pub record IsKind {X : Type 0} (text : X → List ℕ) (Fits : X → Type 0) (Is
   pub large : (bad : List ℕ) → IsLarge bad → IsLargeOf text Fits bad
 
 -- one without value: each begins with this byte
-pub bare_kind : {X : Type 0} {text : X → List ℕ} {Fits : X → Type 0} (byte : ℕ) → ((front : List ℕ) → ¬ IsFrontOf byte front) → ((x : X) → Fits x → IsFed (text x))
-    → ((x : X) (u : List ℕ) → begins_with byte (text x ++ u) ≡ true) → IsKind text Fits (λ _. ⊥)
+pub bare_kind : {X : Type 0} {text : X → List ℕ} {Fits : X → Type 0} (byte : ℕ) → ((front : List ℕ) → ¬ IsFrontOf byte front)
+    → ((x : X) → Fits x → IsFed (text x)) → ((x : X) (u : List ℕ) → begins_with byte (text x ++ u) ≡ true) → IsKind text Fits (λ _. ⊥)
 bare_kind byte none feeds begins = record {
   feeds = feeds;
   small = λ x f u front more rest w e l. none front (is_front byte front more w (ap (begins_with byte) e ∙ begins x u));
@@ -122,8 +122,8 @@ module _ {X : Type 0} {text : X → List ℕ} {Fits : X → Type 0} {IsLarge : L
 
 -- a line that is none of these, where no value is to stand
 pub bare_stop : {X : Type 0} {text : X → List ℕ} {Fits : X → Type 0} {Is : List ℕ → Type 0}
-    → ((line : List ℕ) (x : X) → Fits x → ended line ≡ text x → Is line) → (bytes : List ℕ) (at place : ℕ) → (place ≡ at) × ((bad : List ℕ) × StopsAt Is (drop at bytes) bad)
-    → StopsLine text Fits (λ _. ⊥) bytes at (stop.Bad place)
+    → ((line : List ℕ) (x : X) → Fits x → ended line ≡ text x → Is line) → (bytes : List ℕ) (at place : ℕ)
+    → (place ≡ at) × ((bad : List ℕ) × StopsAt Is (drop at bytes) bad) → StopsLine text Fits (λ _. ⊥) bytes at (stop.Bad place)
 bare_stop {X} {text} {Fits} is bytes at place s =
     let t = s.1.1 in
     let none = λ (more : List ℕ) (feed : t.behind ≡ 10 ∷ more) (k : IsSpelled text Fits s.1.0). t.refused more feed (is s.1.0 k.0 k.1 k.2) in

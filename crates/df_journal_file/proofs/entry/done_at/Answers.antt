@@ -29,8 +29,10 @@ returns-in_err-reply-clause-stops c = λ here.
 pub returns-in_err-effect-clause-stops : goal.returns-in_err-effect-clause-stops
 returns-in_err-effect-clause-stops c = λ here.
     stopped _ _ c.from_residual-in_err-effect.ensures.1
-    (row_onto called_kind (called_row _) c.in_ok-actor.ensures.0 _ (c.in_ok-contamination.ensures.onto _ (c.in_ok-reply.ensures.onto _ _ (c.in_err-effect.ensures.stops _))))
+    (row_onto called_kind (called_row _) c.in_ok-actor.ensures.0 _
+    (c.in_ok-contamination.ensures.onto _ (c.in_ok-reply.ensures.onto _ _ (c.in_err-effect.ensures.stops _))))
 
 pub returns-clause-onto : goal.returns-clause-onto
 returns-clause-onto c = λ f s.
-    row_onto called_kind (called_row _) c.in_ok-actor.ensures.0 f (c.in_ok-contamination.ensures.onto f (c.in_ok-reply.ensures.onto _ f (c.in_ok-effect.ensures.onto _ f s)))
+    row_onto called_kind (called_row _) c.in_ok-actor.ensures.0 f
+    (c.in_ok-contamination.ensures.onto f (c.in_ok-reply.ensures.onto _ f (c.in_ok-effect.ensures.onto _ f s)))

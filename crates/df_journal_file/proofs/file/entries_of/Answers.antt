@@ -5,5 +5,6 @@ use Rattle.df_journal_file.proofs.file.entries_of.Goals as goal
 
 pub returns : goal.returns
 returns c =
-    let end = YieldsList-end (YieldsList-from_vec c.args.noted.items (cc) (cc)) c.noted.yielded c.noted.n-iterator c.noted.yielded_by _ c.next.new.self c.in-None.is c.next.ensures.steps in
+    let vec = YieldsList-from_vec c.args.noted.items (cc) (cc) in
+    let end = YieldsList-end vec c.noted.yielded c.noted.n-iterator c.noted.yielded_by _ c.next.new.self c.in-None.is c.next.ensures.steps in
     c.noted.invariant ∙ ap (map (λ (n : Noted). n.entry)) (sym (map-id c.noted.yielded) ∙ end.0)
