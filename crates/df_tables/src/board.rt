@@ -506,8 +506,8 @@ impl Board {
         give_at(self.rows.as_mut_slice(), place)
     }
 
-    /// The effect of a publish or a release of a handle by the unit at a place, where it is answered
-    /// with Ok.
+    /// The effect of a publish or a release of a handle by the unit at a place, where its reply is
+    /// Ok.
     pub fn closing(
         &self,
         place: Option<usize>,

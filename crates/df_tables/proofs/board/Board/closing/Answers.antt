@@ -5,7 +5,8 @@ use Rattle.std.proofs.lemmas.Result.{IfOk-weaker}
 use Rattle.df_tables.proofs.board.Board.closing.Goals as goal
 
 -- where some deliveries are left
-at_left : (l : LocalState) (left : List Given) (call : Call) (made : Option Effect) → IfSome made (IsDone l call) → IfSome made (λ effect. row_answer l left call ≡ (Reply.Ok, effect))
+at_left : (l : LocalState) (left : List Given) (call : Call) (made : Option Effect) → IfSome made (IsDone l call)
+    → IfSome made (λ effect. row_answer l left call ≡ (Reply.Ok, effect))
 at_left l left call None is = is
 at_left l left call (Some effect) is = is left
 
