@@ -11,5 +11,4 @@ pub mod Roots
 pub mod Refusals
 pub mod Texts
 pub mod Eithers
-pub mod Cursors
 pub mod Names

@@ -1,8 +1,7 @@
-use Rattle.df_journal_file.proofs.Cursors.{whole_of}
+use Rattle.df_journal_file.proofs.Texts.{other_stop, text_onto, text_stop, whole_of}
 use Rattle.df_journal_file.proofs.Fronts.{one_result}
 use Rattle.df_journal_file.proofs.Ontos.{stopped}
 use Rattle.df_journal_file.proofs.Roots.{roots_onto, roots_stop}
-use Rattle.df_journal_file.proofs.Texts.{other_stop, text_onto, text_stop}
 use Rattle.df_journal_file.proofs.file.whole.Goals as goal
 
 pub returns-in_err-has_notes-clause-stops : goal.returns-in_err-has_notes-clause-stops

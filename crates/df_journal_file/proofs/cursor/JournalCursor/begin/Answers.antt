@@ -1,8 +1,7 @@
 use Rattle.df_journal_file.proofs.Names.{None}
-use Rattle.df_journal_file.proofs.Cursors.{begun}
+use Rattle.df_journal_file.proofs.Texts.{begun, text_onto, text_stop}
 use Rattle.df_journal_file.proofs.Ontos.{stopped}
 use Rattle.df_journal_file.proofs.Roots.{roots_stop}
-use Rattle.df_journal_file.proofs.Texts.{text_onto, text_stop}
 use Rattle.df_journal_file.proofs.cursor.JournalCursor.begin.Goals as goal
 
 pub returns-in_err-has_notes-clause-stops : goal.returns-in_err-has_notes-clause-stops

@@ -1,5 +1,5 @@
 use Rattle.df_journal_file.proofs.Names.{◌≡◌, IfErr, false, subst, sym, true, ◌∙◌, CursorState, HasPassed, IsJournalOf, journal_by, EntriesFrom, StopsIn}
-use Rattle.df_journal_file.proofs.Cursors.{all_read, passed_on}
+use Rattle.df_journal_file.proofs.Texts.{all_read, passed_on}
 use Rattle.df_journal_file.proofs.Ontos.{stopped}
 use Rattle.df_journal_file.proofs.cursor.JournalCursor.next_entry.Goals as goal
 

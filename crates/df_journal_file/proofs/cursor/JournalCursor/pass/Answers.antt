@@ -1,6 +1,6 @@
 use Rattle.df_journal_file.proofs.Names.{subst, sym, ◌∙◌, CursorState, HasPassed, IsWholeBy}
 use Rattle.df_journal_text.proofs.Between.{all_behind}
-use Rattle.df_journal_file.proofs.Cursors.{StandIf, lines_stand, passed_lines}
+use Rattle.df_journal_file.proofs.Texts.{StandIf, lines_stand, passed_lines}
 use Rattle.df_journal_file.proofs.cursor.JournalCursor.pass.Goals as goal
 
 pub returns-then-not-starts_with-clause-stands : goal.returns-then-not-starts_with-clause-stands
