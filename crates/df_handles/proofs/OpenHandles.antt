@@ -1,5 +1,10 @@
 -- What opening and drafting do to the list of handles.
-use Rattle.df_handles.proofs.Names.{◌≡◌, ℕ, zero, suc, ◌<◌, ◌≤◌, Option, Some, None, List, [], ◌∷◌, ◌++◌, length, set, get_or, refl, ap, sym, ◌∙◌, arith, Handle, least_free, open_count, opened, handle_at, replaced, changed_at}
+use Rattle.df_handles.proofs.Names.{◌≡◌, ℕ, zero, suc, ◌+◌, ◌<◌, ◌≤◌, Option, Some, None, List, [], ◌∷◌, ◌++◌, length, set, get_or, refl, ap, sym, ◌∙◌, arith, Handle, least_free, open_count, opened, handle_at, replaced, changed_at}
+use Rattle.std.proofs.Common.{Vec}
+use Rattle.std.proofs.lemmas.List.{length-map}
+use Rattle.df_unit.specs.Handles.{closed}
+use Rattle.df_handles.specs.code.Slot.{all_shown, shown}
+use Rattle.df_handles.specs.declared.slot.Slot.{Slot}
 
 -- as many handles are open as numbers below the least free one, at least
 pub least_free_within : (hs : List (Option Handle)) → least_free hs ≤ open_count hs
@@ -12,6 +17,49 @@ pub open_count_within : (hs : List (Option Handle)) → open_count hs ≤ length
 open_count_within [] = omega arith
 open_count_within (None ∷ hs) = omega (arith, open_count_within hs)
 open_count_within (Some h ∷ hs) = omega (arith, open_count_within hs)
+
+-- no more are open than a list has room for
+pub open_fits : {Z : Type 0} (slots : Vec Slot Z) → open_count (all_shown slots.items) < 9223372036854775808
+open_fits slots =
+    omega (arith, slots.small, slots.ok.0, slots.ok.1, open_count_within (all_shown slots.items), length-map slots.items shown)
+
+-- one more is open behind one that is opened
+pub one_more_open : (d : Handle) (hs : List (Option Handle)) → open_count (opened d hs) ≡ open_count hs + 1
+one_more_open d [] = omega arith
+one_more_open d (None ∷ hs) = omega arith
+one_more_open d (Some x ∷ hs) = let e = one_more_open d hs in grind (arith, e)
+
+pub one_more : (d : Handle) (hs more : List (Option Handle)) → more ≡ opened d hs → open_count more ≡ open_count hs + 1
+one_more d hs more e = ap open_count e ∙ one_more_open d hs
+
+-- one less is open where an open handle is closed
+pub one_less_open : (hs : List (Option Handle)) (h : ℕ) (d : Handle) → handle_at hs h ≡ Some d → open_count (closed hs h) + 1 ≡ open_count hs
+one_less_open [] h d e = absurd (cc)
+one_less_open (Some x ∷ hs) zero d e = omega arith
+one_less_open (None ∷ hs) zero d e = absurd (cc)
+one_less_open (Some x ∷ hs) (suc h) d e = let r = one_less_open hs h d e in omega (arith, r)
+one_less_open (None ∷ hs) (suc h) d e = one_less_open hs h d e
+
+-- as many are open where none is closed
+pub none_less_open : (hs : List (Option Handle)) (h : ℕ) → handle_at hs h ≡ None → open_count (closed hs h) ≡ open_count hs
+none_less_open [] h e = refl
+none_less_open (Some x ∷ hs) zero e = absurd (cc)
+none_less_open (None ∷ hs) zero e = refl
+none_less_open (Some x ∷ hs) (suc h) e = let r = none_less_open hs h e in omega (arith, r)
+none_less_open (None ∷ hs) (suc h) e = none_less_open hs h e
+
+-- as many are open where one is changed
+as_many : (hs : List (Option Handle)) (h : ℕ) (f : Handle → Handle) (m : Option Handle) → handle_at hs h ≡ m
+    → open_count (replaced hs h f m) ≡ open_count hs
+as_many hs h f None e = refl
+as_many [] h f (Some d) e = absurd (cc)
+as_many (Some x ∷ hs) zero f (Some d) e = refl
+as_many (None ∷ hs) zero f (Some d) e = absurd (cc)
+as_many (Some x ∷ hs) (suc h) f (Some d) e = let r = as_many hs h f (Some d) e in omega (arith, r)
+as_many (None ∷ hs) (suc h) f (Some d) e = as_many hs h f (Some d) e
+
+pub as_many_open : (hs : List (Option Handle)) (h : ℕ) (f : Handle → Handle) → open_count (changed_at hs h f) ≡ open_count hs
+as_many_open hs h f = as_many hs h f (handle_at hs h) refl
 
 -- a free number within the list is written over
 pub opened_in : (d : Handle) (hs : List (Option Handle)) → least_free hs < length hs → set hs (least_free hs) (Some d) ≡ opened d hs

@@ -1,5 +1,5 @@
 -- What a change of one place does to the handles that the places show.
-use Rattle.df_handles.proofs.Names.{◌≡◌, ℕ, ◌+◌, ◌<◌, ◌≤◌, Option, Some, None, List, [], ◌∷◌, ◌++◌, length, take, map, set, get_or, add-one, refl, ap, sym, ◌∙◌, arith, length-map, map-append, map-set, get_or-map, Handle, least_free, opened, replaced, changed_at, shown, all_shown}
+use Rattle.df_handles.proofs.Names.{◌≡◌, ℕ, ◌+◌, ◌<◌, ◌≤◌, Option, Some, None, List, [], ◌∷◌, ◌++◌, length, take, set, get_or, add-one, refl, ap, sym, ◌∙◌, arith, length-map, map-append, map-set, get_or-map, Handle, least_free, opened, replaced, changed_at, shown, all_shown}
 use Rattle.std.specs.Option.{option_map}
 use Rattle.std.proofs.Math.Seq.{map-set_same, take-suc}
 use Rattle.df_handles.specs.declared.slot.Slot.{Slot}

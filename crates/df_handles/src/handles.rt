@@ -18,6 +18,8 @@ use std::marker::Model;
 #[derive(Drop)]
 pub struct Handles {
     slots: Vec<Slot>,
+    /// How many are open.
+    count: usize,
 }
 
 impl Model for Handles {
@@ -26,12 +28,16 @@ impl Model for Handles {
     ghost use Rattle.df_unit.specs.declared.handle.Handle.{Handle};
     ghost use Rattle.df_unit.specs.contracts.handle.Handle as content;
     ghost use Rattle.df_handles.specs.code.Slot.{all_shown};
+    ghost use Rattle.std.specs.Prelude.{◌≡◌};
+    ghost use Rattle.df_unit.specs.Handles.{open_count};
 
     ghost Value = { List (Option Handle) };
 
     ghost coded = { coded_list (coded_option content.the_row.coded) };
 
     ghost view = { λ h. all_shown h.slots.items };
+
+    ghost invariant = { λ h. h.count ≡ open_count (all_shown h.slots.items) };
 }
 
 impl Handles {
@@ -45,6 +51,7 @@ impl Handles {
     {
         Handles {
             slots: Vec::new(alloc),
+            count: 0,
         }
     }
 
@@ -53,7 +60,10 @@ impl Handles {
         ensures { IfOk result (λ h. h ≡ self.now) }
     {
         let slots = copies(*self.slots.allocator(), self.slots.as_slice())?;
-        Ok(Handles { slots })
+        Ok(Handles {
+            slots,
+            count: self.count,
+        })
     }
 
     /// Whether the same handles are open under the same numbers, values by their plain content.
@@ -67,15 +77,14 @@ impl Handles {
     pub fn count(&self) -> usize
         ensures { result ≡ open_count self.now }
     {
-        open_count(self.slots.as_slice())
+        self.count
     }
 
     /// Whether no handle more may be opened.
-    #[tactic(auto, using(crate::proofs::OpenHandles::open_count_within))]
     pub fn is_full(&self) -> bool
         ensures { result ≡ is_full self.now }
     {
-        self.slots.len() >= MOST_HANDLES && self.count() >= MOST_HANDLES
+        self.count >= MOST_HANDLES
     }
 
     /// The number that the next handle gets.
@@ -95,31 +104,41 @@ impl Handles {
     }
 
     /// Opens a handle at the least number that isn't open.
+    #[tactic(auto, using(crate::proofs::OpenHandles::one_more_open, crate::proofs::OpenHandles::open_count_within))]
     pub fn open(&mut self, handle: Handle) -> Result<(), NoMemory>
         ensures ok { OnOk result (self.new ≡ opened handle self.old) }
         ensures unchanged { OnErr result (self.new ≡ self.old) }
     {
-        open(&mut self.slots, handle)
+        open(&mut self.slots, handle)?;
+        self.count += 1;
+        Ok(())
     }
 
     /// Opens an empty draft, in the room that a closed handle has left.
+    #[tactic(auto, using(crate::proofs::OpenHandles::one_more_open, crate::proofs::OpenHandles::open_count_within))]
     pub fn open_draft(&mut self, event: EventName) -> Result<(), NoMemory>
         ensures ok { OnOk result (self.new ≡ opened (draft_of event []) self.old) }
         ensures unchanged { OnErr result (self.new ≡ self.old) }
     {
         let alloc = *self.slots.allocator();
-        begin(&mut self.slots, false, event, Parts::new(Vec::new(alloc)))
+        begin(&mut self.slots, false, event, Parts::new(Vec::new(alloc)))?;
+        self.count += 1;
+        Ok(())
     }
 
     /// Opens a view of an event with these parts, in the room that a closed handle has left.
+    #[tactic(auto, using(crate::proofs::OpenHandles::one_more_open, crate::proofs::OpenHandles::open_count_within))]
     pub fn open_view(&mut self, event: EventName, seen: Parts) -> Result<(), NoMemory>
         ensures ok { OnOk result (self.new ≡ opened (view_of event seen) self.old) }
         ensures unchanged { OnErr result (self.new ≡ self.old) }
     {
-        begin(&mut self.slots, true, event, seen)
+        begin(&mut self.slots, true, event, seen)?;
+        self.count += 1;
+        Ok(())
     }
 
     /// Drafts a part at an open handle.
+    #[tactic(auto, using(crate::proofs::OpenHandles::as_many_open))]
     pub fn draft(&mut self, h: u32, part: Part) -> Result<(), NoMemory>
         ensures ok { OnOk result (self.new ≡ changed_at self.old h
             (λ d. record d { drafted = d.drafted ++ part ∷ [] })) }
@@ -130,6 +149,7 @@ impl Handles {
 
     /// Takes the drafted parts of a spot out of an open handle. Where there are none, names the
     /// spot for deletion.
+    #[tactic(auto, using(crate::proofs::OpenHandles::as_many_open))]
     pub fn delete(&mut self, h: u32, spot: Spot) -> Result<(), NoMemory>
         ensures ok { OnOk result (self.new ≡ changed_at self.old h (deleted_in spot)) }
         ensures unchanged { OnErr result (self.new ≡ self.old) }
@@ -138,6 +158,7 @@ impl Handles {
     }
 
     /// Attaches a privilege to the drafted parts of a name and label.
+    #[tactic(auto, using(crate::proofs::OpenHandles::as_many_open))]
     pub fn attach(
         &mut self,
         h: u32,
@@ -153,9 +174,13 @@ impl Handles {
     }
 
     /// Closes a handle.
+    #[tactic(auto, using(crate::proofs::OpenHandles::none_less_open, crate::proofs::OpenHandles::one_less_open))]
     pub fn close(&mut self, h: u32)
         ensures { self.new ≡ closed self.old h }
     {
+        if self.get(h).is_some() {
+            self.count -= 1;
+        }
         close(&mut self.slots, h);
     }
 }
