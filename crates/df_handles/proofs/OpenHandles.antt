@@ -13,7 +13,7 @@ least_free_within (None ∷ hs) = omega arith
 least_free_within (Some h ∷ hs) = omega (arith, least_free_within hs)
 
 -- no more handles are open than there are numbers
-pub open_count_within : (hs : List (Option Handle)) → open_count hs ≤ length hs
+open_count_within : (hs : List (Option Handle)) → open_count hs ≤ length hs
 open_count_within [] = omega arith
 open_count_within (None ∷ hs) = omega (arith, open_count_within hs)
 open_count_within (Some h ∷ hs) = omega (arith, open_count_within hs)
@@ -29,6 +29,7 @@ one_more_open d [] = omega arith
 one_more_open d (None ∷ hs) = omega arith
 one_more_open d (Some x ∷ hs) = let e = one_more_open d hs in grind (arith, e)
 
+-- one more is open in a list with one that is opened
 pub one_more : (d : Handle) (hs more : List (Option Handle)) → more ≡ opened d hs → open_count more ≡ open_count hs + 1
 one_more d hs more e = ap open_count e ∙ one_more_open d hs
 

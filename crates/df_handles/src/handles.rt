@@ -2,7 +2,7 @@
 
 use crate::copies::copies;
 use crate::limits::MOST_HANDLES;
-use crate::places::{attach, begin, close, delete, draft, handle_at, least_free, open, open_count};
+use crate::places::{attach, begin, close, delete, draft, handle_at, least_free, open};
 use crate::same::same;
 use crate::slot::Slot;
 use df_frozen::Name;
@@ -104,7 +104,7 @@ impl Handles {
     }
 
     /// Opens a handle at the least number that isn't open.
-    #[tactic(auto, using(crate::proofs::OpenHandles::one_more_open, crate::proofs::OpenHandles::open_count_within))]
+    #[tactic(auto, using(crate::proofs::OpenHandles::one_more_open))]
     pub fn open(&mut self, handle: Handle) -> Result<(), NoMemory>
         ensures ok { OnOk result (self.new ≡ opened handle self.old) }
         ensures unchanged { OnErr result (self.new ≡ self.old) }
@@ -115,7 +115,7 @@ impl Handles {
     }
 
     /// Opens an empty draft, in the room that a closed handle has left.
-    #[tactic(auto, using(crate::proofs::OpenHandles::one_more_open, crate::proofs::OpenHandles::open_count_within))]
+    #[tactic(auto, using(crate::proofs::OpenHandles::one_more_open))]
     pub fn open_draft(&mut self, event: EventName) -> Result<(), NoMemory>
         ensures ok { OnOk result (self.new ≡ opened (draft_of event []) self.old) }
         ensures unchanged { OnErr result (self.new ≡ self.old) }
@@ -127,7 +127,7 @@ impl Handles {
     }
 
     /// Opens a view of an event with these parts, in the room that a closed handle has left.
-    #[tactic(auto, using(crate::proofs::OpenHandles::one_more_open, crate::proofs::OpenHandles::open_count_within))]
+    #[tactic(auto, using(crate::proofs::OpenHandles::one_more_open))]
     pub fn open_view(&mut self, event: EventName, seen: Parts) -> Result<(), NoMemory>
         ensures ok { OnOk result (self.new ≡ opened (view_of event seen) self.old) }
         ensures unchanged { OnErr result (self.new ≡ self.old) }

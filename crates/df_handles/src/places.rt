@@ -2,7 +2,7 @@
 
 ghost use Rattle.std.specs.Prelude.{◌≡◌, ◌≤◌, ◌∷◌, [], ◌++◌, Some, length, option_copied, OnOk, OnErr};
 ghost use Rattle.df_unit.specs.Drafts.{attached_in, deleted_in, spot};
-ghost use Rattle.df_unit.specs.Handles.{changed_at, closed, handle_at, least_free, open_count, opened};
+ghost use Rattle.df_unit.specs.Handles.{changed_at, closed, handle_at, least_free, opened};
 ghost use Rattle.df_handles.specs.code.Slot.{all_shown, begun};
 
 use crate::slot::{Slot, begun};
@@ -11,19 +11,6 @@ use df_label::{Label, Privilege};
 use df_memory::NoMemory;
 use df_part::{Part, Parts, Spot};
 use df_unit::{EventName, Handle};
-
-/// How many handles are open.
-pub fn open_count(slots: &[Slot]) -> usize
-    ensures { result ≡ open_count (all_shown slots.now) }
-{
-    let mut count = 0;
-    for slot in slots {
-        if slot.get().is_some() {
-            count += 1;
-        }
-    }
-    count
-}
 
 /// The least number that isn't open.
 pub fn least_free(slots: &[Slot]) -> usize
