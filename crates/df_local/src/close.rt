@@ -118,7 +118,7 @@ pub(crate) fn release_answer(
             reply: Reply::Ok,
             effect,
         }),
-        None => Ok(quiet(Reply::Ok)),
+        None => unreachable!(),
     }
 }
 
