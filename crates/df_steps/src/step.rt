@@ -1,7 +1,8 @@
-ghost use Rattle.std.specs.Prelude.{◌≡◌, ◌∷◌, [], OnOk};
+ghost use Rattle.std.specs.Prelude.{◌≡◌, ◌∷◌, [], IfSome, OnOk};
 ghost use Rattle.df_journal_text.specs.Ask.{asked};
 ghost use Rattle.df_journal_text.specs.Front.{call_front};
 ghost use Rattle.df_local.specs.Brief.{brief_call};
+ghost use Rattle.df_local.specs.Locally.{closing};
 ghost use Rattle.df_machine.specs.Journal.{State};
 ghost use Rattle.df_machine.specs.Tables.{AgreesWith, place_in};
 ghost use Rattle.df_script_text.specs.Common.{common_line, root_call};
@@ -12,15 +13,80 @@ ghost use Rattle.df_steps.specs.code.Noting.{AppendsEntry};
 
 use df_audit::{append_accepted, brief_of};
 use df_journal_text::{Note, Notes, append_quiet, append_spelled};
-use df_local::Brief;
+use df_local::{Brief, Close};
 use df_machine::Tables;
 use df_memory::NoMemory;
 use df_script_text::{CommonLine, ReadLine, RootLine};
-use df_unit::Call;
+use df_unit::{Call, Reply};
+
+/// The handle that a call closes with a commit, and how.
+fn closing_of(call: &Call) -> Option<(u32, Close)>
+    ensures { IfSome result (λ closes. call.now ≡ closing closes.1 closes.0) }
+{
+    match call {
+        Call::Publish { h } => Some((*h, Close::Publish)),
+        Call::Release { h } => Some((*h, Close::Release)),
+        _ => None,
+    }
+}
+
+/// Makes a call, and appends its entry with this note.
+#[inline(never)]
+fn append_answered(
+    tables: &mut Tables,
+    place: Option<usize>,
+    note: &Note,
+    words: &[u8],
+    call: &Call,
+    text: &mut Vec<u8>,
+) -> Result<(), NoMemory>
+    requires state { (core : State) × AgreesWith core tables.old }
+    requires seated { (actor : UnitName) × (place ≡ place_in tables.old actor) }
+    ensures { (core : State) (actor : UnitName) → AgreesWith core tables.old →
+        place ≡ place_in tables.old actor → words.now ≡ call_front actor call.now →
+        OnOk result (AppendsEntry actor call.now note.now core tables.new text.old.items
+        text.new.items) }
+{
+    let made = tables.step_other(place, call);
+    match &made {
+        Ok(answer) => append_spelled(words, &answer.reply, &answer.effect, note, text),
+        Err(refused) => Err(*refused),
+    }
+}
+
+/// Makes a publish or a release, and appends its entry with this note.
+#[inline(never)]
+fn append_closing(
+    tables: &mut Tables,
+    place: Option<usize>,
+    note: &Note,
+    words: &[u8],
+    closes: (u32, Close),
+    call: &Call,
+    text: &mut Vec<u8>,
+) -> Result<(), NoMemory>
+    requires state { (core : State) × AgreesWith core tables.old }
+    requires seated { (actor : UnitName) × (place ≡ place_in tables.old actor) }
+    requires closing { call.now ≡ closing closes.1 closes.0 }
+    ensures { (core : State) (actor : UnitName) → AgreesWith core tables.old →
+        place ≡ place_in tables.old actor → words.now ≡ call_front actor call.now →
+        OnOk result (AppendsEntry actor call.now note.now core tables.new text.old.items
+        text.new.items) }
+{
+    let (h, how) = closes;
+    let made = tables.closing(place, h, how);
+    match &made {
+        Ok(Some(effect)) => {
+            tables.accept(place, call, effect)?;
+            append_spelled(words, &Reply::Ok, effect, note, text)
+        }
+        Ok(None) => append_answered(tables, place, note, words, call, text),
+        Err(refused) => Err(*refused),
+    }
+}
 
 /// Makes a call that isn't known to be one of its unit's own state alone, and appends its entry
 /// with this note.
-#[inline(never)]
 fn append_other(
     tables: &mut Tables,
     place: Option<usize>,
@@ -36,8 +102,10 @@ fn append_other(
         OnOk result (AppendsEntry actor call.now note.now core tables.new text.old.items
         text.new.items) }
 {
-    let answer = tables.step_other(place, call)?;
-    append_spelled(words, &answer.reply, &answer.effect, note, text)
+    match closing_of(call) {
+        Some(closes) => append_closing(tables, place, note, words, closes, call, text),
+        None => append_answered(tables, place, note, words, call, text),
+    }
 }
 
 /// Makes a call of the unit at a place, and appends its entry with the unit's contamination before
@@ -166,7 +234,9 @@ fn append_asked(
         AppendsStep (common_line line.entry.root line.entry.ask) core tables.new text.old.items
         text.new.items) }
 {
-    append_at(tables, notes, place, line.words, &line.ask.call(), text)
+    let contamination = tables.contamination(place);
+    let note = notes.of(place, contamination)?;
+    append_other(tables, place, note, line.words, &line.ask.call(), text)
 }
 
 /// Makes the call of a common line, and appends its entry with the root's contamination before it.
