@@ -16,7 +16,7 @@ use Rattle.df_unit.specs.declared.handle.Handle.{Handle}
 use Rattle.df_unit.specs.declared.name.EventName.{EventName}
 use Rattle.df_part.specs.declared.edit.Spot.{Spot}
 use Rattle.df_part.specs.declared.part.Part.{Part}
-use Rattle.df_unit.specs.Drafts.{relabelled}
+use Rattle.df_unit.specs.Drafts.{relabelled, show}
 use Rattle.df_unit.specs.Rows.{at_handle, reply, effect, after, is_accepted, is_nil, subscribed, refused_write, unwritable}
 use Rattle.df_local.specs.declared.close.Close.{Close}
 use Rattle.df_local.specs.declared.close.Close.TheVariants.{Publish, Release}
@@ -53,6 +53,11 @@ Answers call r old new = AnswersOf [] Effect.Nothing call r old new
 -- row leaves it
 abbrev pub TakesIn : Given → Reply → LocalState → LocalState → Type 0
 TakesIn g r old new = AnswersOf (g ∷ []) (Effect.Given g) Call.Get r old new
+
+-- what a get is told of a delivery that is left, by the handle of its view, if one may be opened
+abbrev pub viewed : Given → Option ℕ → Reply
+viewed g (Some h) = Reply.Event h g.sub
+viewed g None = Reply.TooManyHandles
 
 -- what drafting a part at a handle is answered
 abbrev pub added_reply : OwnState → ℕ → Reply
@@ -124,6 +129,10 @@ pub record IsMadeAlone (call : Call) (r : Reply) (old new : LocalState) : Type 0
   pub alone : is_alone call ≡ true
   pub answered : (left : List Given) → row_answer old left call ≡ (r, Effect.Nothing)
   pub moved : new ≡ with_own old (after old.unit old.own call r Effect.Nothing)
+
+-- the reply of a read that shows one part alone
+abbrev pub shows_one : Part → Reply
+shows_one part = Reply.Parts (show part ∷ [])
 
 -- such a call is made, with this reply; at any other nothing is done
 abbrev pub MakesAlone : Call → Option Reply → LocalState → LocalState → Type 0

@@ -1,9 +1,9 @@
 //! Reading the parts of a handle.
 
-ghost use Rattle.std.specs.Prelude.{◌≡◌, ◌++◌, [], IfOk, IsTrue, OnErr, OnOk};
+ghost use Rattle.std.specs.Prelude.{◌≡◌, ◌++◌, [], IfOk, IfSome, IsTrue, OnErr, OnOk, option_copied};
 ghost use Rattle.df_unit.specs.Rows.{reply};
 ghost use Rattle.df_unit.specs.declared.call.Call.{Call};
-ghost use Rattle.df_local.specs.Locally.{Answers, with_own};
+ghost use Rattle.df_local.specs.Locally.{Answers, IsMadeAlone, shows_one, with_own};
 ghost use Rattle.df_local.specs.code.Shown.{brought, holding, privileges_of};
 
 use crate::Local;
@@ -12,7 +12,8 @@ use df_frozen::Name;
 use df_handles::shown;
 use df_label::Privilege;
 use df_memory::NoMemory;
-use df_unit::{PartRead, PartsRead, Reply};
+use df_part::Part;
+use df_unit::{Call, PartRead, PartsRead, Reply};
 use std::alloc::Global;
 
 impl Local {
@@ -32,6 +33,23 @@ impl Local {
             Ok(()) => Ok(reply),
             Err(refused) => Err(refused),
         }
+    }
+
+    /// The part that a call shows, where it is a read that shows no other, and the part bears no
+    /// privilege. The unit stays as it is by such a read.
+    pub fn seen_alone<'a>(&'a self, call: &'a Call) -> Option<&'a Part>
+        ensures { IfSome (option_copied result) (λ part.
+            IsMadeAlone call.now (shows_one part) self.now self.now) }
+    {
+        let Call::ReadPart { h, name } = call else {
+            return None;
+        };
+        let mut parts = self.parts_named(*h, name);
+        let part = parts.next()?.part();
+        if parts.next().is_some() || !part.privileges.as_slice().is_empty() {
+            return None;
+        }
+        Some(part)
     }
 
     pub(crate) fn read_reply(&self, h: u32, name: &Name) -> Result<Reply, NoMemory>

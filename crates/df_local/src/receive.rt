@@ -3,7 +3,7 @@
 ghost use Rattle.std.specs.Prelude.{◌≡◌, ◌+◌, IfOk, OnErr, OnOk};
 ghost use Rattle.df_unit.specs.Rows.{subscribed, taken_in};
 ghost use Rattle.df_unit.specs.declared.entry.Effect.{Effect};
-ghost use Rattle.df_local.specs.Locally.{CountsSub, TakesIn, with_own};
+ghost use Rattle.df_local.specs.Locally.{CountsSub, TakesIn, viewed, with_own};
 
 use crate::Local;
 use crate::limits::MOST_SUBS;
@@ -17,12 +17,25 @@ impl Local {
         ensures ok { IfOk result (λ r. TakesIn given.now r self.old self.new) }
         ensures unchanged { OnErr result (self.new ≡ self.old) }
     {
+        match self.view(given) {
+            Ok(Some(h)) => Ok(Reply::Event { h, sub: given.sub }),
+            Ok(None) => Ok(Reply::TooManyHandles),
+            Err(refused) => Err(refused),
+        }
+    }
+
+    /// Opens a view of an event that was handed to the unit, and tells its handle; None, and nothing
+    /// is done, where no handle more may be opened.
+    pub fn view(&mut self, given: &Given) -> Result<Option<u32>, NoMemory>
+        ensures ok { IfOk result (λ h. TakesIn given.now (viewed given.now h) self.old self.new) }
+        ensures unchanged { OnErr result (self.new ≡ self.old) }
+    {
         if self.handles.is_full() {
-            return Ok(Reply::TooManyHandles);
+            return Ok(None);
         }
         let h = self.handles.least_free();
         match self.put_view(given) {
-            Ok(()) => Ok(Reply::Event { h, sub: given.sub }),
+            Ok(()) => Ok(Some(h)),
             Err(refused) => Err(refused),
         }
     }
