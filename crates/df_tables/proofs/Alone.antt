@@ -1,5 +1,6 @@
 -- A call that a unit makes of its own state alone, in the tables.
 use Rattle.df_tables.proofs.Names.{◌≡◌, ℕ, ◌<◌, true, false, List, get_or, length, set, slice_get, Option, None, Some, Result, Ok, Err, IfOk, OnErr, refl, ap, sym, subst, ◌∙◌, append-nil, get_or_default, set-get_or, Clause, MakesBriefly, accepted_reply, brief_call, IsMadeAlone, is_alone, row_answer, LocalState, rows, Call, ChangeInOut, Instantiate, Subscribe, SubscribeManaged, Effect, UnitName, Reply, Label, NoMemory, FilterIndex, IsWhole, IsBoard, IsMade, IsMovedBoard, IsRenewed, MakesAlone, answer_from, place_on, row_by, IsAnsweredAt, IsMadeAt, modify, AreLabels, inputs, child_by, is_in_out, managed_sub_by, moved_row, names_of, place_of, Board, EventRow, Unit}
+use Rattle.std.proofs.lemmas.Option.{get_or_from_slice_get}
 use Rattle.std.specs.Option.{option_map}
 use Rattle.df_local.specs.Locally.{MakesAlone as MakesAloneOf}
 use Rattle.df_local.specs.declared.brief.Accepted.{Accepted}
@@ -114,10 +115,10 @@ module _ (a : UnitName) (k : ℕ) (c : Call) (old new : Board) (here : place_on 
       }
 
 -- whether memory was wanting or not, something was made, or nothing
-pub made_or_not : {X : Type 0} (reply_of : X → Option Reply) (k : ℕ) (c : Call) (us vs : List Unit) (r : Result X NoMemory)
-    → IfOk r (λ x. IsMadeAt k c (reply_of x) us vs) → OnErr r (vs ≡ us) → (made : Option Reply) × IsMadeAt k c made us vs
-made_or_not reply_of k c us vs (Ok x) is same = (reply_of x, is)
-made_or_not reply_of k c us vs (Err refused) is same = (None, same)
+pub made_or_not : {X Y : Type 0} (P : Option Y → Type 0) (made_of : X → Option Y) (r : Result X NoMemory) → IfOk r (λ x. P (made_of x)) → OnErr r (P None)
+    → (made : Option Y) × P made
+made_or_not P made_of (Ok x) is same = (made_of x, is)
+made_or_not P made_of (Err refused) is same = (None, same)
 
 -- a row stands where it stood, where at most the labels are others
 row_renewed : (place : Option ℕ) (old new : Board) → IsRenewed old new → row_by new place ≡ row_by old place
@@ -131,3 +132,16 @@ made_renewed place c a old between new same made = record {
   booked = λ actor here starts past tells.
       made.booked actor (ap (λ (us : List Unit). place_of actor us) same.rows ∙ here) starts past (kept_renewed old between same starts past tells);
 }
+
+-- a call that its unit makes of its own state alone, and that leaves that as it is, is made in the board as it is
+pub stays_alone : (a : UnitName) (place : Option ℕ) (c : Call) (r : Reply) (u : Unit) (b : Board) → place_on b a ≡ place → IsBoard b → row_by b place ≡ Some u
+    → IsMadeAlone c r u.local u.local → IsMade place c (r, Effect.Nothing) b b
+stays_alone a None c r u b here board row made = absurd (cc)
+stays_alone a (Some k) c r u b here board row made =
+    let us = b.rows.items in
+    let within = place_in a us k here in
+    let at : get_or us k u ≡ u = get_or_from_slice_get us k u u row in
+    let is = subst (λ (v : Unit). IsMadeAlone c r v.local u.local) (sym at) made in
+    let same = left_at k u us u.local (sym (ap (λ (v : Unit). v.local) at)) in
+    makes_alone a k c b b here board (record { seats = refl; labels = refl; stale = refl; events = refl; index = refl; managed = refl; told = refl }) (Some r)
+    (subst (λ (vs : List Unit). IsMadeAt k c (Some r) us vs) same (made_alone_at k c r u us u.local within is))

@@ -7,7 +7,7 @@ use Rattle.df_unit.specs.declared.call.Call.{Call}
 use Rattle.df_unit.specs.declared.call.Call.TheVariants.{ChangeInOut, Instantiate, Subscribe, SubscribeManaged}
 use Rattle.df_unit.specs.declared.entry.Effect.{Effect}
 use Rattle.df_unit.specs.declared.reply.Reply.{Reply}
-use Rattle.df_unit.specs.declared.reply.Reply.TheVariants.{Event, Sub, Unit as Made}
+use Rattle.df_unit.specs.declared.reply.Reply.TheVariants.{Sub, Unit as Made}
 use Rattle.df_tables.specs.declared.units.Unit.{Unit}
 
 -- the reply and the effect are the unit's answer to the call, by its own state and what is left of
@@ -34,8 +34,3 @@ child_by _ _ = None
 abbrev pub managed_sub_by : Call → Reply → Option (ℕ × List Clause)
 managed_sub_by (SubscribeManaged filter) (Sub n) = Some (n, filter)
 managed_sub_by _ _ = None
-
--- whether the reply tells of an event that is handed over
-abbrev pub is_event : Reply → Bool
-is_event (Event h sub) = true
-is_event _ = false

@@ -15,9 +15,9 @@ ghost use Rattle.df_unit.specs.declared.reply.Reply.TheVariants.{Sub};
 ghost use Rattle.df_unit.specs.UnitOrder.{unit_cmp};
 ghost use Rattle.df_label.specs.Ascending.{IsAscending};
 ghost use Rattle.df_local.specs.Brief.{accepted_reply, brief_call};
-ghost use Rattle.df_local.specs.Locally.{closing};
+ghost use Rattle.df_local.specs.Locally.{closing, shows_one};
 ghost use Rattle.df_tables.specs.Births.{IsEnrolled, IsNewborn, beside_of, rows_in};
-ghost use Rattle.df_tables.specs.Board.{AreBorn, HasRoom, IsBoard, IsBooked, IsBornBoard, IsChildBoard, IsKept, IsMade, IsMovedBoard, IsRenewed, MakesAlone, TellsOf, answer_from, place_on, row_by, row_on, units_in};
+ghost use Rattle.df_tables.specs.Board.{AreBorn, HasRoom, IsBoard, IsBooked, IsBornBoard, IsChildBoard, IsKept, IsMade, IsMovedBoard, IsRenewed, MakesAlone, Receives, TellsOf, answer_from, place_on, row_by, row_on, units_in};
 ghost use Rattle.df_tables.specs.Hand.{IsAnsweredAt, IsCalm};
 ghost use Rattle.df_tables.specs.Labels.{AreLabels, inputs};
 ghost use Rattle.df_tables.specs.Moves.{child_by, is_in_out, made_by, managed_sub_by};
@@ -26,7 +26,7 @@ ghost use Rattle.df_tables.specs.Table.{IsInOrder, rows_from};
 use crate::births::{Beside, Newborn, beside_of, child_of, count_child, make_room};
 use crate::events::Events;
 use crate::managing::subscribe_managed;
-use crate::moves::{give_at, make_at, make_brief_at, move_at, subscribe};
+use crate::moves::{Received, give_at, make_at, make_brief_at, move_at, subscribe};
 use crate::units::{Unit, first_roll, labels_of, refresh};
 use df_filter::Filter;
 use df_index::Index;
@@ -34,6 +34,7 @@ use df_instances::{Managed, Marks};
 use df_label::{Label, Privileges, TagSet};
 use df_local::{Accepted, Answer, Brief, Close};
 use df_memory::NoMemory;
+use df_part::Part;
 use df_roll::Roll;
 use df_unit::{Call, Effect, Reply, UnitName};
 use std::alloc::Global;
@@ -472,6 +473,17 @@ impl Board {
         }
     }
 
+    /// The part that a call of the unit at a place shows, where it is a read that shows no other, and
+    /// the part bears no privilege. The tables tell of such a read without a change.
+    pub fn seen_alone<'a>(&'a self, place: Option<usize>, call: &'a Call) -> Option<&'a Part>
+        requires board { IsBoard self.now }
+        requires seated { (actor : UnitName) × (place_on self.now actor ≡ place) }
+        ensures { IfSome (option_copied result) (λ part.
+            IsMade place call.now (shows_one part, Effect.Nothing) self.now self.now) }
+    {
+        self.row(place)?.local.seen_alone(call)
+    }
+
     /// Makes a call that creates an event or drops one, where the unit at a place accepts it; None
     /// where it doesn't, or there is no such row. Where memory is wanting, at most the labels are
     /// others.
@@ -493,17 +505,36 @@ impl Board {
         }
     }
 
-    /// Hands the unit at a place the first event that is left to it, and answers its get. Where
-    /// memory is wanting, nothing is another.
-    fn give(&mut self, place: usize) -> Result<Answer, NoMemory>
+    /// Hands the unit at a place the first event that is left to it; None where it receives none.
+    /// Where memory is wanting, nothing is another.
+    pub fn give(&mut self, place: Option<usize>) -> Result<Option<Received>, NoMemory>
         requires board { IsBoard self.old }
-        requires seated { (actor : UnitName) × (place_on self.old actor ≡ Some place) }
+        requires seated { (actor : UnitName) × (place_on self.old actor ≡ place) }
         ensures board { IsBoard self.new }
-        ensures made { IfOk result (λ a. IsMade (Some place) Get (a.reply, a.effect)
-            self.old self.new) }
+        ensures made { IfOk result (λ received. Receives place received self.old self.new) }
         ensures same { OnErr result (IsRenewed self.old self.new) }
     {
-        give_at(self.rows.as_mut_slice(), place)
+        match place {
+            Some(place) => give_at(self.rows.as_mut_slice(), place),
+            None => Ok(None),
+        }
+    }
+
+    /// Makes a get of the unit at a place. Without memory the tables agree with the journal as
+    /// before.
+    fn make_get(&mut self, place: Option<usize>, call: &Call) -> Result<Answer, NoMemory>
+        requires board { IsBoard self.old }
+        requires seated { (actor : UnitName) × (place_on self.old actor ≡ place) }
+        requires get { call.now ≡ Get }
+        ensures board { IsBoard self.new }
+        ensures made { IfOk result (λ a. IsMade place call.now (a.reply, a.effect)
+            self.old self.new) }
+        ensures kept { OnErr result (IsKept self.old self.new) }
+    {
+        match self.give(place)? {
+            Some(received) => Ok(received.answer()),
+            None => self.answer_first(place, call),
+        }
     }
 
     /// The effect of a publish or a release of a handle by the unit at a place, where its reply is
@@ -577,10 +608,10 @@ impl Board {
             self.old self.new) }
         ensures kept { OnErr result (IsKept self.old self.new) }
     {
-        match (place, call) {
-            (Some(place), Call::Get) => self.give(place),
-            (_, Call::Publish { h }) => self.make_closing(place, *h, Close::Publish, call),
-            (_, Call::Release { h }) => self.make_closing(place, *h, Close::Release, call),
+        match call {
+            Call::Get => self.make_get(place, call),
+            Call::Publish { h } => self.make_closing(place, *h, Close::Publish, call),
+            Call::Release { h } => self.make_closing(place, *h, Close::Release, call),
             _ => self.answer_first(place, call),
         }
     }

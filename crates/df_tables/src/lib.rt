@@ -20,4 +20,5 @@ mod units;
 pub use board::Board;
 pub use events::{EventRow, Events};
 pub use line::Line;
+pub use moves::Received;
 pub use units::{Unit, first_unit};

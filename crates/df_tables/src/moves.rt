@@ -7,8 +7,8 @@ ghost use Rattle.df_unit.specs.declared.call.Call.TheVariants.{Subscribe};
 ghost use Rattle.df_unit.specs.declared.entry.Effect.{Effect};
 ghost use Rattle.df_unit.specs.declared.reply.Reply.TheVariants.{Sub};
 ghost use Rattle.df_local.specs.Brief.{accepted_reply, brief_call};
-ghost use Rattle.df_tables.specs.Hand.{IsAnsweredAt, IsGiven, IsGivenAt, IsMadeAt, modify};
-ghost use Rattle.df_tables.specs.Moves.{IsAnswered, is_event};
+ghost use Rattle.df_tables.specs.Hand.{Gives, GivesAt, IsAnsweredAt, IsMadeAt, modify, received_answer};
+ghost use Rattle.df_tables.specs.Moves.{IsAnswered};
 ghost use Rattle.df_tables.specs.Table.{moved_row, taken};
 
 use crate::line::Line;
@@ -17,7 +17,7 @@ use df_filter::Filter;
 use df_index::Index;
 use df_local::{Accepted, Answer, Brief};
 use df_memory::NoMemory;
-use df_unit::{Call, Effect, Reply};
+use df_unit::{Call, Effect, Given, Reply};
 
 /// The line without the delivery that is handed over.
 fn take_from(line: &mut Line, effect: &Effect)
@@ -91,51 +91,54 @@ pub fn make_brief_at(
     }
 }
 
-/// An answer without effect.
-fn quiet(reply: Reply) -> Answer
-    ensures reply { result.reply ≡ reply }
-    ensures effect { result.effect ≡ Effect.Nothing }
-{
-    Answer {
-        reply,
-        effect: Effect::Nothing,
+/// An event that a unit received: under which handle, and what it was handed.
+#[derive(Drop)]
+pub struct Received {
+    pub h: u32,
+    pub given: Given,
+}
+
+impl Received {
+    /// What the get is answered.
+    pub fn answer(self) -> Answer
+        ensures reply { result.reply ≡ (received_answer self).0 }
+        ensures effect { result.effect ≡ (received_answer self).1 }
+    {
+        Answer {
+            reply: Reply::Event {
+                h: self.h,
+                sub: self.given.sub,
+            },
+            effect: Effect::Given(self.given),
+        }
     }
 }
 
-/// Whether the reply tells of an event that is handed over.
-fn is_event(reply: &Reply) -> bool
-    ensures { result ≡ is_event reply.now }
-{
-    matches!(reply, Reply::Event { .. })
-}
-
-/// Hands the first delivery that is left over to its unit, which asks for it, and answers that.
-/// Where memory is wanting, the row is as before.
-fn give(unit: &mut Unit) -> Result<Answer, NoMemory>
-    ensures given { IfOk result (λ a. IsGiven (a.reply, a.effect) unit.old unit.new) }
+/// Hands the first delivery that is left over to its unit, which asks for it. None, and nothing is
+/// done, where none is left or the unit may open no handle more. Where memory is wanting, the row
+/// is as before.
+fn give(unit: &mut Unit) -> Result<Option<Received>, NoMemory>
+    ensures given { IfOk result (λ received. Gives received unit.old unit.new) }
     ensures unchanged { OnErr result (unit.new ≡ unit.old) }
 {
     let Some(given) = unit.line.first() else {
-        return Ok(quiet(Reply::Nothing));
+        return Ok(None);
     };
-    let reply = unit.local.take_in(given)?;
-    if !is_event(&reply) {
-        return Ok(quiet(reply));
-    }
+    let Some(h) = unit.local.view(given)? else {
+        return Ok(None);
+    };
     match unit.line.pop() {
-        Some(given) => Ok(Answer {
-            reply,
-            effect: Effect::Given(given),
-        }),
-        None => Ok(quiet(reply)),
+        Some(given) => Ok(Some(Received { h, given })),
+        None => unreachable!(),
     }
 }
 
-/// Hands the first delivery that is left to the unit at a place over to it, and answers its get.
-/// Where memory is wanting, the table is as before.
-pub fn give_at(units: &mut [Unit], place: usize) -> Result<Answer, NoMemory>
+/// Hands the first delivery that is left to the unit at a place over to it. None, and nothing is
+/// done, where none is left or the unit may open no handle more. Where memory is wanting, the table
+/// is as before.
+pub fn give_at(units: &mut [Unit], place: usize) -> Result<Option<Received>, NoMemory>
     requires within { place < length units.old }
-    ensures given { IfOk result (λ a. IsGivenAt place (a.reply, a.effect) units.old units.new) }
+    ensures given { IfOk result (λ received. GivesAt place received units.old units.new) }
     ensures unchanged { OnErr result (units.new ≡ units.old) }
 {
     let unit = &mut units[place];

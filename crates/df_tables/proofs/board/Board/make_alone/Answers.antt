@@ -17,7 +17,8 @@ in_rows c made is =
 
 pub returns-in-Some-clause-board : goal.returns-in-Some-clause-board
 returns-in-Some-clause-board c =
-    let or = made_or_not (λ made. made) c.in-Some.place c.args.call.now c.as_mut_slice.result.now c.make_at.new.units c.make_at.result c.make_at.ensures.made c.make_at.ensures.unchanged in
+    let or = made_or_not (λ made. IsMadeAt c.in-Some.place c.args.call.now made c.as_mut_slice.result.now c.make_at.new.units) (λ made. made) c.make_at.result
+    c.make_at.ensures.made c.make_at.ensures.unchanged in
     board_alone c.requires.seated.0 c.in-Some.place c.args.call.now c.args.self.now _ (c.requires.seated.1 ∙ c.in-Some.is) c.requires.board
     (record { seats = refl; labels = refl; stale = refl; events = refl; index = refl; managed = refl; told = refl }) or.0 (in_rows c or.0 or.1)
 
