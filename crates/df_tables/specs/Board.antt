@@ -16,7 +16,7 @@ use Rattle.df_rules.specs.Start.{rows, roots}
 use Rattle.df_label.specs.declared.label.Label.{Label}
 use Rattle.df_label.specs.declared.privilege.Privilege.{Privilege}
 use Rattle.df_unit.specs.declared.call.Call.{Call}
-use Rattle.df_unit.specs.declared.call.Call.TheVariants.{Get, Instantiate}
+use Rattle.df_unit.specs.declared.call.Call.TheVariants.{Instantiate}
 use Rattle.df_unit.specs.declared.entry.Effect.{Effect}
 use Rattle.df_unit.specs.declared.entry.Entry.{Entry}
 use Rattle.df_unit.specs.declared.entry.Entry.TheVariants.{Done, Emitted}
@@ -33,13 +33,12 @@ use Rattle.df_roll.specs.declared.seat.Seat.{Seat}
 use Rattle.df_tables.specs.Agree.{Agrees, AreWithin, IsWhole, ManagedState, enrols}
 use Rattle.df_tables.specs.Labels.{AreLabels, inputs}
 use Rattle.df_tables.specs.Events.{IsOpened, event_place}
-use Rattle.df_tables.specs.Hand.{IsNews, modify, received_answer, with_news}
+use Rattle.df_tables.specs.Hand.{IsNews, modify, with_news}
 use Rattle.df_tables.specs.Births.{all_new, child_row, if_new, rows_in}
 use Rattle.df_tables.specs.Calls.{AreCalled, places_by}
 use Rattle.df_tables.specs.Table.{find, moved_row, parts_of, place_of}
 use Rattle.df_tables.specs.declared.board.Board.{Board}
 use Rattle.df_tables.specs.declared.commits.Ready.{Ready}
-use Rattle.df_tables.specs.declared.moves.Received.{Received}
 use Rattle.df_tables.specs.declared.units.Unit.{Unit}
 
 -- the roll has the place of each unit's row
@@ -186,11 +185,6 @@ pub record IsMade (place : Option ℕ) (c : Call) (a : Reply × Effect) (old new
 abbrev pub MakesAlone : Option ℕ → Call → Option Reply → Board → Board → Type 0
 MakesAlone place c None old new = IsRenewed old new
 MakesAlone place c (Some r) old new = IsMade place c (r, Effect.Nothing) old new
-
--- a unit receives an event by a get; where it receives none, at most the labels are others
-abbrev pub Receives : Option ℕ → Option Received → Board → Board → Type 0
-Receives place None old new = IsRenewed old new
-Receives place (Some x) old new = IsMade place Get (received_answer x) old new
 
 -- the row at a place is moved as its unit's call does, and the subscription that is made, if any,
 -- is enrolled

@@ -18,6 +18,7 @@ use Rattle.df_rules.specs.Start.{rows}
 use Rattle.df_tables.specs.Moves.{IsAnswered}
 use Rattle.df_tables.specs.Table.{moved_row}
 use Rattle.df_tables.specs.declared.moves.Received.{Received}
+use Rattle.df_tables.specs.declared.moves.Received.TheVariants as received
 use Rattle.df_tables.specs.declared.units.Unit.{Unit}
 
 -- nothing is staged at the row
@@ -96,16 +97,8 @@ pub record IsGivenAt (k : ℕ) (a : Reply × Effect) (old new : List Unit) : Typ
   pub answered : IsAnsweredAt k Call.Get a.0 a.1 old
   pub moved : new ≡ modify k (moved_row rows Call.Get a.0 a.1) old
 
--- what the get of a unit that received an event is answered
+-- what the get of a unit that received this is answered
 abbrev pub received_answer : Received → Reply × Effect
-received_answer t = (Reply.Event t.h t.given.sub, Effect.Given t.given)
-
--- a unit receives an event by a get; where it receives none, nothing is another
-abbrev pub Gives : Option Received → Unit → Unit → Type 0
-Gives None old new = new ≡ old
-Gives (Some t) old new = IsGiven (received_answer t) old new
-
--- the same of the unit at a place
-abbrev pub GivesAt : ℕ → Option Received → List Unit → List Unit → Type 0
-GivesAt k None old new = new ≡ old
-GivesAt k (Some t) old new = IsGivenAt k (received_answer t) old new
+received_answer (received.Event h given) = (Reply.Event h given.sub, Effect.Given given)
+received_answer received.Nothing = (Reply.Nothing, Effect.Nothing)
+received_answer received.TooManyHandles = (Reply.TooManyHandles, Effect.Nothing)

@@ -17,8 +17,8 @@ ghost use Rattle.df_label.specs.Ascending.{IsAscending};
 ghost use Rattle.df_local.specs.Brief.{accepted_reply, brief_call};
 ghost use Rattle.df_local.specs.Locally.{closing, shows_one};
 ghost use Rattle.df_tables.specs.Births.{IsEnrolled, IsNewborn, beside_of, rows_in};
-ghost use Rattle.df_tables.specs.Board.{AreBorn, HasRoom, IsBoard, IsBooked, IsBornBoard, IsChildBoard, IsKept, IsMade, IsMovedBoard, IsRenewed, MakesAlone, Receives, TellsOf, answer_from, place_on, row_by, row_on, units_in};
-ghost use Rattle.df_tables.specs.Hand.{IsAnsweredAt, IsCalm};
+ghost use Rattle.df_tables.specs.Board.{AreBorn, HasRoom, IsBoard, IsBooked, IsBornBoard, IsChildBoard, IsKept, IsMade, IsMovedBoard, IsRenewed, MakesAlone, TellsOf, answer_from, place_on, row_by, row_on, units_in};
+ghost use Rattle.df_tables.specs.Hand.{IsAnsweredAt, IsCalm, received_answer};
 ghost use Rattle.df_tables.specs.Labels.{AreLabels, inputs};
 ghost use Rattle.df_tables.specs.Moves.{child_by, is_in_out, made_by, managed_sub_by};
 ghost use Rattle.df_tables.specs.Table.{IsInOrder, rows_from};
@@ -505,36 +505,17 @@ impl Board {
         }
     }
 
-    /// Hands the unit at a place the first event that is left to it; None where it receives none.
-    /// Where memory is wanting, nothing is another.
-    pub fn give(&mut self, place: Option<usize>) -> Result<Option<Received>, NoMemory>
+    /// Hands the unit at a place, which asks for it, the first event that is left to it. Where memory
+    /// is wanting, nothing is another.
+    pub fn give(&mut self, place: usize) -> Result<Received, NoMemory>
         requires board { IsBoard self.old }
-        requires seated { (actor : UnitName) × (place_on self.old actor ≡ place) }
+        requires seated { (actor : UnitName) × (place_on self.old actor ≡ Some place) }
         ensures board { IsBoard self.new }
-        ensures made { IfOk result (λ received. Receives place received self.old self.new) }
+        ensures made { IfOk result (λ received. IsMade (Some place) Get (received_answer received)
+            self.old self.new) }
         ensures same { OnErr result (IsRenewed self.old self.new) }
     {
-        match place {
-            Some(place) => give_at(self.rows.as_mut_slice(), place),
-            None => Ok(None),
-        }
-    }
-
-    /// Makes a get of the unit at a place. Without memory the tables agree with the journal as
-    /// before.
-    fn make_get(&mut self, place: Option<usize>, call: &Call) -> Result<Answer, NoMemory>
-        requires board { IsBoard self.old }
-        requires seated { (actor : UnitName) × (place_on self.old actor ≡ place) }
-        requires get { call.now ≡ Get }
-        ensures board { IsBoard self.new }
-        ensures made { IfOk result (λ a. IsMade place call.now (a.reply, a.effect)
-            self.old self.new) }
-        ensures kept { OnErr result (IsKept self.old self.new) }
-    {
-        match self.give(place)? {
-            Some(received) => Ok(received.answer()),
-            None => self.answer_first(place, call),
-        }
+        give_at(self.rows.as_mut_slice(), place)
     }
 
     /// The effect of a publish or a release of a handle by the unit at a place, where its reply is
@@ -608,10 +589,10 @@ impl Board {
             self.old self.new) }
         ensures kept { OnErr result (IsKept self.old self.new) }
     {
-        match call {
-            Call::Get => self.make_get(place, call),
-            Call::Publish { h } => self.make_closing(place, *h, Close::Publish, call),
-            Call::Release { h } => self.make_closing(place, *h, Close::Release, call),
+        match (place, call) {
+            (Some(place), Call::Get) => Ok(self.give(place)?.answer()),
+            (_, Call::Publish { h }) => self.make_closing(place, *h, Close::Publish, call),
+            (_, Call::Release { h }) => self.make_closing(place, *h, Close::Release, call),
             _ => self.answer_first(place, call),
         }
     }

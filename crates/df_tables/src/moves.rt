@@ -7,7 +7,7 @@ ghost use Rattle.df_unit.specs.declared.call.Call.TheVariants.{Subscribe};
 ghost use Rattle.df_unit.specs.declared.entry.Effect.{Effect};
 ghost use Rattle.df_unit.specs.declared.reply.Reply.TheVariants.{Sub};
 ghost use Rattle.df_local.specs.Brief.{accepted_reply, brief_call};
-ghost use Rattle.df_tables.specs.Hand.{Gives, GivesAt, IsAnsweredAt, IsMadeAt, modify, received_answer};
+ghost use Rattle.df_tables.specs.Hand.{IsAnsweredAt, IsGiven, IsGivenAt, IsMadeAt, modify, received_answer};
 ghost use Rattle.df_tables.specs.Moves.{IsAnswered};
 ghost use Rattle.df_tables.specs.Table.{moved_row, taken};
 
@@ -91,54 +91,66 @@ pub fn make_brief_at(
     }
 }
 
-/// An event that a unit received: under which handle, and what it was handed.
+/// What a unit receives by a get: an event, under a handle, or nothing, since none is left or the
+/// unit may open no handle more.
 #[derive(Drop)]
-pub struct Received {
-    pub h: u32,
-    pub given: Given,
+pub enum Received {
+    Event { h: u32, given: Given },
+    Nothing,
+    TooManyHandles,
 }
 
 impl Received {
     /// What the get is answered.
     pub fn answer(self) -> Answer
-        ensures reply { result.reply ≡ (received_answer self).0 }
-        ensures effect { result.effect ≡ (received_answer self).1 }
+        ensures { (result.reply, result.effect) ≡ received_answer self }
     {
-        Answer {
-            reply: Reply::Event {
-                h: self.h,
-                sub: self.given.sub,
+        match self {
+            Received::Event { h, given } => Answer {
+                reply: Reply::Event { h, sub: given.sub },
+                effect: Effect::Given(given),
             },
-            effect: Effect::Given(self.given),
+            Received::Nothing => quiet(Reply::Nothing),
+            Received::TooManyHandles => quiet(Reply::TooManyHandles),
         }
     }
 }
 
-/// Hands the first delivery that is left over to its unit, which asks for it. None, and nothing is
-/// done, where none is left or the unit may open no handle more. Where memory is wanting, the row
-/// is as before.
-fn give(unit: &mut Unit) -> Result<Option<Received>, NoMemory>
-    ensures given { IfOk result (λ received. Gives received unit.old unit.new) }
+/// An answer without effect.
+fn quiet(reply: Reply) -> Answer
+    ensures reply { result.reply ≡ reply }
+    ensures effect { result.effect ≡ Effect.Nothing }
+{
+    Answer {
+        reply,
+        effect: Effect::Nothing,
+    }
+}
+
+/// Hands the first delivery that is left over to its unit, which asks for it. Where memory is
+/// wanting, the row is as before.
+fn give(unit: &mut Unit) -> Result<Received, NoMemory>
+    ensures given { IfOk result (λ received. IsGiven (received_answer received) unit.old unit.new) }
     ensures unchanged { OnErr result (unit.new ≡ unit.old) }
 {
     let Some(given) = unit.line.first() else {
-        return Ok(None);
+        return Ok(Received::Nothing);
     };
     let Some(h) = unit.local.view(given)? else {
-        return Ok(None);
+        return Ok(Received::TooManyHandles);
     };
     match unit.line.pop() {
-        Some(given) => Ok(Some(Received { h, given })),
+        Some(given) => Ok(Received::Event { h, given }),
         None => unreachable!(),
     }
 }
 
-/// Hands the first delivery that is left to the unit at a place over to it. None, and nothing is
-/// done, where none is left or the unit may open no handle more. Where memory is wanting, the table
-/// is as before.
-pub fn give_at(units: &mut [Unit], place: usize) -> Result<Option<Received>, NoMemory>
+/// Hands the first delivery that is left to the unit at a place over to it, which asks for it.
+/// Where memory is wanting, the table is as before.
+pub fn give_at(units: &mut [Unit], place: usize) -> Result<Received, NoMemory>
     requires within { place < length units.old }
-    ensures given { IfOk result (λ received. GivesAt place received units.old units.new) }
+    ensures given { IfOk result (λ received.
+        IsGivenAt place (received_answer received) units.old units.new) }
     ensures unchanged { OnErr result (units.new ≡ units.old) }
 {
     let unit = &mut units[place];
