@@ -6,6 +6,7 @@ pub mod Joins
 pub mod Choices
 pub mod ItemSteps
 pub mod Items
+pub mod Agrees
 pub mod Backs
 pub mod Tokens
 pub mod Longest

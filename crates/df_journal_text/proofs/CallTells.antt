@@ -10,7 +10,7 @@ use Rattle.df_journal_text.proofs.ValueTells.{value_apart, value_word_text}
 use Rattle.df_journal_text.proofs.WordBacks.{label_word, name_word, short_word}
 
 value_finds : Finds value_text IsSpelled value_at
-value_finds = record { found = λ bytes v rest e. let f = (value_format (length bytes)).found bytes v rest e in (f.parts, f.fits.0) }
+value_finds = record { found = λ bytes v rest e. let f = value_format.found bytes v rest e in (f.parts, f.fits) }
 
 -- ---- behind `add`
 

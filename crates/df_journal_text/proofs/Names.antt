@@ -58,7 +58,7 @@ pub use Rattle.df_value_text.specs.Number.{begins_with}
 pub use Rattle.df_value_text.specs.ReadLabel.{label_at, privilege_at}
 pub use Rattle.df_value_text.specs.ReadName.{name_at}
 pub use Rattle.df_value_text.specs.ReadTag.{begins_digit, numbers_at, short_at, tag_at, tags_at}
-pub use Rattle.df_value_text.specs.ReadValue.{value_at, value_within}
+pub use Rattle.df_value_text.specs.ReadValue.{value_at}
 pub use Rattle.df_value_text.specs.Value.{value_text}
 pub use Rattle.df_value_text.specs.code.Answer.{Fails, Gives, IsFound, IsRead, IsSyntaxAt}
 pub use Rattle.df_value_text.specs.code.WordEnd.{EndsWord}

@@ -1,21 +1,17 @@
 -- What the reader of values answers, as a word of a line.
-use Rattle.df_journal_text.proofs.Names.{◌≡◌, ℕ, ◌≤◌, true, false, List, [], ◌∷◌, ◌++◌, length, drop, Ok, Err, refl, sym, ap, subst, ◌∙◌, arith, append-nil, length-append, inl, inr, text_at, not_both, told, text_found, IsSpelled, IsValue, value_at, value_within, value_text, Fails, IsFound, IsRead, IsSyntaxAt, EndsWord, Fault, nowhere, nowhere_is_local, value_format, value_goes, IsLargeWord, IsTooLarge, word, word_at, Tells, line_fault, value_fault, Plain, int, words, items, entries, node_count}
+use Rattle.df_journal_text.proofs.Names.{◌≡◌, ℕ, ◌≤◌, List, [], ◌∷◌, ◌++◌, length, drop, Ok, Err, sym, ap, subst, ◌∙◌, arith, inl, inr, text_at, not_both, told, text_found, IsValue, value_at, value_text, Fails, IsFound, IsRead, IsSyntaxAt, EndsWord, Fault, value_format, value_goes, IsLargeWord, IsTooLarge, word, word_at, Tells, line_fault, value_fault, Plain}
 use Rattle.std.specs.Prelude.{nat_lt}
 use Rattle.std.proofs.lemmas.Bool.Decides.{nat_tests}
-use Rattle.df_format.specs.Grammar.{CanGoOn, Stands}
+use Rattle.df_format.specs.Grammar.{Stands}
 use Rattle.df_format.proofs.Longest.{goes_on}
 use Rattle.df_value_text.specs.Counting.{AreWithin, FirstOver, counts_of, start, walked}
 use Rattle.df_value_text.specs.OrderNames.{LowInValue}
 use Rattle.df_value_text.specs.ValueFault.{FirstTooLarge, IsTooLargeAt, IsWithinBefore, NamesTooLarge, NoLowBefore}
 use Rattle.df_value_text.specs.declared.refused.TextRefused.{TextRefused}
-use Rattle.df_value_text.proofs.CountingEnds.{counted_behind}
 use Rattle.df_value_text.proofs.CountingFronts.{walked_on, within_before}
 use Rattle.df_value_text.proofs.CountingLaws.{walked-append}
-use Rattle.df_value_text.proofs.CountingSteps.{walked_few}
 use Rattle.df_value_text.proofs.LimitLaws.{no_value}
-use Rattle.df_value_text.proofs.ValueAnswers.{level_fits, value_ends}
-use Rattle.df_value_text.proofs.WholeLaws.{whole_format}
-use Rattle.df_frozen.specs.Plain.{bytes as blob}
+use Rattle.df_value_text.proofs.ValueAnswers.{value_ends, value_read}
 use Rattle.df_value_text.specs.declared.refused.TextRefused.TheVariants as refused
 use Rattle.df_journal_text.proofs.Stopped.{on_fault}
 use Rattle.df_format.specs.Format.{Ends}
@@ -24,44 +20,15 @@ use Rattle.df_value_text.proofs.WordEnds.{value_stands}
 abbrev pub value_word_text : Plain → List ℕ
 value_word_text v = word (value_text v)
 
--- ---- what stands is read
-
--- what goes on is a number, and a longer one is within the limits too
-value_on : (p : Plain) (c : ℕ) → IsSpelled p → value_goes p c ≡ true → CanGoOn value_text IsValue (value_text p ++ c ∷ [])
-value_on (int z) c fits g =
-    let v = (whole_format nowhere nowhere_is_local).on z c fits g in
-    record { some = int v.some; fits = (v.fits, record { nodes = omega arith; bytes = omega arith; flat = omega arith }); more = v.more; is = v.is }
-value_on (words s) c fits g = absurd (let no_end : false ≡ true = g in cc)
-value_on (blob s) c fits g = absurd (let no_end : false ≡ true = g in cc)
-value_on (items ps) c fits g = absurd (let no_end : false ≡ true = g in cc)
-value_on (entries es) c fits g = absurd (let no_end : false ≡ true = g in cc)
-
-stands_ends : (p : Plain) (rest : List ℕ) → IsSpelled p
-    → ((c : ℕ) (tail : List ℕ) → rest ≡ c ∷ tail → CanGoOn value_text IsValue (value_text p ++ c ∷ []) → ⊥) → Ends value_goes p rest
-stands_ends p [] fits ends = tt
-stands_ends p (c ∷ rest) fits ends = elim (told (value_goes p c)) [ inl h ↦ absurd (ends c rest refl (value_on p c fits h)) | inr h ↦ h ]
-
--- a value has no more nodes than bytes
-few_nodes : (p : Plain) → IsSpelled p → node_count p ≤ length (value_text p)
-few_nodes p fits =
-    let exact = counted_behind p fits [] in
-    omega (arith, exact.nodes, (walked_few start (value_text p ++ [])).nodes, ap length (append-nil (value_text p)))
-
-value_is : (bytes : List ℕ) (p : Plain) (rest : List ℕ) → Stands value_text IsValue bytes p rest → value_at bytes ≡ Ok (p, rest)
-value_is bytes p rest s =
-    let enough : node_count p ≤ length bytes = omega (arith, few_nodes p s.fits.0, ap length s.parts, length-append (value_text p) rest) in
-    ap (value_within (length bytes)) s.parts
-    ∙ (value_format (length bytes)).again p rest (level_fits p (length bytes) enough s.fits.0) (stands_ends p rest s.fits.0 s.ends)
-
 -- a value that is read is none that is too large
 pub value_apart : (bytes : List ℕ) (p : Plain) (rest : List ℕ) → word_at value_at bytes ≡ Ok (p, rest) → IsValue p → IsLargeWord bytes → ⊥
 value_apart bytes p rest e fits l =
     let read : value_at l.value ≡ Ok (p, rest) = sym (ap (word_at value_at) l.parts) ∙ e in
-    let f = (value_format (length l.value)).found l.value p rest read in
+    let f = value_format.found l.value p rest read in
     no_value l.value l.large.rest l.large.over.over p rest (record {
       parts = f.parts;
       fits = fits;
-      ends = λ c tail is on. value_ends p c f.fits.0 (subst (Ends value_goes p) is f.ends)
+      ends = λ c tail is on. value_ends p c f.fits (subst (Ends value_goes p) is f.ends)
           (record { some = on.some; fits = on.fits.0; more = on.more; is = on.is });
     })
 
@@ -136,5 +103,5 @@ module _ (bytes : List ℕ) (at behind : ℕ) (space : text_at (32 ∷ []) (drop
     f.0,
     f.1.fits,
     spaced ∙ ap (λ (u : List ℕ). 32 ∷ u) f.1.parts,
-    ap (word_at value_at) spaced ∙ value_is (drop behind bytes) v (drop end bytes) f.1,
+    ap (word_at value_at) spaced ∙ value_read (drop behind bytes) v (drop end bytes) f.1,
   )

@@ -1,13 +1,10 @@
 -- A literal that is spelled is read back, where a word ends, and what stands behind it is left.
-use Rattle.df_value_text.proofs.Names.{is_name_byte, ◌≡◌, ℕ, ◌<◌, ◌≤◌, ◌^◌, true, false, eqb, List, [], ◌∷◌, ◌++◌, length, Ok, decimal, refl, sym, ap, ◌∙◌, append_assoc, arith, length-append, is_ascii_digit, append-nil, closed_at, Ends, ends_never, is_name, Plain, node_count, Label, Privilege, start, IsLabel, IsPrivilege, IsSpelled, IsTag, IsTagSet, label_text, path_text, privilege_text, tag_text, tags_text, number_at, label_at, privilege_at, name_at, numbers_at, short_at, tag_at, tags_at, value_text, EndsWord, value_at}
-use Rattle.df_value_text.proofs.CountingEnds.{counted_behind}
-use Rattle.df_value_text.proofs.CountingSteps.{walked_few}
+use Rattle.df_value_text.proofs.Names.{is_name_byte, ◌≡◌, ℕ, ◌<◌, ◌≤◌, ◌^◌, true, false, eqb, List, [], ◌∷◌, ◌++◌, Ok, decimal, refl, sym, ap, ◌∙◌, append_assoc, arith, is_ascii_digit, closed_at, Ends, ends_never, is_name, Plain, Label, Privilege, IsLabel, IsPrivilege, IsSpelled, IsTag, IsTagSet, label_text, path_text, privilege_text, tag_text, tags_text, number_at, label_at, privilege_at, name_at, numbers_at, short_at, tag_at, tags_at, value_text, EndsWord, value_at}
 use Rattle.df_value_text.proofs.LabelLaws.{label_format, privilege_format, tags_end_at}
 use Rattle.df_value_text.proofs.NameLaws.{name_apart, name_format, name_goes}
 use Rattle.df_value_text.proofs.NumberLaws.{number_apart, number_format, number_goes}
 use Rattle.df_value_text.proofs.TagLaws.{LongEnds, behind_byte, long_again, tag_ends_at, to_ends, nowhere, nowhere_is_local, tag_format, top}
 use Rattle.df_value_text.proofs.TagSetLaws.{tags_format, tags_goes}
-use Rattle.df_value_text.proofs.ValueAnswers.{level_fits}
 use Rattle.df_value_text.proofs.ValueLaws.{value_format, value_goes}
 use Rattle.df_value_text.proofs.WordEnds.{at_break, ends_word, number_stops, privilege_stops, tag_stops, value_stops}
 
@@ -36,17 +33,8 @@ name_back name rest fits end =
 
 -- ---- values
 
--- a value has no more nodes than bytes
-pub node_count-text : (p : Plain) → IsSpelled p → node_count p ≤ length (value_text p)
-node_count-text p fits =
-    let exact = counted_behind p fits [] in
-    omega (arith, exact.nodes, (walked_few start (value_text p ++ [])).nodes, ap length (append-nil (value_text p)))
-
 pub value_back : (p : Plain) (rest : List ℕ) → IsSpelled p → EndsWord rest → value_at (value_text p ++ rest) ≡ Ok (p, rest)
-value_back p rest fits end =
-    let enough : node_count p ≤ length (value_text p ++ rest) = omega (arith, node_count-text p fits, length-append (value_text p) rest) in
-    (value_format (length (value_text p ++ rest))).again p rest (level_fits p (length (value_text p ++ rest)) enough fits)
-    (ends_word value_goes p rest (value_stops p) end)
+value_back p rest fits end = value_format.again p rest fits (ends_word value_goes p rest (value_stops p) end)
 
 -- ---- parts of names
 

@@ -1,5 +1,5 @@
 -- Items in front of a closing byte, how deep values nest, and entries, read as they are spelled.
-use Rattle.df_value_text.proofs.Names.{suc, is_ascii_digit, negsuc, ◌≡◌, ℕ, Bool, true, false, eqb, List, [], ◌∷◌, ◌++◌, refl, sym, ap, subst, ◌∙◌, ◌⊎◌, inl, inr, eq-eqb, Read, more_spell, items_spell, Format, never, closed_format, Begins, Follow, ItemsFit, IsText, text_format, Of, made, fitting, either_of, joined, listed, none_listed, ended_at, suc, ◌≤◌, max, arith, is_lt, name_cmp, Plain, Plains, Pairs, items, entries, no_items, item, no_entries, entry, from_list, from_pairs, node_count, items_node_count, entries_node_count, IsSpelled, AreSpelled, AreEntries, AreBehind, append_assoc, pos, negsuc, eqb-true, and_parts, items_at, then_at, in_map, low_as, nowhere, append-nil, flat_map, Parts, Leads, items_goes, items_format, format_shrinks, behind_format, own, int, greatest, leads_entry, given_at, entry_at, next_entry_at, value_text, entry_text, last_of, last_split, LowWithin, MayFollow, IsOpen, Open, open_text, entries_led, then_format, ends_of_second}
+use Rattle.df_value_text.proofs.Names.{suc, is_ascii_digit, negsuc, ◌≡◌, ℕ, Bool, true, false, eqb, List, [], ◌∷◌, ◌++◌, refl, sym, ap, subst, ◌∙◌, ◌⊎◌, inl, inr, eq-eqb, Read, more_spell, items_spell, Format, never, closed_format, Begins, Follow, ItemsFit, IsText, text_format, Of, made, fitting, either_of, joined, listed, none_listed, ended_at, suc, ◌≤◌, max, arith, is_lt, name_cmp, Plain, Plains, Pairs, items, entries, no_items, item, no_entries, entry, from_list, from_pairs, IsSpelled, AreSpelled, AreEntries, AreBehind, append_assoc, pos, negsuc, eqb-true, and_parts, items_at, then_at, in_map, low_as, nowhere, append-nil, flat_map, Parts, Leads, items_goes, items_format, format_shrinks, behind_format, own, int, greatest, leads_entry, given_at, entry_at, next_entry_at, value_text, entry_text, last_of, last_split, LowWithin, MayFollow, IsOpen, Open, open_text, entries_led, then_format, ends_of_second}
 use Rattle.df_value_text.proofs.PathLaws.{joined_items}
 use Rattle.df_value_text.proofs.NameLaws.{name_apart, IsName, name_goes, name_format, AfterName, is_less, NearName, higher_format, greatest_fits, below_greatest}
 use Rattle.df_value_text.proofs.NumberLaws.{number_apart}
@@ -74,21 +74,6 @@ abbrev mutual
   entries_nest no_entries = 0
   entries_nest (entry name p es) = max (nest p) (entries_nest es)
 
-mutual
-  -- no deeper than there are nodes
-  pub nest_few : (p : Plain) → nest p ≤ node_count p
-  nest_few (items ps) = omega (arith, items_nest_few ps)
-  nest_few (entries es) = omega (arith, entries_nest_few es)
-  nest_few _ = omega arith
-
-  pub items_nest_few : (ps : Plains) → items_nest ps ≤ items_node_count ps
-  items_nest_few no_items = omega arith
-  items_nest_few (item p ps) = omega (arith, nest_few p, items_nest_few ps)
-
-  pub entries_nest_few : (es : Pairs) → entries_nest es ≤ entries_node_count es
-  entries_nest_few no_entries = omega arith
-  entries_nest_few (entry name p es) = omega (arith, nest_few p, entries_nest_few es)
-
 -- a value that has a spelling, and nests so deep at most
 abbrev pub LevelFits : ℕ → Plain → Type 0
 LevelFits n p = IsSpelled p × (nest p ≤ n)
@@ -100,10 +85,12 @@ items_to n [] h = (tt, omega arith)
 items_to n (p ∷ []) h = ((h.0.0, tt), omega (arith, h.0.1))
 items_to n (p ∷ q ∷ ps) h = let r = items_to n (q ∷ ps) h.1 in ((h.0.0, r.0), omega (arith, h.0.1, r.1))
 
-pub list_chain : (n : ℕ) (ps : List Plain) → AreSpelled (from_list ps) → items_nest (from_list ps) ≤ n → Chain (LevelFits n) (λ prev. LevelFits n) ps
-list_chain n [] h k = tt
-list_chain n (p ∷ []) h k = ((h.0, omega (arith, k)), tt)
-list_chain n (p ∷ q ∷ ps) h k = ((h.0, omega (arith, k)), list_chain n (q ∷ ps) h.1 (omega (arith, k)))
+-- where all that is spelled and nests so deep at most fits, each of these does
+pub list_chain : (F : Plain → Type 0) (n : ℕ) → ((p : Plain) → LevelFits n p → F p) → (ps : List Plain) → AreSpelled (from_list ps)
+    → items_nest (from_list ps) ≤ n → Chain F (λ prev. F) ps
+list_chain F n fits [] h k = tt
+list_chain F n fits (p ∷ []) h k = (fits p (h.0, omega (arith, k)), tt)
+list_chain F n fits (p ∷ q ∷ ps) h k = (fits p (h.0, omega (arith, k)), list_chain F n fits (q ∷ ps) h.1 (omega (arith, k)))
 
 items_list : (ps : Plains) → (list : List Plain) × (from_list list ≡ ps)
 items_list no_items = ([], refl)
@@ -113,46 +100,47 @@ pub items_from : (n : ℕ) (ps : Plains) → AreSpelled ps → items_nest ps ≤
     → (list : List Plain) × Chain (LevelFits n) (λ prev. LevelFits n) list × (from_list list ≡ ps)
 items_from n ps h k =
     let r = items_list ps in
-    (r.0, list_chain n r.0 (subst AreSpelled (sym r.1) h) (subst (λ (qs : Plains). items_nest qs ≤ n) (sym r.1) k), r.1)
+    (r.0, list_chain (LevelFits n) n (λ p h. h) r.0 (subst AreSpelled (sym r.1) h) (subst (λ (qs : Plains). items_nest qs ≤ n) (sym r.1) k), r.1)
 
 -- ---- maps, entry by entry
 
-abbrev pub LevelEntry : ℕ → List ℕ × Plain → Type 0
-LevelEntry n e = IsName e.0 × LevelFits n e.1
+abbrev pub EntryFits : (Plain → Type 0) → List ℕ × Plain → Type 0
+EntryFits F e = IsName e.0 × F e.1
 
-abbrev pub LevelAfter : ℕ → List ℕ × Plain → List ℕ × Plain → Type 0
-LevelAfter n prev e = AfterName prev.0 e.0 × LevelFits n e.1
+abbrev pub EntryAfter : (Plain → Type 0) → List ℕ × Plain → List ℕ × Plain → Type 0
+EntryAfter F prev e = AfterName prev.0 e.0 × F e.1
 
-entries_follow : (n : ℕ) (prev : List ℕ × Plain) (es : List (List ℕ × Plain)) → Follow (LevelAfter n) prev es
+entries_follow : (n : ℕ) (prev : List ℕ × Plain) (es : List (List ℕ × Plain)) → Follow (EntryAfter (LevelFits n)) prev es
     → AreBehind prev.0 (from_pairs es) × (entries_nest (from_pairs es) ≤ n)
 entries_follow n prev [] h = (tt, omega arith)
 entries_follow n prev (e ∷ es) h =
     let r = entries_follow n e es h.1 in
     ((h.0.0.0, is_less (name_cmp prev.0 e.0) h.0.0.1, h.0.1.0, r.0), omega (arith, h.0.1.1, r.1))
 
-pub entries_to : (n : ℕ) (es : List (List ℕ × Plain)) → Chain (LevelEntry n) (LevelAfter n) es → AreEntries (from_pairs es) × (entries_nest (from_pairs es) ≤ n)
+pub entries_to : (n : ℕ) (es : List (List ℕ × Plain)) → Chain (EntryFits (LevelFits n)) (EntryAfter (LevelFits n)) es → AreEntries (from_pairs es) × (entries_nest (from_pairs es) ≤ n)
 entries_to n [] h = (tt, omega arith)
 entries_to n (e ∷ es) h = let r = entries_follow n e es h.1 in ((h.0.0, h.0.1.0, r.0), omega (arith, h.0.1.1, r.1))
 
-behind_follow : (n : ℕ) (prev : List ℕ × Plain) (es : List (List ℕ × Plain)) → AreBehind prev.0 (from_pairs es) → entries_nest (from_pairs es) ≤ n
-    → Follow (LevelAfter n) prev es
-behind_follow n prev [] h k = tt
-behind_follow n prev (e ∷ es) h k = (((h.0, ap is_lt h.1), (h.2, omega (arith, k))), behind_follow n e es h.3 (omega (arith, k)))
+behind_follow : (F : Plain → Type 0) (n : ℕ) → ((p : Plain) → LevelFits n p → F p) → (prev : List ℕ × Plain) (es : List (List ℕ × Plain))
+    → AreBehind prev.0 (from_pairs es) → entries_nest (from_pairs es) ≤ n → Follow (EntryAfter F) prev es
+behind_follow F n fits prev [] h k = tt
+behind_follow F n fits prev (e ∷ es) h k =
+    (((h.0, ap is_lt h.1), fits e.1 (h.2, omega (arith, k))), behind_follow F n fits e es h.3 (omega (arith, k)))
 
-pub entries_chain : (n : ℕ) (es : List (List ℕ × Plain)) → AreEntries (from_pairs es) → entries_nest (from_pairs es) ≤ n
-    → Chain (LevelEntry n) (LevelAfter n) es
-entries_chain n [] h k = tt
-entries_chain n (e ∷ es) h k = ((h.0, (h.1, omega (arith, k))), behind_follow n e es h.2 (omega (arith, k)))
+pub entries_chain : (F : Plain → Type 0) (n : ℕ) → ((p : Plain) → LevelFits n p → F p) → (es : List (List ℕ × Plain)) → AreEntries (from_pairs es)
+    → entries_nest (from_pairs es) ≤ n → Chain (EntryFits F) (EntryAfter F) es
+entries_chain F n fits [] h k = tt
+entries_chain F n fits (e ∷ es) h k = ((h.0, fits e.1 (h.1, omega (arith, k))), behind_follow F n fits e es h.2 (omega (arith, k)))
 
 entries_list : (es : Pairs) → (list : List (List ℕ × Plain)) × (from_pairs list ≡ es)
 entries_list no_entries = ([], refl)
 entries_list (entry name p es) = let r = entries_list es in ((name, p) ∷ r.0, ap (entry name p) r.1)
 
 pub entries_from : (n : ℕ) (es : Pairs) → AreEntries es → entries_nest es ≤ n
-    → (list : List (List ℕ × Plain)) × Chain (LevelEntry n) (LevelAfter n) list × (from_pairs list ≡ es)
+    → (list : List (List ℕ × Plain)) × Chain (EntryFits (LevelFits n)) (EntryAfter (LevelFits n)) list × (from_pairs list ≡ es)
 entries_from n es h k =
     let r = entries_list es in
-    (r.0, entries_chain n r.0 (subst AreEntries (sym r.1) h) (subst (λ (ds : Pairs). entries_nest ds ≤ n) (sym r.1) k), r.1)
+    (r.0, entries_chain (LevelFits n) n (λ p h. h) r.0 (subst AreEntries (sym r.1) h) (subst (λ (ds : Pairs). entries_nest ds ≤ n) (sym r.1) k), r.1)
 
 -- ---- entries
 
@@ -227,10 +215,10 @@ follow_last : {X : Type 0} (After : X → X → Type 0) (x : X) (xs : List X) (y
 follow_last After x [] y follow after = (after, tt)
 follow_last After x (z ∷ zs) y follow after = (follow.0, follow_last After z zs y follow.1 after)
 
-module _ (n : ℕ) (e : List ℕ × Plain) (es : List (List ℕ × Plain)) (y : List ℕ × Plain) (front rest : List ℕ) (fits : LevelEntry n e)
-    (follow : Follow (LevelAfter n) e es) (after : LevelAfter n (last_of e es) y) where
+module _ (n : ℕ) (e : List ℕ × Plain) (es : List (List ℕ × Plain)) (y : List ℕ × Plain) (front rest : List ℕ) (fits : EntryFits (LevelFits n) e)
+    (follow : Follow (EntryAfter (LevelFits n)) e es) (after : EntryAfter (LevelFits n) (last_of e es) y) where
   may_follow : (name : List ℕ) → AfterName (last_of e es).0 name → MayFollow (e ∷ es) name
-  may_follow name above = (y.1, (entries_to n (e ∷ (es ++ (name, y.1) ∷ [])) (fits, follow_last (LevelAfter n) e es (name, y.1) follow (above, after.1))).0)
+  may_follow name above = (y.1, (entries_to n (e ∷ (es ++ (name, y.1) ∷ [])) (fits, follow_last (EntryAfter (LevelFits n)) e es (name, y.1) follow (above, after.1))).0)
 
   near_entry : NearEntry (last_of e es) front rest → LowInMap (items_spell 44 entry_text (e, es) ++ (44 ∷ front)) rest
   near_entry (inr low) =
@@ -250,47 +238,50 @@ module _ (n : ℕ) (e : List ℕ × Plain) (es : List (List ℕ × Plain)) (y : 
         low = near.1;
       }
 
-module _ (n : ℕ) (inner : List ℕ → Read ℕ Plain) (f : Format LowWithin value_text (LevelFits n) value_goes inner) where
+module _ (F : Plain → Type 0) (zero : F (int (pos 0))) (inner : List ℕ → Read ℕ Plain) (f : Format LowWithin value_text F value_goes inner) where
   abbrev LowGiven : List ℕ → List ℕ → Type 0
   LowGiven front rest = (inner : List ℕ) × (front ≡ 61 ∷ inner) × LowWithin inner rest
 
-  given_format : Format LowGiven given_text (LevelFits n) value_goes (given_at inner)
-  given_format = behind_format (61 ∷ []) (λ front rest low. (front, refl, low)) (int (pos 0)) (omega arith, omega arith) f
+  given_format : Format LowGiven given_text F value_goes (given_at inner)
+  given_format = behind_format (61 ∷ []) (λ front rest low. (front, refl, low)) (int (pos 0)) zero f
 
   -- an entry whose name is read so
-  named_format : {F : List ℕ → Type 0} {name : List ℕ → Read ℕ (List ℕ)} (Near : List ℕ → List ℕ → Type 0) → Format Near own F name_goes name
-      → Format (λ front rest. Near front rest ⊎ LowEntry F front rest) entry_text (λ e. F e.0 × LevelFits n e.1) entry_goes (then_at name (given_at inner))
-  named_format {F} {name} Near fx =
+  named_format : {N : List ℕ → Type 0} {name : List ℕ → Read ℕ (List ℕ)} (Near : List ℕ → List ℕ → Type 0) → Format Near own N name_goes name
+      → Format (λ front rest. Near front rest ⊎ LowEntry N front rest) entry_text (λ e. N e.0 × F e.1) entry_goes (then_at name (given_at inner))
+  named_format {N} {name} Near fx =
       then_format (λ front rest low. inl low) (λ x front rest fits low. inr (x, low.0, fits, ap (λ (u : List ℕ). x ++ u) low.1, low.2)) fx given_format
-      (int (pos 0)) (omega arith, omega arith) (ends_of_second given_format (λ x p rest fits fits_p ends. name_apart x 61 refl))
+      (int (pos 0)) zero (ends_of_second given_format (λ x p rest fits fits_p ends. name_apart x 61 refl))
 
-  pub entry_format : Format LowInMap entry_text (LevelEntry n) entry_goes (entry_at inner)
+  pub entry_format : Format LowInMap entry_text (EntryFits F) entry_goes (entry_at inner)
   entry_format = low_as first (named_format nowhere (name_format nowhere))
     where
       first : (front rest : List ℕ) → (nowhere front rest ⊎ LowEntry IsName front rest) → LowInMap front rest
       first front rest (inl low) = absurd low
       first front rest (inr low) = low_entry [] low.0 low.1 front rest (int (pos 0), (low.2, omega arith, tt)) low.3 low.4
 
-  pub next_format : (prev : List ℕ × Plain) → Format (NearEntry prev) entry_text (LevelAfter n prev) entry_goes (next_entry_at inner prev.0)
+  pub next_format : (prev : List ℕ × Plain) → Format (NearEntry prev) entry_text (EntryAfter F prev) entry_goes (next_entry_at inner prev.0)
   next_format prev = named_format (NearName prev.0) (higher_format prev.0)
 
-  pub entries_parts : Parts NearEntry leads_entry 44 entry_text (LevelEntry n) (LevelAfter n) entry_goes (λ prev. next_entry_at inner prev.0)
+  pub entries_parts : Parts NearEntry leads_entry 44 entry_text (EntryFits F) (EntryAfter F) entry_goes (λ prev. next_entry_at inner prev.0)
   entries_parts = record {
     item = λ prev fits. next_format prev;
-    shrinks = λ prev. format_shrinks (NearEntry prev) entry_text (LevelAfter n prev) entry_goes (next_entry_at inner prev.0) (next_format prev);
+    shrinks = λ prev. format_shrinks (NearEntry prev) entry_text (EntryAfter F prev) entry_goes (next_entry_at inner prev.0) (next_format prev);
     fits = λ prev e fits after. (after.0.0, after.1);
     only = λ prev c cs h. eqb-true c 44 (and_parts (eqb c 44) (is_lt (name_cmp prev.0 greatest)) h).0;
     led = λ prev e more fits after. below_greatest prev.0 e.0 after.0;
     at_sep = λ e fits. value_apart e.1 44 refl;
   }
 
-  entries_lead : Leads LowInMap NearEntry leads_entry 44 entry_text (LevelEntry n) (LevelAfter n)
-  entries_lead = record {
-    first = λ prev c cs ds. refl;
-    some = λ prev cs fits h. ((greatest, prev.1), ((greatest_fits, h), fits.1));
-    near = near_entry n;
-  }
+entries_lead : (n : ℕ) → Leads LowInMap NearEntry leads_entry 44 entry_text (EntryFits (LevelFits n)) (EntryAfter (LevelFits n))
+entries_lead n = record {
+  first = λ prev c cs ds. refl;
+  some = λ prev cs fits h. ((greatest, prev.1), ((greatest_fits, h), fits.1));
+  near = near_entry n;
+}
 
-  pub entries_format : Format LowInMap (items_spell 44 entry_text) (ItemsFit (LevelEntry n) (LevelAfter n)) (items_goes leads_entry entry_goes)
-      (items_at leads_entry (entry_at inner) (λ prev. next_entry_at inner prev.0))
-  entries_format = items_format entries_parts entries_lead (entry_at inner) entry_format
+pub entries_format : (n : ℕ) (inner : List ℕ → Read ℕ Plain) → Format LowWithin value_text (LevelFits n) value_goes inner
+    → Format LowInMap (items_spell 44 entry_text) (ItemsFit (EntryFits (LevelFits n)) (EntryAfter (LevelFits n))) (items_goes leads_entry entry_goes)
+    (items_at leads_entry (entry_at inner) (λ prev. next_entry_at inner prev.0))
+entries_format n inner f =
+    let zero : LevelFits n (int (pos 0)) = (omega arith, omega arith) in
+    items_format (entries_parts (LevelFits n) zero inner f) (entries_lead n) (entry_at inner) (entry_format (LevelFits n) zero inner f)

@@ -1,13 +1,12 @@
 -- Reading up to the first byte by which a count of freezing is passed, and what it says of all bytes.
-use Rattle.df_value_text.proofs.Names.{◌≡◌, ℕ, suc, ◌+◌, ◌-◌, ◌<◌, ◌≤◌, List, [], ◌∷◌, ◌++◌, length, length-append, take, drop, Ok, Err, refl, sym, ap, subst, ◌∙◌, append_assoc, arith, ◌⊎◌, inl, inr, true, nat_le, nat_lt, nat_tests, append-nil, drop_all, length-take-le, CanGoOn, Stands, Bad, Low, told, IsWithinLimits, Plain, Fails, IsFound, refusal, FirstOver, NeverOver, IsSpelled, IsValue, NameStandsLow, LowInValue, value_text, FirstBadValue, FirstTooLarge, IsWithinBefore, Fault, min, IsTooLargeAt, NamesTooLarge, NamesValueFault, NoLowBefore, TellsSyntaxAt, up_to, TextRefused}
+use Rattle.df_value_text.proofs.Names.{value_at, err_is, ◌≡◌, ℕ, ◌+◌, ◌-◌, ◌<◌, ◌≤◌, List, [], ◌∷◌, ◌++◌, length, length-append, take, drop, Ok, Err, refl, sym, ap, subst, ◌∙◌, append_assoc, arith, ◌⊎◌, inl, inr, true, nat_le, nat_lt, nat_tests, append-nil, drop_all, length-take-le, CanGoOn, Stands, Bad, Low, told, IsWithinLimits, Plain, Fails, IsFound, refusal, FirstOver, NeverOver, IsSpelled, IsValue, NameStandsLow, LowInValue, value_text, FirstBadValue, FirstTooLarge, IsWithinBefore, Fault, min, IsTooLargeAt, NamesTooLarge, NamesValueFault, NoLowBefore, TellsSyntaxAt, up_to, TextRefused}
 use Rattle.std.proofs.lemmas.List.{length-drop}
-use Rattle.df_value_text.specs.ReadValue.{value_within}
 use Rattle.df_value_text.proofs.CountingEnds.{value_within as counted_within, front_whole, over_inside, value_over}
 use Rattle.df_value_text.specs.code.Answer.{TellsValue}
-use Rattle.df_value_text.proofs.Answering.{syntax_told, told_low}
+use Rattle.df_value_text.proofs.Answering.{no_refusal, syntax_told, told_low}
 use Rattle.df_value_text.proofs.Loops.{between_places}
 use Rattle.df_value_text.proofs.LowLaws.{low_read}
-use Rattle.df_value_text.proofs.ValueAnswers.{Enough, only_fault, stands_once, stands_low, first_bad_value, first_low_value, no_low_name, stops_low}
+use Rattle.df_value_text.proofs.ValueAnswers.{stands_once, value_read, no_low_name, first_bad_value, first_low_value}
 use Rattle.df_value_text.proofs.ValueLaws.{value_format}
 use Rattle.df_value_text.proofs.LimitFronts.{low_there, viable_before, with_over, over_length, over_parts, within_in_front, over_behind, first_too_large, over_once, Faulty, faulty_front, faulty_longer, over_shorter, longer_parts, inside_of, low_shorter}
 use Rattle.df_value_text.specs.declared.refused.Fault.TheVariants as fault
@@ -78,19 +77,16 @@ module _ {text : List ℕ} {at over end : ℕ} (c : IsCut text at over end) wher
       (faulty_longer (drop at cut) (drop n cut) (drop end text) (cut_goes n le) (name_room n le) faulty))
 
   -- a value that stands in the cut
-  pub value_cut : (p : Plain) (stop : ℕ) → Enough cut at (λ n. (stop ≤ length cut) × (value_within n (drop at cut) ≡ Ok (p, drop stop cut)))
-      → NamesTooLarge text at (refused.TooLarge over)
-  value_cut p stop h =
-      let n : ℕ = suc (length cut) in
-      let read = h n (omega arith) in
-      let f = (value_format n).found (drop at cut) p (drop stop cut) read.1 in
+  pub value_cut : (p : Plain) (stop : ℕ) → (stop ≤ length cut) × (value_at (drop at cut) ≡ Ok (p, drop stop cut)) → NamesTooLarge text at (refused.TooLarge over)
+  value_cut p stop read =
+      let f = value_format.found (drop at cut) p (drop stop cut) read.1 in
       let first : FirstOver (drop at cut) (drop over cut) =
       over_shorter (drop at cut) (drop over cut) (drop end text) (cut_goes over (omega arith))
       (subst (λ (u : List ℕ). FirstOver u (drop over cut ++ drop end text)) (sym (whole at (omega (arith, c.start, c.before))))
       (subst (λ (u : List ℕ). FirstOver (drop at text) u) (sym (whole over (omega (arith, c.before)))) c.first)) in
-      let inside = over_inside p f.fits.0 (drop stop cut) (drop over cut) (subst (λ (u : List ℕ). FirstOver u (drop over cut)) f.parts first) in
+      let inside = over_inside p f.fits (drop stop cut) (drop over cut) (subst (λ (u : List ℕ). FirstOver u (drop over cut)) f.parts first) in
       large_by (value_text p) stop (omega (arith, read.0, cut_length)) (omega (arith, inside, read.0, length-drop stop cut, length-drop over cut)) f.parts
-      (record { some = p; fits = f.fits.0; more = []; is = sym (append-nil (value_text p)) })
+      (record { some = p; fits = f.fits; more = []; is = sym (append-nil (value_text p)) })
 
   -- what is bad or low in the cut is told where it isn't behind the byte over
   told_cut : (place : ℕ) → place ≤ length cut → Faulty (drop at cut) (drop place cut)
@@ -107,12 +103,11 @@ module _ {text : List ℕ} {at over end : ℕ} (c : IsCut text at over end) wher
             rw k (tt, large_by f.0 place (omega (arith, below, cut_length)) (grind (arith, nat_tests)) f.1 f.2)
       ]
 
-  pub fault_cut : (e : Fault) → Enough cut at (λ n. Fails cut e (value_within n (drop at cut)))
+  pub fault_cut : (e : Fault) → Fails cut e (value_at (drop at cut))
       → NamesValueFault text at (up_to over e) × NamesTooLarge text at (up_to over e)
   fault_cut fault.NoMemory h = (tt, tt)
-  fault_cut (fault.Bad place) h =
-      told_cut place (h (suc (length cut)) (omega arith)).0 (inl (first_bad_value cut at (drop place cut) (λ n lt. (h n lt).1)))
-  fault_cut (fault.Low place) h = told_cut place (h (suc (length cut)) (omega arith)).0 (inr (first_low_value cut at (drop place cut) (λ n lt. (h n lt).1)))
+  fault_cut (fault.Bad place) h = told_cut place h.0 (inl (first_bad_value (drop at cut) (drop place cut) h.1))
+  fault_cut (fault.Low place) h = told_cut place h.0 (inr (first_low_value (drop at cut) (drop place cut) h.1))
 
   -- a low name in front of which no count is passed is one in the cut
   record LowInCut (rest : List ℕ) : Type 0 where
@@ -139,16 +134,16 @@ module _ {text : List ℕ} {at over end : ℕ} (c : IsCut text at over end) wher
       ]
 
   -- where such a name stands, a fault in the cut is told as its place
-  pub order_cut : (e : Fault) → Enough cut at (λ n. Fails cut e (value_within n (drop at cut))) → (rest : List ℕ) → LowInValue (drop at text) rest
+  pub order_cut : (e : Fault) → Fails cut e (value_at (drop at cut)) → (rest : List ℕ) → LowInValue (drop at text) rest
       → IsWithinBefore (drop at text) rest → TellsSyntaxAt text rest (up_to over e)
   order_cut fault.NoMemory h rest low within = tt
   order_cut (fault.Bad place) h rest low within =
       let l = low_in_cut rest low within in
-      absurd (let no : Bad (drop place cut) ≡ Low l.more = stops_low cut at (Bad (drop place cut)) (λ n lt. (h n lt).1) l.more l.low in cc)
+      absurd (let no = err_is (Bad (drop place cut)) (Low l.more) (sym h.1 ∙ low_read (drop at cut) l.more l.low) in cc)
   order_cut (fault.Low place) h rest low within =
-      let below = (h (suc (length cut)) (omega arith)).0 in
+      let below = h.0 in
       let l = low_in_cut rest low within in
-      let stop : Low (drop place cut) ≡ Low l.more = stops_low cut at (Low (drop place cut)) (λ n lt. (h n lt).1) l.more l.low in
+      let stop : Low (drop place cut) ≡ Low l.more = err_is (Low (drop place cut)) (Low l.more) (sym h.1 ∙ low_read (drop at cut) l.more l.low) in
       let same : drop place cut ≡ l.more = cc in
       let parts : drop place cut ++ drop end text ≡ rest = ap (λ (u : List ℕ). u ++ drop end text) same ∙ sym l.is in
       let sizes : length (drop place cut) + length (drop end text) ≡ length rest = sym (length-append (drop place cut) (drop end text))
@@ -159,46 +154,34 @@ module _ {text : List ℕ} {at over end : ℕ} (c : IsCut text at over end) wher
       rw first (sym (whole place (omega (arith, le, c.before))) ∙ parts)
 
   -- a value isn't read where one stands
-  pub no_low_cut : (p : Plain) (stop : ℕ) → Enough cut at (λ n. (stop ≤ length cut) × (value_within n (drop at cut) ≡ Ok (p, drop stop cut)))
-      → (rest : List ℕ) → LowInValue (drop at text) rest → IsWithinBefore (drop at text) rest → ⊥
-  no_low_cut p stop h rest low within = let l = low_in_cut rest low within in no_low_name cut at (p, drop stop cut) (λ n lt. (h n lt).1) l.more l.low
+  pub no_low_cut : (p : Plain) (stop : ℕ) → value_at (drop at cut) ≡ Ok (p, drop stop cut) → (rest : List ℕ) → LowInValue (drop at text) rest
+      → IsWithinBefore (drop at text) rest → ⊥
+  no_low_cut p stop e rest low within = let l = low_in_cut rest low within in no_low_name (drop at cut) (p, drop stop cut) e l.more l.low
 
 -- ---- all answers
 
 -- where no count is passed, the value that is read may be frozen
-pub read_within : (text : List ℕ) (at end : ℕ) (p : Plain) → NeverOver (drop at text)
-    → Enough text at (λ n. (end ≤ length text) × (value_within n (drop at text) ≡ Ok (p, drop end text))) → IsWithinLimits p
-read_within text at end p never h =
-    let n : ℕ = suc (length text) in
-    let f = (value_format n).found (drop at text) p (drop end text) (h n (omega arith)).1 in
-    counted_within p f.fits.0 (drop end text) (subst NeverOver f.parts never)
+pub read_within : (text : List ℕ) (at end : ℕ) (p : Plain) → NeverOver (drop at text) → value_at (drop at text) ≡ Ok (p, drop end text) → IsWithinLimits p
+read_within text at end p never e =
+    let f = value_format.found (drop at text) p (drop end text) e in
+    counted_within p f.fits (drop end text) (subst NeverOver f.parts never)
 
 -- where none is passed in its spelling, too
-pub small_within : (n : ℕ) (text : List ℕ) (at end : ℕ) (p : Plain) → at ≤ length text
-    → (end ≤ length text) × (value_within n (drop at text) ≡ Ok (p, drop end text)) → NeverOver (take (end - at) (drop at text)) → IsWithinLimits p
-small_within n text at end p start h never =
-    let f = (value_format n).found (drop at text) p (drop end text) h.1 in
+pub small_within : (text : List ℕ) (at end : ℕ) (p : Plain) → at ≤ length text → (end ≤ length text) × (value_at (drop at text) ≡ Ok (p, drop end text))
+    → NeverOver (take (end - at) (drop at text)) → IsWithinLimits p
+small_within text at end p start h never =
+    let f = value_format.found (drop at text) p (drop end text) h.1 in
     let spelled = (between_places text (value_text p) at end start h.0 f.parts).1 in
-    counted_within p f.fits.0 [] (subst NeverOver (spelled ∙ sym (append-nil (value_text p))) never)
+    counted_within p f.fits [] (subst NeverOver (spelled ∙ sym (append-nil (value_text p))) never)
 
 -- where no count is passed, a fault is told as it stands
-pub fault_within : (text : List ℕ) (at : ℕ) (e : Fault) → NeverOver (drop at text) → Enough text at (λ n. Fails text e (value_within n (drop at text)))
+pub fault_within : (text : List ℕ) (at : ℕ) (e : Fault) → NeverOver (drop at text) → Fails text e (value_at (drop at text))
     → NamesValueFault text at (refusal e) × NamesTooLarge text at (refusal e)
 fault_within text at fault.NoMemory never h = (tt, tt)
 fault_within text at (fault.Bad place) never h =
-    let bad = first_bad_value text at (drop place text) (λ n lt. (h n lt).1) in
-    (((h (suc (length text)) (omega arith)).0, inl bad, λ front e. never front (drop place text) e), tt)
+    ((h.0, inl (first_bad_value (drop at text) (drop place text) h.1), λ front e. never front (drop place text) e), tt)
 fault_within text at (fault.Low place) never h =
-    let low = first_low_value text at (drop place text) (λ n lt. (h n lt).1) in
-    (((h (suc (length text)) (omega arith)).0, inr low, λ front e. never front (drop place text) e), tt)
-
--- and a low name is told
-pub order_within : (text : List ℕ) (at : ℕ) (e : Fault) → Enough text at (λ n. Fails text e (value_within n (drop at text))) → (rest : List ℕ)
-    → LowInValue (drop at text) rest → TellsSyntaxAt text rest (refusal e)
-order_within text at e h rest low =
-    let l = low_read (drop at text) rest low in
-    let n : ℕ = suc (length text) + l.0 in
-    told_low text e (value_within n (drop at text)) rest (h n (omega arith)) (l.1 n (omega arith))
+    ((h.0, inr (first_low_value (drop at text) (drop place text) h.1), λ front e. never front (drop place text) e), tt)
 
 -- a byte over stands in no value that may be frozen
 pub no_value : (text rest : List ℕ) → FirstOver text rest → (p : Plain) (behind : List ℕ) → Stands value_text IsValue text p behind → ⊥
@@ -242,7 +225,7 @@ tells_found text at x found = record {
   found = found;
   only = stands_once (drop at text) x.0 (drop x.1 text) found.1;
   syntax = tt;
-  order = λ rest low within. stands_low (drop at text) x.0 (drop x.1 text) found.1 rest low;
+  order = λ rest low within. no_low_name (drop at text) (x.0, drop x.1 text) (value_read (drop at text) x.0 (drop x.1 text) found.1) rest low;
   too_large = tt;
   over = λ rest large high. no_value (drop at text) rest large.over x.0 (drop x.1 text) found.1;
 }
@@ -262,20 +245,20 @@ tells_refusal text at e only names order = record {
 }
 
 -- a fault where no count is passed
-pub tells_within : (text : List ℕ) (at : ℕ) (e : Fault) → NeverOver (drop at text) → Enough text at (λ n. Fails text e (value_within n (drop at text)))
+pub tells_within : (text : List ℕ) (at : ℕ) (e : Fault) → NeverOver (drop at text) → Fails text e (value_at (drop at text))
     → TellsValue text at (Err (refusal e))
-tells_within text at e never h = tells_refusal text at (refusal e) (only_fault text at e h) (fault_within text at e never h)
-    (λ rest low within. order_within text at e h rest low)
+tells_within text at e never h =
+    tells_refusal text at (refusal e) (λ y rest s. no_refusal text e (value_at (drop at text)) (y, rest) h (value_read (drop at text) y rest s))
+    (fault_within text at e never h) (λ rest low within. told_low text e (value_at (drop at text)) rest h (low_read (drop at text) rest low))
 
 module _ {text : List ℕ} {at over end : ℕ} (c : IsCut text at over end) where
   only_cut : (e : TextRefused) (value : Plain) (rest : List ℕ) → Stands value_text IsValue (drop at text) value rest → e ≡ refused.NoMemory
   only_cut e value rest stands = absurd (no_value (drop at text) (drop over text) c.first value rest stands)
 
   -- a fault, and a value, in the cut
-  pub tells_fault : (e : Fault) → Enough (cut c) at (λ n. Fails (cut c) e (value_within n (drop at (cut c)))) → TellsValue text at (Err (up_to over e))
+  pub tells_fault : (e : Fault) → Fails (cut c) e (value_at (drop at (cut c))) → TellsValue text at (Err (up_to over e))
   tells_fault e h = tells_refusal text at (up_to over e) (only_cut (up_to over e)) (fault_cut c e h) (order_cut c e h)
 
-  pub tells_value : (p : Plain) (stop : ℕ)
-      → Enough (cut c) at (λ n. (stop ≤ length (cut c)) × (value_within n (drop at (cut c)) ≡ Ok (p, drop stop (cut c))))
+  pub tells_value : (p : Plain) (stop : ℕ) → (stop ≤ length (cut c)) × (value_at (drop at (cut c)) ≡ Ok (p, drop stop (cut c)))
       → TellsValue text at (Err (refused.TooLarge over))
-  tells_value p stop h = tells_refusal text at (refused.TooLarge over) (only_cut (refused.TooLarge over)) (tt, value_cut c p stop h) (no_low_cut c p stop h)
+  tells_value p stop h = tells_refusal text at (refused.TooLarge over) (only_cut (refused.TooLarge over)) (tt, value_cut c p stop h) (no_low_cut c p stop h.1)

@@ -1,10 +1,8 @@
 -- Where the path of what is open leads to a low name, reading stops there.
-use Rattle.df_value_text.proofs.Names.{◌≡◌, ℕ, Bool, true, List, [], ◌∷◌, ◌++◌, Ok, Err, refl, ap, ◌∙◌, Stop, Read, more_of, items_at, Format, Follow, Parts, more_step, same_split, zero, suc, ◌+◌, ◌≤◌, eqb, length, sym, subst, append_assoc, length-append, arith, inl, inr, flat_map, eqb-true, Bad, Low, err_is, told, longest_read, Plain, from_list, from_pairs, items_node_count, entries_node_count, NameStandsLow, in_list, in_map, LowInValue, ended_at, leads_value, list_at, leads_entry, entry_at, next_entry_at, map_at, entry_text, nowhere, Open, values_led, entries_led, open_text, LowWithin, MayFollow, IsOpen, AreOpen}
-use Rattle.df_value_text.proofs.EntryLaws.{Chain, led, led_one, LowInMap, NearEntry, entry_goes, entry_format, entries_parts, LevelEntry, LevelAfter, items_nest_few, entries_nest_few, list_chain, entries_chain}
-use Rattle.df_value_text.specs.ReadValue.{value_within}
+use Rattle.df_value_text.proofs.Names.{value_at, IsSpelled, ◌≡◌, ℕ, Bool, true, List, [], ◌∷◌, ◌++◌, Ok, Err, refl, ap, ◌∙◌, Stop, Read, more_of, items_at, Format, Follow, Parts, more_step, same_split, eqb, length, sym, subst, append_assoc, length-append, arith, inl, inr, flat_map, eqb-true, Bad, Low, err_is, told, longest_read, Plain, from_list, from_pairs, NameStandsLow, in_list, in_map, LowInValue, ended_at, leads_value, leads_entry, entry_at, next_entry_at, nowhere, Open, values_led, entries_led, open_text, LowWithin, MayFollow, IsOpen, AreOpen}
+use Rattle.df_value_text.proofs.EntryLaws.{Chain, led, led_one, LowInMap, entry_format, EntryFits, EntryAfter, items_nest, entries_nest, list_chain, entries_chain}
 use Rattle.df_value_text.proofs.NameLaws.{name_apart, AfterName, name_whole, higher_format, below_greatest, IsName, name_format}
-use Rattle.df_value_text.proofs.ValueLaws.{items_parts, value_format}
-use Rattle.df_value_text.proofs.ValueSteps.{within_empty}
+use Rattle.df_value_text.proofs.ValueLaws.{items_parts, entry_parts, value_format, value_node, value_empty, zero_fits}
 
 -- ---- items, of which the next stops
 
@@ -51,39 +49,11 @@ module _ {X : Type 0} {Near : X → List ℕ → List ℕ → Type 0} {leads : X
   after_last (x ∷ []) last y chain = chain.1.1.0
   after_last (x ∷ z ∷ zs) last y chain = after_last (z ∷ zs) last y (p.fits x z chain.0 chain.1.0, chain.1.1)
 
-abbrev values_at : ℕ → List ℕ → Read ℕ (Plain × List Plain)
-values_at n text = items_at leads_value (value_within n) (λ prev. value_within n) text
+abbrev values_at : List ℕ → Read ℕ (Plain × List Plain)
+values_at text = items_at leads_value value_at (λ prev. value_at) text
 
-abbrev entries_at : ℕ → List ℕ → Read ℕ ((List ℕ × Plain) × List (List ℕ × Plain))
-entries_at n text = items_at leads_entry (entry_at (value_within n)) (λ prev. next_entry_at (value_within n) prev.0) text
-
-abbrev entry_parts : (n : ℕ) → Parts NearEntry leads_entry 44 entry_text (LevelEntry n) (LevelAfter n) entry_goes
-    (λ prev. next_entry_at (value_within n) prev.0)
-entry_parts n = entries_parts n (value_within n) (value_format n)
-
--- from some number of levels on, reading gives this
-abbrev pub Eventually : List ℕ → Read ℕ Plain → Type 0
-Eventually text r = (k : ℕ) × ((n : ℕ) → k ≤ n → value_within n text ≡ r)
-
-one_more : (k : ℕ) (text rest : List ℕ) → ((n : ℕ) → k ≤ n → value_within (suc n) text ≡ Err (Low rest)) → Eventually text (Err (Low rest))
-one_more k text rest f = (suc k, stops)
-  where
-    stops : (n : ℕ) → suc k ≤ n → value_within n text ≡ Err (Low rest)
-    stops zero le = absurd (omega (arith, le))
-    stops (suc n) le = f n (omega (arith, le))
-
-within_list : (n : ℕ) (text : List ℕ) (stop : Stop ℕ) → list_at (value_within n) text ≡ Err stop → value_within (suc n) (91 ∷ text) ≡ Err stop
-unfolding value_within
-within_list n text stop e = e
-
-within_map : (n : ℕ) (text : List ℕ) (stop : Stop ℕ) → map_at (value_within n) text ≡ Err stop → value_within (suc n) (40 ∷ text) ≡ Err stop
-unfolding value_within
-within_map n text stop e = e
-
-within_bracket : (n : ℕ) (cs : List ℕ) → value_within n (93 ∷ cs) ≡ Err (Bad (93 ∷ cs))
-unfolding value_within
-within_bracket zero cs = refl
-within_bracket (suc n) cs = refl
+abbrev entries_at : List ℕ → Read ℕ ((List ℕ × Plain) × List (List ℕ × Plain))
+entries_at text = items_at leads_entry (entry_at value_at) (λ prev. next_entry_at value_at prev.0) text
 
 ended_stops : {X : Type 0} (last : ℕ) (some : List ℕ → Read ℕ (X × List X)) (text rest : List ℕ) → some [] ≡ Err (Bad [])
     → ((cs : List ℕ) → some (last ∷ cs) ≡ Err (Bad (last ∷ cs))) → some text ≡ Err (Low rest) → ended_at last some text ≡ Err (Low rest)
@@ -97,26 +67,25 @@ ended_stops last some (c ∷ cs) rest none bad e =
       | inr h ↦ rw (h, e) refl
     ]
 
-list_stops : (n : ℕ) (ps : List Plain) (text rest : List ℕ) → IsOpen (in_list ps) → items_node_count (from_list ps) ≤ n
-    → value_within n text ≡ Err (Low rest) → value_within (suc n) (open_text (in_list ps) ++ text) ≡ Err (Low rest)
-list_stops n ps text rest fits le e =
-    let chain = list_chain n ps fits (omega (arith, le, items_nest_few (from_list ps))) in
-    let inside : values_at n (values_led ps ++ text) ≡ Err (Low rest) = items_stopped (items_parts n (value_within n) (value_format n)) LowWithin
-    (value_within n) (value_format n) ps text (Low rest) chain (λ none. e) (λ before last is h. (refl, e)) in
-    let ended = ended_stops 93 (values_at n) (values_led ps ++ text) rest (rw (within_empty n) refl) (λ cs. rw (within_bracket n cs) refl) inside in
-    within_list n (values_led ps ++ text) (Low rest) (rw ended refl)
+list_stops : (ps : List Plain) (text rest : List ℕ) → IsOpen (in_list ps) → value_at text ≡ Err (Low rest)
+    → value_at (open_text (in_list ps) ++ text) ≡ Err (Low rest)
+list_stops ps text rest fits e =
+    let chain = list_chain IsSpelled (items_nest (from_list ps)) (λ p h. h.0) ps fits (omega arith) in
+    let inside : values_at (values_led ps ++ text) ≡ Err (Low rest) = items_stopped (items_parts IsSpelled value_at value_format) LowWithin value_at
+    value_format ps text (Low rest) chain (λ none. e) (λ before last is h. (refl, e)) in
+    let ended = ended_stops 93 values_at (values_led ps ++ text) rest (rw value_empty refl) (λ cs. rw (value_node (93 ∷ cs)) refl) inside in
+    value_node (91 ∷ (values_led ps ++ text)) ∙ rw ended refl
 
-map_stops : (n : ℕ) (es : List (List ℕ × Plain)) (text rest : List ℕ) → Chain (LevelEntry n) (LevelAfter n) es
-    → (es ≡ [] → entry_at (value_within n) text ≡ Err (Low rest))
-    → ((before : List (List ℕ × Plain)) (last : List ℕ × Plain) → es ≡ before ++ last ∷ [] → LevelEntry n last
-    → (leads_entry last 44 text ≡ true) × (next_entry_at (value_within n) last.0 text ≡ Err (Low rest)))
-    → value_within (suc n) (40 ∷ (entries_led es ++ text)) ≡ Err (Low rest)
-map_stops n es text rest chain none some =
-    let inside : entries_at n (entries_led es ++ text) ≡ Err (Low rest) = items_stopped (entry_parts n) LowInMap (entry_at (value_within n))
-    (entry_format n (value_within n) (value_format n))
-    es text (Low rest) chain none some in
-    let ended = ended_stops 41 (entries_at n) (entries_led es ++ text) rest refl (λ cs. refl) inside in
-    within_map n (entries_led es ++ text) (Low rest) (rw ended refl)
+map_stops : (es : List (List ℕ × Plain)) (text rest : List ℕ) → Chain (EntryFits IsSpelled) (EntryAfter IsSpelled) es
+    → (es ≡ [] → entry_at value_at text ≡ Err (Low rest))
+    → ((before : List (List ℕ × Plain)) (last : List ℕ × Plain) → es ≡ before ++ last ∷ [] → EntryFits IsSpelled last
+    → (leads_entry last 44 text ≡ true) × (next_entry_at value_at last.0 text ≡ Err (Low rest)))
+    → value_at (40 ∷ (entries_led es ++ text)) ≡ Err (Low rest)
+map_stops es text rest chain none some =
+    let inside : entries_at (entries_led es ++ text) ≡ Err (Low rest) = items_stopped entry_parts LowInMap (entry_at value_at)
+    (entry_format IsSpelled zero_fits value_at value_format) es text (Low rest) chain none some in
+    let ended = ended_stops 41 entries_at (entries_led es ++ text) rest refl (λ cs. refl) inside in
+    value_node (40 ∷ (entries_led es ++ text)) ∙ rw ended refl
 
 -- behind a comma an entry of a name above stops where its value does, and a low name at once
 leads_on : (last : List ℕ × Plain) (name inner : List ℕ) → AfterName last.0 name → leads_entry last 44 inner ≡ true
@@ -133,57 +102,50 @@ next_stops read prev name text stop after e = rw ((higher_format prev).again nam
 low_stops : (read : List ℕ → Read ℕ Plain) (prev rest : List ℕ) → NameStandsLow prev rest → next_entry_at read prev rest ≡ Err (Low rest)
 low_stops read prev rest s = rw (longest_read name_whole rest s.name s.more s.longest, s.low) refl
 
-module _ (n : ℕ) (es : List (List ℕ × Plain)) (name : List ℕ) (may : MayFollow es name)
-    (le : entries_node_count (from_pairs (es ++ (name, may.0) ∷ [])) ≤ n) where
-  chain : Chain (LevelEntry n) (LevelAfter n) (es ++ (name, may.0) ∷ [])
-  chain = entries_chain n (es ++ (name, may.0) ∷ []) may.1 (omega (arith, le, entries_nest_few (from_pairs (es ++ (name, may.0) ∷ []))))
+module _ (es : List (List ℕ × Plain)) (name : List ℕ) (may : MayFollow es name) where
+  chain : Chain (EntryFits IsSpelled) (EntryAfter IsSpelled) (es ++ (name, may.0) ∷ [])
+  chain = entries_chain IsSpelled (entries_nest (from_pairs (es ++ (name, may.0) ∷ []))) (λ p h. h.0) (es ++ (name, may.0) ∷ []) may.1 (omega arith)
 
-  front : Chain (LevelEntry n) (LevelAfter n) es
-  front = chain_front (entry_parts n) es ((name, may.0) ∷ []) chain
+  front : Chain (EntryFits IsSpelled) (EntryAfter IsSpelled) es
+  front = chain_front entry_parts es ((name, may.0) ∷ []) chain
 
   -- the name may stand behind the last of these entries
   after : (before : List (List ℕ × Plain)) (last : List ℕ × Plain) → es ≡ before ++ last ∷ [] → AfterName last.0 name
-  after before last is = (after_last (entry_parts n) before last (name, may.0)
-      (subst (λ (u : List (List ℕ × Plain)). Chain (LevelEntry n) (LevelAfter n) (u ++ (name, may.0) ∷ [])) is chain)).0
+  after before last is = (after_last entry_parts before last (name, may.0)
+      (subst (λ (u : List (List ℕ × Plain)). Chain (EntryFits IsSpelled) (EntryAfter IsSpelled) (u ++ (name, may.0) ∷ [])) is chain)).0
 
-  given_stops : (text rest : List ℕ) → value_within n text ≡ Err (Low rest) → value_within (suc n) (open_text (in_map es name) ++ text) ≡ Err (Low rest)
+  given_stops : (text rest : List ℕ) → value_at text ≡ Err (Low rest) → value_at (open_text (in_map es name) ++ text) ≡ Err (Low rest)
   given_stops text rest e =
-      ap (λ (u : List ℕ). value_within (suc n) (40 ∷ u)) (append_assoc (entries_led es) (name ++ 61 ∷ []) text
-      ∙ ap (λ (u : List ℕ). entries_led es ++ u) (append_assoc name (61 ∷ []) text)) ∙ map_stops n es (name ++ (61 ∷ text)) rest front
-      (λ none. entry_stops (value_within n) name text (Low rest)
-      (subst (λ (u : List (List ℕ × Plain)). Chain (LevelEntry n) (LevelAfter n) (u ++ (name, may.0) ∷ [])) none chain).0.0 e)
+      ap (λ (u : List ℕ). value_at (40 ∷ u)) (append_assoc (entries_led es) (name ++ 61 ∷ []) text
+      ∙ ap (λ (u : List ℕ). entries_led es ++ u) (append_assoc name (61 ∷ []) text)) ∙ map_stops es (name ++ (61 ∷ text)) rest front
+      (λ none. entry_stops value_at name text (Low rest)
+      (subst (λ (u : List (List ℕ × Plain)). Chain (EntryFits IsSpelled) (EntryAfter IsSpelled) (u ++ (name, may.0) ∷ [])) none chain).0.0 e)
       (λ before last is h. let a = after before last is in
-      (leads_on last name (name ++ (61 ∷ text)) a, next_stops (value_within n) last.0 name text (Low rest) a e))
+      (leads_on last name (name ++ (61 ∷ text)) a, next_stops value_at last.0 name text (Low rest) a e))
 
 -- one list or map around
-open_stops : (o : Open) → IsOpen o → (text rest : List ℕ) → Eventually text (Err (Low rest)) → Eventually (open_text o ++ text) (Err (Low rest))
-open_stops (in_list ps) fits text rest h =
-    one_more (h.0 + items_node_count (from_list ps)) (open_text (in_list ps) ++ text) rest
-    (λ n le. list_stops n ps text rest fits (omega (arith, le)) (h.1 n (omega (arith, le))))
-open_stops (in_map es name) may text rest h =
-    one_more (h.0 + entries_node_count (from_pairs (es ++ (name, may.0) ∷ []))) (open_text (in_map es name) ++ text) rest
-    (λ n le. given_stops n es name may (omega (arith, le)) text rest (h.1 n (omega (arith, le))))
+open_stops : (o : Open) → IsOpen o → (text rest : List ℕ) → value_at text ≡ Err (Low rest) → value_at (open_text o ++ text) ≡ Err (Low rest)
+open_stops (in_list ps) fits text rest e = list_stops ps text rest fits e
+open_stops (in_map es name) may text rest e = given_stops es name may text rest e
 
-all_stop : (os : List Open) → AreOpen os → (text rest : List ℕ) → Eventually text (Err (Low rest)) → Eventually (flat_map open_text os ++ text) (Err (Low rest))
-all_stop [] are text rest h = h
-all_stop (o ∷ os) are text rest h =
-    subst (λ (u : List ℕ). Eventually u (Err (Low rest))) (sym (append_assoc (open_text o) (flat_map open_text os) text))
-    (open_stops o are.0 (flat_map open_text os ++ text) rest (all_stop os are.1 text rest h))
+all_stop : (os : List Open) → AreOpen os → (text rest : List ℕ) → value_at text ≡ Err (Low rest) → value_at (flat_map open_text os ++ text) ≡ Err (Low rest)
+all_stop [] are text rest e = e
+all_stop (o ∷ os) are text rest e =
+    ap value_at (append_assoc (open_text o) (flat_map open_text os) text)
+    ∙ open_stops o are.0 (flat_map open_text os ++ text) rest (all_stop os are.1 text rest e)
 
 innermost_stops : (es : List (List ℕ × Plain)) (last : List ℕ × Plain) (other rest : List ℕ) → MayFollow (es ++ last ∷ []) other → NameStandsLow last.0 rest
-    → Eventually ((40 ∷ entries_led (es ++ last ∷ [])) ++ rest) (Err (Low rest))
+    → value_at ((40 ∷ entries_led (es ++ last ∷ [])) ++ rest) ≡ Err (Low rest)
 innermost_stops es last other rest may low =
     let all : List (List ℕ × Plain) = es ++ last ∷ [] in
-    one_more (entries_node_count (from_pairs (all ++ (other, may.0) ∷ []))) ((40 ∷ entries_led all) ++ rest) rest (λ n le.
-    map_stops n all rest rest (front n all other may le) (λ none. absurd (omega (arith, ap length none, length-append es (last ∷ []))))
+    map_stops all rest rest (front all other may) (λ none. absurd (omega (arith, ap length none, length-append es (last ∷ []))))
     (λ before l is h. let stands = subst (λ (d : List ℕ × Plain). NameStandsLow d.0 rest) (last_same es before last l is) low in
-    (leads_on l other rest (after n all other may le before l is), low_stops (value_within n) l.0 rest stands)))
+    (leads_on l other rest (after all other may before l is), low_stops value_at l.0 rest stands))
 
-pub low_read : (text rest : List ℕ) → LowInValue text rest → Eventually text (Err (Low rest))
+pub low_read : (text rest : List ℕ) → LowInValue text rest → value_at text ≡ Err (Low rest)
 low_read text rest l =
     let w = l.2 in
     let inner : List ℕ = 40 ∷ entries_led (w.es ++ w.last ∷ []) in
     let parts : text ≡ flat_map open_text w.opened ++ (inner ++ rest) = l.1 ∙ ap (λ (u : List ℕ). u ++ rest) w.is
     ∙ append_assoc (flat_map open_text w.opened) inner rest in
-    subst (λ (u : List ℕ). Eventually u (Err (Low rest))) (sym parts)
-    (all_stop w.opened w.are (inner ++ rest) rest (innermost_stops w.es w.last w.other rest w.may w.low))
+    ap value_at parts ∙ all_stop w.opened w.are (inner ++ rest) rest (innermost_stops w.es w.last w.other rest w.may w.low)

@@ -1,7 +1,7 @@
 -- The reader of values, step by step.
-use Rattle.df_value_text.proofs.Names.{◌≡◌, ℕ, List, [], ◌∷◌, ◌++◌, Some, refl, sym, ap, ◌∙◌, nat_list_cmp_total, Less, Greater, name_cmp, Plain, items, entries, item, entry, from_list, from_pairs, zero, suc, ◌+◌, ◌<◌, ◌≤◌, Bool, true, false, ◌&&◌, length, drop, Ok, Err, arith, and_parts, Stop, Bad, Read, then_at, as_at, text_at, closed_at, items_at, begins_with, listed, either_at, behind_at, ended_at, entry_at, next_entry_at, leads_value, list_at, list_of, greatest, is_lt, leads_entry, map_at, map_of, leaf_at, ordering_reverse, ◌==◌}
-use Rattle.df_frozen.specs.Place.{push_item, put_entry, push_at, put_at}
-use Rattle.df_value_text.specs.ReadValue.{value_within}
+use Rattle.df_value_text.proofs.Names.{value_at, Pairs, ◌≡◌, ℕ, List, [], ◌∷◌, ◌++◌, Some, refl, sym, ap, ◌∙◌, nat_list_cmp_total, Less, Greater, name_cmp, Plain, items, item, entry, from_list, from_pairs, ◌+◌, ◌≤◌, Bool, true, false, ◌&&◌, length, drop, Ok, Err, arith, and_parts, Stop, Bad, Read, as_at, text_at, closed_at, items_at, begins_with, listed, either_at, behind_at, ended_at, entry_at, next_entry_at, leads_value, list_at, list_of, greatest, is_lt, leads_entry, map_at, map_of, leaf_at, ordering_reverse, ◌==◌}
+use Rattle.df_frozen.specs.Place.{push_item, put_entry, push_at}
+use Rattle.df_value_text.proofs.ValueLaws.{value_empty, value_node}
 use Rattle.df_value_text.proofs.Loops.{LedTo, drop_first, behind_it, either_behind}
 
 -- ---- one more value in a list, and one more entry in a map
@@ -34,12 +34,9 @@ put_last [] name p h = refl
 put_last (e ∷ es) name p h = rw (over e.0 name h.0) (ap (entry e.0 e.1) (put_last es name p h.1))
 
 -- the map with the entry behind the others
-pub put_behind : (es : List (List ℕ × Plain)) (name : List ℕ) (p old new : Plain) → AreBelow es name → old ≡ entries (from_pairs es)
-    → put_at [] name p old ≡ Some new → new ≡ entries (from_pairs (es ++ (name, p) ∷ []))
-put_behind es name p old new below is e =
-    let here : Some (entries (put_entry name p (from_pairs es))) ≡ Some new = ap (put_at [] name p) (sym is) ∙ e in
-    let same : entries (put_entry name p (from_pairs es)) ≡ new = cc in
-    sym same ∙ ap entries (put_last es name p below)
+pub put_behind : {old new : Pairs} (es : List (List ℕ × Plain)) (name : List ℕ) (p : Plain) → AreBelow es name → old ≡ from_pairs es
+    → new ≡ put_entry name p old → new ≡ from_pairs (es ++ (name, p) ∷ [])
+put_behind es name p below is e = e ∙ ap (put_entry name p) is ∙ put_last es name p below
 
 pub up_to_one : (name : List ℕ) (p : Plain) → AreUpTo ((name, p) ∷ []) name
 up_to_one name p = λ other less. (less, tt)
@@ -52,53 +49,29 @@ up_to_more es last name p up less = λ other above. behind es other (up other (n
     behind [] other h above = (above, tt)
     behind (e ∷ es) other h above = (h.0, behind es other h.1 above)
 
-pub within_empty : (n : ℕ) → value_within n [] ≡ Err (Bad [])
-unfolding value_within
-within_empty zero = refl
-within_empty (suc n) = refl
-
 -- ---- the kinds of values
 
--- behind an opening bracket one level fewer is left
-pub record Opened (read : (List ℕ → Read ℕ Plain) → List ℕ → Read ℕ Plain) (n : ℕ) (text : List ℕ) (at : ℕ) : Type 0 where
-  pub levels : ℕ
-  pub is : n ≡ suc levels
-  pub same : value_within n (drop at text) ≡ read (value_within levels) (drop (at + 1) text)
+-- where another byte stands than tells the kind, the other is read
+either_other : {X : Type 0} (byte : ℕ) (read other : List ℕ → Read ℕ X) (text : List ℕ) → other [] ≡ Err (Bad []) → begins_with byte text ≡ false
+    → either_at (λ c. c == byte) read other text ≡ other text
+either_other byte read other [] none h = sym none
+either_other byte read other (c ∷ cs) none h = rw h refl
 
-pub opened_list : (n : ℕ) (text : List ℕ) (at : ℕ) → at ≤ length text → length text < at + n → begins_with 91 (drop at text) ≡ true → Opened list_at n text at
-unfolding value_within
-opened_list zero text at le lt h = absurd (omega (arith, le, lt))
-opened_list (suc n) text at le lt h = record {
-  levels = n;
-  is = refl;
-  same = either_behind 91 (list_at (value_within n)) (either_at (λ c. c == 40) (behind_at (40 ∷ []) (map_at (value_within n))) leaf_at) text at h;
-}
+abbrev map_or_leaf : List ℕ → Read ℕ Plain
+map_or_leaf text = either_at (λ c. c == 40) (behind_at (40 ∷ []) (map_at value_at)) leaf_at text
 
-no_list : (n : ℕ) (text : List ℕ) → begins_with 91 text ≡ false
-    → value_within (suc n) text ≡ either_at (λ c. c == 40) (behind_at (40 ∷ []) (map_at (value_within n))) leaf_at text
-unfolding value_within
-no_list n [] h = refl
-no_list n (c ∷ cs) h = rw h refl
+pub opened_list : (text : List ℕ) (at : ℕ) → begins_with 91 (drop at text) ≡ true → value_at (drop at text) ≡ list_at value_at (drop (at + 1) text)
+opened_list text at h = value_node (drop at text) ∙ either_behind 91 (list_at value_at) map_or_leaf text at h
 
-pub opened_map : (n : ℕ) (text : List ℕ) (at : ℕ) → at ≤ length text → length text < at + n → begins_with 91 (drop at text) ≡ false
-    → begins_with 40 (drop at text) ≡ true → Opened map_at n text at
-opened_map zero text at le lt other h = absurd (omega (arith, le, lt))
-opened_map (suc n) text at le lt other h = record {
-  levels = n;
-  is = refl;
-  same = no_list n (drop at text) other ∙ either_behind 40 (map_at (value_within n)) leaf_at text at h;
-}
+no_list : (text : List ℕ) → begins_with 91 text ≡ false → value_at text ≡ map_or_leaf text
+no_list text h = value_node text ∙ either_other 91 (behind_at (91 ∷ []) (list_at value_at)) map_or_leaf text refl h
 
-pub leaf_same : (n : ℕ) (text : List ℕ) → begins_with 91 text ≡ false → begins_with 40 text ≡ false → value_within n text ≡ leaf_at text
-unfolding value_within
-leaf_same zero text h k = refl
-leaf_same (suc n) [] h k = refl
-leaf_same (suc n) (c ∷ cs) h k = rw (h, k) refl
+pub opened_map : (text : List ℕ) (at : ℕ) → begins_with 91 (drop at text) ≡ false → begins_with 40 (drop at text) ≡ true
+    → value_at (drop at text) ≡ map_at value_at (drop (at + 1) text)
+opened_map text at other h = no_list (drop at text) other ∙ either_behind 40 (map_at value_at) leaf_at text at h
 
--- one thing and then another
-pub both_read : {X Y : Type 0} (first : List ℕ → Read ℕ X) (second : List ℕ → Read ℕ Y) (text behind rest : List ℕ) (x : X) (y : Y)
-    → first text ≡ Ok (x, behind) → second behind ≡ Ok (y, rest) → then_at first second text ≡ Ok ((x, y), rest)
-both_read first second text behind rest x y e e' = rw (e, e') refl
+pub leaf_same : (text : List ℕ) → begins_with 91 text ≡ false → begins_with 40 text ≡ false → value_at text ≡ leaf_at text
+leaf_same text h k = no_list text h ∙ either_other 40 (behind_at (40 ∷ []) (map_at value_at)) leaf_at text refl k
 
 -- ---- items in front of a closing byte
 
@@ -111,16 +84,16 @@ pub record Kind (X : Type 0) : Type 0 where
   pub next : X → List ℕ → Read ℕ X
   pub empty : first [] ≡ Err (Bad [])
 
-abbrev pub a_list : ℕ → Kind Plain
-a_list n = record { make = list_of; last = 93; leads = leads_value; first = value_within n; next = λ prev. value_within n; empty = within_empty n }
+abbrev pub a_list : Kind Plain
+a_list = record { make = list_of; last = 93; leads = leads_value; first = value_at; next = λ prev. value_at; empty = value_empty }
 
-abbrev pub a_map : ℕ → Kind (List ℕ × Plain)
-a_map n = record {
+abbrev pub a_map : Kind (List ℕ × Plain)
+a_map = record {
   make = map_of;
   last = 41;
   leads = leads_entry;
-  first = entry_at (value_within n);
-  next = λ prev. next_entry_at (value_within n) prev.0;
+  first = entry_at value_at;
+  next = λ prev. next_entry_at value_at prev.0;
   empty = refl;
 }
 

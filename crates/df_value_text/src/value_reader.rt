@@ -1,12 +1,13 @@
 //! Reading values that nest.
-ghost use Rattle.std.specs.Prelude.{◌≡◌, ◌≤◌, ◌<◌, ◌+◌, ◌&&◌, [], ℕ, Some, length, drop, IfOk, IfErr, OnOk};
+ghost use Rattle.std.specs.Prelude.{◌≡◌, ◌≤◌, ◌<◌, ◌&&◌, [], Some, length, drop, IfOk, IfErr, OnOk};
 ghost use Rattle.std.specs.Ordering.{is_lt};
 ghost use Rattle.df_frozen.specs.Name.{name_cmp};
-ghost use Rattle.df_frozen.specs.Place.{push_at, put_at};
+ghost use Rattle.df_frozen.specs.Place.{push_at, put_entry};
+ghost use Rattle.df_frozen.specs.Plain.{from_pairs};
 ghost use Rattle.df_frozen.specs.Value.{named, plain};
 ghost use Rattle.df_value_text.specs.code.Answer.{Gives};
 ghost use Rattle.df_value_text.specs.Number.{begins_with};
-ghost use Rattle.df_value_text.specs.ReadValue.{entry_at, given_at, greatest, higher_at, leaf_at, list_at, map_at, next_entry_at, value_within};
+ghost use Rattle.df_value_text.specs.ReadValue.{entry_at, given_at, greatest, higher_at, leaf_at, list_at, map_at, next_entry_at, value_at};
 ghost use Rattle.df_value_text.specs.declared.refused.Fault.TheVariants as fault;
 
 use crate::Fault;
@@ -24,8 +25,7 @@ const GREATEST: [u8; LONGEST_NAME] = [b'z'; LONGEST_NAME];
 #[cycle(read)]
 pub(crate) fn value_at(alloc: Global, bytes: &[u8], at: usize) -> Result<(Value, usize), Fault>
     requires { at ≤ length bytes.now }
-    ensures exact { (n : ℕ) → length bytes.now < at + n →
-        Gives plain bytes.now result (value_within n (drop at bytes.now)) }
+    ensures exact { Gives plain bytes.now result (value_at (drop at bytes.now)) }
     ensures onward { IfOk result (λ r. at < r.1) }
 {
     if byte_stands(bytes, at, b'[') {
@@ -59,8 +59,7 @@ fn leaf_at(alloc: Global, bytes: &[u8], at: usize) -> Result<(Value, usize), Fau
 #[cycle(read)]
 fn list_at(alloc: Global, bytes: &[u8], at: usize) -> Result<(Value, usize), Fault>
     requires { at ≤ length bytes.now }
-    ensures exact { (n : ℕ) → length bytes.now < at + n →
-        Gives plain bytes.now result (list_at (value_within n) (drop at bytes.now)) }
+    ensures exact { Gives plain bytes.now result (list_at value_at (drop at bytes.now)) }
     ensures onward { IfOk result (λ r. at < r.1) }
 {
     let mut list = Value::Items(Items::new(alloc));
@@ -83,13 +82,12 @@ fn list_at(alloc: Global, bytes: &[u8], at: usize) -> Result<(Value, usize), Fau
 #[cycle(read)]
 fn map_at(alloc: Global, bytes: &[u8], at: usize) -> Result<(Value, usize), Fault>
     requires { at ≤ length bytes.now }
-    ensures exact { (n : ℕ) → length bytes.now < at + n →
-        Gives plain bytes.now result (map_at (value_within n) (drop at bytes.now)) }
+    ensures exact { Gives plain bytes.now result (map_at value_at (drop at bytes.now)) }
     ensures onward { IfOk result (λ r. at < r.1) }
 {
-    let mut map = Value::Map(Entries::new(alloc));
+    let mut map = Entries::new(alloc);
     if byte_stands(bytes, at, b')') {
-        return Ok((map, at + 1));
+        return Ok((Value::Map(map), at + 1));
     }
     let (first, start) = entry_at(alloc, bytes, at)?;
     let mut last = first.0;
@@ -102,15 +100,14 @@ fn map_at(alloc: Global, bytes: &[u8], at: usize) -> Result<(Value, usize), Faul
         place = after;
     }
     let (_, end) = byte_at(bytes, place, b')')?;
-    Ok((map, end))
+    Ok((Value::Map(map), end))
 }
 
 /// The entry at the place, and the place behind it.
 #[cycle(read)]
 fn entry_at(alloc: Global, bytes: &[u8], at: usize) -> Result<((Name, Value), usize), Fault>
     requires { at ≤ length bytes.now }
-    ensures exact { (n : ℕ) → length bytes.now < at + n →
-        Gives named bytes.now result (entry_at (value_within n) (drop at bytes.now)) }
+    ensures exact { Gives named bytes.now result (entry_at value_at (drop at bytes.now)) }
     ensures onward { IfOk result (λ r. at < r.1) }
 {
     let (name, behind) = name_at(bytes, at)?;
@@ -127,8 +124,8 @@ fn next_entry_at(
     last: &Name,
 ) -> Result<((Name, Value), usize), Fault>
     requires { at ≤ length bytes.now }
-    ensures exact { (n : ℕ) → length bytes.now < at + n →
-        Gives named bytes.now result (next_entry_at (value_within n) last.now (drop at bytes.now)) }
+    ensures exact { Gives named bytes.now result (next_entry_at value_at last.now
+        (drop at bytes.now)) }
     ensures onward { IfOk result (λ r. at < r.1) }
 {
     let (name, behind) = higher_at(bytes, at, last)?;
@@ -140,8 +137,7 @@ fn next_entry_at(
 #[cycle(read)]
 fn given_at(alloc: Global, bytes: &[u8], at: usize) -> Result<(Value, usize), Fault>
     requires { at ≤ length bytes.now }
-    ensures exact { (n : ℕ) → length bytes.now < at + n →
-        Gives plain bytes.now result (given_at (value_within n) (drop at bytes.now)) }
+    ensures exact { Gives plain bytes.now result (given_at value_at (drop at bytes.now)) }
     ensures onward { IfOk result (λ r. at < r.1) }
 {
     let (_, start) = byte_at(bytes, at, b'=')?;
@@ -191,12 +187,12 @@ fn push(list: &mut Value, value: Value) -> Result<(), Fault>
 }
 
 /// Puts the entry into the map.
-fn put(map: &mut Value, entry: (Name, Value)) -> Result<(), Fault>
-    ensures put { OnOk result (put_at [] entry.0 (plain entry.1) (plain map.old)
-        ≡ Some (plain map.new)) }
+fn put(map: &mut Entries, entry: (Name, Value)) -> Result<(), Fault>
+    ensures put { OnOk result (from_pairs map.new
+        ≡ put_entry entry.0 (plain entry.1) (from_pairs map.old)) }
     ensures cause { IfErr result (λ e. e ≡ fault.NoMemory) }
 {
-    match map.put_at(&[], entry.0, entry.1) {
+    match map.put(entry.0, entry.1) {
         Ok(()) => Ok(()),
         Err(_) => Err(Fault::NoMemory),
     }

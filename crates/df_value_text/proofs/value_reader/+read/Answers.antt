@@ -1,62 +1,41 @@
-use Rattle.df_value_text.proofs.Names.{ℕ, suc, ◌+◌, List, [], ◌∷◌, ◌++◌, length, drop, Ok, refl, sym, ap, subst, ◌∙◌, arith, err_from_is_err_and, Plain, items, entries, from_list, from_pairs, named, plain, Gives, name_at}
-use Rattle.df_value_text.specs.ReadValue.{leads_value, list_of, leads_entry, higher_at, given_at, entry_at, next_entry_at, map_of, value_within}
+use Rattle.df_value_text.proofs.Names.{Pairs, ℕ, ◌+◌, List, [], ◌∷◌, ◌++◌, drop, Ok, refl, sym, ap, ◌∙◌, arith, err_from_is_err_and, Plain, items, entries, from_list, from_pairs, named, plain}
+use Rattle.df_value_text.specs.ReadValue.{leads_value, list_of, leads_entry, entry_at, next_entry_at, map_of, value_at}
 use Rattle.df_value_text.proofs.Loops.{fails_by, begun, left_on, left_stops, left_done, comma_led, no_comma}
-use Rattle.df_value_text.proofs.ValueSteps.{pushed, put_behind, up_to_one, up_to_more, begins_within, opened_list, opened_map, leaf_same, both_read, a_list, a_map, none_made, first_stops, inside_stops, closing_stops, inside_reads, entry_led, entry_last}
-use Rattle.df_value_text.proofs.ValueLaws.{is_higher, value_shrinks, next_entry_shrinks}
+use Rattle.df_value_text.proofs.ValueSteps.{pushed, put_behind, up_to_one, up_to_more, begins_within, opened_list, opened_map, leaf_same, a_list, a_map, none_made, first_stops, inside_stops, closing_stops, inside_reads, entry_led, entry_last}
+use Rattle.df_value_text.proofs.ValueLaws.{is_higher, value_shrinks, entry_parts}
 use Rattle.df_value_text.proofs.value_reader.+read.Goals as goal
 
 -- ---- values
 
 pub value_at-returns-then-byte_stands-clause-exact : goal.value_at-returns-then-byte_stands-clause-exact
-value_at-returns-then-byte_stands-clause-exact t c = λ n lt.
-    let o = opened_list n c.args.bytes.now c.args.at c.requires lt (sym c.byte_stands.ensures ∙ c.if-byte_stands.true) in
-    subst (λ r. Gives plain c.args.bytes.now c.list_at.result r) (sym o.same) (c.list_at.ensures.exact o.levels (omega (arith, lt, o.is)))
+value_at-returns-then-byte_stands-clause-exact t c =
+    rw (opened_list c.args.bytes.now c.args.at (sym c.byte_stands.ensures ∙ c.if-byte_stands.true)) c.list_at.ensures.exact
 
 pub value_at-returns-then-byte_stands-2-clause-exact : goal.value_at-returns-then-byte_stands-2-clause-exact
-value_at-returns-then-byte_stands-2-clause-exact t c = λ n lt.
-    let o = opened_map n c.args.bytes.now c.args.at c.requires lt (sym c.byte_stands.ensures ∙ c.if-byte_stands.false)
-    (sym c.byte_stands-2.ensures ∙ c.if-byte_stands-2.true) in
-    subst (λ r. Gives plain c.args.bytes.now c.map_at.result r) (sym o.same) (c.map_at.ensures.exact o.levels (omega (arith, lt, o.is)))
+value_at-returns-then-byte_stands-2-clause-exact t c =
+    rw (opened_map c.args.bytes.now c.args.at (sym c.byte_stands.ensures ∙ c.if-byte_stands.false)
+    (sym c.byte_stands-2.ensures ∙ c.if-byte_stands-2.true)) c.map_at.ensures.exact
 
 pub value_at-returns-clause-exact : goal.value_at-returns-clause-exact
-value_at-returns-clause-exact t c = λ n lt.
-    subst (λ r. Gives plain c.args.bytes.now c.leaf_at.result r)
-    (sym (leaf_same n (drop c.args.at c.args.bytes.now) (sym c.byte_stands.ensures ∙ c.if-byte_stands.false)
-    (sym c.byte_stands-2.ensures ∙ c.if-byte_stands-2.false))) c.leaf_at.ensures.exact
-
--- ---- entries
-
-pub entry_at-returns-clause-exact : goal.entry_at-returns-clause-exact
-entry_at-returns-clause-exact t c = λ n lt.
-    let given = c.in_ok-value.ensures.exact n (omega (arith, lt, c.in_ok-name.ensures.onward)) in (
-      given.0,
-      both_read name_at (given_at (value_within n)) (drop c.args.at c.args.bytes.now) (drop c.in_ok-name.behind c.args.bytes.now)
-          (drop c.in_ok-value.end c.args.bytes.now) c.in_ok-name.name (plain c.in_ok-value.value) c.in_ok-name.ensures.exact.1 given.1,
-    )
-
-pub next_entry_at-returns-clause-exact : goal.next_entry_at-returns-clause-exact
-next_entry_at-returns-clause-exact t c = λ n lt.
-    let given = c.in_ok-value.ensures.exact n (omega (arith, lt, c.in_ok-name.ensures.onward)) in (
-      given.0,
-      both_read (higher_at c.args.last.now) (given_at (value_within n)) (drop c.args.at c.args.bytes.now) (drop c.in_ok-name.behind c.args.bytes.now)
-          (drop c.in_ok-value.end c.args.bytes.now) c.in_ok-name.name (plain c.in_ok-value.value) c.in_ok-name.ensures.exact.1 given.1,
-    )
+value_at-returns-clause-exact t c =
+    rw (leaf_same (drop c.args.at c.args.bytes.now) (sym c.byte_stands.ensures ∙ c.if-byte_stands.false)
+    (sym c.byte_stands-2.ensures ∙ c.if-byte_stands-2.false)) c.leaf_at.ensures.exact
 
 -- ---- lists
 
 pub list_at-returns-then-byte_stands-clause-exact : goal.list_at-returns-then-byte_stands-clause-exact
-list_at-returns-then-byte_stands-clause-exact t c = λ n lt.
+list_at-returns-then-byte_stands-clause-exact t c =
     let stands = sym c.byte_stands.ensures ∙ c.if-byte_stands.true in (
       begins_within c.args.bytes.now c.args.at 93 stands,
-      none_made (a_list n) c.args.bytes.now c.args.at stands
+      none_made a_list c.args.bytes.now c.args.at stands
           ∙ ap (λ (ps : List Plain). Ok (list_of ps, drop (c.args.at + 1) c.args.bytes.now)) (sym c.new.ensures),
     )
 
 pub list_at-returns-in_err-first-clause-exact : goal.list_at-returns-in_err-first-clause-exact
-list_at-returns-in_err-first-clause-exact t c = λ n lt.
+list_at-returns-in_err-first-clause-exact t c =
     let p = err_from_is_err_and c.from_residual.result c.from_residual.ensures.1 in
-    rw (p.1, p.2) (fails_by c.in_err-first.field-0.0 c.args.bytes.now _ _ (first_stops (a_list n) (drop c.args.at c.args.bytes.now)
-    (sym c.byte_stands.ensures ∙ c.if-byte_stands.false)) (c.in_err-first.ensures.exact n lt))
+    rw (p.1, p.2) (fails_by c.in_err-first.field-0.0 c.args.bytes.now _ _ (first_stops a_list (drop c.args.at c.args.bytes.now)
+    (sym c.byte_stands.ensures ∙ c.if-byte_stands.false)) c.in_err-first.ensures.exact)
 
 pub list_at-values-init : goal.list_at-values-init
 list_at-values-init t c =
@@ -64,20 +43,20 @@ list_at-values-init t c =
       first,
       first ∷ [],
       pushed [] first _ _ (ap (λ (ps : List Plain). items (from_list ps)) c.new.ensures) c.in_ok-push.ensures.pushed,
-      λ n lt. begun leads_value (value_within n) (λ prev. value_within n) c.args.bytes.now c.args.at c.in_ok-first.start first (first ∷ [])
-          (c.in_ok-first.ensures.exact n lt).1 refl,
-      (c.in_ok-first.ensures.exact (suc (length c.args.bytes.now)) (omega arith)).0,
+      begun leads_value value_at (λ prev. value_at) c.args.bytes.now c.args.at c.in_ok-first.start first (first ∷ [])
+          c.in_ok-first.ensures.exact.1 refl,
+      c.in_ok-first.ensures.exact.0,
       c.in_ok-first.ensures.onward,
     )
 
 pub list_at-returns-in_err-value-clause-exact : goal.list_at-returns-in_err-value-clause-exact
-list_at-returns-in_err-value-clause-exact t c = λ n lt.
+list_at-returns-in_err-value-clause-exact t c =
     let inv = c.values.invariant in
     let led = comma_led inv.0 c.args.bytes.now c.values.place (sym c.byte_stands-in-values.ensures ∙ c.values-test.true) in
     let p = err_from_is_err_and c.from_residual-in_err-value.result c.from_residual-in_err-value.ensures.1 in
-    rw (p.1, p.2) (fails_by c.in_err-value.field-0.0 c.args.bytes.now _ _ (λ stop e. inside_stops (a_list n) (drop c.args.at c.args.bytes.now)
-    (sym c.byte_stands.ensures ∙ c.if-byte_stands.false) stop (left_stops (inv.3 n lt) (λ prev. value_shrinks n) led stop e))
-    (c.in_err-value.ensures.exact n (omega (arith, lt, inv.5))))
+    rw (p.1, p.2) (fails_by c.in_err-value.field-0.0 c.args.bytes.now _ _ (λ stop e. inside_stops a_list (drop c.args.at c.args.bytes.now)
+    (sym c.byte_stands.ensures ∙ c.if-byte_stands.false) stop (left_stops inv.3 (λ prev. value_shrinks) led stop e))
+    c.in_err-value.ensures.exact)
 
 pub list_at-values-preserved : goal.list_at-values-preserved
 list_at-values-preserved t c =
@@ -87,26 +66,26 @@ list_at-values-preserved t c =
       value,
       inv.1 ++ value ∷ [],
       pushed inv.1 value _ _ inv.2 c.in_ok-push-2.ensures.pushed,
-      λ n lt. left_on (inv.3 n lt) (λ prev. value_shrinks n) led c.in_ok-value.after value (inv.1 ++ value ∷ [])
-          (c.in_ok-value.ensures.exact n (omega (arith, lt, inv.5))).1 refl,
-      (c.in_ok-value.ensures.exact (suc (length c.args.bytes.now)) (omega arith)).0,
+      left_on inv.3 (λ prev. value_shrinks) led c.in_ok-value.after value (inv.1 ++ value ∷ [])
+          c.in_ok-value.ensures.exact.1 refl,
+      c.in_ok-value.ensures.exact.0,
       omega (arith, inv.5, c.in_ok-value.ensures.onward),
     )
 
 pub list_at-returns-in_err-end-clause-exact : goal.list_at-returns-in_err-end-clause-exact
-list_at-returns-in_err-end-clause-exact t c = λ n lt.
+list_at-returns-in_err-end-clause-exact t c =
     let inv = c.values.invariant in
-    let done = left_done (inv.3 n lt) (no_comma (drop c.values.place c.args.bytes.now) (sym c.byte_stands-in-values.ensures ∙ c.values-test.false)) in
+    let done = left_done inv.3 (no_comma (drop c.values.place c.args.bytes.now) (sym c.byte_stands-in-values.ensures ∙ c.values-test.false)) in
     let p = err_from_is_err_and c.from_residual-in_err-end.result c.from_residual-in_err-end.ensures.1 in
-    rw (p.1, p.2) (fails_by c.in_err-end.field-0.0 c.args.bytes.now _ _ (closing_stops (a_list n) (drop c.args.at c.args.bytes.now)
+    rw (p.1, p.2) (fails_by c.in_err-end.field-0.0 c.args.bytes.now _ _ (closing_stops a_list (drop c.args.at c.args.bytes.now)
     (drop c.values.place c.args.bytes.now) inv.1 (sym c.byte_stands.ensures ∙ c.if-byte_stands.false) done) c.in_err-end.ensures.exact)
 
 pub list_at-returns-clause-exact : goal.list_at-returns-clause-exact
-list_at-returns-clause-exact t c = λ n lt.
+list_at-returns-clause-exact t c =
     let inv = c.values.invariant in
-    let done = left_done (inv.3 n lt) (no_comma (drop c.values.place c.args.bytes.now) (sym c.byte_stands-in-values.ensures ∙ c.values-test.false)) in (
+    let done = left_done inv.3 (no_comma (drop c.values.place c.args.bytes.now) (sym c.byte_stands-in-values.ensures ∙ c.values-test.false)) in (
       c.in_ok-end.ensures.exact.0,
-      inside_reads (a_list n) (drop c.args.at c.args.bytes.now) (drop c.values.place c.args.bytes.now) (drop c.in_ok-end.end c.args.bytes.now) inv.1
+      inside_reads a_list (drop c.args.at c.args.bytes.now) (drop c.values.place c.args.bytes.now) (drop c.in_ok-end.end c.args.bytes.now) inv.1
           (93 ∷ []) (sym c.byte_stands.ensures ∙ c.if-byte_stands.false) done c.in_ok-end.ensures.exact.1
           ∙ ap (λ (p : Plain). Ok (p, drop c.in_ok-end.end c.args.bytes.now)) (sym inv.2),
     )
@@ -114,74 +93,74 @@ list_at-returns-clause-exact t c = λ n lt.
 -- ---- maps
 
 pub map_at-returns-then-byte_stands-clause-exact : goal.map_at-returns-then-byte_stands-clause-exact
-map_at-returns-then-byte_stands-clause-exact t c = λ n lt.
+map_at-returns-then-byte_stands-clause-exact t c =
     let stands = sym c.byte_stands.ensures ∙ c.if-byte_stands.true in (
       begins_within c.args.bytes.now c.args.at 41 stands,
-      none_made (a_map n) c.args.bytes.now c.args.at stands
-          ∙ ap (λ (es : List (List ℕ × Plain)). Ok (map_of es, drop (c.args.at + 1) c.args.bytes.now)) (sym c.new.ensures),
+      none_made a_map c.args.bytes.now c.args.at stands
+          ∙ ap (λ (es : List (List ℕ × Plain)). Ok (map_of es, drop (c.args.at + 1) c.args.bytes.now)) (sym c.new-map.ensures),
     )
 
 pub map_at-returns-in_err-first-clause-exact : goal.map_at-returns-in_err-first-clause-exact
-map_at-returns-in_err-first-clause-exact t c = λ n lt.
+map_at-returns-in_err-first-clause-exact t c =
     let p = err_from_is_err_and c.from_residual.result c.from_residual.ensures.1 in
-    rw (p.1, p.2) (fails_by c.in_err-first.field-0.0 c.args.bytes.now _ _ (first_stops (a_map n) (drop c.args.at c.args.bytes.now)
-    (sym c.byte_stands.ensures ∙ c.if-byte_stands.false)) (c.in_err-first.ensures.exact n lt))
+    rw (p.1, p.2) (fails_by c.in_err-first.field-0.0 c.args.bytes.now _ _ (first_stops a_map (drop c.args.at c.args.bytes.now)
+    (sym c.byte_stands.ensures ∙ c.if-byte_stands.false)) c.in_err-first.ensures.exact)
 
 pub map_at-entries-init : goal.map_at-entries-init
 map_at-entries-init t c =
     let first = named c.in_ok-first.first in (
       first.1,
       first ∷ [],
-      put_behind [] first.0 first.1 _ _ tt (ap (λ (es : List (List ℕ × Plain)). entries (from_pairs es)) c.new.ensures) c.in_ok-put.ensures.put,
-      λ n lt. begun leads_entry (entry_at (value_within n)) (λ prev. next_entry_at (value_within n) prev.0) c.args.bytes.now c.args.at
-          c.in_ok-first.start first (first ∷ []) (c.in_ok-first.ensures.exact n lt).1 refl,
+      put_behind [] first.0 first.1 tt (ap from_pairs c.new-map.ensures) c.in_ok-put.ensures.put,
+      begun leads_entry (entry_at value_at) (λ prev. next_entry_at value_at prev.0) c.args.bytes.now c.args.at
+          c.in_ok-first.start first (first ∷ []) c.in_ok-first.ensures.exact.1 refl,
       up_to_one first.0 first.1,
-      (c.in_ok-first.ensures.exact (suc (length c.args.bytes.now)) (omega arith)).0,
+      c.in_ok-first.ensures.exact.0,
       c.in_ok-first.ensures.onward,
     )
 
 pub map_at-returns-in_err-entry-clause-exact : goal.map_at-returns-in_err-entry-clause-exact
-map_at-returns-in_err-entry-clause-exact t c = λ n lt.
+map_at-returns-in_err-entry-clause-exact t c =
     let inv = c.entries.invariant in
     let led = entry_led c.entries.last inv.0 c.args.bytes.now c.entries.place (sym c.leads_entry.ensures ∙ c.entries-test.true) in
     let p = err_from_is_err_and c.from_residual-in_err-entry.result c.from_residual-in_err-entry.ensures.1 in
-    rw (p.1, p.2) (fails_by c.in_err-entry.field-0.0 c.args.bytes.now _ _ (λ stop e. inside_stops (a_map n) (drop c.args.at c.args.bytes.now)
-    (sym c.byte_stands.ensures ∙ c.if-byte_stands.false) stop (left_stops (inv.3 n lt) (next_entry_shrinks n) led stop e))
-    (c.in_err-entry.ensures.exact n (omega (arith, lt, inv.6))))
+    rw (p.1, p.2) (fails_by c.in_err-entry.field-0.0 c.args.bytes.now _ _ (λ stop e. inside_stops a_map (drop c.args.at c.args.bytes.now)
+    (sym c.byte_stands.ensures ∙ c.if-byte_stands.false) stop (left_stops inv.3 entry_parts.shrinks led stop e))
+    c.in_err-entry.ensures.exact)
 
 pub map_at-entries-preserved : goal.map_at-entries-preserved
 map_at-entries-preserved t c =
     let inv = c.entries.invariant in
     let entry = named c.in_ok-entry.entry in
     let led = entry_led c.entries.last inv.0 c.args.bytes.now c.entries.place (sym c.leads_entry.ensures ∙ c.entries-test.true) in
-    let above = is_higher (suc (length c.args.bytes.now)) (c.entries.last, inv.0) (drop (c.entries.place + 1) c.args.bytes.now) entry _
-    (c.in_ok-entry.ensures.exact (suc (length c.args.bytes.now)) (omega arith)).1 in (
+    let above = is_higher (c.entries.last, inv.0) (drop (c.entries.place + 1) c.args.bytes.now) entry _
+    c.in_ok-entry.ensures.exact.1 in (
       entry.1,
       inv.1 ++ entry ∷ [],
-      put_behind inv.1 entry.0 entry.1 _ _ (inv.4 entry.0 above) inv.2 c.in_ok-put-2.ensures.put,
-      λ n lt. left_on (inv.3 n lt) (next_entry_shrinks n) led c.in_ok-entry.after entry (inv.1 ++ entry ∷ [])
-          (c.in_ok-entry.ensures.exact n (omega (arith, lt, inv.6))).1 refl,
+      put_behind inv.1 entry.0 entry.1 (inv.4 entry.0 above) inv.2 c.in_ok-put-2.ensures.put,
+      left_on inv.3 entry_parts.shrinks led c.in_ok-entry.after entry (inv.1 ++ entry ∷ [])
+          c.in_ok-entry.ensures.exact.1 refl,
       up_to_more inv.1 c.entries.last entry.0 entry.1 inv.4 above,
-      (c.in_ok-entry.ensures.exact (suc (length c.args.bytes.now)) (omega arith)).0,
+      c.in_ok-entry.ensures.exact.0,
       omega (arith, inv.6, c.in_ok-entry.ensures.onward),
     )
 
 pub map_at-returns-in_err-end-clause-exact : goal.map_at-returns-in_err-end-clause-exact
-map_at-returns-in_err-end-clause-exact t c = λ n lt.
+map_at-returns-in_err-end-clause-exact t c =
     let inv = c.entries.invariant in
-    let done = left_done (inv.3 n lt) (entry_last c.entries.last inv.0 (drop c.entries.place c.args.bytes.now)
+    let done = left_done inv.3 (entry_last c.entries.last inv.0 (drop c.entries.place c.args.bytes.now)
     (sym c.leads_entry.ensures ∙ c.entries-test.false)) in
     let p = err_from_is_err_and c.from_residual-in_err-end.result c.from_residual-in_err-end.ensures.1 in
-    rw (p.1, p.2) (fails_by c.in_err-end.field-0.0 c.args.bytes.now _ _ (closing_stops (a_map n) (drop c.args.at c.args.bytes.now)
+    rw (p.1, p.2) (fails_by c.in_err-end.field-0.0 c.args.bytes.now _ _ (closing_stops a_map (drop c.args.at c.args.bytes.now)
     (drop c.entries.place c.args.bytes.now) inv.1 (sym c.byte_stands.ensures ∙ c.if-byte_stands.false) done) c.in_err-end.ensures.exact)
 
 pub map_at-returns-clause-exact : goal.map_at-returns-clause-exact
-map_at-returns-clause-exact t c = λ n lt.
+map_at-returns-clause-exact t c =
     let inv = c.entries.invariant in
-    let done = left_done (inv.3 n lt) (entry_last c.entries.last inv.0 (drop c.entries.place c.args.bytes.now)
+    let done = left_done inv.3 (entry_last c.entries.last inv.0 (drop c.entries.place c.args.bytes.now)
     (sym c.leads_entry.ensures ∙ c.entries-test.false)) in (
       c.in_ok-end.ensures.exact.0,
-      inside_reads (a_map n) (drop c.args.at c.args.bytes.now) (drop c.entries.place c.args.bytes.now) (drop c.in_ok-end.end c.args.bytes.now) inv.1
+      inside_reads a_map (drop c.args.at c.args.bytes.now) (drop c.entries.place c.args.bytes.now) (drop c.in_ok-end.end c.args.bytes.now) inv.1
           (41 ∷ []) (sym c.byte_stands.ensures ∙ c.if-byte_stands.false) done c.in_ok-end.ensures.exact.1
-          ∙ ap (λ (p : Plain). Ok (p, drop c.in_ok-end.end c.args.bytes.now)) (sym inv.2),
+          ∙ ap (λ (es : Pairs). Ok (entries es, drop c.in_ok-end.end c.args.bytes.now)) (sym inv.2),
     )

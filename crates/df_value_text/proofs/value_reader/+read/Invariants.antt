@@ -1,5 +1,5 @@
-use Rattle.df_value_text.proofs.Names.{◌≡◌, ℕ, ◌+◌, ◌-◌, ◌*◌, ◌<◌, ◌≤◌, List, length, drop, Plain, items, entries, from_list, from_pairs, plain}
-use Rattle.df_value_text.specs.ReadValue.{leads_value, leads_entry, next_entry_at, value_within}
+use Rattle.df_value_text.proofs.Names.{◌≡◌, ℕ, ◌+◌, ◌-◌, ◌*◌, ◌<◌, ◌≤◌, List, length, drop, Plain, items, from_list, from_pairs, plain}
+use Rattle.df_value_text.specs.ReadValue.{leads_value, leads_entry, next_entry_at, value_at}
 use Rattle.df_value_text.proofs.Loops.{Left}
 use Rattle.df_value_text.proofs.ValueSteps.{AreUpTo, a_list, a_map, all_in}
 use Rattle.df_value_text.proofs.value_reader.+read.Given as goal
@@ -22,13 +22,11 @@ decreases-list_at a = 5 * (length a.bytes.now - a.at) + 4
 abbrev pub decreases-map_at : goal.decreases-map_at
 decreases-map_at a = 5 * (length a.bytes.now - a.at) + 4
 
--- for every number of levels that suffices
 abbrev pub invariant-list_at-values : goal.invariant-list_at-values
 invariant-list_at-values l = (last : Plain)
     × (all : List Plain)
     × (plain l.list ≡ items (from_list all))
-    × ((n : ℕ) → length l.bytes < l.at + n
-    → Left leads_value (λ prev. value_within n) (all_in (a_list n) (drop l.at l.bytes)) all last l.bytes l.place)
+    × Left leads_value (λ prev. value_at) (all_in a_list (drop l.at l.bytes)) all last l.bytes l.place
     × (l.place ≤ length l.bytes)
     × (l.at < l.place)
 
@@ -39,9 +37,8 @@ decreases-list_at-values l = length l.bytes - l.place
 abbrev pub invariant-map_at-entries : goal.invariant-map_at-entries
 invariant-map_at-entries l = (last : Plain)
     × (all : List (List ℕ × Plain))
-    × (plain l.map ≡ entries (from_pairs all))
-    × ((n : ℕ) → length l.bytes < l.at + n
-    → Left leads_entry (λ prev. next_entry_at (value_within n) prev.0) (all_in (a_map n) (drop l.at l.bytes)) all (l.last, last) l.bytes l.place)
+    × (from_pairs l.map ≡ from_pairs all)
+    × Left leads_entry (λ prev. next_entry_at value_at prev.0) (all_in a_map (drop l.at l.bytes)) all (l.last, last) l.bytes l.place
     × AreUpTo all l.last
     × (l.place ≤ length l.bytes)
     × (l.at < l.place)
