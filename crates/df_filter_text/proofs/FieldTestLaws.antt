@@ -1,12 +1,12 @@
 -- Tests of fields are read as they are spelled.
-use Rattle.df_filter_text.proofs.Names.{◌≡◌, ℕ, Bool, false, eqb, List, [], ◌∷◌, ◌++◌, Option, Some, None, drop, refl, sym, ap, subst, ◌∙◌, arith, ◌⊎◌, inl, inr, ℤ, pos, is_ascii_digit, either_at, then_at, closed_at, Format, ends_never, then_second_format, then_goes, behind_format, closed_format, nowhere, nowhere_is_local, Of, made, told_as, either_of, FieldTest, then_spell, ThenFits, field_test_text, IsFieldTest}
+use Rattle.df_filter_text.proofs.Names.{byte_refuses, either_by, ◌≡◌, ℕ, Bool, false, eqb, List, [], ◌∷◌, ◌++◌, Option, Some, None, drop, refl, subst, arith, ◌⊎◌, inl, inr, ℤ, pos, is_ascii_digit, either_at, then_at, closed_at, Format, ends_never, then_second_format, then_goes, behind_format, closed_format, nowhere, nowhere_is_local, Of, made, told_as, FieldTest, then_spell, ThenFits, field_test_text, IsFieldTest}
 use Rattle.std.specs.Prelude.{IsUtf8}
 use Rattle.df_frozen.specs.Plain.{int}
 use Rattle.std.specs.Fmt.{signed_decimal}
 use Rattle.std.proofs.lemmas.Str.{IsUtf8-nil}
 use Rattle.df_value_text.specs.ReadWhole.{IsWhole, whole_at}
 use Rattle.df_filter.specs.declared.field_test.FieldTest.TheVariants.{IntEq, IntLess, IntMore, IntIn, TextEq, TextPrefix}
-use Rattle.df_value_text.proofs.ValueLaws.{int_opens, value_apart}
+use Rattle.df_value_text.proofs.ValueLaws.{value_apart}
 use Rattle.df_value_text.proofs.WholeLaws.{whole_goes, whole_format}
 use Rattle.df_value_text.proofs.WordsLaws.{words_format}
 use Rattle.df_filter_text.specs.ReadFieldTest.{words_equal_at, whole_equal_at, equal_at, below_at, above_at, range_of, range_at, prefix_at, field_test_at}
@@ -52,11 +52,9 @@ behind_sign t = drop 1 (field_test_text t)
 
 equal_law : Format nowhere behind_sign IsEqual field_test_goes (either_at (λ c. eqb c 34) words_equal_at whole_equal_at)
 equal_law =
-    either_of (λ c. eqb c 34) (made (λ text. TextEq text) words_format (λ text h. refl) (λ text c h. refl))
+    either_by (λ c. eqb c 34) (made (λ text. TextEq text) words_format (λ text h. refl) (λ text c h. refl))
     (made (λ n. IntEq n) whole_law (λ z h. refl) (λ z c h. refl))
-    (λ t h. record { first = 34; others = _; is = ap behind_sign (sym h.2); test = refl })
-    (λ t h. let b = int_opens 34 (inl (omega arith)) h.0 h.1
-    in record { first = b.first; others = b.others; is = ap behind_sign (sym h.2) ∙ b.is; test = b.test })
+    (record { none = refl; first = λ c cs h. rw h refl }) (byte_refuses 34 refl (λ cs. refl))
 
 equal_signed : (t : FieldTest) → IsEqual t → field_test_text t ≡ 61 ∷ behind_sign t
 equal_signed t (inl m) = subst (λ (u : FieldTest). field_test_text u ≡ 61 ∷ behind_sign u) m.2 refl

@@ -5,7 +5,7 @@ pub use Rattle.df_filter_text.specs.FieldTest.{field_test_text}
 pub use Rattle.df_filter_text.specs.Filter.{clause_text, filter_text, test_text}
 pub use Rattle.df_filter_text.specs.Fits.{AreClauses, IsClause, IsFieldTest, IsFilter, IsTest}
 pub use Rattle.df_filter_text.specs.ReadFilter.{clause_at, clause_of, filter_at, key_at, key_of, more_clauses_at, present_at, test_at, test_of, value_test_at}
-pub use Rattle.df_format.proofs.Choices.{Begins, MaybeFits, either_of, maybe_format, maybe_goes}
+pub use Rattle.df_format.proofs.Choices.{Begins, MaybeFits, byte_refuses, either_by, either_of, maybe_format, maybe_goes}
 pub use Rattle.df_format.proofs.Joins.{behind_format, closed_format, viewed}
 pub use Rattle.df_format.proofs.Laws.{both_false, ends_never, ends_of, first_bad, not_both, ok_is, told}
 pub use Rattle.df_format.proofs.Texts.{IsText, own, text_format}

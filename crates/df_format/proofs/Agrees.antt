@@ -41,8 +41,8 @@ module _ {T X : Type 0} {n : ℕ} {r s : List T → Read T X} (a : Agree n r s) 
       both [] few = refl
       both (t ∷ ts) few = ap (λ z. cond (begins t) z (q (t ∷ ts))) (a.same (t ∷ ts) few) ∙ ap (cond (begins t) (s (t ∷ ts))) (b.same (t ∷ ts) few)
 
-  pub items_agree : (leads : X → T → List T → Bool) (f g : X → List T → Read T X) → Shrinks r → ((x : X) → Shrinks (f x)) → ((x : X) → Agree n (f x) (g x))
-      → Agree n (items_at leads r f) (items_at leads s g)
+  pub items_agree : (leads : X → T → List T → Bool) (f g : X → List T → Read T X) → Shrinks r → ((x : X) → Shrinks (f x))
+      → ((x : X) → Agree n (f x) (g x)) → Agree n (items_at leads r f) (items_at leads s g)
   items_agree leads f g shrinks each b = record {
     same = λ tokens few. bind_same (r tokens) (λ x. more_of leads f x.0 x.1 >>= λ xs. Ok ((x.0, xs.0), xs.1))
         (λ x. more_of leads g x.0 x.1 >>= λ xs. Ok ((x.0, xs.0), xs.1)) (λ x e. ap (λ (z : Read T (List X)). z >>= λ xs. Ok ((x.0, xs.0), xs.1))

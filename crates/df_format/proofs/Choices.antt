@@ -1,7 +1,9 @@
 -- What may be missing, and one of two kinds: the first token tells.
-use Rattle.df_format.proofs.Names.{◌≡◌, Bool, true, false, List, [], ◌∷◌, ◌++◌, Option, Some, None, Ok, refl, ap, ◌∙◌, ◌⊎◌, inl, inr, Read, ◌>>=◌, maybe_at, either_at, CanGoOn, Ends, Format}
+use Rattle.df_format.proofs.Names.{◌≡◌, ℕ, Bool, true, false, eqb, List, [], ◌∷◌, ◌++◌, Option, Some, None, Ok, Err, refl, sym, ap, subst, ◌∙◌, ◌⊎◌, inl, inr, Bad, Read, ◌>>=◌, maybe_at, either_at, CanGoOn, Ends, Format}
+use Rattle.std.specs.Prelude.{not}
+use Rattle.std.proofs.lemmas.Bool.{eqb-true}
 use Rattle.df_format.specs.Spelling.{maybe_spell}
-use Rattle.df_format.proofs.Laws.{no_first, stuck_first, stuck_as, first_same, ends_as, Reads, cond_told, told_on, told_of, bind_told, format_of}
+use Rattle.df_format.proofs.Laws.{not_both, no_first, stuck_first, stuck_as, first_same, ends_as, Reads, cond_told, told_on, told_of, bind_told, format_of}
 
 -- a spelling begins with such a token
 pub record Begins {T : Type 0} (begins : T → Bool) (to : Bool) (text : List T) : Type 0 where
@@ -9,6 +11,47 @@ pub record Begins {T : Type 0} (begins : T → Bool) (to : Bool) (text : List T)
   pub others : List T
   pub is : text ≡ first ∷ others
   pub test : begins first ≡ to
+
+-- ---- what a reader refuses
+
+-- it reads no text without tokens, and none of which the first passes the test so
+pub record Refuses {T X : Type 0} (test : T → Bool) (to : Bool) (read : List T → Read T X) : Type 0 where
+  pub none : read [] ≡ Err (Bad [])
+  pub first : (t : T) (ts : List T) → test t ≡ to → read (t ∷ ts) ≡ Err (Bad (t ∷ ts))
+
+either_way : (b to : Bool) → (b ≡ to) ⊎ (b ≡ not to)
+either_way true true = inl refl
+either_way true false = inr refl
+either_way false true = inr refl
+either_way false false = inl refl
+
+-- so nothing is spelled
+pub reads_begin : {T X : Type 0} {IsLow : List T → List T → Type 0} {spell : X → List T} {Fits : X → Type 0} {goes : X → T → Bool}
+    {read : List T → Read T X} {test : T → Bool} {to : Bool} → Format IsLow spell Fits goes read
+    → Refuses test to read → (x : X) → Fits x → Begins test (not to) (spell x)
+reads_begin {T} {spell = spell} {read = read} {test = test} {to = to} f r x fits = by (spell x) refl
+  where
+    by : (text : List T) → spell x ≡ text → Begins test (not to) (spell x)
+    by [] e = not_both (x, []) (Bad []) (sym (f.again x [] fits tt) ∙ ap (λ (u : List T). read (u ++ [])) e ∙ r.none)
+    by (t ∷ ts) e = record {
+      first = t;
+      others = ts;
+      is = e;
+      test = elim (either_way (test t) to) [
+        | inl h ↦
+            not_both (x, []) (Bad (t ∷ (ts ++ [])))
+            (sym (f.again x [] fits tt) ∙ ap (λ (u : List T). read (u ++ [])) e ∙ r.first t (ts ++ []) h)
+        | inr h ↦ h
+      ];
+    }
+
+-- the byte isn't read
+pub byte_refuses : {X : Type 0} {read : List ℕ → Read ℕ X} (w : ℕ) → read [] ≡ Err (Bad [])
+    → ((cs : List ℕ) → read (w ∷ cs) ≡ Err (Bad (w ∷ cs))) → Refuses (λ c. eqb c w) true read
+byte_refuses {read = read} w none first = record {
+  none = none;
+  first = λ c cs h. subst (λ (v : ℕ). read (v ∷ cs) ≡ Err (Bad (v ∷ cs))) (sym (eqb-true c w h)) (first cs);
+}
 
 -- ---- something or nothing
 
@@ -111,3 +154,9 @@ module _ {T X : Type 0} {IsLow : List T → List T → Type 0} (begins : T → B
 
     pub either_of : Format IsLow spell Either goes (either_at begins read other)
     either_of = format_of either_reads either_again either_on
+
+-- where the one refuses what the other is told by
+pub either_by : {T X : Type 0} {IsLow : List T → List T → Type 0} (begins : T → Bool) {spell : X → List T} {F G : X → Type 0}
+    {goes : X → T → Bool} {read other : List T → Read T X} → Format IsLow spell F goes read → Format IsLow spell G goes other
+    → Refuses begins false read → Refuses begins true other → Format IsLow spell (λ x. F x ⊎ G x) goes (either_at begins read other)
+either_by begins f g r s = either_of begins f g (reads_begin f r) (reads_begin g s)

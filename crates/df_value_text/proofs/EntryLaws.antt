@@ -1,5 +1,5 @@
 -- Items in front of a closing byte, how deep values nest, and entries, read as they are spelled.
-use Rattle.df_value_text.proofs.Names.{suc, is_ascii_digit, negsuc, ◌≡◌, ℕ, Bool, true, false, eqb, List, [], ◌∷◌, ◌++◌, refl, sym, ap, subst, ◌∙◌, ◌⊎◌, inl, inr, eq-eqb, Read, more_spell, items_spell, Format, never, closed_format, Begins, Follow, ItemsFit, IsText, text_format, Of, made, fitting, either_of, joined, listed, none_listed, ended_at, suc, ◌≤◌, max, arith, is_lt, name_cmp, Plain, Plains, Pairs, items, entries, no_items, item, no_entries, entry, from_list, from_pairs, IsSpelled, AreSpelled, AreEntries, AreBehind, append_assoc, pos, negsuc, eqb-true, and_parts, items_at, then_at, in_map, low_as, nowhere, append-nil, flat_map, Parts, Leads, items_goes, items_format, format_shrinks, behind_format, own, int, greatest, leads_entry, given_at, entry_at, next_entry_at, value_text, entry_text, last_of, last_split, LowWithin, MayFollow, IsOpen, Open, open_text, entries_led, then_format, ends_of_second}
+use Rattle.df_value_text.proofs.Names.{suc, is_ascii_digit, negsuc, ◌≡◌, ℕ, Bool, true, false, eqb, List, [], ◌∷◌, ◌++◌, refl, sym, ap, subst, ◌∙◌, ◌⊎◌, inl, inr, Read, items_spell, Format, never, closed_format, Refuses, Follow, ItemsFit, IsText, text_format, Of, made, fitting, either_by, joined, listed, none_listed, ended_at, ◌≤◌, max, arith, is_lt, name_cmp, Plain, Plains, Pairs, items, entries, no_items, item, no_entries, entry, from_list, from_pairs, IsSpelled, AreSpelled, AreEntries, AreBehind, append_assoc, pos, eqb-true, and_parts, items_at, then_at, in_map, low_as, nowhere, append-nil, flat_map, Parts, Leads, items_goes, items_format, format_shrinks, behind_format, own, int, greatest, leads_entry, given_at, entry_at, next_entry_at, value_text, entry_text, last_of, last_split, LowWithin, MayFollow, IsOpen, Open, open_text, entries_led, then_format, ends_of_second}
 use Rattle.df_value_text.proofs.PathLaws.{joined_items}
 use Rattle.df_value_text.proofs.NameLaws.{name_apart, IsName, name_goes, name_format, AfterName, is_less, NearName, higher_format, greatest_fits, below_greatest}
 use Rattle.df_value_text.proofs.NumberLaws.{number_apart}
@@ -27,19 +27,7 @@ IsNone last xs = Of none_listed (IsText (last ∷ [])) xs
 abbrev IsSome : {X : Type 0} → (X → Type 0) → (X → X → Type 0) → List X → Type 0
 IsSome Fits After xs = Of listed (ItemsFit Fits After) xs
 
-module _ {X : Type 0} (spell : X → List ℕ) (Fits : X → Type 0) (After : X → X → Type 0) (last : ℕ)
-    (begins : (x : X) → Fits x → Begins (λ c. eqb c last) false (spell x)) where
-  none_begins : (xs : List X) → IsNone last xs → Begins (λ c. eqb c last) true (ended_text last spell xs)
-  none_begins xs h = subst (λ (ys : List X). Begins (λ c. eqb c last) true (ended_text last spell ys)) h.2
-      (record { first = last; others = []; is = refl; test = eq-eqb last last refl })
-
-  some_begins : (xs : List X) → IsSome Fits After xs → Begins (λ c. eqb c last) false (ended_text last spell xs)
-  some_begins xs h =
-      let b = begins h.0.0 h.1.0 in
-      let more : List ℕ = more_spell 44 spell h.0.1 in
-      let is = ap (λ (ys : List X). joined 44 spell ys) (sym h.2) ∙ joined_items 44 spell h.0.0 h.0.1 ∙ ap (λ (u : List ℕ). u ++ more) b.is in
-      record { first = b.first; others = (b.others ++ more) ++ last ∷ []; is = ap (λ (u : List ℕ). u ++ last ∷ []) is; test = b.test }
-
+module _ {X : Type 0} (spell : X → List ℕ) (Fits : X → Type 0) (After : X → X → Type 0) (last : ℕ) where
   chain_of : (xs : List X) → (IsNone last xs ⊎ IsSome Fits After xs) → Chain Fits After xs
   chain_of xs (inl h) = subst (Chain Fits After) h.2 tt
   chain_of xs (inr h) = subst (Chain Fits After) h.2 h.1
@@ -49,13 +37,15 @@ module _ {X : Type 0} (spell : X → List ℕ) (Fits : X → Type 0) (After : X 
   of_chain (x ∷ xs) h = inr ((x, xs), h, refl)
 
   pub ended_format : {IsLow : List ℕ → List ℕ → Type 0} {goes : X × List X → ℕ → Bool} {read : List ℕ → Read ℕ (X × List X)}
-      → ((xs : X × List X) → ItemsFit Fits After xs → goes xs last ≡ false) → Format IsLow (items_spell 44 spell) (ItemsFit Fits After) goes read
+      → Refuses (λ c. eqb c last) true read → ((xs : X × List X) → ItemsFit Fits After xs → goes xs last ≡ false)
+      → Format IsLow (items_spell 44 spell) (ItemsFit Fits After) goes read
       → Format IsLow (ended_text last spell) (Chain Fits After) never (ended_at last read)
-  ended_format {IsLow} {goes} {read} ends f =
-      fitting chain_of of_chain (either_of (λ c. eqb c last) (made none_listed (text_format IsLow (last ∷ [])) (λ w h. sym h) (λ w c h. refl))
+  ended_format {IsLow} {goes} {read} refuses ends f =
+      fitting chain_of of_chain (either_by (λ c. eqb c last) (made none_listed (text_format IsLow (last ∷ [])) (λ w h. sym h) (λ w c h. refl))
       (closed_format last [] {goes = goes_on goes} (λ xs h. subst (λ (ys : List X). goes_on goes ys last ≡ false) h.2 (ends h.0 h.1))
       (made listed f (λ x h. joined_items 44 spell x.0 x.1) (λ x c h. refl)))
-      none_begins some_begins)
+      (record { none = refl; first = λ c cs h. rw h refl })
+      (record { none = rw (refuses.none) refl; first = λ c cs h. rw (refuses.first c cs h) refl }))
 
 -- ---- how deep lists and maps nest
 
@@ -117,7 +107,8 @@ entries_follow n prev (e ∷ es) h =
     let r = entries_follow n e es h.1 in
     ((h.0.0.0, is_less (name_cmp prev.0 e.0) h.0.0.1, h.0.1.0, r.0), omega (arith, h.0.1.1, r.1))
 
-pub entries_to : (n : ℕ) (es : List (List ℕ × Plain)) → Chain (EntryFits (LevelFits n)) (EntryAfter (LevelFits n)) es → AreEntries (from_pairs es) × (entries_nest (from_pairs es) ≤ n)
+pub entries_to : (n : ℕ) (es : List (List ℕ × Plain)) → Chain (EntryFits (LevelFits n)) (EntryAfter (LevelFits n)) es
+    → AreEntries (from_pairs es) × (entries_nest (from_pairs es) ≤ n)
 entries_to n [] h = (tt, omega arith)
 entries_to n (e ∷ es) h = let r = entries_follow n e es h.1 in ((h.0.0, h.0.1.0, r.0), omega (arith, h.0.1.1, r.1))
 
@@ -127,8 +118,8 @@ behind_follow F n fits prev [] h k = tt
 behind_follow F n fits prev (e ∷ es) h k =
     (((h.0, ap is_lt h.1), fits e.1 (h.2, omega (arith, k))), behind_follow F n fits e es h.3 (omega (arith, k)))
 
-pub entries_chain : (F : Plain → Type 0) (n : ℕ) → ((p : Plain) → LevelFits n p → F p) → (es : List (List ℕ × Plain)) → AreEntries (from_pairs es)
-    → entries_nest (from_pairs es) ≤ n → Chain (EntryFits F) (EntryAfter F) es
+pub entries_chain : (F : Plain → Type 0) (n : ℕ) → ((p : Plain) → LevelFits n p → F p) → (es : List (List ℕ × Plain))
+    → AreEntries (from_pairs es) → entries_nest (from_pairs es) ≤ n → Chain (EntryFits F) (EntryAfter F) es
 entries_chain F n fits [] h k = tt
 entries_chain F n fits (e ∷ es) h k = ((h.0, fits e.1 (h.1, omega (arith, k))), behind_follow F n fits e es h.2 (omega (arith, k)))
 
@@ -218,7 +209,9 @@ follow_last After x (z ∷ zs) y follow after = (follow.0, follow_last After z z
 module _ (n : ℕ) (e : List ℕ × Plain) (es : List (List ℕ × Plain)) (y : List ℕ × Plain) (front rest : List ℕ) (fits : EntryFits (LevelFits n) e)
     (follow : Follow (EntryAfter (LevelFits n)) e es) (after : EntryAfter (LevelFits n) (last_of e es) y) where
   may_follow : (name : List ℕ) → AfterName (last_of e es).0 name → MayFollow (e ∷ es) name
-  may_follow name above = (y.1, (entries_to n (e ∷ (es ++ (name, y.1) ∷ [])) (fits, follow_last (EntryAfter (LevelFits n)) e es (name, y.1) follow (above, after.1))).0)
+  may_follow name above =
+      let each = follow_last (EntryAfter (LevelFits n)) e es (name, y.1) follow (above, after.1) in
+      (y.1, (entries_to n (e ∷ (es ++ (name, y.1) ∷ [])) (fits, each)).0)
 
   near_entry : NearEntry (last_of e es) front rest → LowInMap (items_spell 44 entry_text (e, es) ++ (44 ∷ front)) rest
   near_entry (inr low) =
@@ -246,7 +239,8 @@ module _ (F : Plain → Type 0) (zero : F (int (pos 0))) (inner : List ℕ → R
   given_format = behind_format (61 ∷ []) (λ front rest low. (front, refl, low)) (int (pos 0)) zero f
 
   -- an entry whose name is read so
-  named_format : {N : List ℕ → Type 0} {name : List ℕ → Read ℕ (List ℕ)} (Near : List ℕ → List ℕ → Type 0) → Format Near own N name_goes name
+  named_format : {N : List ℕ → Type 0} {name : List ℕ → Read ℕ (List ℕ)} (Near : List ℕ → List ℕ → Type 0)
+      → Format Near own N name_goes name
       → Format (λ front rest. Near front rest ⊎ LowEntry N front rest) entry_text (λ e. N e.0 × F e.1) entry_goes (then_at name (given_at inner))
   named_format {N} {name} Near fx =
       then_format (λ front rest low. inl low) (λ x front rest fits low. inr (x, low.0, fits, ap (λ (u : List ℕ). x ++ u) low.1, low.2)) fx given_format

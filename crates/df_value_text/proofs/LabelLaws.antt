@@ -1,5 +1,5 @@
 -- Labels and privileges are read as they are spelled.
-use Rattle.df_value_text.proofs.Names.{last_ends_at, ◌≡◌, ℕ, Bool, true, false, eqb, List, [], ◌∷◌, ◌++◌, Option, Some, None, refl, sym, ap, subst, append_assoc, ◌⊎◌, inl, inr, is_ascii_digit, eqb-true, then_at, closed_at, maybe_spell, CanGoOn, Ends, Format, never, ends_never, then_second_format, then_goes, text_format, own, IsText, closed_format, Begins, MaybeFits, maybe_goes, maybe_format, Of, led, viewed, fitting, either_of, Privilege, Right, Plus, Minus, PlusAuth, MinusAuth, tags_text, label_text, privilege_text, IsTagSet, IsLabel, IsPrivilege, IsLowTag, tags_at, leads_tag, label_at, auth_at, plus_of, right_at, privilege_at, then_spell, ThenFits, right_text, label_of, minus_of, privilege_of}
+use Rattle.df_value_text.proofs.Names.{either_by, byte_refuses, last_ends_at, ◌≡◌, ℕ, Bool, true, false, eqb, List, [], ◌∷◌, ◌++◌, Option, Some, None, refl, sym, ap, subst, append_assoc, ◌⊎◌, inl, inr, is_ascii_digit, eqb-true, then_at, closed_at, maybe_spell, CanGoOn, Ends, Format, never, ends_never, then_second_format, then_goes, text_format, own, IsText, closed_format, MaybeFits, maybe_goes, maybe_format, Of, led, viewed, fitting, Privilege, Right, Plus, Minus, PlusAuth, MinusAuth, tags_text, label_text, privilege_text, IsTagSet, IsLabel, IsPrivilege, IsLowTag, tags_at, leads_tag, label_at, auth_at, plus_of, right_at, privilege_at, then_spell, ThenFits, right_text, label_of, minus_of, privilege_of}
 use Rattle.df_value_text.proofs.TagLaws.{nowhere, nowhere_is_local, tag_ends_at, tag_goes, tag_format}
 use Rattle.df_value_text.proofs.TagSetLaws.{tags_goes, tags_format, low_is_local}
 
@@ -83,19 +83,12 @@ signed MinusAuth = inr (Some auth, refl, refl)
 abbrev pub IsRight : Right → Type 0
 IsRight r = Unit {0}
 
-plus_begins : (word : Option (List ℕ)) → IsAuth word → Begins (λ c. eqb c 43) true (right_text (plus_of word))
-plus_begins word h = record { first = 43; others = maybe_spell own word; is = plus_spelled word h; test = refl }
-
-minus_begins : (word : Option (List ℕ)) → IsAuth word → Begins (λ c. eqb c 43) false (right_text (minus_of word))
-minus_begins word h = record { first = 45; others = maybe_spell own word; is = minus_spelled word h; test = refl }
-
 pub right_format : Format nowhere right_text IsRight right_goes right_at
 right_format =
-    fitting (λ r h. tt) (λ r h. signed r) (either_of (λ c. eqb c 43)
+    fitting (λ r h. tt) (λ r h. signed r) (either_by (λ c. eqb c 43)
     (led (43 ∷ []) plus_of (nowhere_is_local (43 ∷ [])) None tt auth_format plus_spelled plus_alike)
     (led (45 ∷ []) minus_of (nowhere_is_local (45 ∷ [])) None tt auth_format minus_spelled minus_alike)
-    (λ r h. subst (λ (r : Right). Begins (λ c. eqb c 43) true (right_text r)) h.2 (plus_begins h.0 h.1))
-    (λ r h. subst (λ (r : Right). Begins (λ c. eqb c 43) false (right_text r)) h.2 (minus_begins h.0 h.1)))
+    (record { none = refl; first = λ c cs h. rw h refl }) (byte_refuses 43 refl (λ cs. refl)))
 
 -- a tag ends before a sign
 before_sign : (tag : List ℕ) (r : Right) (rest : List ℕ) → Ends tag_goes tag (right_text r ++ rest)

@@ -77,7 +77,8 @@ module _ {text : List ℕ} {at over end : ℕ} (c : IsCut text at over end) wher
       (faulty_longer (drop at cut) (drop n cut) (drop end text) (cut_goes n le) (name_room n le) faulty))
 
   -- a value that stands in the cut
-  pub value_cut : (p : Plain) (stop : ℕ) → (stop ≤ length cut) × (value_at (drop at cut) ≡ Ok (p, drop stop cut)) → NamesTooLarge text at (refused.TooLarge over)
+  pub value_cut : (p : Plain) (stop : ℕ) → (stop ≤ length cut) × (value_at (drop at cut) ≡ Ok (p, drop stop cut))
+      → NamesTooLarge text at (refused.TooLarge over)
   value_cut p stop read =
       let f = value_format.found (drop at cut) p (drop stop cut) read.1 in
       let first : FirstOver (drop at cut) (drop over cut) =
@@ -161,14 +162,15 @@ module _ {text : List ℕ} {at over end : ℕ} (c : IsCut text at over end) wher
 -- ---- all answers
 
 -- where no count is passed, the value that is read may be frozen
-pub read_within : (text : List ℕ) (at end : ℕ) (p : Plain) → NeverOver (drop at text) → value_at (drop at text) ≡ Ok (p, drop end text) → IsWithinLimits p
+pub read_within : (text : List ℕ) (at end : ℕ) (p : Plain) → NeverOver (drop at text) → value_at (drop at text) ≡ Ok (p, drop end text)
+    → IsWithinLimits p
 read_within text at end p never e =
     let f = value_format.found (drop at text) p (drop end text) e in
     counted_within p f.fits (drop end text) (subst NeverOver f.parts never)
 
 -- where none is passed in its spelling, too
-pub small_within : (text : List ℕ) (at end : ℕ) (p : Plain) → at ≤ length text → (end ≤ length text) × (value_at (drop at text) ≡ Ok (p, drop end text))
-    → NeverOver (take (end - at) (drop at text)) → IsWithinLimits p
+pub small_within : (text : List ℕ) (at end : ℕ) (p : Plain) → at ≤ length text
+    → (end ≤ length text) × (value_at (drop at text) ≡ Ok (p, drop end text)) → NeverOver (take (end - at) (drop at text)) → IsWithinLimits p
 small_within text at end p start h never =
     let f = value_format.found (drop at text) p (drop end text) h.1 in
     let spelled = (between_places text (value_text p) at end start h.0 f.parts).1 in

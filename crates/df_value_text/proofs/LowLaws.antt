@@ -128,7 +128,8 @@ open_stops : (o : Open) → IsOpen o → (text rest : List ℕ) → value_at tex
 open_stops (in_list ps) fits text rest e = list_stops ps text rest fits e
 open_stops (in_map es name) may text rest e = given_stops es name may text rest e
 
-all_stop : (os : List Open) → AreOpen os → (text rest : List ℕ) → value_at text ≡ Err (Low rest) → value_at (flat_map open_text os ++ text) ≡ Err (Low rest)
+all_stop : (os : List Open) → AreOpen os → (text rest : List ℕ) → value_at text ≡ Err (Low rest)
+    → value_at (flat_map open_text os ++ text) ≡ Err (Low rest)
 all_stop [] are text rest e = e
 all_stop (o ∷ os) are text rest e =
     ap value_at (append_assoc (open_text o) (flat_map open_text os) text)

@@ -1,5 +1,5 @@
 -- The names that most proofs here cite, passed on from one place. Declares nothing.
-pub use Rattle.df_format.proofs.Choices.{Begins, MaybeFits, either_of, maybe_format, maybe_goes}
+pub use Rattle.df_format.proofs.Choices.{MaybeFits, Refuses, byte_refuses, either_by, either_of, maybe_format, maybe_goes, reads_begin}
 pub use Rattle.df_format.proofs.ItemSteps.{Shrinks, format_shrinks, item_failed, item_read, more_step, no_more, onto, regroup}
 pub use Rattle.df_format.proofs.Items.{Follow, ItemsFit, LastEnds, Leads, Parts, items_again, items_format, items_goes, items_told, last_behind, last_ends_at, last_goes, last_of, last_split}
 pub use Rattle.df_format.proofs.Joins.{behind_format, closed_format, same_read, viewed}

@@ -1,5 +1,5 @@
 -- A number is read as it is spelled.
-use Rattle.df_value_text.proofs.Names.{positive_at, not_both, ◌≡◌, ℕ, zero, suc, ◌+◌, ◌-◌, ◌*◌, ◌/◌, ◌%◌, ◌^◌, ◌<◌, ◌≤◌, Bool, true, false, cond, ◌&&◌, eqb, List, [], ◌∷◌, ◌++◌, Ok, Err, refl, sym, ap, subst, ◌∙◌, append_assoc, arith, ◌⊎◌, inl, inr, nat_le, is_ascii_digit, decimal, eqb-true, nat_tests, append-nil, decimal_by_steps, Stop, Bad, CanGoOn, Ends, Found, Format, chosen, Begins, any_low, first_at, first_stops, first_format, number_at, digits_at, decimal_digit, decimal_step}
+use Rattle.df_value_text.proofs.Names.{positive_at, not_both, ◌≡◌, ℕ, zero, suc, ◌+◌, ◌-◌, ◌*◌, ◌/◌, ◌%◌, ◌^◌, ◌<◌, ◌≤◌, Bool, true, false, cond, ◌&&◌, eqb, List, [], ◌∷◌, ◌++◌, Ok, Err, refl, sym, ap, subst, ◌∙◌, append_assoc, arith, inl, inr, nat_le, is_ascii_digit, decimal, eqb-true, nat_tests, append-nil, decimal_by_steps, Stop, Bad, CanGoOn, Ends, Found, Format, chosen, Refuses, any_low, first_at, first_stops, first_format, number_at, digits_at, decimal_digit, decimal_step}
 
 -- c is a digit with which a number goes on from n
 abbrev pub digit_fits : ℕ → ℕ → ℕ → Bool
@@ -172,31 +172,6 @@ number_format IsLow most wide =
 pub number_stops : (most : ℕ) (bytes : List ℕ) (stop : Stop ℕ) → number_at most bytes ≡ Err stop → stop ≡ Bad bytes
 number_stops most bytes stop e = first_stops (first_fits most) (number_of most) bytes stop (number_first most bytes ∙ e)
 
--- ---- a number begins with a digit
-
-pub record FirstDigit (text : List ℕ) : Type 0 where
-  pub first : ℕ
-  pub others : List ℕ
-  pub is : text ≡ first ∷ others
-  pub low : 48 ≤ first
-  pub high : first ≤ 57
-
-pub first_digit : (n : ℕ) → n < 2 ^ 64 → FirstDigit (decimal n)
-first_digit =
-    decimal_by_steps (λ n ds. FirstDigit ds) (λ n lt. record { first = 48 + n; others = []; is = refl; low = omega arith; high = omega (arith, lt) })
-    (λ n ds ge d. record {
-      first = d.first;
-      others = d.others ++ (48 + n % 10) ∷ [];
-      is = ap (λ (u : List ℕ). u ++ (48 + n % 10) ∷ []) d.is;
-      low = d.low;
-      high = d.high;
-    })
-
--- and with no other byte
-pub no_digit_begins : (w : ℕ) → (w < 48) ⊎ (57 < w) → (n : ℕ) → n < 2 ^ 64 → Begins (λ c. eqb c w) false (decimal n)
-no_digit_begins w other n small = let d = first_digit n small in
-    record { first = d.first; others = d.others; is = d.is; test = differs d.first d.low d.high other }
-  where
-    differs : (c : ℕ) → 48 ≤ c → c ≤ 57 → (w < 48) ⊎ (57 < w) → eqb c w ≡ false
-    differs c low high (inl h) = grind (arith, nat_tests)
-    differs c low high (inr h) = grind (arith, nat_tests)
+-- a number begins with a digit
+pub digit_refuses : (most : ℕ) → Refuses is_ascii_digit false (number_at most)
+digit_refuses most = record { none = refl; first = λ c cs h. rw h refl }

@@ -1,7 +1,7 @@
 -- Numbers with dots between them, and the longest tag, are read as they are spelled.
-use Rattle.df_value_text.proofs.Names.{◌≡◌, ℕ, ◌≤◌, true, false, cond, ◌&&◌, eqb, List, [], ◌∷◌, ◌++◌, Ok, Err, refl, sym, ap, subst, ◌∙◌, append_assoc, arith, inl, inr, eq-eqb, is_ascii_digit, decimal, eqb-true, and_parts, nat_tests, append-nil, Stop, Bad, Read, behind_at, items_at, more_spell, items_spell, Format, not_both, told, Follow, Parts, LastEnds, items_told, items_again, Shrinks, format_shrinks, Whole, joined, path_text, tag_text, AreNumbers, IsTag, short_at, begins_digit, leads_number, listed, numbers_at, longest_at}
+use Rattle.df_value_text.proofs.Names.{reads_begin, ◌≡◌, ℕ, ◌≤◌, true, false, cond, ◌&&◌, eqb, List, [], ◌∷◌, ◌++◌, Ok, Err, refl, sym, ap, subst, ◌∙◌, append_assoc, arith, inl, inr, eq-eqb, is_ascii_digit, decimal, eqb-true, and_parts, nat_tests, append-nil, Stop, Bad, Read, behind_at, items_at, more_spell, items_spell, Format, not_both, told, Follow, Parts, LastEnds, items_told, items_again, Shrinks, format_shrinks, Whole, joined, path_text, tag_text, AreNumbers, IsTag, short_at, begins_digit, leads_number, listed, numbers_at, longest_at}
 use Rattle.df_format.proofs.Laws.{Told, told_bind, told_on}
-use Rattle.df_value_text.proofs.NumberLaws.{number_apart, number_format, number_goes, number_first, number_of, number_stops, first_fits, first_digit}
+use Rattle.df_value_text.proofs.NumberLaws.{number_apart, number_format, number_goes, number_first, number_of, number_stops, first_fits, digit_refuses}
 pub use Rattle.df_format.proofs.Tokens.{nowhere, nowhere_is_local}
 
 -- ---- numbers with dots between them
@@ -21,9 +21,8 @@ short_shrinks prev = format_shrinks nowhere decimal IsShort (number_goes top) sh
 -- a number begins with a digit
 pub digit_first : (n : ℕ) (more : List ℕ) → IsShort n → begins_digit (decimal n ++ more) ≡ true
 digit_first n more fits =
-    let d = first_digit n (omega (arith, fits)) in
-    let digit : is_ascii_digit d.first ≡ true = grind (arith, nat_tests, d.low, d.high) in
-    ap (λ (u : List ℕ). begins_digit (u ++ more)) d.is ∙ digit
+    let b = reads_begin (short_format nowhere) (digit_refuses top) n fits in
+    ap (λ (u : List ℕ). begins_digit (u ++ more)) b.is ∙ b.test
 
 numbers_parts : Parts (λ prev. nowhere) leads_number 46 decimal IsShort (λ prev. IsShort) (number_goes top) (λ prev. short_at)
 numbers_parts = record {

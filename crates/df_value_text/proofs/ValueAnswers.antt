@@ -27,8 +27,8 @@ value_read text p rest s = ap value_at s.parts ∙ value_format.again p rest s.f
 
 -- ---- a value that is read
 
-pub found_value : (text : List ℕ) (at end : ℕ) (p q : Plain) → q ≡ p → IsWithinLimits p → (end ≤ length text) × (value_at (drop at text) ≡ Ok (p, drop end text))
-    → IsFound value_text IsValue text at (q, end)
+pub found_value : (text : List ℕ) (at end : ℕ) (p q : Plain) → q ≡ p → IsWithinLimits p
+    → (end ≤ length text) × (value_at (drop at text) ≡ Ok (p, drop end text)) → IsFound value_text IsValue text at (q, end)
 found_value text at end p q is limits h =
     let f = value_format.found (drop at text) p (drop end text) h.1 in (
       h.0,

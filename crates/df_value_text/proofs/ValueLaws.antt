@@ -1,12 +1,11 @@
 -- Values are read as they are spelled.
-use Rattle.df_value_text.proofs.Names.{value_at, node_at, text_at, as_at, listed, none_listed, ended_at, name_at, higher_at, given_at, entry_at, own, nowhere, ◌+◌, ◌≤◌, length, append_cancel_right, Bad, Low, Stop, Err, CanGoOn, Ends, Stuck, viable_map, ◌∙◌, last_ends_at, Ok, Less, name_cmp, ◌≡◌, ℕ, zero, suc, ◌<◌, Bool, true, false, eqb, List, [], ◌∷◌, ◌++◌, refl, sym, ap, subst, arith, ◌⊎◌, inl, inr, ℤ, pos, negsuc, IsUtf8, codes, decimal, flat_map, eqb-true, nat_tests, Read, behind_at, Format, Begins, nowhere, nowhere_is_local, any_low, low_as, in_list, Parts, Leads, items_format, format_shrinks, Shrinks, Of, made, led, fitting, either_of, is_letter, Plain, int, words, bytes, items, entries, from_list, from_pairs, IsSpelled, AreBytes, IsWhole, leads_value, list_of, list_at, leads_entry, next_entry_at, map_of, map_at, leaf_at, node_at, escaped, hex, value_text, items_text, entries_text, entry_text, LowWithin}
+use Rattle.df_value_text.proofs.Names.{either_by, byte_refuses, Refuses, value_at, node_at, text_at, as_at, listed, none_listed, ended_at, name_at, higher_at, given_at, entry_at, own, nowhere, ◌+◌, ◌≤◌, length, append_cancel_right, Bad, Low, Stop, Err, CanGoOn, Ends, Stuck, viable_map, ◌∙◌, last_ends_at, Ok, Less, name_cmp, ◌≡◌, ℕ, zero, suc, true, eqb, List, [], ◌∷◌, ◌++◌, refl, sym, ap, subst, arith, ◌⊎◌, inl, inr, pos, IsUtf8, eqb-true, Read, behind_at, Format, nowhere_is_local, any_low, low_as, in_list, Parts, Leads, items_format, format_shrinks, Shrinks, Of, made, led, fitting, Plain, int, words, bytes, items, entries, IsSpelled, AreBytes, IsWhole, leads_value, list_of, list_at, leads_entry, next_entry_at, map_of, map_at, leaf_at, value_text, entry_text, LowWithin}
 use Rattle.df_value_text.specs.ReadValue.{value_within}
 use Rattle.df_format.proofs.Agrees.{Agree, itself_agrees, behind_agree, closed_agree, as_agree, then_agree, either_agree, items_agree}
 use Rattle.df_format.specs.Format.{Cause}
 use Rattle.df_value_text.proofs.BytesLaws.{bytes_format}
 use Rattle.df_value_text.proofs.EntryLaws.{Chain, entry_goes, next_format, entry_format, ended_format, items_led, low_open, entries_parts, entries_format, LevelFits, EntryFits, EntryAfter, NearEntry, LowInMap, nest, items_to, items_from, entries_to, entries_from}
 use Rattle.df_value_text.proofs.NameLaws.{AfterName, IsName, NearName, higher_format, is_less, name_format, name_goes}
-use Rattle.df_value_text.proofs.NumberLaws.{no_digit_begins}
 use Rattle.df_value_text.proofs.Values.{items_text-joined, entries_text-joined}
 use Rattle.df_value_text.proofs.WholeLaws.{whole_format}
 use Rattle.df_value_text.proofs.WordsLaws.{words_format}
@@ -20,45 +19,13 @@ IsScalar p = Of bytes AreBytes p ⊎ Of int IsWhole p
 abbrev pub IsLeaf : Plain → Type 0
 IsLeaf p = Of words IsUtf8 p ⊎ IsScalar p
 
-abbrev pub OpensBy : ℕ → Bool → Plain → Type 0
-OpensBy w to p = Begins (λ c. eqb c w) to (value_text p)
-
--- neither a digit nor `-`
-abbrev pub IsOther : ℕ → Type 0
-IsOther w = (w < 45) ⊎ (57 < w)
-
-words_open : (w : ℕ) (to : Bool) (s : List ℕ) → eqb 34 w ≡ to → OpensBy w to (words s)
-words_open w to s h = record { first = 34; others = flat_map escaped s ++ codes "\""; is = refl; test = h }
-
-bytes_open : (w : ℕ) (to : Bool) (s : List ℕ) → eqb 120 w ≡ to → OpensBy w to (bytes s)
-bytes_open w to s h = record { first = 120; others = 34 ∷ (flat_map hex s ++ codes "\""); is = refl; test = h }
-
-pub int_opens : (w : ℕ) → IsOther w → (z : ℤ) → IsWhole z → OpensBy w false (int z)
-int_opens w other (pos n) h = no_digit_begins w (elim other [ inl k ↦ inl (omega (arith, k)) | inr k ↦ inr k ]) n (omega (arith, h))
-int_opens w (inl other) (negsuc n) h = record { first = 45; others = decimal (suc n); is = refl; test = grind (arith, nat_tests) }
-int_opens w (inr other) (negsuc n) h = record { first = 45; others = decimal (suc n); is = refl; test = grind (arith, nat_tests) }
-
--- how what is made of such things begins
-opens_of : {X : Type 0} {make : X → Plain} {Fits : X → Type 0} (w : ℕ) (to : Bool) → ((x : X) → Fits x → OpensBy w to (make x)) → (p : Plain) → Of make Fits p
-    → OpensBy w to p
-opens_of w to opens p h = subst (OpensBy w to) h.2 (opens h.0 h.1)
-
-leaf_opens : (w : ℕ) → IsOther w → eqb 34 w ≡ false → eqb 120 w ≡ false → (p : Plain) → IsLeaf p → OpensBy w false p
-leaf_opens w other quote mark p (inl h) = opens_of w false (λ s k. words_open w false s quote) p h
-leaf_opens w other quote mark p (inr (inl h)) = opens_of w false (λ s k. bytes_open w false s mark) p h
-leaf_opens w other quote mark p (inr (inr h)) = opens_of w false (λ z k. int_opens w other z k) p h
-
-scalar_opens : (p : Plain) → IsScalar p → OpensBy 34 false p
-scalar_opens p (inl h) = opens_of 34 false (λ s k. bytes_open 34 false s refl) p h
-scalar_opens p (inr h) = opens_of 34 false (λ z k. int_opens 34 (inl (omega arith)) z k) p h
-
 leaf_format : Format LowWithin value_text IsLeaf value_goes leaf_at
 leaf_format =
-    any_low LowWithin (either_of (λ c. eqb c 34) (made words words_format (λ s h. refl) (λ s c h. refl))
-    (either_of (λ c. eqb c 120) (made bytes bytes_format (λ s h. refl) (λ s c h. refl))
+    any_low LowWithin (either_by (λ c. eqb c 34) (made words words_format (λ s h. refl) (λ s c h. refl))
+    (either_by (λ c. eqb c 120) (made bytes bytes_format (λ s h. refl) (λ s c h. refl))
     (made int (whole_format nowhere nowhere_is_local) (λ z h. refl) (λ z c h. refl))
-    (opens_of 120 true (λ s k. bytes_open 120 true s refl)) (opens_of 120 false (int_opens 120 (inr (omega arith)))))
-    (opens_of 34 true (λ s k. words_open 34 true s refl)) scalar_opens)
+    (record { none = refl; first = λ c cs h. rw h refl }) (byte_refuses 120 refl (λ cs. refl)))
+    (record { none = refl; first = λ c cs h. rw h refl }) (byte_refuses 34 refl (λ cs. refl)))
 
 -- a leaf is what nests in no list or map
 leaf_level : (n : ℕ) (p : Plain) → IsLeaf p → LevelFits n p
@@ -93,31 +60,6 @@ kinds_level n p (inl h) = let r = items_to n h.0 h.1 in subst (LevelFits (suc n)
 kinds_level n p (inr (inl h)) = let r = entries_to n h.0 h.1 in subst (LevelFits (suc n)) h.2 (r.0, omega (arith, r.1))
 kinds_level n p (inr (inr h)) = leaf_level (suc n) p h
 
-list_opens : (n w : ℕ) (to : Bool) → eqb 91 w ≡ to → (p : Plain) → IsListOf n p → OpensBy w to p
-list_opens n w to e p h = record { first = 91; others = items_text (from_list h.0) ++ codes "]"; is = ap value_text (sym h.2); test = e }
-
-map_opens : (n w : ℕ) (to : Bool) → eqb 40 w ≡ to → (p : Plain) → IsMapOf n p → OpensBy w to p
-map_opens n w to e p h = record { first = 40; others = entries_text (from_pairs h.0) ++ codes ")"; is = ap value_text (sym h.2); test = e }
-
-others_open : (n : ℕ) (p : Plain) → (IsMapOf n p ⊎ IsLeaf p) → OpensBy 91 false p
-others_open n p (inl h) = map_opens n 91 false refl p h
-others_open n p (inr h) = leaf_opens 91 (inr (omega arith)) refl refl p h
-
--- a value begins with no closing bracket
-value_opens : (p : Plain) → IsSpelled p → OpensBy 93 false p
-value_opens (items ps) fits = record { first = 91; others = items_text ps ++ codes "]"; is = refl; test = refl }
-value_opens (entries es) fits = record { first = 40; others = entries_text es ++ codes ")"; is = refl; test = refl }
-value_opens (words s) fits = words_open 93 false s refl
-value_opens (bytes s) fits = bytes_open 93 false s refl
-value_opens (int z) fits = int_opens 93 (inr (omega arith)) z fits
-
--- nor does an entry
-name_opens : (name rest : List ℕ) → IsName name → Begins (λ c. eqb c 41) false (name ++ rest)
-name_opens [] rest fits = absurd (let no : false ≡ true = fits in cc)
-name_opens (c ∷ cs) rest fits =
-    let letter : is_letter c ≡ true = grind (arith, fits) in
-    record { first = c; others = cs ++ rest; is = refl; test = grind (arith, nat_tests) }
-
 -- ---- items with commas between them
 
 abbrev LowInList : List ℕ → List ℕ → Type 0
@@ -142,11 +84,13 @@ items_parts F inner f = record {
   at_sep = λ p fits. value_apart p 44 refl;
 }
 
-module _ (n : ℕ) (inner : List ℕ → Read ℕ Plain) (f : Format LowWithin value_text (LevelFits n) value_goes inner) where
+module _ (n : ℕ) (inner : List ℕ → Read ℕ Plain) (f : Format LowWithin value_text (LevelFits n) value_goes inner)
+    (refuses : Refuses (λ c. eqb c 93) true inner) where
   list_format : Format LowWithin value_text (IsListOf n) value_goes (behind_at (91 ∷ []) (list_at inner))
   list_format =
       led (91 ∷ []) list_of (λ front rest low. low) [] tt
-      (ended_format value_text (LevelFits n) (λ prev. LevelFits n) 93 (λ p fits. value_opens p fits.0)
+      (ended_format value_text (LevelFits n) (λ prev. LevelFits n) 93
+      (record { none = rw (refuses.none) refl; first = λ c cs h. rw (refuses.first c cs h) refl })
       (λ ps fits. last_ends_at leads_value value_goes 93 (λ p. value_apart p 93 refl) ps.0 ps.1)
       (items_format (items_parts (LevelFits n) inner f) (items_lead n) inner (low_as (λ front rest low. low_open (in_list []) front rest tt low) f)))
       (λ ps h. ap (λ (u : List ℕ). 91 ∷ (u ++ 93 ∷ [])) (items_text-joined ps)) (λ ps c h. refl)
@@ -154,26 +98,33 @@ module _ (n : ℕ) (inner : List ℕ → Read ℕ Plain) (f : Format LowWithin v
   map_format : Format LowWithin value_text (IsMapOf n) value_goes (behind_at (40 ∷ []) (map_at inner))
   map_format =
       led (40 ∷ []) map_of (λ front rest low. low) [] tt
-      (ended_format entry_text (EntryFits (LevelFits n)) (EntryAfter (LevelFits n)) 41 (λ e fits. name_opens e.0 (61 ∷ value_text e.1) fits.0)
+      (ended_format entry_text (EntryFits (LevelFits n)) (EntryAfter (LevelFits n)) 41 (byte_refuses 41 refl (λ cs. refl))
       (λ es fits. last_ends_at leads_entry entry_goes 41 (λ e. value_apart e.1 41 refl) es.0 es.1) (entries_format n inner f))
       (λ es h. ap (λ (u : List ℕ). 40 ∷ (u ++ 41 ∷ [])) (entries_text-joined es)) (λ es c h. refl)
 
   node_format : Format LowWithin value_text (LevelFits (suc n)) value_goes (node_at inner)
   node_format =
-      fitting (kinds_level n) (level_kinds n) (either_of (λ c. eqb c 91) list_format
-      (either_of (λ c. eqb c 40) map_format leaf_format (map_opens n 40 true refl) (leaf_opens 40 (inl (omega arith)) refl refl))
-      (list_opens n 91 true refl) (others_open n))
+      fitting (kinds_level n) (level_kinds n) (either_by (λ c. eqb c 91) list_format
+      (either_by (λ c. eqb c 40) map_format leaf_format (record { none = refl; first = λ c cs h. rw h refl })
+      (byte_refuses 40 refl (λ cs. refl))) (record { none = refl; first = λ c cs h. rw h refl }) (byte_refuses 91 refl (λ cs. refl)))
+
+-- a value begins with no closing bracket
+within_refuses : (n : ℕ) → Refuses (λ c. eqb c 93) true (value_within n)
+unfolding value_within
+within_refuses zero = byte_refuses 93 refl (λ cs. refl)
+within_refuses (suc n) = byte_refuses 93 refl (λ cs. refl)
 
 level_format : (n : ℕ) → Format LowWithin value_text (LevelFits n) value_goes (value_within n)
 unfolding value_within
 level_format zero = fitting (leaf_level 0) level_leaf leaf_format
-level_format (suc n) = node_format n (value_within n) (level_format n)
+level_format (suc n) = node_format n (value_within n) (level_format n) (within_refuses n)
 
 -- ---- as many levels as a text has bytes are enough
 
 ended_agree : {X : Type 0} {n : ℕ} {some other : List ℕ → Read ℕ (X × List X)} (last : ℕ) → Agree n some other
     → Agree n (ended_at last some) (ended_at last other)
-ended_agree last a = either_agree (itself_agrees (as_at none_listed (text_at (last ∷ [])))) (λ c. eqb c last) (closed_agree (as_agree a listed) (last ∷ []))
+ended_agree last a =
+    either_agree (itself_agrees (as_at none_listed (text_at (last ∷ [])))) (λ c. eqb c last) (closed_agree (as_agree a listed) (last ∷ []))
 
 module _ {F : Plain → Type 0} {r s : List ℕ → Read ℕ Plain} (n : ℕ) (zero : F (int (pos 0))) (f : Format LowWithin value_text F value_goes r)
     (a : Agree n r s) where
@@ -198,17 +149,12 @@ module _ {F : Plain → Type 0} {r s : List ℕ → Read ℕ Plain} (n : ℕ) (z
       either_agree (behind_agree list_agree (91 ∷ []) (omega arith)) (λ c. eqb c 91)
       (either_agree (behind_agree map_agree (40 ∷ []) (omega arith)) (λ c. eqb c 40) (itself_agrees leaf_at))
 
-within_empty : (n : ℕ) → value_within n [] ≡ Err (Bad [])
-unfolding value_within
-within_empty zero = refl
-within_empty (suc n) = refl
-
 pub value_empty : value_at [] ≡ Err (Bad [])
-value_empty = within_empty 0
+value_empty = (within_refuses 0).none
 
 levels_same : (n m : ℕ) (text : List ℕ) → length text ≤ n → length text ≤ m → value_within n text ≡ value_within m text
 unfolding value_within
-levels_same n m [] l k = within_empty n ∙ sym (within_empty m)
+levels_same n m [] l k = (within_refuses n).none ∙ sym (within_refuses m).none
 levels_same zero m (c ∷ cs) l k = absurd (omega (arith, l))
 levels_same (suc n) zero (c ∷ cs) l k = absurd (omega (arith, k))
 levels_same (suc n) (suc m) (c ∷ cs) l k =

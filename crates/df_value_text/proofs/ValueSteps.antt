@@ -52,8 +52,8 @@ up_to_more es last name p up less = λ other above. behind es other (up other (n
 -- ---- the kinds of values
 
 -- where another byte stands than tells the kind, the other is read
-either_other : {X : Type 0} (byte : ℕ) (read other : List ℕ → Read ℕ X) (text : List ℕ) → other [] ≡ Err (Bad []) → begins_with byte text ≡ false
-    → either_at (λ c. c == byte) read other text ≡ other text
+either_other : {X : Type 0} (byte : ℕ) (read other : List ℕ → Read ℕ X) (text : List ℕ) → other [] ≡ Err (Bad [])
+    → begins_with byte text ≡ false → either_at (λ c. c == byte) read other text ≡ other text
 either_other byte read other [] none h = sym none
 either_other byte read other (c ∷ cs) none h = rw h refl
 

@@ -1,6 +1,6 @@
 -- A whole number is read as it is spelled.
-use Rattle.df_value_text.proofs.Names.{◌≡◌, ℕ, suc, ◌-◌, ◌^◌, ◌<◌, ◌≤◌, Bool, true, false, cond, eqb, List, [], ◌∷◌, ◌++◌, Ok, Err, refl, sym, ap, ◌∙◌, arith, ◌⊎◌, inl, inr, ℤ, pos, negsuc, decimal, signed_decimal, Bad, Found, IsLocal, Format, told, Begins, nowhere, any_low, Of, made, led, fitting, either_of, first_at, first_format, digits_at, IsWhole, positive_at, minus, whole_at}
-use Rattle.df_value_text.proofs.NumberLaws.{number_goes, first_fits, number_of, number_read, number_found, number_on, number_format, positive_again, no_digit_begins}
+use Rattle.df_value_text.proofs.Names.{either_by, byte_refuses, ◌≡◌, ℕ, suc, ◌-◌, ◌^◌, ◌<◌, ◌≤◌, Bool, true, false, cond, eqb, List, [], ◌∷◌, ◌++◌, Ok, Err, refl, sym, ap, ◌∙◌, arith, ◌⊎◌, inl, inr, ℤ, pos, negsuc, decimal, signed_decimal, Bad, Found, IsLocal, Format, told, nowhere, any_low, Of, made, led, fitting, first_at, first_format, digits_at, IsWhole, positive_at, minus, whole_at}
+use Rattle.df_value_text.proofs.NumberLaws.{number_goes, first_fits, number_of, number_read, number_found, number_on, number_format, positive_again}
 
 -- ---- numbers above 0
 
@@ -57,14 +57,6 @@ whole_goes (negsuc n) c = number_goes most_below (suc n) c
 back : (n : ℕ) → 0 < n → suc (n - 1) ≡ n
 back n h = omega (arith, h)
 
-minus_begins : (z : ℤ) → IsNegative z → Begins (λ c. eqb c 45) true (signed_decimal z)
-minus_begins z h = record { first = 45; others = decimal (suc (h.0 - 1)); is = ap signed_decimal (sym h.2); test = refl }
-
-natural_begins : (z : ℤ) → IsNatural z → Begins (λ c. eqb c 45) false (signed_decimal z)
-natural_begins z h =
-    let b = no_digit_begins 45 (inl (omega arith)) h.0 (omega (arith, h.1)) in
-    record { first = b.first; others = b.others; is = ap signed_decimal (sym h.2) ∙ b.is; test = b.test }
-
 either_sign : (z : ℤ) → IsWhole z → IsNegative z ⊎ IsNatural z
 either_sign (pos n) h = inr (n, omega (arith, h), refl)
 either_sign (negsuc n) h = inl (suc n, (omega arith, omega (arith, h)), ap negsuc (let same : suc n - 1 ≡ n = omega arith in same))
@@ -75,11 +67,11 @@ sign_either z (inr h) = rw (← h.2) (let small : h.0 < 2 ^ 63 = omega (arith, h
 
 whole_nowhere : Format nowhere signed_decimal IsWhole whole_goes whole_at
 whole_nowhere =
-    fitting sign_either either_sign (either_of (λ c. eqb c 45)
+    fitting sign_either either_sign (either_by (λ c. eqb c 45)
     (led (45 ∷ []) minus (λ front rest low. absurd low) 1 (omega arith, omega arith) (positive_format most_below (omega arith))
     (λ n fits. ap (λ (k : ℕ). 45 ∷ decimal k) (back n fits.0)) (λ n c fits. ap (λ (k : ℕ). number_goes most_below k c) (back n fits.0)))
     (made pos (number_format nowhere most_above (omega arith)) (λ n fits. refl) (λ n c fits. refl))
-    minus_begins natural_begins)
+    (record { none = refl; first = λ c cs h. rw h refl }) (byte_refuses 45 refl (λ cs. refl)))
 
 pub whole_format : (IsLow : List ℕ → List ℕ → Type 0) → IsLocal IsLow → Format IsLow signed_decimal IsWhole whole_goes whole_at
 whole_format IsLow moved = any_low IsLow whole_nowhere

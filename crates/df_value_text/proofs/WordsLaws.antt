@@ -1,9 +1,9 @@
 -- Words and their characters are read as they are spelled.
-use Rattle.df_value_text.proofs.Names.{◌≡◌, ℕ, ◌/◌, ◌%◌, ◌<◌, Bool, true, false, cond, eqb, List, [], ◌∷◌, refl, arith, ◌⊎◌, inl, inr, nat_tests, one_at, Format, told, never, behind_format, nowhere, nowhere_is_local, told_as, either_of, itself, passing, passing_format, Links, hex, hex_digit, escaped, is_hex, hex_byte, is_quoted, is_control, is_plain, escape_at, ascii_at, zero, suc, ◌≤◌, nat_lt, ◌++◌, sym, ap, subst, ◌∙◌, flat_map, scalar, low_scalar, append-nil, CanGoOn, Begins, Of, made, is_lead, trail_length, least_second, most_second, char_at, begins_char, is_high, is_low, control_at, alone, Ok, append_assoc, IsUtf8, AllByRecursion, concat, scalars, encodes, and_parts, flat_map-append, viewed, enclosed, each_format, chars_at, words_at, Each, words_text}
+use Rattle.df_value_text.proofs.Names.{◌≡◌, ℕ, ◌/◌, ◌%◌, ◌<◌, Bool, true, false, cond, eqb, List, [], ◌∷◌, refl, arith, ◌⊎◌, inl, inr, nat_tests, one_at, Format, told, never, behind_format, nowhere, nowhere_is_local, told_as, either_of, itself, passing, passing_format, Links, hex, hex_digit, escaped, is_hex, hex_byte, is_quoted, is_control, is_plain, escape_at, ascii_at, zero, suc, ◌≤◌, nat_lt, ◌++◌, sym, ap, ◌∙◌, flat_map, scalar, low_scalar, append-nil, CanGoOn, Refuses, reads_begin, byte_refuses, either_by, wide_at, Bad, Err, Read, Of, made, is_lead, trail_length, least_second, most_second, char_at, begins_char, is_high, is_low, control_at, alone, Ok, append_assoc, IsUtf8, AllByRecursion, concat, scalars, encodes, and_parts, flat_map-append, viewed, enclosed, each_format, chars_at, words_at, Each, words_text}
 use Rattle.df_value_text.proofs.BytesLaws.{pair_back, byte_back, two_format}
 use Rattle.std.proofs.Math.Utf8.{encode}
 use Rattle.std.proofs.lemmas.Str.{encode_ascii}
-use Rattle.df_value_text.proofs.WideLaws.{IsWide, IsTrail, order, below, not_below, behind_some, between_is, wide_format, wide_char, char_wide}
+use Rattle.df_value_text.proofs.WideLaws.{IsWide, IsTrail, order, behind_some, between_is, wide_format, wide_char, char_wide}
 
 -- ---- a control byte in two digits
 
@@ -87,16 +87,12 @@ itself_is c h k = rw (h, k) refl
 pub plain_is : (c : ℕ) → IsPlain c → escaped c ≡ c ∷ []
 plain_is c h = itself_is c (grind (arith, nat_tests)) (grind (arith, nat_tests))
 
-plain_other : (c : ℕ) → IsPlain c → eqb c 92 ≡ false
-plain_other c h = grind (arith, nat_tests)
-
 pub ascii_format : Format nowhere escaped (λ c. IsEscaped c ⊎ IsPlain c) never ascii_at
 ascii_format =
-    either_of (λ c. eqb c 92)
+    either_by (λ c. eqb c 92)
     (told_as escaped_is (λ c t h. refl)
     (behind_format (92 ∷ []) (nowhere_is_local (92 ∷ [])) 34 (inl refl) escape_format))
-    (told_as plain_is (λ c t h. refl) (passing_format is_plain)) (λ c h. record { first = 92; others = behind_slash c; is = escaped_is c h; test = refl })
-    (λ c h. record { first = c; others = []; is = plain_is c h; test = plain_other c h })
+    (told_as plain_is (λ c t h. refl) (passing_format is_plain)) (record { none = refl; first = λ c cs h. rw h refl }) (byte_refuses 92 refl (λ cs. refl))
 
 -- the bytes of a text, each escaped
 abbrev pub chars_text : List ℕ → List ℕ
@@ -159,61 +155,40 @@ wide_text x fits = high_text x (wide_high x fits)
 abbrev pub IsChar : List ℕ → Type 0
 IsChar x = IsAscii x ⊎ IsWide x
 
--- the first byte of what an ASCII byte is spelled as
-pub record FirstAscii (text : List ℕ) : Type 0 where
-  pub first : ℕ
-  pub others : List ℕ
-  pub is : text ≡ first ∷ others
-  pub small : first < 128
-  pub begins : begins_char first ≡ true
-
 pub plain_begins : (c : ℕ) → is_plain c ≡ true → begins_char c ≡ true
 plain_begins c h = grind (arith, nat_tests)
 
-first_ascii : (c : ℕ) → (IsEscaped c ⊎ IsPlain c) → FirstAscii (chars_text (alone c))
-first_ascii c (inl h) = record {
-  first = 92;
-  others = behind_slash c ++ [];
-  is = ap (λ (u : List ℕ). u ++ []) (escaped_is c h);
-  small = omega arith;
-  begins = refl;
-}
-first_ascii c (inr h) = record {
-  first = c;
-  others = [];
-  is = ap (λ (u : List ℕ). u ++ []) (plain_is c h);
-  small = ascii_small c (inr h);
-  begins = plain_begins c h;
+ascii_refuses : Refuses (λ c. nat_lt c 128) false ascii_at
+ascii_refuses = record {
+  none = refl;
+  first = λ c cs h.
+      let other : eqb c 92 ≡ false = grind (arith, nat_tests) in
+      let plain : is_plain c ≡ false = grind (arith, nat_tests) in
+      rw (plain, other) refl;
 }
 
-ascii_first : (x : List ℕ) → IsAscii x → FirstAscii (chars_text x)
-ascii_first x h = subst (λ (u : List ℕ). FirstAscii (chars_text u)) h.2 (first_ascii h.0 h.1)
-
-ascii_begins : (x : List ℕ) → IsAscii x → Begins (λ c. nat_lt c 128) true (chars_text x)
-ascii_begins x h = let f = ascii_first x h in record { first = f.first; others = f.others; is = f.is; test = below f.first 128 f.small }
-
-wide_begins : (x : List ℕ) → IsWide x → Begins (λ c. nat_lt c 128) false (chars_text x)
-wide_begins [] h = absurd h
-wide_begins (lead ∷ bs) h = record {
-  first = lead;
-  others = bs;
-  is = wide_text (lead ∷ bs) h;
-  test = not_below lead 128 (omega (arith, (between_is 194 244 lead h.0).0));
-}
+wide_refuses : Refuses (λ c. nat_lt c 128) true wide_at
+wide_refuses = record { none = refl; first = λ c cs h. let lead : is_lead c ≡ false = grind (arith, nat_tests) in rw lead refl }
 
 pub char_format : Format nowhere chars_text IsChar never char_at
 char_format =
-    either_of (λ c. nat_lt c 128) (made alone ascii_format (λ c h. append-nil (escaped c)) (λ c t h. refl))
-    (told_as wide_text (λ x t h. refl) wide_format) ascii_begins wide_begins
+    either_by (λ c. nat_lt c 128) (made alone ascii_format (λ c h. append-nil (escaped c)) (λ c t h. refl))
+    (told_as wide_text (λ x t h. refl) wide_format) (record { none = refl; first = λ c cs h. rw (ascii_refuses.first c cs h) refl }) wide_refuses
 
 -- the first byte of a character begins one
-pub char_starts : (x : List ℕ) → IsChar x → Begins begins_char true (chars_text x)
-char_starts x (inl h) = let f = ascii_first x h in record { first = f.first; others = f.others; is = f.is; test = f.begins }
-char_starts [] (inr h) = absurd h
-char_starts (lead ∷ bs) (inr h) = record { first = lead; others = bs; is = wide_text (lead ∷ bs) h; test = lead_begins lead h.0 }
+char_refuses : Refuses begins_char false char_at
+char_refuses = record {
+  none = refl;
+  first = λ c cs h.
+      let other : eqb c 92 ≡ false = grind (arith, nat_tests) in
+      let plain : is_plain c ≡ false = grind (arith, nat_tests) in
+      let lead : is_lead c ≡ false = grind (arith, nat_tests) in
+      rw (plain, other, lead) (same_either (nat_lt c 128) (Err (Bad (c ∷ cs))));
+}
   where
-    lead_begins : (lead : ℕ) → is_lead lead ≡ true → begins_char lead ≡ true
-    lead_begins lead h = grind (arith, nat_tests)
+    same_either : (b : Bool) (r : Read ℕ (List ℕ)) → cond b r r ≡ r
+    same_either true r = refl
+    same_either false r = refl
 
 -- a byte that begins a character begins one
 pub char_some : (t : ℕ) → begins_char t ≡ true → CanGoOn chars_text IsChar (t ∷ [])
@@ -274,7 +249,7 @@ utf8_all (c ∷ cs) h =
     (encode c ∷ more.0, (encoded_char c both.0, more.1), ap (λ (u : List ℕ). encode c ++ u) more.2)
 
 pub chars_each : Each begins_char chars_text IsChar char_at
-chars_each = record { item = char_format; first = char_starts; some = char_some }
+chars_each = record { item = char_format; first = reads_begin char_format char_refuses; some = char_some }
 
 chars_format : Format nowhere chars_text IsUtf8 chars_go chars_at
 chars_format =
