@@ -28,12 +28,15 @@ pub record IsStep (core : State) (actor : UnitName) (call : Call) (told : Reply 
 abbrev pub Does : Tables → Option ℕ → Call → Effect → Type 0
 Does tables place call effect = answer_from (row_by tables.board place) call ≡ (Reply.Ok, effect)
 
+-- whatever the tables agreed with, a call of the unit at a place that is answered so is a step
+abbrev pub Steps : Option ℕ → Call → Reply × Effect → Tables → Tables → Type 0
+Steps place call told old new = (core : State) (actor : UnitName) → AgreesWith core old →
+    place ≡ place_in old actor → IsStep core actor call told new
+
 -- a call that its unit makes of its own state alone is a step; at any other the tables agree with
 -- what they agreed with, and rows stand where they stood
 abbrev pub StepsAlone : Option ℕ → Call → Option Reply → Tables → Tables → Type 0
-StepsAlone place call (Some reply) old new = (core : State) (actor : UnitName) →
-    AgreesWith core old → place ≡ place_in old actor →
-    IsStep core actor call (reply, Effect.Nothing) new
+StepsAlone place call (Some reply) old new = Steps place call (reply, Effect.Nothing) old new
 StepsAlone place call None old new =
     ((core : State) → AgreesWith core old → AgreesWith core new)
     × ((actor : UnitName) → place_in new actor ≡ place_in old actor)

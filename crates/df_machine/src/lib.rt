@@ -5,5 +5,6 @@ mod machine;
 mod tables;
 mod taking;
 
+pub use df_tables::Received;
 pub use machine::{BookCause, Core, NotBooked, NotEmitted, NotStepped};
 pub use tables::Tables;

@@ -1,23 +1,27 @@
 //! The tables of a machine, which keep no journal.
 
-ghost use Rattle.std.specs.Prelude.{◌≡◌, ◌^◌, ◌<◌, ◌∷◌, [], length, IfOk, IfSome, OnErr, OnOk, map, option_copied};
+ghost use Rattle.std.specs.Prelude.{◌≡◌, ◌^◌, ◌<◌, ◌∷◌, [], length, IfOk, IfSome, OnErr, OnOk, Some, map, option_copied};
 ghost use Rattle.std.specs.Option.{option_map};
 ghost use Rattle.df_local.specs.Brief.{accepted_reply, brief_call};
-ghost use Rattle.df_local.specs.Locally.{closing};
+ghost use Rattle.df_local.specs.Locally.{closing, shows_one};
 ghost use Rattle.df_start.specs.Begun.{begun};
+ghost use Rattle.df_tables.specs.Hand.{received_answer};
 ghost use Rattle.df_tables.specs.Table.{rows_from};
+ghost use Rattle.df_unit.specs.declared.call.Call.TheVariants.{Get};
+ghost use Rattle.df_unit.specs.declared.entry.Effect.{Effect};
 ghost use Rattle.df_unit.specs.declared.entry.Entry.TheVariants.{Emitted};
 ghost use Rattle.df_unit.specs.declared.reply.Reply.TheVariants as Reply;
 ghost use Rattle.df_unit.specs.declared.name.UnitName.{UnitName};
 ghost use Rattle.df_unit.specs.declared.name.UnitName.TheVariants.{Root};
 ghost use Rattle.df_machine.specs.Journal.{State, answer_in, appended, contamination_in};
-ghost use Rattle.df_machine.specs.Tables.{AgreesWith, Does, IsStep, StepsAlone, place_in};
+ghost use Rattle.df_machine.specs.Tables.{AgreesWith, Does, IsStep, Steps, StepsAlone, place_in};
 
 use df_label::Label;
 use df_local::{Accepted, Answer, Brief, Close};
 use df_memory::NoMemory;
+use df_part::Part;
 use df_start::{RootStart, Start};
-use df_tables::{Board, Unit, first_unit};
+use df_tables::{Board, Received, Unit, first_unit};
 use df_unit::{Call, Commit, Effect, Path, Reply, UnitName};
 use std::alloc::Global;
 
@@ -116,6 +120,30 @@ impl Tables {
             AgreesWith core self.new) }
     {
         self.board.make_alone(place, call)
+    }
+
+    /// The part that a call of the unit at a place shows, where it is a read that shows no other, and
+    /// the part bears no privilege. The tables agree with the journal behind such a read as they are.
+    pub fn seen_alone<'a>(&'a self, place: Option<usize>, call: &'a Call) -> Option<&'a Part>
+        requires agrees { (core : State) × AgreesWith core self.now }
+        requires seated { (actor : UnitName) × (place ≡ place_in self.now actor) }
+        ensures { IfSome (option_copied result) (λ part.
+            Steps place call.now (shows_one part, Effect.Nothing) self.now self.now) }
+    {
+        self.board.seen_alone(place, call)
+    }
+
+    /// Hands the unit at a place, which asks for it, the first event that is left to it. Without
+    /// memory the tables agree with what they agreed with.
+    pub fn give(&mut self, place: usize) -> Result<Received, NoMemory>
+        requires agrees { (core : State) × AgreesWith core self.old }
+        requires seated { (actor : UnitName) × (Some place ≡ place_in self.old actor) }
+        ensures made { IfOk result (λ received.
+            Steps (Some place) Get (received_answer received) self.old self.new) }
+        ensures kept { OnErr result ((core : State) → AgreesWith core self.old →
+            AgreesWith core self.new) }
+    {
+        self.board.give(place)
     }
 
     /// Makes a call that creates an event or drops one, where the unit at a place accepts it; none,
