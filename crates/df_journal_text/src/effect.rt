@@ -1,5 +1,6 @@
 ghost use Rattle.std.specs.Prelude.{◌≡◌, ◌<◌, ◌∷◌, ◌++◌, [], OnOk, codes, decimal};
 ghost use Rattle.std.specs.List.{flat_map};
+ghost use Rattle.df_unit.specs.Drafts.{show};
 ghost use Rattle.df_value_text.specs.Label.{label_text};
 ghost use Rattle.df_journal_text.specs.Line.{line, word};
 ghost use Rattle.df_journal_text.specs.Name.{event_text};
@@ -91,6 +92,17 @@ fn append_read(part: &PartRead, to: &mut Vec<u8>) -> Result<(), NoMemory>
     Ok(())
 }
 
+/// Appends what a read shows of a part, which isn't copied.
+pub fn append_seen(part: &Part, to: &mut Vec<u8>) -> Result<(), NoMemory>
+    ensures { OnOk result (to.new.items ≡ to.old.items ++ read_line (show part.now)) }
+{
+    append_marked(b':', &part.label, to)?;
+    append_value_word(&part.value, to)?;
+    append_privilege_words(part.privileges.as_slice(), to)?;
+    to.push(b'\n')?;
+    Ok(())
+}
+
 /// Appends what a read shows.
 #[inline(never)]
 pub fn append_reads(parts: &[PartRead], to: &mut Vec<u8>) -> Result<(), NoMemory>
@@ -153,7 +165,7 @@ fn append_commit(commit: &Commit, to: &mut Vec<u8>) -> Result<(), NoMemory>
     Ok(())
 }
 
-fn append_given(given: &Given, to: &mut Vec<u8>) -> Result<(), NoMemory>
+pub fn append_given(given: &Given, to: &mut Vec<u8>) -> Result<(), NoMemory>
     ensures { OnOk result (to.new.items ≡ to.old.items ++ given_text given.now) }
 {
     append_marked_event(b'<', &given.event, to)?;

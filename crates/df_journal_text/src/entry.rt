@@ -1,10 +1,11 @@
 ghost use Rattle.std.specs.Prelude.{◌≡◌, ◌<◌, ◌++◌, ◌∷◌, [], OnOk, Some, codes};
+ghost use Rattle.df_unit.specs.Drafts.{show};
 ghost use Rattle.df_unit.specs.declared.call.Call.{Call};
 ghost use Rattle.df_unit.specs.declared.entry.Effect.{Effect};
 ghost use Rattle.df_unit.specs.declared.entry.Entry.TheVariants.{Done};
 ghost use Rattle.df_unit.specs.declared.name.UnitName.{UnitName};
 ghost use Rattle.df_unit.specs.declared.reply.Reply.TheVariants as Reply;
-ghost use Rattle.df_unit.specs.declared.reply.Reply.TheVariants.{Event, Handle};
+ghost use Rattle.df_unit.specs.declared.reply.Reply.TheVariants.{Event, Handle, Parts};
 ghost use Rattle.df_journal_text.specs.Entry.{edit_text, effect_text, entry_text, note_text, reads_text};
 ghost use Rattle.df_journal_text.specs.Front.{call_front};
 ghost use Rattle.df_journal_text.specs.Line.{line};
@@ -12,14 +13,17 @@ ghost use Rattle.df_journal_text.specs.Name.{event_text};
 ghost use Rattle.df_journal_text.specs.code.Outcome.{answer_text, outcome_text};
 
 use crate::call::append_call;
-use crate::effect::{append_edit, append_effect, append_event_line, append_reads};
+use crate::effect::{
+    append_edit, append_effect, append_event_line, append_given, append_reads, append_seen,
+};
 use crate::line::{append_label_word, append_number_word, append_word, put_all};
 use crate::name::append_unit;
 use crate::note::Note;
 use crate::reply::append_reply;
 use df_label::Label;
 use df_memory::NoMemory;
-use df_unit::{Commit, Effect, Entry, Reply};
+use df_part::Part;
+use df_unit::{Commit, Effect, Entry, Given, Reply};
 use df_value_text::{append_number, put_few};
 
 /// Appends a handle behind the words of its call, and ends the line.
@@ -100,6 +104,21 @@ fn append_noted_handle(h: u32, note: &Note, to: &mut Vec<u8>) -> Result<(), NoMe
     Ok(())
 }
 
+/// Appends a view of an event behind the words of its call, and the line of a note.
+#[inline(always)]
+fn append_noted_event(h: u32, sub: u32, note: &Note, to: &mut Vec<u8>) -> Result<(), NoMemory>
+    ensures { OnOk result (to.new.items ≡ to.old.items
+        ++ (answer_text (Event h sub) ++ note_text note.now)) }
+{
+    if h == 0 && sub == 0 {
+        to.extend_from_slice(note.behind_view())?;
+        return Ok(());
+    }
+    append_event(h, sub, to)?;
+    to.extend_from_slice(note.as_bytes())?;
+    Ok(())
+}
+
 /// Appends the reply of a call behind its words, and the line of a note. The commonest are written
 /// at once.
 #[inline(always)]
@@ -117,10 +136,7 @@ fn append_noted(reply: &Reply, note: &Note, to: &mut Vec<u8>) -> Result<(), NoMe
             to.extend_from_slice(note.behind_parts())?;
             Ok(())
         }
-        Reply::Event { h: 0, sub: 0 } => {
-            to.extend_from_slice(note.behind_view())?;
-            Ok(())
-        }
+        Reply::Event { h, sub } => append_noted_event(*h, *sub, note, to),
         _ => {
             append_answer(reply, to)?;
             to.extend_from_slice(note.as_bytes())?;
@@ -279,4 +295,39 @@ pub fn append_done(front: &[u8], note: &Note, to: &mut Vec<u8>) -> Result<(), No
     to.extend_from_slice(front)?;
     to.extend_from_slice(note.behind_ok())?;
     Ok(())
+}
+
+/// Appends the lines of the entry of a read that shows this part alone, as `append_spelled` does.
+/// Without memory a part of the lines may have been appended.
+pub fn append_seen_alone(
+    front: &[u8],
+    part: &Part,
+    note: &Note,
+    to: &mut Vec<u8>,
+) -> Result<(), NoMemory>
+    ensures { (actor : UnitName) (call : Call) → front.now ≡ call_front actor call →
+        OnOk result (to.new.items ≡ to.old.items
+        ++ entry_text note.now (Done actor call (Parts (show part.now ∷ [])) Effect.Nothing)) }
+{
+    to.extend_from_slice(front)?;
+    to.extend_from_slice(note.behind_parts())?;
+    append_seen(part, to)
+}
+
+/// Appends the lines of the entry of a get that is told a handle and an event, as `append_spelled`
+/// does. Without memory a part of the lines may have been appended.
+pub fn append_received(
+    front: &[u8],
+    h: u32,
+    given: &Given,
+    note: &Note,
+    to: &mut Vec<u8>,
+) -> Result<(), NoMemory>
+    ensures { (actor : UnitName) (call : Call) → front.now ≡ call_front actor call →
+        OnOk result (to.new.items ≡ to.old.items
+        ++ entry_text note.now (Done actor call (Event h given.now.sub) (Effect.Given given.now))) }
+{
+    to.extend_from_slice(front)?;
+    append_noted_event(h, given.sub, note, to)?;
+    append_given(given, to)
 }

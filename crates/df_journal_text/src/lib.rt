@@ -24,7 +24,9 @@ mod writers;
 
 pub use ask::{Ask, ask_at};
 pub use call_reader::read_call_at;
-pub use entry::{append_done, append_handled, append_quiet, append_spelled};
+pub use entry::{
+    append_done, append_handled, append_quiet, append_received, append_seen_alone, append_spelled,
+};
 pub use known_label::KnownLabel;
 pub use laws::{a_journal_is_read_back, a_text_is_one_journal};
 pub use line_fault::LineFault;
