@@ -1,15 +1,9 @@
 -- The lines of a journal have no line feed but their last byte.
-use Rattle.df_journal_file.proofs.Names.{event_line, note_line, call_words, call_line, part_line, read_line, spot_line, ArePrivileges, IsCalled, IsEvent, IsPart, IsPartRead, IsReply, IsSpot, spaced, word, event_text, unit_text, reply_words, Label, IsLine, ended, Spot, Part, Avoids, Avoids-line, Avoids-words, IsLine-value, IsLine-word, AreWords-privileges, is_word, is_word-actor, is_word-append, is_word-decimal, is_word-label, is_word-name, is_word-privilege, is_word-tag, number_word, Call, EventName, UnitName, PartRead, Reply, IsLabel, IsPrivilege, label_text, privilege_text, value_text, List, [], ap, append_assoc, codes, decimal, map, refl, subst, sym, true, ℕ, ◌++◌, ◌<◌, ◌^◌, ◌∙◌, ◌∷◌, ◌≡◌, flat_map-append, recursion_from_All, AllByRecursion, Avoids-text}
+use Rattle.df_journal_file.proofs.Names.{event_line, note_line, call_words, call_line, part_line, read_line, spot_line, ArePrivileges, IsCalled, IsEvent, IsPart, IsPartRead, IsReply, IsSpot, spaced, word, event_text, unit_text, reply_words, Label, IsLine, Spot, Part, Avoids, Avoids-line, Avoids-words, IsLine-value, IsLine-word, AreWords-privileges, is_word, is_word-actor, is_word-append, is_word-decimal, is_word-label, is_word-name, is_word-privilege, is_word-tag, number_word, Call, EventName, UnitName, PartRead, Reply, IsLabel, IsPrivilege, label_text, privilege_text, value_text, List, [], ap, append_assoc, codes, decimal, map, refl, subst, sym, true, ℕ, ◌++◌, ◌<◌, ◌^◌, ◌∙◌, ◌∷◌, ◌≡◌, flat_map-append, recursion_from_All, AllByRecursion, Avoids-text}
 use Rattle.df_label.specs.declared.privilege.Privilege.{Privilege}
+use Rattle.df_lines.proofs.Rows.{IsFed}
 use Rattle.df_unit.specs.declared.reply.Reply.TheVariants as reply
 use Rattle.df_script_text.proofs.Calls.{Avoids-call}
-use Rattle.df_journal_file.proofs.Fronts.{same_line, same_rest}
-
--- this is a line with its line feed
-pub record IsFed (text : List ℕ) : Type 0 where
-  pub line : List ℕ
-  pub free : IsLine line
-  pub is : text ≡ ended line
 
 -- a line of words with its line feed
 fed_words : (mark : List ℕ) (words : List (List ℕ)) → is_word mark ≡ true → AllByRecursion (Avoids 10) words → IsFed ((mark ++ spaced words) ++ 10 ∷ [])
@@ -87,19 +81,3 @@ call_feeds c f =
       free = subst IsLine whole (Avoids-line front answer called (Avoids-text (codes "->") refl, IsLine-reply c.2 f.2.0));
       is = refl;
     }
-
--- ---- lines in front
-
--- the lines without their line feeds
-unfed_front : {s t : List ℕ} (u v : List ℕ) (l : IsFed s) (m : IsFed t) → s ++ u ≡ t ++ v → l.line ++ 10 ∷ u ≡ m.line ++ 10 ∷ v
-unfed_front u v l m e =
-    sym (append_assoc l.line (10 ∷ []) u) ∙ ap (λ (w : List ℕ). w ++ u) (sym l.is) ∙ e
-    ∙ ap (λ (w : List ℕ). w ++ v) m.is ∙ append_assoc m.line (10 ∷ []) v
-
--- two lines in front of texts that are the same are the same
-pub fed_same : {s t : List ℕ} (u v : List ℕ) → IsFed s → IsFed t → s ++ u ≡ t ++ v → s ≡ t
-fed_same u v l m e = l.is ∙ ap ended (same_line l.line m.line u v l.free m.free (unfed_front u v l m e)) ∙ sym m.is
-
--- and the texts go on alike
-pub fed_rest : {s t : List ℕ} (u v : List ℕ) → IsFed s → IsFed t → s ++ u ≡ t ++ v → u ≡ v
-fed_rest u v l m e = same_rest l.line m.line u v l.free m.free (unfed_front u v l m e)

@@ -1,7 +1,7 @@
 -- Texts that begin alike, what their first bytes tell, and where entries end.
-use Rattle.df_journal_file.proofs.Names.{EndsFile, IsCallFront, IsPartFront, IsShownFront, IsValueFront, more_first, unit_first, word, unit_text, begins_pair, Label, EndsLine, IsLine, Avoids-text, UnitName, label_text, begins_with, begins_digit, Bool, List, [], ap, append-nil, arith, codes, decimal, drop, eqb, false, inl, inr, length, length-append, length-drop, refl, subst, sym, true, ℕ, ◌&&◌, ◌++◌, ◌<◌, ◌∙◌, ◌∷◌, ◌≡◌, ◌≤◌, ◌⊎◌, nat_tests, append_cancel_left, drop_all, All-cons, All-nil, is_ascii_digit}
+use Rattle.df_journal_file.proofs.Names.{EndsFile, IsCallFront, IsPartFront, IsShownFront, IsValueFront, more_first, unit_first, word, unit_text, begins_pair, Label, EndsLine, IsLine, Avoids-text, UnitName, label_text, begins_with, begins_digit, Bool, List, [], ap, append-nil, arith, codes, decimal, drop, eqb, false, inl, inr, length, length-append, length-drop, refl, subst, sym, true, ℕ, ◌&&◌, ◌++◌, ◌<◌, ◌∙◌, ◌∷◌, ◌≡◌, ◌≤◌, nat_tests, drop_all, All-cons, All-nil, is_ascii_digit}
 use Rattle.df_format.proofs.Laws.{told}
-use Rattle.df_lines.proofs.Splits.{pieces, pieces-line, some_pieces}
+use Rattle.df_lines.proofs.Rows.{Like, line_same}
 use Rattle.std.proofs.lemmas.Bool.{eqb-true}
 
 -- a test has one result
@@ -81,34 +81,7 @@ front_long front (inr (inl s)) = omega (arith, ap length s.2)
 front_long front (inr (inr (inl p))) = omega (arith, ap length p.2)
 front_long front (inr (inr (inr p))) = omega (arith, ap length p.2)
 
--- ---- the same first line
-
--- two texts that go on with a line have the same first line
-pub same_line : (l m rest more : List ℕ) → IsLine l → IsLine m → l ++ 10 ∷ rest ≡ m ++ 10 ∷ more → l ≡ m
-same_line l m rest more hl hm e =
-    let both : l ∷ pieces rest ≡ m ∷ pieces more =
-    sym (pieces-line l (10 ∷ rest) hl refl) ∙ ap pieces e ∙ pieces-line m (10 ∷ more) hm refl in
-    cc
-
--- and the same rest
-pub same_rest : (l m rest more : List ℕ) → IsLine l → IsLine m → l ++ 10 ∷ rest ≡ m ++ 10 ∷ more → rest ≡ more
-same_rest l m rest more hl hm e =
-    let same = same_line l m rest more hl hm e in
-    let fed : 10 ∷ rest ≡ 10 ∷ more = append_cancel_left l (10 ∷ rest) (10 ∷ more) (e ∙ ap (λ (k : List ℕ). k ++ 10 ∷ more) (sym same)) in
-    cc
-
--- a line without line feed isn't one with it
-pub not_open : (bad l rest : List ℕ) → IsLine bad → IsLine l → bad ++ [] ≡ l ++ 10 ∷ rest → ⊥
-not_open bad l rest hb hl e =
-    let both : bad ∷ [] ≡ l ∷ pieces rest = sym (pieces-line bad [] hb tt) ∙ ap pieces e ∙ pieces-line l (10 ∷ rest) hl refl in
-    omega (arith, ap length both, some_pieces rest)
-
 -- ---- texts that begin alike
-
--- the texts are the same, or they go on behind the same line, or behind the same front of a value
-abbrev pub Like : List ℕ → List ℕ → Type 0
-Like s t = (s ≡ t) ⊎ (((w x y : List ℕ) × IsLine w × (s ≡ w ++ 10 ∷ x) × (t ≡ w ++ 10 ∷ y))
-    ⊎ ((front x y : List ℕ) × IsValueFront front × (s ≡ front ++ x) × (t ≡ front ++ y)))
 
 -- the same byte stands in front, and the same mark with a space behind it
 abbrev Alike : List ℕ → List ℕ → Type 0
@@ -125,7 +98,7 @@ alike_long (a ∷ []) x y h = absurd (omega arith)
 alike_long (a ∷ b ∷ w) x y h = λ m. (refl, λ h. refl)
 
 -- in all three cases
-pub alike : (s t : List ℕ) → Like s t → Alike s t
+pub alike : (s t : List ℕ) → Like IsValueFront s t → Alike s t
 alike s t (inl e) = λ m. (ap (begins_with m) e, λ _. ap (begins_pair m 32) e)
 alike s t (inr (inl f)) = rw (f.4, f.5) (alike_line f.0 f.1 f.2)
 alike s t (inr (inr f)) = rw (f.4, f.5) (alike_long f.0 f.1 f.2 (front_long f.0 f.3))
@@ -161,7 +134,7 @@ line_ends t line rest is e = (λ same. inr (rest, e ∙ ap (λ (l : List ℕ). l
   where
     cut : EndsFile t → line ≡ codes "---"
     cut (inl none) = absurd (let n = length-append line (10 ∷ rest) in omega (arith, n, ap length (sym e ∙ none)))
-    cut (inr more) = same_line line (codes "---") rest more.0 is (Avoids-text (codes "---") refl) (sym e ∙ more.1)
+    cut (inr more) = (line_same line (codes "---") (10 ∷ rest) (10 ∷ more.0) is (Avoids-text (codes "---") refl) refl refl (sym e ∙ more.1)).0
 
 -- where there is no line feed, it is one where no byte is left
 pub open_ends : (bytes : List ℕ) (place : ℕ) → place ≤ length bytes → IsLine (drop place bytes)
@@ -170,10 +143,13 @@ open_ends bytes place inside line = (λ all. inl (drop_all place bytes (omega (a
   where
     cut : EndsFile (drop place bytes) → place ≡ length bytes
     cut (inl none) = omega (arith, inside, ap length none, length-drop place bytes)
-    cut (inr more) = absurd (not_open (drop place bytes) (codes "---") more.0 line (Avoids-text (codes "---") refl) (append-nil (drop place bytes) ∙ more.1))
+    cut (inr more) =
+        let end = append-nil (drop place bytes) ∙ more.1 in
+        absurd (let both = line_same (drop place bytes) (codes "---") [] (10 ∷ more.0) line (Avoids-text (codes "---") refl) tt refl end in
+        let no : [] ≡ 10 ∷ more.0 = both.1 in cc)
 
 -- what begins like an end is one
-pub same_end : (u t : List ℕ) → Like u t → EndsFile u → EndsFile t
+pub same_end : (u t : List ℕ) → Like IsValueFront u t → EndsFile u → EndsFile t
 same_end u t (inl e) ends = subst EndsFile e ends
 same_end u t (inr (inl f)) ends = (line_ends t f.0 f.2 f.3 f.5).0 ((line_ends u f.0 f.1 f.3 f.4).1 ends)
 same_end u t (inr (inr f)) (inl none) = absurd (let n = length-append f.0 f.1 in omega (arith, n, front_long f.0 f.3, ap length (sym f.4 ∙ none)))

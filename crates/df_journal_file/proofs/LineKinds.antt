@@ -5,10 +5,11 @@ use Rattle.df_unit.specs.declared.reply.Reply.TheVariants as reply
 use Rattle.df_journal_file.specs.code.Marks.{IsCommitMark}
 use Rattle.df_frozen.specs.Name.{is_name}
 use Rattle.df_frozen.specs.Plain.{Plain, int}
-use Rattle.df_journal_file.proofs.Feeds.{CallTold, call_feeds, event_feeds, note_feeds, part_feeds, shown_feeds, spot_feeds, told_line}
+use Rattle.df_journal_file.proofs.Feeds.{CallTold, event_feeds, part_feeds, shown_feeds, spot_feeds, told_line}
 use Rattle.df_journal_file.proofs.Fronts.{IsFrontOf, add_front, and_false, digit_begins, is_call_front, is_front, pair_with}
 use Rattle.df_journal_file.proofs.Opens.{AtHead, called_begins, none_left, opened}
-use Rattle.df_journal_file.proofs.Rows.{IsKind, IsRow, IsRun, bare_kind, row_some, run_row, then_row}
+use Rattle.df_lines.proofs.Rows.{IsRow, row_some}
+use Rattle.df_journal_file.proofs.Rows.{IsKind, IsRun, bare_kind, run_row, then_row}
 
 -- ---- first bytes
 
@@ -88,18 +89,18 @@ zero_word = (word (value_text zero_value) ++ []) ++ 10 ∷ []
 
 -- a contamination that is noted
 pub note_kind : IsKind note_line IsLabel (λ _. ⊥)
-note_kind = bare_kind 64 (λ front no. no) note_feeds (λ label u. refl)
+note_kind = bare_kind 64 (λ front no. no) (λ label u. refl)
 
 -- an event that is handed over
 pub handed_kind : IsKind (event_line (codes "<")) IsEvent (λ _. ⊥)
-handed_kind = bare_kind 60 (λ front no. no) (event_feeds (codes "<") refl) (λ event u. refl)
+handed_kind = bare_kind 60 (λ front no. no) (λ event u. refl)
 
 -- the event of a commit, by a call or by the world
 pub commit_kind : (mark : List ℕ) → IsCommitMark mark → IsKind (event_line mark) IsEvent (λ _. ⊥)
 commit_kind mark (inl e) = subst (λ (m : List ℕ). IsKind (event_line m) IsEvent (λ _. ⊥)) (sym e)
-    (bare_kind 61 (λ front no. no) (event_feeds (codes "=") refl) (λ event u. refl))
+    (bare_kind 61 (λ front no. no) (λ event u. refl))
 commit_kind mark (inr e) = subst (λ (m : List ℕ). IsKind (event_line m) IsEvent (λ _. ⊥)) (sym e)
-    (bare_kind 101 (λ front no. no) (event_feeds (codes "emitted") refl) (λ event u. refl))
+    (bare_kind 101 (λ front no. no) (λ event u. refl))
 
 -- words behind one another, and a rest
 five_words : (u a h l n rest : List ℕ) → (u ++ (a ++ (h ++ (l ++ n)))) ++ rest ≡ u ++ (a ++ (h ++ (l ++ (n ++ rest))))
@@ -116,7 +117,6 @@ add_call actor h n = (actor, AddPart h n.0 n.1 zero_value, reply.Ok)
 -- a call with its reply
 pub called_kind : IsKind told_line IsCalled IsLargeCalled
 called_kind = record {
-  feeds = call_feeds;
   small = λ c f u front more rest w e l.
       let p = is_call_front front more w (ap begins_digit e ∙ called_begins c u f) in
       let n = p.2 in
@@ -161,7 +161,8 @@ module _ (has : Bool) where
   -- what a commit deletes
   pub spots_run : IsRun spot_line IsSpot 45 (λ _. ⊥) (AddsFrom has)
   spots_run = record {
-    kind = bare_kind 45 (λ front no. no) spot_feeds (λ spot u. refl);
+    feeds = spot_feeds;
+    kind = bare_kind 45 (λ front no. no) (λ spot u. refl);
     free = refl;
     marks = λ spot u. refl;
     ends = adds_begin has;
@@ -175,8 +176,8 @@ module _ (has : Bool) where
       → ((front : List ℕ) → IsFrontOf mark front → IsPartFront (mark ∷ []) front) → ((front : List ℕ) → IsPartFront (mark ∷ []) front → IsValueFront front)
       → IsRun (part_line (mark ∷ [])) IsPart mark (IsLargePart (mark ∷ [])) (BehindSome (EntriesFrom has))
   part_run mark one free digit marks is wanting = record {
+    feeds = part_feeds (mark ∷ []) one;
     kind = record {
-      feeds = part_feeds (mark ∷ []) one;
       small = λ part f u front more rest w e l.
           let p = is front (is_front mark front more w (ap (begins_with mark) e ∙ pair_with mark (part_line (mark ∷ []) part ++ u) (marks part u))) in
           (p.0, rest, p.1, ap (λ (f : List ℕ). f ++ rest) p.2, l);
@@ -210,8 +211,8 @@ module _ (has : Bool) where
   -- what a read shows
   pub read_run : IsRun read_line IsPartRead 58 IsLargeShown (BehindSome (EffectFrom has (reply.Parts [])))
   read_run = record {
+    feeds = shown_feeds;
     kind = record {
-      feeds = shown_feeds;
       small = λ part f u front more rest w e l.
           let s = is_front 58 front more w (ap (begins_with 58) e) in
           (s.0, rest, s.1, ap (λ (f : List ℕ). f ++ rest) s.2, l);
@@ -235,9 +236,12 @@ module _ (has : Bool) where
   }
 
   -- a commit
-  pub commit_row : (mark : List ℕ) → IsRow (event_line mark) IsEvent (CommitFrom has mark) (λ _. EditFrom has 0) (λ _. ⊥)
-  commit_row mark = then_row (event_line mark) IsEvent (EditFrom has 0) an_event event_fits (row_some spots_run.kind (run_row spots_run 0))
+  pub commit_row : (mark : List ℕ) → IsCommitMark mark → IsRow (event_line mark) IsEvent (CommitFrom has mark) (λ _. EditFrom has 0) (λ _. ⊥)
+  commit_row mark is =
+      let one : is_word mark ≡ true = elim is [ inl e ↦ ap is_word e | inr e ↦ ap is_word e ] in
+      then_row (event_line mark) IsEvent (EditFrom has 0) (event_feeds mark one) an_event event_fits (row_some (run_row spots_run 0))
 
   -- an event that is handed over
   pub handed_row : IsRow (event_line (codes "<")) IsEvent (HandedFrom has) (λ _. GivenFrom has 0) (λ _. ⊥)
-  handed_row = then_row (event_line (codes "<")) IsEvent (GivenFrom has 0) an_event event_fits (row_some given_run.kind (run_row given_run 0))
+  handed_row =
+      then_row (event_line (codes "<")) IsEvent (GivenFrom has 0) (event_feeds (codes "<") refl) an_event event_fits (row_some (run_row given_run 0))

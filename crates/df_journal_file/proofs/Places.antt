@@ -1,5 +1,6 @@
 -- What is spelled from one place to another, and lines at a place.
-use Rattle.df_journal_file.proofs.Names.{◌≡◌, ℕ, ◌≤◌, List, [], ◌∷◌, ◌++◌, length, drop, Option, Some, None, Result, Ok, Err, refl, sym, ap, subst, ◌∙◌, arith, append_assoc, append-nil, flat_map, flat_map-append, All-push, StopsAt, ArePassed, IsHere, IsLineHere, IsSpelled, TellsAt, finished}
+use Rattle.df_journal_file.proofs.Names.{◌≡◌, ℕ, ◌≤◌, List, [], ◌∷◌, ◌++◌, length, drop, Option, Some, None, Result, Ok, Err, refl, sym, ap, subst, ◌∙◌, arith, append_assoc, append-nil, flat_map, flat_map-append, All-push, StopsAt, ArePassed, IsHere, IsLineHere, IsSpelled, StopsLine, TellsAt, finished, IsLine, EndsLine}
+use Rattle.df_script_text.specs.code.Stops.{fault_of}
 use Rattle.df_journal_text.specs.code.Judging.{TellsLine, ended}
 use Rattle.df_journal_text.specs.declared.line_fault.LineFault.{LineFault}
 use Rattle.df_journal_text.specs.declared.line_fault.LineFault.TheVariants as fault
@@ -44,15 +45,12 @@ more_passed {X} {text} {Fits} {bytes} {at} {place} {next} xs ys x a h pushed =
 
 module _ {X : Type 0} (text : X → List ℕ) (Fits : X → Type 0) (IsLarge : List ℕ → Type 0)
     (small : (line : List ℕ) (x : X) → Fits x → ended line ≡ text x → ¬ IsLarge line) (bytes : List ℕ) (at : ℕ) where
-  -- a line with its line feed, of which nothing is spelled so
-  closed_stop : (line : List ℕ) (next : ℕ) → IsLineHere bytes at (line, Some next) → ((x : X) → Fits x → ended line ≡ text x → ⊥)
-      → StopsAt (IsSpelled text Fits) (drop at bytes) line
-  closed_stop line next here never = record
-      { behind = 10 ∷ drop next bytes; parts = here.3; line = here.0; end = refl; refused = λ more e k. never k.0 k.1 k.2 }
-
-  -- a line without line feed
-  open_stop : (line : List ℕ) → IsLineHere bytes at (line, None) → StopsAt (IsSpelled text Fits) (drop at bytes) line
-  open_stop line here = record { behind = []; parts = sym here.1 ∙ sym (append-nil line); line = here.0; end = tt; refused = λ more e. cc }
+  -- a line that isn't read
+  unread : (line behind : List ℕ) → IsLine line → EndsLine behind → drop at bytes ≡ line ++ behind → (f : LineFault)
+      → TellsLine text Fits IsLarge line (Err f) → StopsLine text Fits IsLarge bytes at (fault_of at f)
+  unread line behind free end parts fault.NoMemory t = tt
+  unread line behind free end parts _ t =
+      (refl, (line, record { behind = behind; parts = parts; line = free; end = end; refused = λ more e k. t.0 k.0 k.1 k.2 }, t.1))
 
   -- what is told of the line that stands at the place
   pub told_at : (line : List ℕ) (next : Option ℕ) → IsLineHere bytes at (line, next) → (r : Result X LineFault) → TellsLine text Fits IsLarge line r
@@ -60,10 +58,8 @@ module _ {X : Type 0} (text : X → List ℕ) (Fits : X → Type 0) (IsLarge : L
   told_at line (Some next) here (Ok x) t =
       let parts = here.3 ∙ sym (append_assoc line (10 ∷ []) _) ∙ ap (λ (u : List ℕ). u ++ drop next bytes) t.1 in
       (record { fits = t.0; onward = omega (arith, here.1); inside = here.2; parts = parts }, here.1)
-  told_at line None here (Ok x) t = (refl, (line, open_stop line here, small line x t.0 t.1))
-  told_at line (Some next) here (Err fault.Syntax) t = (refl, (line, closed_stop line next here t.0, t.1))
-  told_at line None here (Err fault.Syntax) t = (refl, (line, open_stop line here, t.1))
-  told_at line (Some next) here (Err fault.TooLarge) t = (refl, (line, closed_stop line next here t.0, t.1))
-  told_at line None here (Err fault.TooLarge) t = (refl, (line, open_stop line here, t.1))
-  told_at line (Some next) here (Err fault.NoMemory) t = tt
-  told_at line None here (Err fault.NoMemory) t = tt
+  told_at line None here (Ok x) t =
+      let parts = sym here.1 ∙ sym (append-nil line) in
+      (refl, (line, record { behind = []; parts = parts; line = here.0; end = tt; refused = λ more e. cc }, small line x t.0 t.1))
+  told_at line (Some next) here (Err f) t = unread line (10 ∷ drop next bytes) here.0 refl here.3 f t
+  told_at line None here (Err f) t = unread line [] here.0 tt (sym here.1 ∙ sym (append-nil line)) f t

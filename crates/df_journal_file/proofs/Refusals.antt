@@ -1,12 +1,13 @@
 -- What is told of a file that isn't a journal.
-use Rattle.df_journal_file.proofs.Names.{◌≡◌, ℕ, ◌+◌, false, List, [], length, eqb, Result, Ok, Err, IfErr, IfOk, refl, sym, ◌∙◌, append-nil, All-nil, IsFirstBad, lines_text, FileFault, front_is, IsRead, IsLargeIn, answered, IsStop, StopsIn}
+use Rattle.df_journal_file.proofs.Names.{ℕ, ◌+◌, List, length, Result, Ok, Err, IfErr, IfOk, refl, IsFirstBad, FileFault, IsRead, IsLargeIn, answered, StopsIn}
 use Rattle.std.proofs.lemmas.Result.{IfErr-weaker}
 use Rattle.df_lines.specs.Refused.{IsRefused, NamesBadLine}
-use Rattle.df_lines.specs.code.Faults.{IsBadPlace, IsInside, NamesBadPlace}
+use Rattle.df_lines.specs.code.Faults.{IsInside}
 use Rattle.df_lines.specs.declared.fault.FileFault.TheVariants as stop
+use Rattle.df_lines.specs.declared.refused.BadKind.TheVariants.{Syntax, TooLarge}
 use Rattle.df_lines.specs.declared.refused.FileRefused.{FileRefused}
 use Rattle.df_lines.specs.declared.refused.FileRefused.TheVariants as refusal
-use Rattle.df_lines.proofs.FirstBad.{names_line, refused_syntax, refused_too_large}
+use Rattle.df_lines.proofs.FirstBad.{names_line, refused_as}
 
 -- the first bad line is told, and whether a value is too large there
 pub record TellsFirstBad {J : Type 0} (IsText : List ℕ → Type 0) (bytes : List ℕ) (q : Result J FileRefused) : Type 0 where
@@ -17,29 +18,15 @@ pub record TellsFirstBad {J : Type 0} (IsText : List ℕ → Type 0) (bytes : Li
       → IsRefused (refusal.TooLarge (length before + 1)) q
 
 module _ (IsText : List ℕ → Type 0) (bytes : List ℕ) where
-  -- the place where reading stops is that of the first bad line
-  bad_place : (place : ℕ) (before : List (List ℕ)) (bad : List ℕ) → IsStop IsText bytes 0 place before bad → IsBadPlace IsText bytes place before bad
-  bad_place place before bad s = record {
-    first = s.first;
-    part = [];
-    parts = front_is bytes (lines_text before) place s.inside s.parts ∙ sym (append-nil (lines_text before));
-    line = All-nil (λ b. eqb b 10 ≡ false);
-  }
-
-  names : (f : FileFault) → StopsIn IsText bytes 0 f → NamesBadPlace IsText (IsLargeIn IsText) bytes f
-  names stop.NoMemory s = tt
-  names (stop.Bad place) s = (s.0, s.1, bad_place place s.0 s.1 s.2, s.3)
-  names (stop.TooLarge place) s = (s.0, s.1, bad_place place s.0 s.1 s.2, s.3)
-
   named : {J : Type 0} (r : Result J FileFault) → IfErr r (StopsIn IsText bytes 0) → IfErr (answered bytes r) (NamesBadLine IsText (IsLargeIn IsText) bytes)
   named (Ok j) s = tt
-  named (Err f) s = names_line IsText (IsLargeIn IsText) bytes f (names f s)
+  named (Err f) s = names_line IsText (IsLargeIn IsText) bytes f s
 
   -- and it is inside
   within : (f : FileFault) → StopsIn IsText bytes 0 f → IsInside bytes f
   within stop.NoMemory s = tt
-  within (stop.Bad place) s = s.2.inside
-  within (stop.TooLarge place) s = s.2.inside
+  within (stop.Bad place) s = s.0
+  within (stop.TooLarge place) s = s.0
 
   pub inside : {J : Type 0} (r : Result J FileFault) → IfErr r (StopsIn IsText bytes 0) → IfErr r (IsInside bytes)
   inside r s = IfErr-weaker r (StopsIn IsText bytes 0) (IsInside bytes) within s
@@ -55,8 +42,8 @@ module _ (IsText : List ℕ → Type 0) (bytes : List ℕ) where
         → IsRead Q (answered bytes r)
     only (Ok j) is s t Q to = to j is
     only (Err stop.NoMemory) is s t Q to = refl
-    only (Err (stop.Bad place)) is s t Q to = absurd (s.2.first.none t)
-    only (Err (stop.TooLarge place)) is s t Q to = absurd (s.2.first.none t)
+    only (Err (stop.Bad place)) is s t Q to = absurd (s.1.first.none t)
+    only (Err (stop.TooLarge place)) is s t Q to = absurd (s.1.first.none t)
 
     -- of anything else its first bad line
     pub told : (r : Result J FileFault) → IfOk r Is → IfErr r (StopsIn IsText bytes 0) → ((j : J) → Is j → IsText bytes)
@@ -65,6 +52,6 @@ module _ (IsText : List ℕ → Type 0) (bytes : List ℕ) where
         let ok : IfOk (answered bytes r) (λ _. IsText bytes) = read r is (λ _. IsText bytes) text in
         record {
           refused = named r s;
-          syntax = refused_syntax IsText (IsLargeIn IsText) bytes (answered bytes r) ok (named r s);
-          too_large = refused_too_large IsText (IsLargeIn IsText) bytes (answered bytes r) ok (named r s);
+          syntax = refused_as IsText (IsLargeIn IsText) bytes (answered bytes r) ok (named r s) Syntax;
+          too_large = refused_as IsText (IsLargeIn IsText) bytes (answered bytes r) ok (named r s) TooLarge;
         }

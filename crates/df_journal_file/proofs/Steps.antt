@@ -5,11 +5,12 @@ use Rattle.df_unit.specs.declared.call.Call.TheVariants.{Get}
 use Rattle.df_unit.specs.declared.reply.Reply.TheVariants as reply
 use Rattle.df_journal_text.specs.ReadCall.{call_at}
 use Rattle.df_journal_file.proofs.Fronts.{alike, digit_begins, one_result, same_end}
-use Rattle.df_journal_file.proofs.Opens.{AtHead, bare_parts, called_begins, done_to, effect_parts, emitted_to, none_left, opened, shows_or_not}
-use Rattle.df_journal_file.proofs.Feeds.{CallTold, told_line}
-use Rattle.df_journal_file.proofs.LineKinds.{adds_run, called_kind, entries_begin, label_fits, no_label, note_kind, read_run, spots_run}
+use Rattle.df_journal_file.proofs.Opens.{bare_parts, called_begins, done_to, effect_parts, emitted_to, none_left, opened, shows_or_not}
+use Rattle.df_lines.proofs.Rows.{IsRow, row_some}
+use Rattle.df_journal_file.proofs.Feeds.{CallTold, call_feeds, note_feeds, told_line}
+use Rattle.df_journal_file.proofs.LineKinds.{adds_run, called_kind, entries_begin, label_fits, no_label, read_run, spots_run}
 use Rattle.df_journal_file.proofs.Ontos.{never_stop, onto_here}
-use Rattle.df_journal_file.proofs.Rows.{IsRow, row_some, row_stop, run_none, run_row, then_row}
+use Rattle.df_journal_file.proofs.Rows.{row_stop, run_none, run_row, then_row}
 use Rattle.df_journal_file.specs.code.Marks.{IsUnitHere}
 use Rattle.df_journal_text.specs.ReadName.{unit_at}
 use Rattle.df_journal_text.specs.code.Judging.{answer_at, call_text}
@@ -44,27 +45,27 @@ module _ (has : Bool) where
   shown_some : (bare : Reply) → IsAnswer bare → Begins (ShownFrom has bare) []
   shown_some bare f =
       elim (shows_or_not bare) [
-        | inl p ↦ let r = row_some (read_run has).kind (run_row (read_run has) 0) in (r.0, inr (bare_parts bare p.0 f p.1, r.1))
+        | inl p ↦ let r = row_some (run_row (read_run has) 0) in (r.0, inr (bare_parts bare p.0 f p.1, r.1))
         | inr none ↦ ([], inl (none, inl (none_left has [] (inl refl))))
       ]
 
   -- a contamination that is noted
   pub note_row : (bare : Reply) → IsAnswer bare → IsRow note_line IsLabel (Then note_line IsLabel (ShownFrom has bare)) (λ _. ShownFrom has bare) (λ _. ⊥)
-  note_row bare f = then_row note_line IsLabel (ShownFrom has bare) no_label label_fits (shown_some bare f)
+  note_row bare f = then_row note_line IsLabel (ShownFrom has bare) note_feeds no_label label_fits (shown_some bare f)
 
   note_some : (bare : Reply) → IsAnswer bare → Begins (NoteFrom has bare) []
   note_some bare f =
       elim (noted_or_not has bare) [
         | inl none ↦ let s = shown_some bare f in (s.0, inl (none, s.1))
-        | inr some ↦ let s = row_some note_kind (note_row bare f) in (s.0, inr (some, s.1))
+        | inr some ↦ let s = row_some (note_row bare f) in (s.0, inr (some, s.1))
       ]
 
   -- an entry of a unit
   pub called_row : IsRow told_line IsCalled (EntriesFrom has) (λ c. NoteFrom has c.2) (λ u. EndsFile u ⊎ CommitFrom has (codes "emitted") u)
   called_row = record {
+    feeds = call_feeds;
     from = opened has;
     to = λ c u f n. done_to has _ (c, u, f, n, refl);
-    others = λ u o. elim o [ inl e ↦ none_left has u e | inr m ↦ emitted_to has u m ];
     apart = λ c u f o. one_result (called_begins c u f) (no_digit has _ o);
     same = λ c d f g e u n. subst (λ (r : Reply). NoteFrom has r u) (sym (same_reply c d f g e)) n;
     some = λ c f. note_some c.2 f.2;
@@ -81,7 +82,7 @@ module _ (has : Bool) (bytes : List ℕ) (at : ℕ) where
   no_edit_stop behind end [] [] inside d a none =
       let no_spot : begins_pair 45 32 (drop at bytes) ≡ false = ap (begins_pair 45 32) d.0.parts ∙ d.1 in
       let no_part : begins_pair 43 32 (drop at bytes) ≡ false = ap (begins_pair 43 32) (d.0.parts ∙ a.0.parts) ∙ a.1 in
-      never_stop (EditFrom has 0) bytes at inside (row_some (spots_run has).kind (run_row (spots_run has) 0))
+      never_stop (EditFrom has 0) bytes at inside (row_some (run_row (spots_run has) 0))
       (λ u like t.
       let adds = run_none (spots_run has) 0 u ((alike u _ like 45).1 refl ∙ no_spot) t in
       let some = run_none (adds_run has) 0 u ((alike u _ like 43).1 refl ∙ no_part) adds in omega (arith, some.0))
@@ -92,32 +93,28 @@ module _ (has : Bool) (bytes : List ℕ) (at : ℕ) where
 
   -- a commit, where its mark stands
   pub commit_onto : (r : Reply) → begins_pair 61 32 (drop at bytes) ≡ true → Onto (EffectFrom has r) bytes at (CommitFrom has (codes "=")) at
-  commit_onto r marked = onto_here _ _ _ _ (λ u like t. cut u ((alike u _ like 61).1 refl ∙ marked) t) (λ u t. inr (inl t))
-    where
-      cut : (u : List ℕ) → begins_pair 61 32 u ≡ true → EffectFrom has r u → CommitFrom has (codes "=") u
-      cut u b (inl t) = one_result b (entries_begin has u t 61 refl)
-      cut u b (inr (inl t)) = t
-      cut u b (inr (inr t)) = one_result b (ap (begins_pair 61 32) t.1.4)
+  commit_onto r marked = onto_here _ _ _ _ (λ u like. let b = (alike u _ like 61).1 refl ∙ marked in elim [
+    | inl t ↦ one_result b (entries_begin has u t 61 refl)
+    | inr (inl t) ↦ t
+    | inr (inr t) ↦ one_result b (ap (begins_pair 61 32) t.1.4)
+  ]) (λ u t. inr (inl t))
 
   -- an event that is handed over, where its mark stands
   pub handed_onto : (r : Reply) → IsHanding r → begins_pair 60 32 (drop at bytes) ≡ true → Onto (EffectFrom has r) bytes at (HandedFrom has) at
-  handed_onto r hands marked = onto_here _ _ _ _ (λ u like t. cut u ((alike u _ like 60).1 refl ∙ marked) t) (λ u t. inr (inr (hands, t)))
-    where
-      cut : (u : List ℕ) → begins_pair 60 32 u ≡ true → EffectFrom has r u → HandedFrom has u
-      cut u b (inl t) = one_result b (entries_begin has u t 60 refl)
-      cut u b (inr (inl t)) = one_result b (ap (begins_pair 60 32) t.4)
-      cut u b (inr (inr t)) = t.1
+  handed_onto r hands marked = onto_here _ _ _ _ (λ u like. let b = (alike u _ like 60).1 refl ∙ marked in elim [
+    | inl t ↦ one_result b (entries_begin has u t 60 refl)
+    | inr (inl t) ↦ one_result b (ap (begins_pair 60 32) t.4)
+    | inr (inr t) ↦ t.1
+  ]) (λ u t. inr (inr (hands, t)))
 
   -- nothing, where neither does
   pub nothing_onto : (r : Reply) → begins_pair 61 32 (drop at bytes) ≡ false → (IsHanding r → begins_pair 60 32 (drop at bytes) ≡ false)
       → Onto (EffectFrom has r) bytes at (EntriesFrom has) at
-  nothing_onto r no_commit no_given =
-      onto_here _ _ _ _ (λ u like t. cut u ((alike u _ like 61).1 refl ∙ no_commit) (λ h. (alike u _ like 60).1 refl ∙ no_given h) t) (λ u t. inl t)
-    where
-      cut : (u : List ℕ) → begins_pair 61 32 u ≡ false → (IsHanding r → begins_pair 60 32 u ≡ false) → EffectFrom has r u → EntriesFrom has u
-      cut u a b (inl t) = t
-      cut u a b (inr (inl t)) = one_result (ap (begins_pair 61 32) t.4) a
-      cut u a b (inr (inr t)) = one_result (ap (begins_pair 60 32) t.1.4) (b t.0)
+  nothing_onto r no_commit no_given = onto_here _ _ _ _ (λ u like. elim [
+    | inl t ↦ t
+    | inr (inl t) ↦ one_result (ap (begins_pair 61 32) t.4) ((alike u _ like 61).1 refl ∙ no_commit)
+    | inr (inr t) ↦ one_result (ap (begins_pair 60 32) t.1.4) ((alike u _ like 60).1 refl ∙ no_given t.0)
+  ]) (λ u t. inl t)
 
   -- ---- what a read shows
 
@@ -156,11 +153,9 @@ module _ (has : Bool) (bytes : List ℕ) (at : ℕ) where
 
   -- what the world emitted, where its mark begins
   pub emitted_onto : begins_with 101 (drop at bytes) ≡ true → Onto (EntriesFrom has) bytes at (CommitFrom has (codes "emitted")) at
-  emitted_onto marked =
-      onto_here _ _ _ _ (λ u like t. cut u ((alike u _ like 101).0 ∙ marked) (opened has u t)) (λ u t. emitted_to has u t)
-    where
-      cut : (u : List ℕ) → begins_with 101 u ≡ true → AtHead has u → CommitFrom has (codes "emitted") u
-      cut u b (inl (inl (inl e))) = one_result b (ap (begins_with 101) e)
-      cut u b (inl (inl (inr e))) = one_result b (ap (begins_with 101) e.1)
-      cut u b (inl (inr m)) = m
-      cut u b (inr d) = one_result b (digit_begins 101 u (ap begins_digit d.4 ∙ called_begins d.0 d.1 d.2) refl).0
+  emitted_onto marked = onto_here _ _ _ _ (λ u like t. let b = (alike u _ like 101).0 ∙ marked in elim (opened has u t) [
+    | inl (inl (inl e)) ↦ one_result b (ap (begins_with 101) e)
+    | inl (inl (inr e)) ↦ one_result b (ap (begins_with 101) e.1)
+    | inl (inr m) ↦ m
+    | inr d ↦ one_result b (digit_begins 101 u (ap begins_digit d.4 ∙ called_begins d.0 d.1 d.2) refl).0
+  ]) (λ u t. emitted_to has u t)

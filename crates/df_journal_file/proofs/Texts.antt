@@ -1,14 +1,15 @@
 -- Whole journals: their first line, their roots and their entries; and journals that are gone over.
-use Rattle.df_journal_file.proofs.Names.{ok_is, CursorState, HasPassed, front_text, First, IsJournalOf, Journal, Second, journal_by, EndsFile, IsWholeEntry, IsWholeBy, AreLeft, IsEitherFirst, IsFirstAt, IsText, IsWanted, StopsFirst, first_of, EntriesFrom, HeadFrom, IsHere, Onto, StopsIn, unended, journal_back, noted_text, AreRoots, IsJournal, IsNoteOf, IsNoted, line, start_text, Label, IsLine, ended, FileFault, Bad, roots_text-numbered, run, Avoids-text, AreRootsAt, StopsAt, RootStart, Entry, Done, Emitted, Noted, begins_with, Bool, IsTrue, List, None, Ok, Option, Some, [], ap, append-nil, append_assoc, arith, codes, drop, eqb, false, inl, inr, length, lit<, map, refl, subst, sym, true, ℕ, ◌++◌, ◌+◌, ◌↔◌, ◌∙◌, ◌∷◌, ◌≡◌, ◌≤◌, Decides-eqb, append_cancel_left, drop-drop, flat_map_more, All-map, All-nil, All-push, All-weaker, recursion_from_All, All, AllByRecursion, flat_map, starts_with}
+use Rattle.df_journal_file.proofs.Names.{ok_is, CursorState, HasPassed, front_text, First, IsJournalOf, Journal, Second, journal_by, EndsFile, IsWholeEntry, IsWholeBy, AreLeft, IsEitherFirst, IsFirstAt, IsText, IsWanted, StopsFirst, first_of, EntriesFrom, HeadFrom, IsHere, Onto, StopsIn, unended, journal_back, noted_text, AreRoots, IsJournal, IsNoteOf, IsNoted, line, start_text, Label, IsLine, ended, FileFault, Bad, roots_stand, regroup, Avoids-text, AreRootsAt, StopsAt, RootStart, Entry, Done, Emitted, Noted, begins_with, Bool, IsTrue, List, None, Ok, Option, Some, [], ap, append-nil, append_assoc, arith, codes, drop, eqb, false, inl, inr, length, lit<, map, refl, subst, sym, true, ℕ, ◌++◌, ◌+◌, ◌↔◌, ◌∙◌, ◌∷◌, ◌≡◌, ◌≤◌, Decides-eqb, append_cancel_left, drop-drop, flat_map_more, All-map, All-nil, All-push, All-weaker, recursion_from_All, All, AllByRecursion, flat_map, starts_with}
 use mathlib.Core.Bool.{beq}
 use Rattle.std.proofs.lemmas.List.Folds.{flat_map-map}
 use Rattle.df_lines.specs.declared.fault.FileFault.TheVariants as stop
 use Rattle.df_journal_text.specs.ReadEntry.{EndsJournal, journal_at}
 use Rattle.std.proofs.lemmas.List.{length-drop}
 use Rattle.std.proofs.lemmas.Slice.Eq.{starts_is}
-use Rattle.df_journal_file.proofs.Ontos.{path_onto}
+use Rattle.df_lines.proofs.Rows.{IsRow, leads_as, leads_on}
+use Rattle.df_journal_file.proofs.Ontos.{line_leads}
 use Rattle.df_journal_file.proofs.Roots.{head_some}
-use Rattle.df_journal_file.proofs.Rows.{IsKind, IsRow, bare_kind, bare_stop, line_path, row_stop}
+use Rattle.df_journal_file.proofs.Rows.{IsKind, bare_kind, bare_stop, row_stop}
 
 -- ---- the text of a journal
 
@@ -20,10 +21,6 @@ run_line = line (codes "run") []
 abbrev pub ReadBy : Bool → List ℕ → List RootStart → List Noted → Type 0
 ReadBy has bytes roots ns = (AreRoots roots × All (IsWholeBy has) ns)
     × ((end : List ℕ) × EndsFile end × (bytes ≡ front_text has roots ++ flat_map noted_text ns ++ end))
-
--- the text in other groups
-pub regroup : (first start run entries end : List ℕ) → (((first ++ start) ++ run) ++ entries) ++ end ≡ first ++ (start ++ (run ++ (entries ++ end)))
-regroup first start run entries end = simp append_assoc
 
 -- an entry with a note, without one, and one without its note
 abbrev with_note : Entry → Option Label → Noted
@@ -149,7 +146,7 @@ abbrev first_line : Bool → List ℕ
 first_line has = ended (first_of has)
 
 first_kind : (wanted : Option Bool) → IsKind first_line (IsWanted wanted) (λ _. ⊥)
-first_kind wanted = bare_kind 100 (λ front no. no) (λ has w. record { line = first_of has; free = first_free has; is = refl }) first_byte
+first_kind wanted = bare_kind 100 (λ front no. no) first_byte
 
 some_wanted : (wanted : Option Bool) → (has : Bool) × IsWanted wanted has
 some_wanted (Some has) = (has, refl)
@@ -159,6 +156,7 @@ module _ (wanted : Option Bool) where
   -- the first line, and what stands behind it
   text_row : IsRow first_line (IsWanted wanted) (IsText wanted) (λ has. HeadFrom has 0) (λ _. ⊥)
   text_row = record {
+    feeds = λ has w. record { line = first_of has; free = first_free has; is = refl };
     from = λ u t.
         let j = journal_of wanted u t in
         let r = by_version u j.0 j.2 in
@@ -167,7 +165,6 @@ module _ (wanted : Option Bool) where
         let head : HeadFrom (version_of j.0) 0 (tail_of r.roots r.notes end) = (r.roots, _, omega (arith, r.read.0.0.0), r.read.0.0.1, entries, refl) in
         inr (version_of j.0, tail_of r.roots r.notes end, j.1, head, behind_first (version_of j.0) u r.roots r.notes r.read);
     to = λ has u w h. wanted_text wanted has (first_line has ++ u) w (with_first has u h);
-    others = λ u no. absurd no;
     apart = λ has u w no. no;
     same = λ has k w v e u h. subst (λ (b : Bool). HeadFrom b 0 u) (sym (same_first has k [] [] (ap (λ (l : List ℕ). l ++ []) e)).0) h;
     some = λ has w. head_some has 0 (lit< tt);
@@ -177,7 +174,7 @@ module _ (wanted : Option Bool) where
   -- behind the first line
   pub text_onto : (has : Bool) → IsWanted wanted has → (bytes : List ℕ) (place : ℕ) → IsFirstAt (first_of has) bytes place
       → Onto (IsText wanted) bytes 0 (HeadFrom has 0) place
-  text_onto has w bytes place i = path_onto (line_path (first_kind wanted) text_row has w) bytes 0 place i.1
+  text_onto has w bytes place i = leads_on bytes 0 place (leads_as i.1 (line_leads text_row has w (drop place bytes)))
 
   -- another line is bad
   first_stop : {Is : List ℕ → Type 0} (bytes bad : List ℕ) → ((has : Bool) → IsWanted wanted has → Is (first_of has)) → StopsAt Is bytes bad
@@ -294,7 +291,7 @@ module _ (has : Bool) (bytes : List ℕ) where
     text =
         i.1
         ∙ ap (λ (v : List ℕ). ended (first_of has) ++ v)
-        (r.passed.text ∙ ap (λ (v : List ℕ). v ++ drop r.place bytes) (sym (roots_text-numbered 0 roots)) ∙ ap (λ (v : List ℕ). start_text roots ++ v) r.run)
+        (roots_stand bytes at roots place r)
         ∙ sym (regroup (ended (first_of has)) (start_text roots) run_line [] (drop place bytes));
   }
 

@@ -6,6 +6,7 @@ ghost use Rattle.df_journal_file.specs.code.Places.{AreMarked, IsLineHere, Marke
 use crate::told::Told;
 use df_journal_text::LineFault;
 use df_lines::{FileFault, line_at};
+use df_script_text::fault_of;
 use std::alloc::Global;
 
 /// The bytes up to the next line feed and the place behind it, or all bytes that are left.
@@ -33,9 +34,7 @@ fn finished<X: Drop>(
             Some(next) => Ok((x, next)),
             None => Err(FileFault::Bad(at)),
         },
-        Err(LineFault::Syntax) => Err(FileFault::Bad(at)),
-        Err(LineFault::TooLarge) => Err(FileFault::TooLarge(at)),
-        Err(LineFault::NoMemory) => Err(FileFault::NoMemory),
+        Err(fault) => Err(fault_of(at, fault)),
     }
 }
 

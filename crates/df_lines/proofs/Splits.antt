@@ -11,9 +11,6 @@ use Rattle.df_lines.specs.code.Faults.{line_number}
 abbrev pub pieces : List ℕ → List (List ℕ)
 pieces text = slice_split (λ b. eqb b 10) text
 
-pub some_pieces : (text : List ℕ) → 0 < length (pieces text)
-some_pieces text = omega (arith, length-slice_split (λ b. eqb b 10) text)
-
 -- lines in front of a text
 pub pieces-lines : (ls : List (List ℕ)) (rest : List ℕ) → All IsLine ls → pieces (lines_text ls ++ rest) ≡ ls ++ pieces rest
 pieces-lines [] rest h = refl
@@ -21,10 +18,6 @@ pieces-lines (l ∷ ls) rest h =
     ap pieces (append_assoc (ended l) (lines_text ls) rest ∙ append_assoc l (10 ∷ []) (lines_text ls ++ rest))
     ∙ slice_split_at (λ b. eqb b 10) l 10 (lines_text ls ++ rest) (All-head IsLine l ls h) refl
     ∙ ap (λ (m : List (List ℕ)). l ∷ m) (pieces-lines ls rest (All-tail IsLine l ls h))
-
--- lines alone
-pub pieces-all : (ls : List (List ℕ)) → All IsLine ls → pieces (lines_text ls) ≡ ls ++ [] ∷ []
-pieces-all ls h = ap pieces (sym (append-nil (lines_text ls))) ∙ pieces-lines ls [] h
 
 -- the pieces behind a line
 abbrev pub others : List ℕ → List (List ℕ)
@@ -35,23 +28,12 @@ pub pieces-line : (line behind : List ℕ) → IsLine line → EndsLine behind �
 pieces-line line [] h end = ap pieces (append-nil line) ∙ slice_split_none (λ b. eqb b 10) line h
 pieces-line line (b ∷ bs) h end = ap (λ (c : ℕ). pieces (line ++ c ∷ bs)) end ∙ slice_split_at (λ b. eqb b 10) line 10 bs h refl
 
--- the number of the line in which a place lies
-pub number-line : (text : List ℕ) (place : ℕ) (before : List (List ℕ)) (part : List ℕ) → take place text ≡ lines_text before ++ part → All IsLine before → IsLine part → line_number text place ≡ length before + 1
-number-line text place before part is lines line =
+-- the number of the line that begins at a place
+pub number-line : (text : List ℕ) (place : ℕ) (before : List (List ℕ)) → take place text ≡ lines_text before → All IsLine before
+    → line_number text place ≡ length before + 1
+number-line text place before is lines =
     sym (length-slice_split (λ b. eqb b 10) (take place text))
-    ∙ ap length (ap pieces is ∙ pieces-lines before part lines ∙ ap (λ (m : List (List ℕ)). before ++ m) (slice_split_none (λ b. eqb b 10) part line))
-    ∙ length-append before (part ∷ [])
-
--- all lines but the empty piece behind the last line feed
-pub cut_last : (xs before : List (List ℕ)) (bad : List ℕ) (more : List (List ℕ)) → 0 < length more → xs ++ [] ∷ [] ≡ before ++ bad ∷ more → (rest : List (List ℕ)) × (xs ≡ before ++ bad ∷ rest)
-cut_last [] [] bad more some e = absurd (omega (arith, ap length e))
-cut_last (x ∷ xs) [] bad more some e = let same : x ≡ bad = cc in (xs, ap (λ (l : List ℕ). l ∷ xs) same)
-cut_last [] (b ∷ before) bad more some e = absurd (omega (arith, ap length e, length-append before (bad ∷ more)))
-cut_last (x ∷ xs) (b ∷ before) bad more some e =
-    let head : x ≡ b = cc in
-    let tail : xs ++ [] ∷ [] ≡ before ++ bad ∷ more = cc in
-    let r = cut_last xs before bad more some tail in
-    (r.0, ap (λ (l : List ℕ). l ∷ xs) head ∙ ap (λ (l : List (List ℕ)). b ∷ l) r.1)
+    ∙ ap length (ap pieces (is ∙ sym (append-nil (lines_text before))) ∙ pieces-lines before [] lines) ∙ length-append before ([] ∷ [])
 
 -- two lists of lines that go on alike: they and the next lines are the same, or one goes on with the other's next
 pub either_front : (xs ys : List (List ℕ)) (a b : List ℕ) (us vs : List (List ℕ)) → xs ++ a ∷ us ≡ ys ++ b ∷ vs

@@ -5,6 +5,7 @@ pub use Rattle.df_journal_text.specs.Fits.{AreRoots, IsRoot}
 pub use Rattle.df_journal_text.specs.Line.{line}
 pub use Rattle.df_journal_text.specs.Start.{head_text, root_text, start_text}
 pub use Rattle.df_lines.specs.Lines.{IsLine, ended, lines_text}
+pub use Rattle.df_lines.specs.code.Stops.{StopsAt}
 pub use Rattle.df_lines.specs.declared.refused.BadKind.{BadKind}
 pub use Rattle.df_live.specs.Live.{AnswersAll, AnswersScript, HasLongLine, IsDue, IsPartOfLine, IsTooLong, Leaves}
 pub use Rattle.df_live.specs.code.Stops.{AnswersCall, HasAnswered, IsBadCall, IsBadHead, IsKind, IsLineDue, IsNoCall, IsReading, IsTakenAs, ReadsCall, ReadsRoot, RefusesCall, RefusesHead, Stops, StopsAnswer, StopsHead, StopsLine, StopsTaking, TakesCall, TakesRoot, TakesStart, not_taken}
@@ -13,7 +14,7 @@ pub use Rattle.df_live.specs.declared.lines.Taken.{Taken}
 pub use Rattle.df_live.specs.declared.status.LiveStatus.{LiveStatus}
 pub use Rattle.df_script_text.specs.Script.{IsScript, IsScriptLine, IsScriptText, script_line, script_text}
 pub use Rattle.df_script_text.specs.code.Lines.{call_line, head_lines, numbered, script_lines}
-pub use Rattle.df_script_text.specs.code.Stops.{ArePassed, IsCallLine, IsFirstAt, IsHeadLine, StopsAt}
+pub use Rattle.df_script_text.specs.code.Stops.{ArePassed, IsCallLine, IsFirstAt, IsHeadLine}
 pub use Rattle.df_script_text.specs.declared.line.ScriptLine.{ScriptLine}
 pub use Rattle.df_start.specs.declared.start.RootStart.{RootStart}
 pub use Rattle.df_steps.specs.Steps.{AppendsStep, Records, RecordsScript, journal_of}

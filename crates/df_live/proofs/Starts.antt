@@ -1,5 +1,5 @@
 -- The first bad line of what was left is that of the whole.
-use Rattle.df_live.proofs.Names.{◌≡◌, ℕ, ◌+◌, ◌<◌, ◌≤◌, List, [], ◌∷◌, ◌++◌, length, take, drop, map, codes, eqb, false, Option, Some, None, IfSome, inl, inr, ◌^◌, refl, sym, ap, subst, ◌∙◌, arith, append_assoc, append-nil, length-append, Consumes, flat_map-append, All-nil, Rose, AreRoots, line, root_text, start_text, IsLine, ended, lines_text, BadKind, IsScript, IsScriptText, script_text, call_line, head_lines, numbered, script_lines, ArePassed, IsCallLine, IsFirstAt, IsHeadLine, StopsAt, ScriptLine, RootStart, HasLongLine, IsDue, IsTooLong, IsBadCall, IsBadHead, IsKind, IsLineDue, LiveStatus}
+use Rattle.df_live.proofs.Names.{◌≡◌, ℕ, ◌+◌, ◌<◌, ◌≤◌, List, [], ◌∷◌, ◌++◌, length, take, drop, map, codes, Option, Some, None, IfSome, inl, inr, ◌^◌, refl, sym, ap, subst, ◌∙◌, arith, append_assoc, append-nil, length-append, Consumes, flat_map-append, All-nil, Rose, AreRoots, line, root_text, start_text, IsLine, ended, lines_text, BadKind, IsScript, IsScriptText, script_text, call_line, head_lines, numbered, script_lines, ArePassed, IsCallLine, IsFirstAt, IsHeadLine, StopsAt, ScriptLine, RootStart, HasLongLine, IsDue, IsTooLong, IsBadCall, IsBadHead, IsKind, IsLineDue, LiveStatus}
 use Rattle.std.specs.List.{All}
 use Rattle.std.proofs.Math.Seq.{take-append_seam}
 use Rattle.std.proofs.lemmas.List.{drop_at, length-map}
@@ -7,7 +7,7 @@ use Rattle.df_lines.proofs.FirstBad.{names_line}
 use Rattle.df_lines.proofs.Splits.{number-line}
 use Rattle.df_lines.specs.Kinds.{refused_line}
 use Rattle.df_lines.specs.Refused.{NamesBadLine}
-use Rattle.df_lines.specs.code.Faults.{NamesBadPlace}
+use Rattle.df_lines.specs.code.Stops.{StopsBy}
 use Rattle.df_lines.specs.declared.fault.FileFault.TheVariants as fault
 use Rattle.df_lines.specs.declared.refused.BadKind.TheVariants.{Syntax, TooLarge}
 use Rattle.df_lines.specs.declared.refused.FileRefused.TheVariants as refused
@@ -56,17 +56,17 @@ front_at bytes front rest whole = ap (λ (u : List ℕ). take (length front) u) 
 
 -- a place in the line behind these names it
 named : (bytes : List ℕ) (place n : ℕ) (lines : List (List ℕ)) → take place bytes ≡ lines_text lines → All IsLine lines → n ≡ length lines + 1
-    → NamesBadPlace IsScriptText IsTooLargeIn bytes (fault.Bad place) → NamesBadLine IsScriptText IsTooLargeIn bytes (refused.Syntax n)
+    → StopsBy IsScriptText IsTooLargeIn bytes 0 (fault.Bad place) → NamesBadLine IsScriptText IsTooLargeIn bytes (refused.Syntax n)
 named bytes place n lines front are is names =
     subst (λ (m : ℕ). NamesBadLine IsScriptText IsTooLargeIn bytes (refused.Syntax m))
-    (number-line bytes place lines [] (front ∙ sym (append-nil (lines_text lines))) are (All-nil (λ b. eqb b 10 ≡ false)) ∙ sym is)
+    (number-line bytes place lines front are ∙ sym is)
     (names_line IsScriptText IsTooLargeIn bytes (fault.Bad place) names)
 
 named_large : (bytes : List ℕ) (place n : ℕ) (lines : List (List ℕ)) → take place bytes ≡ lines_text lines → All IsLine lines → n ≡ length lines + 1
-    → NamesBadPlace IsScriptText IsTooLargeIn bytes (fault.TooLarge place) → NamesBadLine IsScriptText IsTooLargeIn bytes (refused.TooLarge n)
+    → StopsBy IsScriptText IsTooLargeIn bytes 0 (fault.TooLarge place) → NamesBadLine IsScriptText IsTooLargeIn bytes (refused.TooLarge n)
 named_large bytes place n lines front are is names =
     subst (λ (m : ℕ). NamesBadLine IsScriptText IsTooLargeIn bytes (refused.TooLarge m))
-    (number-line bytes place lines [] (front ∙ sym (append-nil (lines_text lines))) are (All-nil (λ b. eqb b 10 ≡ false)) ∙ sym is)
+    (number-line bytes place lines front are ∙ sym is)
     (names_line IsScriptText IsTooLargeIn bytes (fault.TooLarge place) names)
 
 -- ---- the first line

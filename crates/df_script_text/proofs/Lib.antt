@@ -2,6 +2,7 @@ mod Names
 pub mod Called
 pub mod Calls
 pub mod Files
+pub mod Heads
 pub mod Numbered
 pub mod RootLines
 pub mod ScriptBacks

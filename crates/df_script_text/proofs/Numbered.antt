@@ -1,5 +1,5 @@
 -- Lines of which each has a number.
-use Rattle.df_script_text.proofs.Names.{◌≡◌, ℕ, ◌+◌, ◌<◌, ◌≤◌, List, [], ◌∷◌, ◌++◌, length, suc, refl, sym, ap, ◌∙◌, arith, add-zero, AllByRecursion, numbered}
+use Rattle.df_script_text.proofs.Names.{◌≡◌, ℕ, ◌+◌, List, [], ◌∷◌, ◌++◌, length, suc, refl, sym, ap, ◌∙◌, arith, add-zero, numbered}
 
 -- one more line behind others
 pub numbered-push : {X : Type 0} (spell : ℕ → X → List ℕ) (n : ℕ) (xs : List X) (x : X)
@@ -13,11 +13,3 @@ numbered-push spell n (y ∷ ys) x =
 pub length-numbered : {X : Type 0} (spell : ℕ → X → List ℕ) (n : ℕ) (xs : List X) → length (numbered spell n xs) ≡ length xs
 length-numbered spell n [] = refl
 length-numbered spell n (x ∷ xs) = ap suc (length-numbered spell (n + 1) xs)
-
--- what holds of each line of what fits
-pub numbered-each : {X : Type 0} (spell : ℕ → X → List ℕ) (P : List ℕ → Type 0) (Fits : X → Type 0) (bound : ℕ)
-    → ((k : ℕ) (x : X) → k < bound → Fits x → P (spell k x)) → (n : ℕ) (xs : List X) → n + length xs ≤ bound → AllByRecursion Fits xs
-    → AllByRecursion P (numbered spell n xs)
-numbered-each spell P Fits bound each n [] le f = tt
-numbered-each spell P Fits bound each n (x ∷ xs) le f =
-    (each n x (omega arith) f.0, numbered-each spell P Fits bound each (n + 1) xs (omega arith) f.1)

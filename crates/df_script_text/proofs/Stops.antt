@@ -1,123 +1,163 @@
 -- Where reading a script stops, there is its first bad line.
-use Rattle.df_script_text.proofs.Names.{◌≡◌, ℕ, ◌+◌, ◌<◌, ◌≤◌, List, [], ◌∷◌, ◌++◌, length, length-drop, take, drop, map, false, eqb, Some, None, Ok, Err, refl, sym, ap, subst, ◌∙◌, arith, append-nil, append_assoc, length-append, zero-add, All, flat_map-append, All-nil, All-push, recursion_from_All, IsLine, ended, lines_text, first_bad, names_line, IsRoot, IsLargeCalled, root_text, RootStart, HasReadUpTo, IsScript, IsScriptLine, IsScriptText, script_line, call_line, head_lines, numbered, script_lines, ArePassed, AreRootsAt, IsCallLine, IsFirstAt, IsHeadLine, RootsStop, StopsAt, StopsCall, StopsFirst, TellsRoot, fault_of, ScriptLine, NamesBadLine, FileFault, IsTooLargeIn, IsNoLine}
-use Rattle.df_lines.specs.code.Faults.{IsBadPlace, NamesBadPlace, TellsLine, refusal}
+use Rattle.df_script_text.proofs.Names.{◌≡◌, ℕ, ◌+◌, ◌<◌, ◌↔◌, ◌⊎◌, List, [], ◌∷◌, ◌++◌, length, length-drop, drop, None, Some, Err, Ok, refl, sym, ap, subst, ◌∙◌, inl, inr, arith, true, false, append-nil, append_assoc, append_cancel_left, length-append, zero-add, All, flat_map, flat_map_more, lit<, All-nil, All-cons, All-head, All-tail, All-push, begins_with, IsLine, ended, lines_text, names_line, IsRoot, IsLargeCalled, root_text, start_text, RootStart, HasReadUpTo, IsScriptLine, IsScriptText, script_line, script_text, call_line, numbered, ArePassed, AreRootsAt, CallsFrom, HeadFrom, IsCallLine, IsFirstAt, RootsStop, StopsAt, StopsBy, StopsCall, StopsFirst, TellsRoot, fault_of, ScriptLine, NamesBadLine, FileFault, IsTooLargeIn, IsNoLine, Root, Begins, IsFed, IsKind, IsRow, IsStop, Leads, Like, leads, leads_as, leads_on, row_leads, row_some, row_stop, stop_here, stops_as, unended}
+use Rattle.df_lines.specs.code.Stops.{IsSpelled}
+use Rattle.df_lines.specs.code.Faults.{TellsLine, refusal}
+use Rattle.df_lines.specs.declared.refused.BadKind.{BadKind}
+use Rattle.df_lines.specs.declared.refused.BadKind.TheVariants.{Syntax, TooLarge}
 use Rattle.df_lines.specs.declared.refused.FileRefused.{FileRefused}
 use Rattle.df_journal_text.specs.declared.line_fault.LineFault.{LineFault}
 use Rattle.df_lines.specs.declared.refused.FileRefused.TheVariants as refused
 use Rattle.df_lines.specs.declared.fault.FileFault.TheVariants as fault
 use Rattle.df_journal_text.specs.code.Judging.{TellsLine as Told}
 use Rattle.df_journal_text.specs.declared.line_fault.LineFault.TheVariants as line_fault
-use Rattle.df_script_text.proofs.Files.{run, first, script_text-lines, AreLines-head, AreLines-script, next_head, no_run, next_call, front_is, roots_before, start_before, script_grammar}
+use Rattle.df_unit.specs.declared.call.Call.TheVariants.{Get}
+use Rattle.df_script_text.proofs.Calls.{Avoids-call}
+use Rattle.df_script_text.proofs.Files.{IsLine-first, run, first, regroup, roots_stand, roots_text-numbered}
+use Rattle.df_script_text.proofs.Heads.{heads_lead, heads_stop}
 use Rattle.df_script_text.proofs.Numbered.{numbered-push}
 use Rattle.df_script_text.proofs.ScriptLines.{made_small}
-use Rattle.std.proofs.lemmas.List.{map-append}
 
 -- ---- loops
-
--- one more line
-lines_push : (ls : List (List ℕ)) (l rest : List ℕ) → lines_text ls ++ (ended l ++ rest) ≡ lines_text (ls ++ l ∷ []) ++ rest
-lines_push ls l rest =
-    sym (append_assoc (lines_text ls) (ended l) rest)
-    ∙ ap (λ (u : List ℕ). u ++ rest) (ap (λ (u : List ℕ). lines_text ls ++ u) (sym (append-nil (ended l))) ∙ sym (flat_map-append ended ls (l ∷ [])))
 
 pub roots_more : (bytes : List ℕ) (at place : ℕ) (rs ss : List RootStart) (r : RootStart) (next n : ℕ) → n ≡ length rs → ArePassed bytes at rs place
     → TellsRoot n bytes place (Some (r, next)) → ss ≡ rs ++ r ∷ [] → ArePassed bytes at ss next
 roots_more bytes at place rs ss r next n is a t pushed =
+    let lines : List (List ℕ) = numbered root_text 0 rs in
+    let more = ap (λ (k : ℕ). lines ++ root_text k r ∷ []) (is ∙ sym (zero-add (length rs))) ∙ sym (numbered-push root_text 0 rs r) in
     subst (λ (ss : List RootStart). ArePassed bytes at ss next) (sym pushed) (record {
       inside = t.2;
       few = omega (arith, t.0, is, length-append rs (r ∷ []));
       fit = All-push IsRoot rs r a.fit t.3;
       text =
-          a.text ∙ ap (λ (u : List ℕ). lines_text (numbered root_text 0 rs) ++ u) t.4 ∙ lines_push (numbered root_text 0 rs) (root_text n r) (drop next bytes)
-          ∙ ap (λ (k : ℕ). lines_text (numbered root_text 0 rs ++ root_text k r ∷ []) ++ drop next bytes) (is ∙ sym (zero-add (length rs)))
-          ∙ ap (λ (m : List (List ℕ)). lines_text m ++ drop next bytes) (sym (numbered-push root_text 0 rs r));
+          a.text ∙ ap (λ (u : List ℕ). lines_text lines ++ u) t.4 ∙ sym (append_assoc (lines_text lines) (ended (root_text n r)) (drop next bytes))
+          ∙ ap (λ (u : List ℕ). u ++ drop next bytes) (flat_map_more ended [] lines (root_text n r) ∙ ap lines_text more);
     })
 
--- ---- the first bad line
+-- ---- calls
 
--- the roots and the calls of a script
-abbrev Script : Type 0
-Script = List RootStart × List ScriptLine
+-- whatever stands in front, a value in the line of a call is too large
+abbrev IsLargeCall : List (List ℕ) → List ℕ → Type 0
+IsLargeCall before bad = IsLargeCalled bad
 
--- behind the lines of the head no value stands
-not_large_first : (bad : List ℕ) → ¬ IsTooLargeIn [] bad
-not_large_first bad l = let n = length-append l.0.0 (run ∷ l.0.1) in omega (arith, ap length l.0.2, n)
+-- none, or one in front of more
+first_call : (u : List ℕ) (ls : List ScriptLine) → All IsScriptLine ls → u ≡ flat_map script_line ls
+    → (u ≡ []) ⊎ ((l : ScriptLine) × (rest : List ℕ) × IsScriptLine l × CallsFrom rest × (u ≡ script_line l ++ rest))
+first_call u [] f e = inl e
+first_call u (l ∷ ls) f e = inr (l, _, All-head IsScriptLine l ls f, (ls, All-tail IsScriptLine l ls f, refl), e)
 
-not_large_head : (rs : List RootStart) (bad : List ℕ) → ¬ IsTooLargeIn (head_lines rs) bad
-not_large_head rs bad l = behind l.0.0 l.0.1 l.0.2
-  where
-    behind : (head calls : List (List ℕ)) → head_lines rs ≡ head ++ run ∷ calls → ⊥
-    behind [] calls e = let same : first ≡ run = cc in omega (arith, ap length same)
-    behind (h ∷ head) calls e = let tail : numbered root_text 0 rs ≡ head ++ run ∷ calls = cc in no_run 0 rs head calls tail
-
--- a place is in the first bad line where lines of a script stand before it, and none of a script goes on with this one
-bad_at : (Is : List ℕ → Type 0) (bytes : List ℕ) (before : List (List ℕ)) (place here : ℕ) (bad : List ℕ) → place ≤ length bytes
-    → bytes ≡ lines_text before ++ drop place bytes → here ≡ place → StopsAt Is (drop place bytes) bad → All IsLine before
-    → (x : Script) → IsScript x.0 x.1 → (more : List (List ℕ)) → script_lines x ≡ before ++ more
-    → ((x : Script) → IsScript x.0 x.1 → (rest : List (List ℕ)) → script_lines x ≡ before ++ bad ∷ rest → Is bad)
-    → (drop place bytes ≡ [] → (x : Script) → IsScript x.0 x.1 → script_lines x ≡ before → ⊥) → IsBadPlace IsScriptText bytes here before bad
-bad_at Is bytes before place here bad inside whole at stop lines x fits more is next last = record {
-  first = first_bad script_lines (λ s. IsScript s.0 s.1) IsScriptText script_grammar bytes before bad stop.behind
-      (whole ∙ ap (λ (u : List ℕ). lines_text before ++ u) stop.parts) lines stop.line stop.end x fits more is
-      (λ more feed y f rest e. stop.refused more feed (next y f rest e))
-      (λ none nothing y f e. last (stop.parts ∙ ap (λ (u : List ℕ). u ++ stop.behind) none ∙ nothing) y f e);
-  part = [];
-  parts = ap (λ (k : ℕ). take k bytes) at ∙ front_is bytes (lines_text before) place inside whole ∙ sym (append-nil (lines_text before));
-  line = All-nil (λ b. eqb b 10 ≡ false);
+abbrev calls_row : IsRow script_line IsScriptLine CallsFrom (λ _. CallsFrom) (λ u. u ≡ [])
+calls_row = record {
+  feeds = λ l f. record { line = call_line l; free = Avoids-call l f; is = refl };
+  from = λ u t. first_call u t.0 t.1 t.2;
+  to = λ l u f t. (l ∷ t.0, All-cons IsScriptLine l t.0 f t.1, ap (λ (v : List ℕ). script_line l ++ v) t.2);
+  apart = λ l u f e. omega (arith, ap length e, length-append (script_line l) u, length-append (call_line l) (10 ∷ []));
+  same = λ l m f g e u t. t;
+  some = λ l f. ([], ([], All-nil IsScriptLine, refl));
+  one = (record { actor = Root (0 ∷ []); call = Get }, ((lit< tt, tt), tt));
 }
 
-pub first_stop : (bytes : List ℕ) (f : FileFault) → StopsFirst bytes f → NamesBadPlace IsScriptText IsTooLargeIn bytes f
+calls_lead : (ls : List ScriptLine) (t : List ℕ) → All IsScriptLine ls
+    → Leads CallsFrom IsLargeCall (flat_map script_line ls ++ t) CallsFrom IsLargeCall t
+calls_lead [] t f left kind s = s
+calls_lead (l ∷ ls) t f left kind s =
+    leads_as (append_assoc (script_line l) (flat_map script_line ls) t)
+    (row_leads calls_row l (All-head IsScriptLine l ls f) (λ before bad. (λ h. h, λ h. h)) _) left kind
+    (calls_lead ls t (All-tail IsScriptLine l ls f) left kind s)
+
+-- where bytes are left, a text that begins like them isn't empty
+some_left : (here : List ℕ) → 0 < length here → (u : List ℕ) → Like (λ _. ⊥) u here → ¬ (u ≡ [])
+some_left here some u (inl e) none = omega (arith, some, ap length (sym e ∙ none))
+some_left here some u (inr (inl f)) none = omega (arith, ap length (sym f.4 ∙ none), length-append f.0 (10 ∷ f.1))
+some_left here some u (inr (inr f)) none = f.3
+
+-- a line that is none of a call is bad
+call_bad : (bytes : List ℕ) (at place : ℕ) → place ≡ at → at < length bytes → (bad : List ℕ) → StopsAt IsCallLine (drop at bytes) bad
+    → (kind : BadKind) → IsKind kind (IsLargeCalled bad) → IsStop CallsFrom IsLargeCall (drop at bytes) (drop place bytes) kind
+call_bad bytes at place is some bad s kind told =
+    subst (λ (p : ℕ). IsStop CallsFrom IsLargeCall (drop at bytes) (drop p bytes) kind) (sym is)
+    (row_stop calls_row (λ _. ⊥) (drop at bytes) (some_left (drop at bytes) (omega (arith, some, length-drop at bytes))) bad
+    (stops_as {Is = IsSpelled script_line IsScriptLine} (λ k. (k.0, k.1, unended bad (call_line k.0) k.2)) s) kind told)
+
+call_stop : (bytes : List ℕ) (at : ℕ) (f : FileFault) → StopsCall bytes at f → StopsBy CallsFrom IsLargeCall bytes at f
+call_stop bytes at fault.NoMemory s = tt
+call_stop bytes at (fault.Bad place) s = (omega (arith, s.0, s.1), call_bad bytes at place s.0 s.1 s.2.0 s.2.1 Syntax s.2.2)
+call_stop bytes at (fault.TooLarge place) s = (omega (arith, s.0, s.1), call_bad bytes at place s.0 s.1 s.2.0 s.2.1 TooLarge s.2.2)
+
+-- ---- where a value is too large
+
+-- not in the first line
+large_first : (bad : List ℕ) → ¬ IsTooLargeIn [] bad
+large_first bad l = let n = length-append l.0.0 (run ∷ l.0.1) in omega (arith, ap length l.0.2, n)
+
+-- behind another line than `run` as behind those in front of it
+large_past : (l : List ℕ) → begins_with 114 l ≡ false → (before : List (List ℕ)) (bad : List ℕ)
+    → IsTooLargeIn before bad ↔ IsTooLargeIn (l ∷ before) bad
+large_past l other before bad =
+    (λ g. ((l ∷ g.0.0, g.0.1, ap (λ (m : List (List ℕ)). l ∷ m) g.0.2), g.1), λ g. (cut g.0.0 g.0.1 g.0.2, g.1))
+  where
+    cut : (head calls : List (List ℕ)) → l ∷ before ≡ head ++ run ∷ calls → (head calls : List (List ℕ)) × (before ≡ head ++ run ∷ calls)
+    cut [] calls e = absurd (let same : l ≡ run = cc in let no : true ≡ false = ap (begins_with 114) (sym same) ∙ other in cc)
+    cut (h ∷ head) calls e = (head, calls, cc)
+
+-- behind `run` as in the line of a call
+large_run : (before : List (List ℕ)) (bad : List ℕ) → IsLargeCalled bad ↔ IsTooLargeIn (run ∷ before) bad
+large_run before bad = (λ l. (([], before, refl), l), λ l. l.1)
+
+-- ---- the first line
+
+-- a script in other groups
+groups : (rs : List RootStart) (ls : List ScriptLine) → script_text rs ls ≡ ended first ++ (start_text rs ++ (ended run ++ flat_map script_line ls))
+groups rs ls =
+    append_assoc (ended first ++ start_text rs) (ended run) (flat_map script_line ls)
+    ∙ append_assoc (ended first) (start_text rs) (ended run ++ flat_map script_line ls)
+
+behind_first : (u : List ℕ) → IsScriptText (ended first ++ u) → HeadFrom CallsFrom 0 u
+behind_first u (rs, ls, f, e) =
+    (rs, _, omega (arith, f.0.0), f.0.1, (ls, f.1, refl), append_cancel_left (ended first) u _ (e ∙ groups rs ls))
+
+with_first : (u : List ℕ) → HeadFrom CallsFrom 0 u → IsScriptText (ended first ++ u)
+with_first u (rs, rest, few, fit, (ls, calls, is), e) =
+    let text = e ∙ ap (λ (v : List ℕ). start_text rs ++ (ended run ++ v)) is in
+    (rs, ls, ((omega (arith, few), fit), calls), ap (λ (v : List ℕ). ended first ++ v) text ∙ sym (groups rs ls))
+
+first_leads : (t : List ℕ) → Leads IsScriptText IsTooLargeIn (ended first ++ t) (HeadFrom CallsFrom 0) IsTooLargeIn t
+first_leads t =
+    let l : IsFed (ended first) = record { line = first; free = IsLine-first; is = refl } in
+    leads l behind_first with_first (large_past first refl) t
+
+no_script : Begins IsScriptText []
+no_script = (script_text [] [], ([], [], ((lit< tt, All-nil IsRoot), All-nil IsScriptLine), refl))
+
+pub first_stop : (bytes : List ℕ) (f : FileFault) → StopsFirst bytes f → StopsBy IsScriptText IsTooLargeIn bytes 0 f
 first_stop bytes fault.NoMemory s = tt
-first_stop bytes (fault.Bad here) s =
-    let bad = s.1.0 in (
-      [],
-      bad,
-      bad_at (λ line. line ≡ first) bytes [] 0 here bad (omega arith) refl s.0 s.1.1 (All-nil IsLine) ([], [])
-          ((omega arith, All-nil IsRoot), All-nil IsScriptLine) (script_lines ([], [])) refl
-          (λ x f rest e. let same : bad ≡ first = cc in same) (λ none x f e. cc),
-      not_large_first bad,
+first_stop bytes (fault.Bad place) s =
+    subst (λ (p : ℕ). StopsBy IsScriptText IsTooLargeIn bytes 0 (fault.Bad p)) (sym s.0) (
+      omega arith,
+      stop_here (λ _. ⊥) IsScriptText (λ line. line ≡ first) bytes
+          (λ u like t. (first, _, IsLine-first, refl, t.3 ∙ groups t.0 t.1 ∙ append_assoc first (10 ∷ []) _)) no_script s.1.0 s.1.1 Syntax
+          (large_first s.1.0),
     )
-first_stop bytes (fault.TooLarge here) s = absurd s
+first_stop bytes (fault.TooLarge place) s = absurd s
 
-pub roots_stop : (bytes : List ℕ) (at : ℕ) (f : FileFault) → IsFirstAt bytes at → RootsStop bytes at f → NamesBadPlace IsScriptText IsTooLargeIn bytes f
-roots_stop bytes at fault.NoMemory i s = tt
-roots_stop bytes at (fault.Bad here) i s =
-    let rs = s.0 in
-    let bad = s.3.1.0 in (
-      head_lines rs,
-      bad,
-      bad_at (IsHeadLine (length rs)) bytes (head_lines rs) s.1 here bad s.2.inside (roots_before bytes at rs s.1 i s.2) s.3.0 s.3.1.1
-          (AreLines-head rs s.2.few s.2.fit) (rs, []) ((s.2.few, s.2.fit), All-nil IsScriptLine) (run ∷ []) refl
-          (λ x f rest e.
-          let tail : numbered root_text 0 x.0 ++ run ∷ map call_line x.1 ≡ numbered root_text 0 rs ++ bad ∷ rest = cc in
-          next_head 0 (length rs) rs x.0 (map call_line x.1) bad rest (sym (zero-add (length rs))) (recursion_from_All IsRoot x.0 f.0.1)
-          (omega (arith, f.0.0)) tail)
-          (λ none x f e.
-          let tail : numbered root_text 0 rs ≡ numbered root_text 0 x.0 ++ run ∷ map call_line x.1 = cc in
-          no_run 0 rs (numbered root_text 0 x.0) (map call_line x.1) tail),
-      not_large_head rs bad,
-    )
-roots_stop bytes at (fault.TooLarge here) i s = absurd s.3
+-- ---- behind the first line
 
--- a line among those of calls
-call_stop : (bytes : List ℕ) (rs : List RootStart) (ls : List ScriptLine) (place here : ℕ) (bad : List ℕ) → HasReadUpTo bytes rs ls place → here ≡ place
-    → place < length bytes → StopsAt IsCallLine (drop place bytes) bad → IsBadPlace IsScriptText bytes here (script_lines (rs, ls)) bad
-call_stop bytes rs ls place here bad h is some stop =
-    bad_at IsCallLine bytes (script_lines (rs, ls)) place here bad h.inside (h.text ∙ ap (λ (u : List ℕ). u ++ drop place bytes) (script_text-lines rs ls))
-    is stop (AreLines-script rs ls h.script.0.0 h.script.0.1 h.script.1) (rs, ls) h.script [] (sym (append-nil (script_lines (rs, ls))))
-    (λ x f rest e.
-    let both = e ∙ append_assoc (head_lines rs) (run ∷ map call_line ls) (bad ∷ rest) in
-    let tail : numbered root_text 0 x.0 ++ run ∷ map call_line x.1 ≡ numbered root_text 0 rs ++ run ∷ (map call_line ls ++ bad ∷ rest) = cc in
-    next_call 0 rs x.0 ls x.1 bad rest (recursion_from_All IsScriptLine x.1 f.1) tail)
-    (λ none x f e. omega (arith, some, ap length none, length-drop place bytes))
+pub roots_stop : (bytes : List ℕ) (at : ℕ) (f : FileFault) → IsFirstAt bytes at → RootsStop bytes at f → StopsBy IsScriptText IsTooLargeIn bytes 0 f
+roots_stop bytes at f i s =
+    leads_on bytes 0 at (leads_as i.1 (first_leads (drop at bytes))) f
+    (heads_stop CallsFrom (row_some calls_row) (λ _. IsTooLargeIn) IsLargeCall (λ n few r f. large_past (root_text n r) refl) (λ n few. large_run)
+    (λ n few. large_first) bytes at f s)
 
 pub calls_stop : (bytes : List ℕ) (rs : List RootStart) (ls : List ScriptLine) (place : ℕ) (f : FileFault) → HasReadUpTo bytes rs ls place
-    → StopsCall bytes place f → NamesBadPlace IsScriptText IsTooLargeIn bytes f
-calls_stop bytes rs ls place fault.NoMemory h s = tt
-calls_stop bytes rs ls place (fault.Bad here) h s =
-    (script_lines (rs, ls), s.2.0, call_stop bytes rs ls place here s.2.0 h s.0 s.1 s.2.1, λ l. s.2.2 l.1)
-calls_stop bytes rs ls place (fault.TooLarge here) h s =
-    (script_lines (rs, ls), s.2.0, call_stop bytes rs ls place here s.2.0 h s.0 s.1 s.2.1, ((head_lines rs, map call_line ls, refl), s.2.2))
+    → StopsCall bytes place f → StopsBy IsScriptText IsTooLargeIn bytes 0 f
+calls_stop bytes rs ls place f h s =
+    let t : List ℕ = drop place bytes in
+    let calls : List ℕ = flat_map script_line ls ++ t in
+    let text = h.text ∙ regroup (ended first) (start_text rs) (ended run) (flat_map script_line ls) t
+    ∙ ap (λ (u : List ℕ). ended first ++ (u ++ (ended run ++ calls))) (roots_text-numbered 0 rs) in
+    let heads = heads_lead CallsFrom (row_some calls_row) (λ _. IsTooLargeIn) IsLargeCall (λ n few r f. large_past (root_text n r) refl)
+    (λ n few. large_run) (λ n few. large_first) rs calls h.script.0.0 h.script.0.1 in
+    leads_on bytes 0 place
+    (leads_as text (λ left kind k. first_leads _ left kind (heads left kind (calls_lead ls t h.script.1 left kind k)))) f (call_stop bytes place f s)
 
 -- why the next call isn't read, as it is told to callers
 pub calls_refused : (bytes : List ℕ) (rs : List RootStart) (ls : List ScriptLine) (place : ℕ) (f : FileFault) (r : FileRefused)
@@ -167,28 +207,28 @@ run_at bytes at line next is l =
 
 -- ---- scripts up to a place
 
-pub start_read : (bytes : List ℕ) (at : ℕ) (rs : List RootStart) (mid : ℕ) → IsFirstAt bytes at → AreRootsAt bytes at rs mid → HasReadUpTo bytes rs [] mid
-start_read bytes at rs mid i r =
-    record { inside = r.inside; script = ((r.passed.few, r.passed.fit), All-nil IsScriptLine); text = start_before bytes at rs mid i r }
+pub start_read : (bytes : List ℕ) (at : ℕ) (rs : List RootStart) (mid : ℕ) → IsFirstAt bytes at → AreRootsAt bytes at rs mid
+    → HasReadUpTo bytes rs [] mid
+start_read bytes at rs mid i r = record {
+  inside = r.inside;
+  script = ((r.passed.few, r.passed.fit), All-nil IsScriptLine);
+  text =
+      i.1 ∙ ap (λ (u : List ℕ). ended first ++ u) (roots_stand bytes at rs mid r)
+      ∙ sym (regroup (ended first) (start_text rs) (ended run) [] (drop mid bytes));
+}
 
 -- one more call
 pub call_read : (bytes : List ℕ) (rs : List RootStart) (ls : List ScriptLine) (l : ScriptLine) (place : ℕ) (line : List ℕ) (next : ℕ)
     → HasReadUpTo bytes rs ls place → TellsLine bytes place (Some (line, next)) → Told script_line IsScriptLine IsLargeCalled line (Ok l)
     → HasReadUpTo bytes rs (ls ++ l ∷ []) next
-call_read bytes rs ls l place line next h t read =
-    let more : script_lines (rs, ls) ++ call_line l ∷ [] ≡ script_lines (rs, ls ++ l ∷ []) =
-    append_assoc (head_lines rs) (run ∷ map call_line ls) (call_line l ∷ [])
-    ∙ ap (λ (m : List (List ℕ)). head_lines rs ++ run ∷ m) (sym (map-append call_line ls (l ∷ []))) in
-    record {
-      inside = t.2;
-      script = (h.script.0, All-push IsScriptLine ls l h.script.1 read.0);
-      text =
-          h.text ∙ ap (λ (u : List ℕ). u ++ drop place bytes) (script_text-lines rs ls)
-          ∙ ap (λ (u : List ℕ). lines_text (script_lines (rs, ls)) ++ u) (line_is bytes place line next t ∙ ap (λ (u : List ℕ). u ++ drop next bytes) read.1)
-          ∙ lines_push (script_lines (rs, ls)) (call_line l) (drop next bytes)
-          ∙ ap (λ (m : List (List ℕ)). lines_text m ++ drop next bytes) more
-          ∙ ap (λ (u : List ℕ). u ++ drop next bytes) (sym (script_text-lines rs (ls ++ l ∷ [])));
-    }
+call_read bytes rs ls l place line next h t read = record {
+  inside = t.2;
+  script = (h.script.0, All-push IsScriptLine ls l h.script.1 read.0);
+  text =
+      h.text ∙ ap (λ (u : List ℕ). script_text rs ls ++ u) (line_is bytes place line next t ∙ ap (λ (u : List ℕ). u ++ drop next bytes) read.1)
+      ∙ sym (append_assoc (script_text rs ls) (script_line l) (drop next bytes))
+      ∙ ap (λ (u : List ℕ). u ++ drop next bytes) (flat_map_more script_line (ended first ++ start_text rs ++ ended run) ls l);
+}
 
 -- what is a script is refused only for want of memory
 pub only_refused : (bytes : List ℕ) (r : FileRefused) → NamesBadLine IsScriptText IsTooLargeIn bytes r → IsScriptText bytes → r ≡ refused.NoMemory

@@ -1,3 +1,4 @@
 pub mod Common
+pub mod Languages
 pub mod Lines
 pub mod Stops

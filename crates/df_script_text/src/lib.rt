@@ -13,6 +13,6 @@ pub use call::{call_at, common_call_at, root_call_at};
 pub use common::{CommonLine, RootLine};
 pub use file::read_script;
 pub use laws::{a_script_is_read_back, a_text_is_one_script};
-pub use line::{ReadLine, ScriptLine, read_line};
+pub use line::{ReadLine, ScriptLine, fault_of, read_line};
 pub use reader::ScriptReader;
 pub use root::{read_root, roots_at};

@@ -2,7 +2,8 @@
 
 ghost use Rattle.std.specs.Prelude.{◌≡◌, ◌≤◌, ◌<◌, ◌++◌, ◌∷◌, List, [], length, option_map, IfErr, IfNone, IfOk, IfSome};
 ghost use Rattle.df_lines.specs.Refused.{NamesBadLine};
-ghost use Rattle.df_lines.specs.code.Faults.{IsInside, NamesBadPlace};
+ghost use Rattle.df_lines.specs.code.Faults.{IsInside};
+ghost use Rattle.df_lines.specs.code.Stops.{StopsBy};
 ghost use Rattle.df_start.specs.declared.start.RootStart.{RootStart};
 ghost use Rattle.df_journal_text.specs.Front.{call_front};
 ghost use Rattle.df_journal_text.specs.Ask.{asked};
@@ -63,7 +64,7 @@ fn first_at(bytes: &[u8]) -> Result<usize, FileFault>
 fn start_at(alloc: Global, bytes: &[u8]) -> Result<(Start, usize), FileFault>
     ensures read { IfOk result (λ s. HasReadUpTo bytes.now s.0 [] s.1) }
     ensures inside { IfErr result (IsInside bytes.now) }
-    ensures names { IfErr result (NamesBadPlace IsScriptText IsTooLargeIn bytes.now) }
+    ensures stops { IfErr result (StopsBy IsScriptText IsTooLargeIn bytes.now 0) }
 {
     let roots = first_at(bytes)?;
     roots_at(alloc, bytes, roots)

@@ -3,11 +3,11 @@ use Rattle.std.specs.Prelude.{◌≡◌, ℕ, ◌≤◌, Bool, true, false, List
 use Rattle.std.specs.List.{All, flat_map}
 use Rattle.df_lines.specs.Lines.{ended}
 use Rattle.df_lines.specs.code.Faults.{refusal}
+use Rattle.df_lines.specs.code.Stops.{StopsAt}
 use Rattle.df_lines.specs.declared.fault.FileFault.{FileFault}
 use Rattle.df_lines.specs.declared.fault.FileFault.TheVariants as stop
 use Rattle.df_lines.specs.declared.refused.FileRefused.{FileRefused}
 use Rattle.df_unit.specs.declared.entry.Noted.{Noted}
-use Rattle.df_script_text.specs.code.Stops.{StopsAt}
 use Rattle.df_journal_text.specs.Entry.{noted_text}
 use Rattle.df_journal_file.specs.Either.{IsEitherText}
 use Rattle.df_journal_file.specs.Journal.{EndsFile, IsNotedText, IsPlainText}

@@ -1,7 +1,7 @@
 -- What may stand in a journal from a place on: the rest of an entry, further entries and an end.
-use Rattle.std.specs.Prelude.{◌≡◌, ℕ, ◌+◌, ◌<◌, ◌^◌, Bool, false, List, [], ◌++◌, length, codes, ◌⊎◌}
+use Rattle.std.specs.Prelude.{◌≡◌, ℕ, ◌+◌, ◌<◌, Bool, false, List, [], ◌++◌, length, codes, ◌⊎◌}
 use Rattle.std.specs.List.{All, flat_map}
-use Rattle.df_start.specs.declared.start.RootStart.{RootStart}
+use Rattle.df_script_text.specs.code.Languages as script
 use Rattle.df_unit.specs.declared.call.Call.{Call}
 use Rattle.df_unit.specs.declared.entry.Noted.{Noted}
 use Rattle.df_unit.specs.declared.name.UnitName.{UnitName}
@@ -10,9 +10,7 @@ use Rattle.df_unit.specs.declared.reply.Reply.{Reply}
 use Rattle.df_unit.specs.declared.reply.Reply.TheVariants as reply
 use Rattle.df_value_text.specs.Fits.{IsLabel}
 use Rattle.df_journal_text.specs.Entry.{call_line, noted_text, part_line, read_line, spot_line}
-use Rattle.df_journal_text.specs.Fits.{IsCalled, IsEvent, IsPart, IsPartRead, IsRoot, IsSpot}
-use Rattle.df_journal_text.specs.Line.{line}
-use Rattle.df_journal_text.specs.Start.{roots_text}
+use Rattle.df_journal_text.specs.Fits.{IsCalled, IsEvent, IsPart, IsPartRead, IsSpot}
 use Rattle.df_journal_file.specs.Below.{event_line, note_line}
 use Rattle.df_journal_file.specs.Journal.{EndsFile}
 use Rattle.df_journal_file.specs.code.Entries.{IsWholeBy}
@@ -98,6 +96,4 @@ DoneFrom has s = (c : UnitName × Call × Reply) × (rest : List ℕ) × IsCalle
 
 -- the lines of roots, of which the first has this number, the line `run`, and entries
 abbrev pub HeadFrom : Bool → ℕ → List ℕ → Type 0
-HeadFrom has n s = (roots : List RootStart) × (rest : List ℕ) × (n + length roots < 2 ^ 32)
-    × All IsRoot roots × EntriesFrom has rest
-    × (s ≡ roots_text n roots ++ (line (codes "run") [] ++ rest))
+HeadFrom has n s = script.HeadFrom (EntriesFrom has) n s

@@ -1,13 +1,13 @@
 -- What is read from a place on, line by line, and why reading stops there.
 use Rattle.std.specs.Prelude.{◌≡◌, ℕ, ◌<◌, ◌≤◌, true, false, List, ◌∷◌, ◌++◌, length, drop, Option, Some, None, Result, Ok, Err, ⊤}
 use Rattle.std.specs.List.{All, flat_map}
-use Rattle.df_lines.specs.Lines.{IsLine, ended}
+use Rattle.df_lines.specs.Lines.{IsLine}
+use Rattle.df_lines.specs.code.Stops.{IsSpelled, StopsAt}
 use Rattle.df_lines.specs.declared.fault.FileFault.{FileFault}
 use Rattle.df_lines.specs.declared.fault.FileFault.TheVariants as stop
 use Rattle.df_journal_text.specs.ReadWords.{begins_pair}
 use Rattle.df_journal_text.specs.declared.line_fault.LineFault.{LineFault}
-use Rattle.df_journal_text.specs.declared.line_fault.LineFault.TheVariants as fault
-use Rattle.df_script_text.specs.code.Stops.{StopsAt}
+use Rattle.df_script_text.specs.code.Stops.{fault_of}
 
 -- the bytes up to the next line feed and the place behind it, or all that is left
 abbrev pub IsLineHere : List ℕ → ℕ → List ℕ × Option ℕ → Type 0
@@ -19,13 +19,7 @@ IsLineHere bytes at (line, None) = IsLine line × (line ≡ drop at bytes)
 abbrev pub finished : {X : Type 0} → ℕ → Option ℕ → Result X LineFault → Result (X × ℕ) FileFault
 finished at (Some next) (Ok x) = Ok (x, next)
 finished at None (Ok x) = Err (stop.Bad at)
-finished at next (Err fault.Syntax) = Err (stop.Bad at)
-finished at next (Err fault.TooLarge) = Err (stop.TooLarge at)
-finished at next (Err fault.NoMemory) = Err stop.NoMemory
-
--- the line of something that fits
-abbrev pub IsSpelled : {X : Type 0} → (X → List ℕ) → (X → Type 0) → List ℕ → Type 0
-IsSpelled {X} text Fits line = (x : X) × Fits x × (ended line ≡ text x)
+finished at next (Err f) = Err (fault_of at f)
 
 -- why no such line is read at the place
 abbrev pub StopsLine : {X : Type 0} → (X → List ℕ) → (X → Type 0) → (List ℕ → Type 0) → List ℕ →

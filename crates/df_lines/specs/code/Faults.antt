@@ -1,7 +1,6 @@
 -- Where reading a file stops, by places.
 use Rattle.std.specs.Prelude.{◌≡◌, ℕ, ◌+◌, ◌<◌, ◌≤◌, List, ◌∷◌, ◌++◌, length, take, drop, count_by, ◌==◌, Option, Some, None, ⊤}
-use Rattle.df_lines.specs.FirstBad.{IsFirstBad}
-use Rattle.df_lines.specs.Lines.{IsLine, lines_text}
+use Rattle.df_lines.specs.Lines.{IsLine}
 use Rattle.df_lines.specs.declared.fault.FileFault.{FileFault}
 use Rattle.df_lines.specs.declared.fault.FileFault.TheVariants as fault
 use Rattle.df_lines.specs.declared.refused.FileRefused.{FileRefused}
@@ -28,22 +27,3 @@ abbrev pub refusal : List ℕ → FileFault → FileRefused
 refusal bytes fault.NoMemory = refused.NoMemory
 refusal bytes (fault.Bad place) = refused.Syntax (line_number bytes place)
 refusal bytes (fault.TooLarge place) = refused.TooLarge (line_number bytes place)
-
--- the place lies in the first bad line
-pub record IsBadPlace (IsText : List ℕ → Type 0) (text : List ℕ) (place : ℕ)
-    (before : List (List ℕ)) (bad : List ℕ) : Type 0 where
-  pub first : IsFirstBad IsText text before bad
-  pub part : List ℕ
-  pub parts : take place text ≡ lines_text before ++ part
-  pub line : IsLine part
-
--- the fault's place lies in the first bad line, and whether something too large stands there is told
-abbrev pub NamesBadPlace : (List ℕ → Type 0) → (List (List ℕ) → List ℕ → Type 0) → List ℕ →
-    FileFault → Type 0
-NamesBadPlace IsText IsLarge text fault.NoMemory = ⊤
-NamesBadPlace IsText IsLarge text (fault.Bad place) =
-    (before : List (List ℕ)) × (bad : List ℕ) × IsBadPlace IsText text place before bad
-    × ¬ IsLarge before bad
-NamesBadPlace IsText IsLarge text (fault.TooLarge place) =
-    (before : List (List ℕ)) × (bad : List ℕ) × IsBadPlace IsText text place before bad
-    × IsLarge before bad

@@ -10,6 +10,7 @@ use Rattle.df_journal_text.specs.Start.{root_text}
 use Rattle.df_journal_text.specs.declared.line_fault.LineFault.{LineFault}
 use Rattle.df_journal_text.specs.declared.line_fault.LineFault.TheVariants as fault
 use Rattle.df_lines.specs.Lines.{IsLine, ended}
+use Rattle.df_lines.specs.code.Stops.{StopsAt}
 use Rattle.df_lines.specs.declared.refused.BadKind.{BadKind}
 use Rattle.df_lines.specs.declared.refused.BadKind.TheVariants.{Syntax, TooLarge}
 use Rattle.df_machine.specs.Journal.{State}
@@ -17,7 +18,7 @@ use Rattle.df_machine.specs.Tables.{AgreesWith}
 use Rattle.df_machine.specs.declared.tables.Tables.{Tables}
 use Rattle.df_script_text.specs.Script.{IsScript, IsScriptLine, script_text}
 use Rattle.df_script_text.specs.code.Lines.{call_line}
-use Rattle.df_script_text.specs.code.Stops.{IsCallLine, StopsAt}
+use Rattle.df_script_text.specs.code.Stops.{IsCallLine}
 use Rattle.df_script_text.specs.declared.line.ScriptLine.{ScriptLine}
 use Rattle.df_start.specs.declared.start.RootStart.{RootStart}
 use Rattle.df_steps.specs.Steps.{AppendsStep, Records, journal_of}

@@ -1,8 +1,9 @@
 -- What was read of a script up to a place, and why reading stops there.
 use Rattle.std.specs.Prelude.{◌≡◌, ℕ, ◌+◌, ◌<◌, ◌≤◌, ◌^◌, List, ◌∷◌, ◌++◌, length, drop, codes, Option, Some, None, ⊤, ◌⊎◌}
 use Rattle.std.specs.List.{All}
-use Rattle.df_lines.specs.Lines.{EndsLine, IsLine, ended, lines_text}
+use Rattle.df_lines.specs.Lines.{ended, lines_text}
 use Rattle.df_lines.specs.code.Faults.{TellsLine}
+use Rattle.df_lines.specs.code.Stops.{StopsAt}
 use Rattle.df_lines.specs.declared.fault.FileFault.{FileFault}
 use Rattle.df_lines.specs.declared.fault.FileFault.TheVariants as fault
 use Rattle.df_journal_text.specs.Fits.{IsRoot}
@@ -14,14 +15,6 @@ use Rattle.df_start.specs.declared.start.RootStart.{RootStart}
 use Rattle.df_script_text.specs.Script.{IsScriptLine}
 use Rattle.df_script_text.specs.code.Lines.{call_line, numbered}
 use Rattle.df_script_text.specs.declared.line.ScriptLine.{ScriptLine}
-
--- this stands at the bytes: a line that isn't one of these, or one that has no line feed
-pub record StopsAt (Is : List ℕ → Type 0) (bytes bad : List ℕ) : Type 0 where
-  pub behind : List ℕ
-  pub parts : bytes ≡ bad ++ behind
-  pub line : IsLine bad
-  pub end : EndsLine behind
-  pub refused : (more : List ℕ) → behind ≡ 10 ∷ more → ¬ Is bad
 
 -- ---- calls
 

@@ -2,9 +2,9 @@ use Rattle.df_journal_file.proofs.Names.{refl}
 use Rattle.df_journal_file.proofs.Opens.{no_note, some_note}
 use Rattle.df_journal_file.proofs.Fronts.{one_result}
 use Rattle.df_journal_file.proofs.LineKinds.{note_kind}
-use Rattle.df_journal_file.proofs.Ontos.{stopped}
+use Rattle.df_journal_file.proofs.Ontos.{row_onto, stopped}
 use Rattle.df_journal_file.proofs.Places.{as_here, none_here}
-use Rattle.df_journal_file.proofs.Rows.{row_onto, row_stop}
+use Rattle.df_journal_file.proofs.Rows.{row_stop}
 use Rattle.df_journal_file.proofs.Steps.{note_row, noted_onto, unnoted_onto}
 use Rattle.df_journal_file.proofs.entry.contamination_at.Goals as goal
 
@@ -27,4 +27,4 @@ returns-in_err-label-clause-stops c =
 pub returns-clause-onto : goal.returns-clause-onto
 returns-clause-onto c = λ f s.
     noted_onto _ _ _ _ (λ none. one_result (c.notes_none.ensures.1 none) c.if-notes_none.false) f
-    (row_onto note_kind (note_row _ _ c.requires.bare) c.in_ok-label.ensures.0 f s)
+    (row_onto (note_row _ _ c.requires.bare) c.in_ok-label.ensures.0 f s)

@@ -1,8 +1,6 @@
 use Rattle.df_journal_file.proofs.Names.{arith}
 use Rattle.df_journal_file.proofs.Opens.{done_read}
-use Rattle.df_journal_file.proofs.LineKinds.{called_kind}
-use Rattle.df_journal_file.proofs.Ontos.{stopped}
-use Rattle.df_journal_file.proofs.Rows.{row_onto}
+use Rattle.df_journal_file.proofs.Ontos.{row_onto, stopped}
 use Rattle.df_journal_file.proofs.Steps.{called_row, called_stop}
 use Rattle.df_journal_file.proofs.entry.done_at.Goals as goal
 
@@ -19,20 +17,20 @@ returns-in_err-actor-clause-stops c = λ here. stopped _ _ c.from_residual.ensur
 pub returns-in_err-contamination-clause-stops : goal.returns-in_err-contamination-clause-stops
 returns-in_err-contamination-clause-stops c = λ here.
     let called = c.in_ok-actor.ensures.0 in
-    stopped _ _ c.from_residual-in_err-contamination.ensures.1 (row_onto called_kind (called_row _) called _ c.in_err-contamination.ensures.stops)
+    stopped _ _ c.from_residual-in_err-contamination.ensures.1 (row_onto (called_row _) called _ c.in_err-contamination.ensures.stops)
 
 pub returns-in_err-reply-clause-stops : goal.returns-in_err-reply-clause-stops
 returns-in_err-reply-clause-stops c = λ here.
     stopped _ _ c.from_residual-in_err-reply.ensures.1
-    (row_onto called_kind (called_row _) c.in_ok-actor.ensures.0 _ (c.in_ok-contamination.ensures.onto _ (c.in_err-reply.ensures.stops _)))
+    (row_onto (called_row _) c.in_ok-actor.ensures.0 _ (c.in_ok-contamination.ensures.onto _ (c.in_err-reply.ensures.stops _)))
 
 pub returns-in_err-effect-clause-stops : goal.returns-in_err-effect-clause-stops
 returns-in_err-effect-clause-stops c = λ here.
     stopped _ _ c.from_residual-in_err-effect.ensures.1
-    (row_onto called_kind (called_row _) c.in_ok-actor.ensures.0 _
+    (row_onto (called_row _) c.in_ok-actor.ensures.0 _
     (c.in_ok-contamination.ensures.onto _ (c.in_ok-reply.ensures.onto _ _ (c.in_err-effect.ensures.stops _))))
 
 pub returns-clause-onto : goal.returns-clause-onto
 returns-clause-onto c = λ f s.
-    row_onto called_kind (called_row _) c.in_ok-actor.ensures.0 f
+    row_onto (called_row _) c.in_ok-actor.ensures.0 f
     (c.in_ok-contamination.ensures.onto f (c.in_ok-reply.ensures.onto _ f (c.in_ok-effect.ensures.onto _ f s)))
