@@ -18,13 +18,13 @@ ghost use Rattle.df_audit.specs.code.Passing.{IsSoFar, TakesOne};
 use crate::brief::{accepted_is_spelled, append_accepted};
 use crate::pass::{Made, Wanted};
 use df_journal_file::JournalCursor;
-use df_journal_text::{Note, Notes, append_quiet, append_spelled, write_entry};
+use df_journal_text::{Note, Notes, append_quiet, append_seen_alone, append_spelled, write_entry};
 use df_label::Label;
 use df_local::{Answer, Brief};
 use df_machine::Tables;
 use df_memory::NoMemory;
 use df_purge::shown_of;
-use df_spelled::{answer_is_spelled, contamination_is_spelled, reply_is_spelled};
+use df_spelled::{answer_is_spelled, contamination_is_spelled, reply_is_spelled, seen_is_spelled};
 use df_unit::{Call, Commit, Effect, Entry};
 
 /// Tables, and what is noted of their rows.
@@ -129,6 +129,11 @@ fn append_call(
             text,
             told,
         );
+    }
+    if let Some(part) = behind.tables.seen_alone(place, call) {
+        seen_is_spelled(part);
+        append_seen_alone(words, part, note, text)?;
+        return Ok(());
     }
     match behind.tables.step_alone(place, call)? {
         Some(reply) => {

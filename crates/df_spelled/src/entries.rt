@@ -1,9 +1,11 @@
 //! Calls, replies, effects and entries have a spelling, as their types give it.
-ghost use Rattle.std.specs.Prelude.{◌≡◌, ◌<◌, ◌^◌, true};
+ghost use Rattle.std.specs.Prelude.{◌≡◌, ◌<◌, ◌^◌, ◌∷◌, [], true};
 ghost use Rattle.df_frozen.specs.Name.{is_name};
 ghost use Rattle.df_journal_file.specs.Journal.{IsWholeEntry};
 ghost use Rattle.df_journal_text.specs.Fits.{AreRoots, IsCall, IsCommit, IsPart, IsPartRead, IsReply, IsRoot, IsSpot};
 ghost use Rattle.df_spelled.specs.Spelled.{IsJoined, IsOutput, IsWorded};
+ghost use Rattle.df_unit.specs.Drafts.{show};
+ghost use Rattle.df_unit.specs.declared.reply.Reply.TheVariants.{Parts};
 ghost use Rattle.df_value_text.specs.Fits.{IsLabel};
 
 use crate::laws::worded_and_joined_is_whole;
@@ -108,6 +110,15 @@ pub fn reply_is_spelled(reply: &Reply)
         }
         _ => (),
     }
+}
+
+/// What a read shows has a spelling, where it is one part alone.
+pub fn seen_is_spelled(part: &Part)
+    ensures { IsReply (Parts (show part.now ∷ [])) }
+{
+    label_is_spelled(&part.label);
+    frozen_is_spelled(&part.value);
+    privileges_are_spelled(&part.privileges);
 }
 
 /// A part has a spelling.

@@ -7,6 +7,8 @@ mod names;
 mod spelled;
 mod values;
 
-pub use entries::{answer_is_spelled, entry_is_spelled, reply_is_spelled, start_is_spelled};
+pub use entries::{
+    answer_is_spelled, entry_is_spelled, reply_is_spelled, seen_is_spelled, start_is_spelled,
+};
 pub use laws::an_answer_is_joined;
 pub use names::contamination_is_spelled;

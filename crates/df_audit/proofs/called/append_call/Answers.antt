@@ -1,5 +1,6 @@
 use Rattle.df_audit.proofs.Names.{Option, sym, subst, ◌∙◌, on_ok_weaker, Answer, Effect, AppendsCall, effect_in}
 use Rattle.df_audit.proofs.Calls.{appends_call, note_in, read_again}
+use Rattle.df_local.specs.Locally.{shows_one}
 use Rattle.df_audit.proofs.called.append_call.Goals as goal
 
 pub append_other-requires-clause-state : goal.append_other-requires-clause-state
@@ -11,6 +12,19 @@ pub append_other-requires-clause-seated : goal.append_other-requires-clause-seat
 append_other-requires-clause-seated c =
     let left = rw c.in-None.is at c.in_ok-reply.ensures.made in
     (c.requires.seated.0, c.requires.seated.1 ∙ sym (left.1 c.requires.seated.0))
+
+pub returns-in-Some-seen_alone : goal.returns-in-Some-seen_alone
+returns-in-Some-seen_alone c = λ core actor agrees read.
+    let step = (rw c.in-Some-seen_alone.is at c.seen_alone.ensures) core actor agrees read.seated in
+    let noted = note_in core actor _ _ c.in_ok-note.ensures (c.contamination-contamination.ensures core actor agrees read.seated)
+    c.contamination_is_spelled.ensures in
+    let tables = c.args.behind.now.tables in
+    subst
+    (λ (told : Option Answer). AppendsCall core actor c.args.call.now (effect_in told) tables c.args.text.now.items c.append_seen_alone.new.to.items)
+    (sym c.requires.none)
+    (appends_call core actor c.args.call.now c.in_ok-note.note.now tables c.args.text.now.items c.append_seen_alone.new.to.items
+    (shows_one c.in-Some-seen_alone.part.now) Effect.Nothing step read.fits noted c.seen_is_spelled.ensures tt
+    (c.in_ok-append_seen_alone.ensures actor c.args.call.now read.spelled))
 
 pub returns-in_ok-append_quiet-in-Some-2 : goal.returns-in_ok-append_quiet-in-Some-2
 returns-in_ok-append_quiet-in-Some-2 c = λ core actor agrees read.
