@@ -6,15 +6,18 @@ ghost use Rattle.df_local.specs.Locally.{closing};
 ghost use Rattle.df_machine.specs.Journal.{State};
 ghost use Rattle.df_machine.specs.Tables.{AgreesWith, place_in};
 ghost use Rattle.df_script_text.specs.Common.{common_line, root_call};
+ghost use Rattle.df_unit.specs.declared.call.Call.TheVariants.{Get};
 ghost use Rattle.df_unit.specs.declared.name.UnitName.{UnitName};
 ghost use Rattle.df_unit.specs.declared.name.UnitName.TheVariants.{Root};
 ghost use Rattle.df_steps.specs.Steps.{AppendsStep};
 ghost use Rattle.df_steps.specs.code.Noting.{AppendsEntry};
 
 use df_audit::{append_accepted, brief_of};
-use df_journal_text::{Note, Notes, append_quiet, append_spelled};
+use df_journal_text::{
+    Note, Notes, append_quiet, append_received, append_seen_alone, append_spelled,
+};
 use df_local::{Brief, Close};
-use df_machine::Tables;
+use df_machine::{Received, Tables};
 use df_memory::NoMemory;
 use df_script_text::{CommonLine, ReadLine, RootLine};
 use df_unit::{Call, Reply};
@@ -51,6 +54,35 @@ fn append_answered(
     match &made {
         Ok(answer) => append_spelled(words, &answer.reply, &answer.effect, note, text),
         Err(refused) => Err(*refused),
+    }
+}
+
+/// Makes a get, and appends its entry with this note.
+#[inline(never)]
+fn append_get(
+    tables: &mut Tables,
+    place: Option<usize>,
+    note: &Note,
+    words: &[u8],
+    call: &Call,
+    text: &mut Vec<u8>,
+) -> Result<(), NoMemory>
+    requires state { (core : State) × AgreesWith core tables.old }
+    requires seated { (actor : UnitName) × (place ≡ place_in tables.old actor) }
+    requires get { call.now ≡ Get }
+    ensures { (core : State) (actor : UnitName) → AgreesWith core tables.old →
+        place ≡ place_in tables.old actor → words.now ≡ call_front actor call.now →
+        OnOk result (AppendsEntry actor call.now note.now core tables.new text.old.items
+        text.new.items) }
+{
+    let Some(seat) = place else {
+        return append_answered(tables, place, note, words, call, text);
+    };
+    let received = tables.give(seat)?;
+    match &received {
+        Received::Event { h, given } => append_received(words, *h, given, note, text),
+        Received::Nothing => append_quiet(words, &Reply::Nothing, note, text),
+        Received::TooManyHandles => append_quiet(words, &Reply::TooManyHandles, note, text),
     }
 }
 
@@ -102,6 +134,9 @@ fn append_other(
         OnOk result (AppendsEntry actor call.now note.now core tables.new text.old.items
         text.new.items) }
 {
+    if let Call::Get = call {
+        return append_get(tables, place, note, words, call, text);
+    }
     match closing_of(call) {
         Some(closes) => append_closing(tables, place, note, words, closes, call, text),
         None => append_answered(tables, place, note, words, call, text),
@@ -126,6 +161,9 @@ fn append_at(
         text.new.items) }
 {
     let note = notes.of(place, tables.contamination(place))?;
+    if let Some(part) = tables.seen_alone(place, call) {
+        return append_seen_alone(words, part, note, text);
+    }
     match tables.step_alone(place, call)? {
         Some(reply) => {
             let appended = append_quiet(words, &reply, note, text);
