@@ -9,7 +9,8 @@ ghost use Rattle.df_journal_text.specs.Entry.{edit_text, effect_text, given_text
 use crate::line::{append_label_word, append_name_word, append_privilege_words, append_value_word};
 use crate::name::append_event_word;
 use crate::note::is_empty;
-use df_label::Label;
+use df_frozen::Frozen;
+use df_label::{Label, Privileges};
 use df_memory::NoMemory;
 use df_part::{Edit, Part, PartRef, Spot};
 use df_unit::{Commit, Effect, EventName, Given, PartRead, UnitName};
@@ -81,26 +82,39 @@ pub fn append_edit(edit: &Edit, to: &mut Vec<u8>) -> Result<(), NoMemory>
     Ok(())
 }
 
+/// Appends what a read shows of a part with this label, value and privileges.
+#[inline(always)]
+fn append_content(
+    label: &Label,
+    value: &Frozen,
+    privileges: &Privileges,
+    to: &mut Vec<u8>,
+) -> Result<(), NoMemory>
+    ensures { OnOk result (to.new.items ≡ to.old.items ++ read_line (record {
+      label = label.now;
+      value = value.now;
+      privileges = privileges.now;
+    })) }
+{
+    append_marked(b':', label, to)?;
+    append_value_word(value, to)?;
+    append_privilege_words(privileges.as_slice(), to)?;
+    to.push(b'\n')?;
+    Ok(())
+}
+
 /// Appends what a read shows of a part.
 fn append_read(part: &PartRead, to: &mut Vec<u8>) -> Result<(), NoMemory>
     ensures { OnOk result (to.new.items ≡ to.old.items ++ read_line part.now) }
 {
-    append_marked(b':', &part.label, to)?;
-    append_value_word(&part.value, to)?;
-    append_privilege_words(part.privileges.as_slice(), to)?;
-    to.push(b'\n')?;
-    Ok(())
+    append_content(&part.label, &part.value, &part.privileges, to)
 }
 
 /// Appends what a read shows of a part, which isn't copied.
 pub fn append_seen(part: &Part, to: &mut Vec<u8>) -> Result<(), NoMemory>
     ensures { OnOk result (to.new.items ≡ to.old.items ++ read_line (show part.now)) }
 {
-    append_marked(b':', &part.label, to)?;
-    append_value_word(&part.value, to)?;
-    append_privilege_words(part.privileges.as_slice(), to)?;
-    to.push(b'\n')?;
-    Ok(())
+    append_content(&part.label, &part.value, &part.privileges, to)
 }
 
 /// Appends what a read shows.
