@@ -25,7 +25,7 @@ either_way true false = inr refl
 either_way false true = inr refl
 either_way false false = inl refl
 
--- so nothing is spelled
+-- so what is spelled begins with what it doesn't refuse
 pub reads_begin : {T X : Type 0} {IsLow : List T → List T → Type 0} {spell : X → List T} {Fits : X → Type 0} {goes : X → T → Bool}
     {read : List T → Read T X} {test : T → Bool} {to : Bool} → Format IsLow spell Fits goes read
     → Refuses test to read → (x : X) → Fits x → Begins test (not to) (spell x)

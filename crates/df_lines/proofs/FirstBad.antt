@@ -71,7 +71,8 @@ module _ (IsText : List ℕ → Type 0) (IsLarge : List (List ℕ) → List ℕ 
       let one = one_bad_line IsText text before after bad other f g in
       subst (λ (l : List ℕ). IsLarge after l) one.1 (subst (λ (b : List (List ℕ)). IsLarge b bad) one.0 large)
 
-  line_is : (line : ℕ) {before after : List (List ℕ)} {bad other : List ℕ} → IsBadLine IsText text line before bad → IsFirstBad IsText text after other
+  line_is : (line : ℕ) {before after : List (List ℕ)} {bad other : List ℕ} → IsBadLine IsText text line before bad
+      → IsFirstBad IsText text after other
       → line ≡ length after + 1
   line_is line {before} {after} {bad} {other} b f =
       b.number ∙ ap (λ (ls : List (List ℕ)). length ls + 1) (one_bad_line IsText text before after bad other b.first f).0

@@ -36,7 +36,8 @@ impl Local {
     }
 
     /// The part that a call shows, where it is a read that shows no other, and the part bears no
-    /// privilege. The unit stays as it is by such a read.
+    /// privilege. The unit stays as it is by such a read. Of which reads a part is told is left
+    /// open: `read_part` makes any.
     pub fn seen_alone<'a>(&'a self, call: &'a Call) -> Option<&'a Part>
         ensures { IfSome (option_copied result) (λ part.
             IsMadeAlone call.now (shows_one part) self.now self.now) }

@@ -124,6 +124,7 @@ impl Tables {
 
     /// The part that a call of the unit at a place shows, where it is a read that shows no other, and
     /// the part bears no privilege. The tables agree with the journal behind such a read as they are.
+    /// Of which reads a part is told is left open: `step_alone` makes any.
     pub fn seen_alone<'a>(&'a self, place: Option<usize>, call: &'a Call) -> Option<&'a Part>
         requires agrees { (core : State) × AgreesWith core self.now }
         requires seated { (actor : UnitName) × (place ≡ place_in self.now actor) }

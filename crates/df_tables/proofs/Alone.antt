@@ -115,8 +115,8 @@ module _ (a : UnitName) (k : ℕ) (c : Call) (old new : Board) (here : place_on 
       }
 
 -- whether memory was wanting or not, something was made, or nothing
-pub made_or_not : {X Y : Type 0} (P : Option Y → Type 0) (made_of : X → Option Y) (r : Result X NoMemory) → IfOk r (λ x. P (made_of x)) → OnErr r (P None)
-    → (made : Option Y) × P made
+pub made_or_not : {X Y : Type 0} (P : Option Y → Type 0) (made_of : X → Option Y) (r : Result X NoMemory)
+    → IfOk r (λ x. P (made_of x)) → OnErr r (P None) → (made : Option Y) × P made
 made_or_not P made_of (Ok x) is same = (made_of x, is)
 made_or_not P made_of (Err refused) is same = (None, same)
 
@@ -134,8 +134,8 @@ made_renewed place c a old between new same made = record {
 }
 
 -- a call that its unit makes of its own state alone, and that leaves that as it is, is made in the board as it is
-pub stays_alone : (a : UnitName) (place : Option ℕ) (c : Call) (r : Reply) (u : Unit) (b : Board) → place_on b a ≡ place → IsBoard b → row_by b place ≡ Some u
-    → IsMadeAlone c r u.local u.local → IsMade place c (r, Effect.Nothing) b b
+pub stays_alone : (a : UnitName) (place : Option ℕ) (c : Call) (r : Reply) (u : Unit) (b : Board) → place_on b a ≡ place → IsBoard b
+    → row_by b place ≡ Some u → IsMadeAlone c r u.local u.local → IsMade place c (r, Effect.Nothing) b b
 stays_alone a None c r u b here board row made = absurd (cc)
 stays_alone a (Some k) c r u b here board row made =
     let us = b.rows.items in

@@ -43,7 +43,7 @@ module _ (a : UnitName) (k : ℕ) (x : Reply × Effect) (old new : Board) (here 
       }
 
 -- whether memory was wanting or not, the tables fit each other
-pub board_either : (a : UnitName) (k : ℕ) (old new : Board) → place_on old a ≡ Some k → IsBoard old → IsBesideRows old new → (r : Result Received NoMemory)
-    → IfOk r (λ x. IsGivenAt k (received_answer x) old.rows.items new.rows.items) → OnErr r (new.rows.items ≡ old.rows.items) → IsBoard new
+pub board_either : (a : UnitName) (k : ℕ) (old new : Board) → place_on old a ≡ Some k → IsBoard old → IsBesideRows old new
+    → (r : Result Received NoMemory) → IfOk r (λ x. IsGivenAt k (received_answer x) old.rows.items new.rows.items) → OnErr r (new.rows.items ≡ old.rows.items) → IsBoard new
 board_either a k old new here board beside (Ok x) given same = board_given a k (received_answer x) old new here board beside given
 board_either a k old new here board beside (Err refused) given same = board_alone a k Get old new here board beside None same

@@ -474,7 +474,8 @@ impl Board {
     }
 
     /// The part that a call of the unit at a place shows, where it is a read that shows no other, and
-    /// the part bears no privilege. The tables tell of such a read without a change.
+    /// the part bears no privilege. The tables tell of such a read without a change. Of which reads a
+    /// part is told is left open: `make_alone` makes any.
     pub fn seen_alone<'a>(&'a self, place: Option<usize>, call: &'a Call) -> Option<&'a Part>
         requires board { IsBoard self.now }
         requires seated { (actor : UnitName) × (place_on self.now actor ≡ place) }

@@ -17,7 +17,8 @@ give-requires-clause-seated c = (c.requires.seated.0, sym c.in-Some.is ∙ c.req
 -- the call that is a get is answered as the get is
 by_get : {core : State} {actor : UnitName} {call : Call} {answer : Reply × Effect} {tables : Tables} → call ≡ Get → IsStep core actor Get answer tables
     → IsStep core actor call answer tables
-by_get {core = core} {actor = actor} {answer = answer} {tables = tables} get step = subst (λ (call : Call). IsStep core actor call answer tables) (sym get) step
+by_get {core = core} {actor = actor} {answer = answer} {tables = tables} get step =
+    subst (λ (call : Call). IsStep core actor call answer tables) (sym get) step
 
 pub returns-in-Event : goal.returns-in-Event
 returns-in-Event c = λ core actor agrees seated words.

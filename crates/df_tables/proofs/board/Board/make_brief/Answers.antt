@@ -18,8 +18,8 @@ in_rows c made is =
 
 pub returns-in-Some-clause-board : goal.returns-in-Some-clause-board
 returns-in-Some-clause-board c =
-    let or = made_or_not (λ made. IsMadeAt c.in-Some.place (brief_call c.args.brief) made c.as_mut_slice.result.now c.make_brief_at.new.units) (option_map accepted_reply) c.make_brief_at.result
-    c.make_brief_at.ensures.made c.make_brief_at.ensures.unchanged in
+    let or = made_or_not (λ made. IsMadeAt c.in-Some.place (brief_call c.args.brief) made c.as_mut_slice.result.now c.make_brief_at.new.units)
+    (option_map accepted_reply) c.make_brief_at.result c.make_brief_at.ensures.made c.make_brief_at.ensures.unchanged in
     board_alone c.requires.seated.0 c.in-Some.place (brief_call c.args.brief) c.args.self.now _ (c.requires.seated.1 ∙ c.in-Some.is) c.requires.board
     (record { seats = refl; labels = refl; stale = refl; events = refl; index = refl; managed = refl; told = refl }) or.0 (in_rows c or.0 or.1)
 
