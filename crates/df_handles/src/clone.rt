@@ -8,7 +8,7 @@ use crate::parts::{new_part, raised};
 use crate::visible::is_visible;
 use df_label::Label;
 use df_memory::NoMemory;
-use df_part::{Part, PartRef, Spot};
+use df_part::{PartRef, Spot};
 use df_unit::Handle;
 use std::alloc::Global;
 
@@ -47,7 +47,7 @@ pub fn cloned(
     label: &Label,
     input: &Label,
     handle: &Handle,
-) -> Result<Vec<Part>, NoMemory>
+) -> Result<Vec<PartRef>, NoMemory>
     ensures { IfOk result (λ v. v.items ≡ cloned output.now label.now
         (source input.now handle.now)) }
 {
@@ -62,7 +62,7 @@ fn clone_visible(
     label: &Label,
     input: &Label,
     handle: &Handle,
-    to: &mut Vec<Part>,
+    to: &mut Vec<PartRef>,
 ) -> Result<(), NoMemory>
     ensures { OnOk result (to.new.items ≡ to.old.items
         ++ cloned output.now label.now (visible input.now handle.now)) }
@@ -83,7 +83,7 @@ fn clone_visible_in(
     input: &Label,
     named: &[Spot],
     seen: &[PartRef],
-    to: &mut Vec<Part>,
+    to: &mut Vec<PartRef>,
 ) -> Result<(), NoMemory>
     ensures { OnOk result (to.new.items ≡ to.old.items
         ++ cloned output.now label.now (visible_in input.now named.now seen.now)) }
@@ -91,7 +91,7 @@ fn clone_visible_in(
     let alloc = *to.allocator();
     for part in seen {
         if is_visible(input, named, part.part()) {
-            to.push(clone(alloc, output, label, part.part())?)?;
+            to.push(clone(alloc, output, label, part)?)?;
         }
     }
     Ok(())
@@ -100,8 +100,8 @@ fn clone_visible_in(
 fn clone_drafted(
     output: &Label,
     label: &Label,
-    parts: &[Part],
-    to: &mut Vec<Part>,
+    parts: &[PartRef],
+    to: &mut Vec<PartRef>,
 ) -> Result<(), NoMemory>
     ensures { OnOk result (to.new.items ≡ to.old.items ++ cloned output.now label.now parts.now) }
 {
@@ -113,9 +113,10 @@ fn clone_drafted(
 }
 
 /// A part raised to the label and written without privileges.
-fn clone(alloc: Global, output: &Label, label: &Label, part: &Part) -> Result<Part, NoMemory>
+fn clone(alloc: Global, output: &Label, label: &Label, part: &PartRef) -> Result<PartRef, NoMemory>
     ensures { IfOk result (λ p. p ≡ clone output.now label.now part.now) }
 {
+    let part = part.part();
     let label = raised(label, &part.label)?;
     new_part(alloc, output, &label, &part.name, &part.value)
 }

@@ -6,7 +6,7 @@ ghost use Rattle.df_handles.specs.code.Slot.{all_shown, shown};
 use crate::parts::copies_of;
 use crate::slot::Slot;
 use df_memory::NoMemory;
-use df_part::Part;
+use df_part::PartRef;
 use df_unit::{Drafts, Handle, Spots};
 use std::alloc::Global;
 
@@ -49,12 +49,12 @@ fn handle_copied(alloc: Global, handle: &Handle) -> Result<Handle, NoMemory>
     })
 }
 
-fn drafts_copied(alloc: Global, parts: &[Part]) -> Result<Vec<Part>, NoMemory>
+fn drafts_copied(alloc: Global, parts: &[PartRef]) -> Result<Vec<PartRef>, NoMemory>
     ensures { IfOk result (λ v. v.items ≡ parts.now) }
 {
     let mut copies = Vec::with_capacity(alloc, parts.len())?;
     for part in parts {
-        copies.push(part.copy()?)?;
+        copies.push(part.share()?)?;
     }
     Ok(copies)
 }

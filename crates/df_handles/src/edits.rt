@@ -10,7 +10,7 @@ use crate::visible::is_visible;
 use df_frozen::Name;
 use df_label::{Label, Privilege};
 use df_memory::NoMemory;
-use df_part::{Part, PartRef, Spot};
+use df_part::{PartRef, Spot};
 use df_unit::{Drafts, Handle};
 use std::alloc::Global;
 
@@ -52,10 +52,10 @@ pub fn attach_in(
 }
 
 /// Whether a part of this name and label is drafted.
-pub fn has_drafted(parts: &[Part], name: &Name, label: &Label) -> bool
+pub fn has_drafted(parts: &[PartRef], name: &Name, label: &Label) -> bool
     ensures { result ≡ has_at parts.now (spot name.now label.now) }
 {
-    parts.iter().any(|part| part.is_at(name, label))
+    parts.iter().any(|part| part.part().is_at(name, label))
 }
 
 /// Whether a visible part has this name and label.
@@ -84,14 +84,19 @@ fn has_seen(input: &Label, named: &[Spot], seen: &[PartRef], name: &Name, label:
 }
 
 /// The drafted parts without those of a name and label.
-fn undrafted(alloc: Global, parts: &[Part], name: &Name, label: &Label) -> Result<Drafts, NoMemory>
+fn undrafted(
+    alloc: Global,
+    parts: &[PartRef],
+    name: &Name,
+    label: &Label,
+) -> Result<Drafts, NoMemory>
     ensures { IfOk result (λ d. d ≡ filter
         (λ part. not (is_at part (spot name.now label.now))) parts.now) }
 {
     let mut left = Vec::new(alloc);
     for part in parts {
-        if !part.is_at(name, label) {
-            left.push(part.copy()?)?;
+        if !part.part().is_at(name, label) {
+            left.push(part.share()?)?;
         }
     }
     Ok(Drafts::new(left))
@@ -100,26 +105,33 @@ fn undrafted(alloc: Global, parts: &[Part], name: &Name, label: &Label) -> Resul
 /// The drafted parts with a privilege on each of those of a name and label.
 fn attached(
     alloc: Global,
-    parts: &[Part],
+    parts: &[PartRef],
     name: &Name,
     label: &Label,
     p: &Privilege,
-) -> Result<Vec<Part>, NoMemory>
+) -> Result<Vec<PartRef>, NoMemory>
     ensures { IfOk result (λ v. v.items ≡ map (attach (spot name.now label.now) p.now) parts.now) }
 {
     let mut attached = Vec::with_capacity(alloc, parts.len())?;
     for part in parts {
-        attached.push(attach(part, name, label, p)?)?;
+        attached.push(attach(alloc, part, name, label, p)?)?;
     }
     Ok(attached)
 }
 
-fn attach(part: &Part, name: &Name, label: &Label, p: &Privilege) -> Result<Part, NoMemory>
+fn attach(
+    alloc: Global,
+    part: &PartRef,
+    name: &Name,
+    label: &Label,
+    p: &Privilege,
+) -> Result<PartRef, NoMemory>
     ensures { IfOk result (λ q. q ≡ attach (spot name.now label.now) p.now part.now) }
 {
-    let mut copy = part.copy()?;
-    if part.is_at(name, label) {
-        copy.privileges.add(p)?;
+    if !part.part().is_at(name, label) {
+        return part.share();
     }
-    Ok(copy)
+    let mut copy = part.part().copy()?;
+    copy.privileges.add(p)?;
+    PartRef::new(alloc, copy)
 }

@@ -8,7 +8,7 @@ use crate::slot::Slot;
 use df_frozen::Name;
 use df_label::{Label, Privilege};
 use df_memory::NoMemory;
-use df_part::{Part, Parts, Spot};
+use df_part::{PartRef, Parts, Spot};
 use df_unit::{EventName, Handle};
 use std::alloc::Global;
 use std::marker::Model;
@@ -139,7 +139,7 @@ impl Handles {
 
     /// Drafts a part at an open handle.
     #[tactic(auto, using(crate::proofs::OpenHandles::as_many_open))]
-    pub fn draft(&mut self, h: u32, part: Part) -> Result<(), NoMemory>
+    pub fn draft(&mut self, h: u32, part: PartRef) -> Result<(), NoMemory>
         ensures ok { OnOk result (self.new ≡ changed_at self.old h
             (λ d. record d { drafted = d.drafted ++ part ∷ [] })) }
         ensures unchanged { OnErr result (self.new ≡ self.old) }

@@ -1,6 +1,6 @@
 //! Labels and parts as a unit writes and copies them.
 
-ghost use Rattle.std.specs.Prelude.{◌≡◌, IfOk};
+ghost use Rattle.std.specs.Prelude.{◌≡◌, IfOk, IsTrue};
 ghost use Rattle.df_unit.specs.Drafts.{new_part, raised, relabel, relabelled};
 
 use df_frozen::{Frozen, Name};
@@ -35,19 +35,21 @@ pub fn new_part(
     label: &Label,
     name: &Name,
     value: &Frozen,
-) -> Result<Part, NoMemory>
+) -> Result<PartRef, NoMemory>
     ensures { IfOk result (λ p. p ≡ new_part (raised output.now label.now) name.now value.now) }
 {
     let label = raised(output, label)?;
     let value = value.share()?;
-    Ok(Part {
+    let part = Part {
         name: *name,
         label,
         value,
         privileges: Privileges::new(alloc),
-    })
+    };
+    PartRef::new(alloc, part)
 }
 
+#[inline(never)]
 fn relabel(output: &Label, part: &Part) -> Result<Part, NoMemory>
     ensures { IfOk result (λ p. p ≡ relabel output.now part.now) }
 {
@@ -61,14 +63,26 @@ fn relabel(output: &Label, part: &Part) -> Result<Part, NoMemory>
     })
 }
 
-fn relabelled_one(alloc: Global, output: &Label, part: &Part) -> Result<PartRef, NoMemory>
+/// Whether a label is one that the output label changes nothing of.
+fn is_raised(output: &Label, label: &Label) -> bool
+    ensures { IsTrue result → raised output.now label.now ≡ label.now }
+{
+    let _ascending = label.s.as_slice();
+    output.flows_to(label)
+}
+
+/// A part labelled again at the output label. One that this changes nothing of is shared.
+fn relabelled_one(alloc: Global, output: &Label, part: &PartRef) -> Result<PartRef, NoMemory>
     ensures { IfOk result (λ p. p ≡ relabel output.now part.now) }
 {
-    PartRef::new(alloc, relabel(output, part)?)
+    if is_raised(output, &part.part().label) {
+        return part.share();
+    }
+    PartRef::new(alloc, relabel(output, part.part())?)
 }
 
 /// The parts, each labelled again at the output label.
-pub fn relabelled(alloc: Global, output: &Label, parts: &[Part]) -> Result<Parts, NoMemory>
+pub fn relabelled(alloc: Global, output: &Label, parts: &[PartRef]) -> Result<Parts, NoMemory>
     ensures { IfOk result (λ p. p ≡ relabelled output.now parts.now) }
 {
     if let [part] = parts {
@@ -78,7 +92,11 @@ pub fn relabelled(alloc: Global, output: &Label, parts: &[Part]) -> Result<Parts
 }
 
 #[inline(never)]
-fn all_relabelled(alloc: Global, output: &Label, parts: &[Part]) -> Result<Vec<PartRef>, NoMemory>
+fn all_relabelled(
+    alloc: Global,
+    output: &Label,
+    parts: &[PartRef],
+) -> Result<Vec<PartRef>, NoMemory>
     ensures { IfOk result (λ v. v.items ≡ relabelled output.now parts.now) }
 {
     let mut relabelled = Vec::with_capacity(alloc, parts.len())?;

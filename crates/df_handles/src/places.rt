@@ -9,7 +9,7 @@ use crate::slot::{Slot, begun};
 use df_frozen::Name;
 use df_label::{Label, Privilege};
 use df_memory::NoMemory;
-use df_part::{Part, Parts, Spot};
+use df_part::{PartRef, Parts, Spot};
 use df_unit::{EventName, Handle};
 
 /// The least number that isn't open.
@@ -92,7 +92,7 @@ fn push_begun(
 }
 
 /// Drafts a part at an open handle.
-pub fn draft(slots: &mut Vec<Slot>, h: u32, part: Part) -> Result<(), NoMemory>
+pub fn draft(slots: &mut Vec<Slot>, h: u32, part: PartRef) -> Result<(), NoMemory>
     ensures ok { OnOk result (all_shown slots.new.items ≡ changed_at (all_shown slots.old.items) h
         (λ d. record d { drafted = d.drafted ++ part ∷ [] })) }
     ensures unchanged { OnErr result (all_shown slots.new.items ≡ all_shown slots.old.items) }

@@ -4,7 +4,7 @@ ghost use Rattle.std.specs.Prelude.{◌≡◌, ◌↔◌, IsTrue};
 ghost use Rattle.df_handles.specs.code.Slot.{all_shown, shown};
 
 use crate::slot::Slot;
-use df_part::{Part, Spot};
+use df_part::{PartRef, Spot};
 use df_unit::Handle;
 
 pub fn same(a: &[Slot], b: &[Slot]) -> bool
@@ -58,7 +58,7 @@ fn same_spots(a: &[Spot], b: &[Spot]) -> bool
     true
 }
 
-fn same_drafts(a: &[Part], b: &[Part]) -> bool
+fn same_drafts(a: &[PartRef], b: &[PartRef]) -> bool
     ensures { IsTrue result ↔ (a.now ≡ b.now) }
 {
     if a.len() != b.len() {

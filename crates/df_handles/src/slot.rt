@@ -8,7 +8,7 @@ use crate::edits::{attach_in, delete_in};
 use df_frozen::Name;
 use df_label::{Label, Privilege};
 use df_memory::NoMemory;
-use df_part::{Part, Parts, Spot};
+use df_part::{PartRef, Parts, Spot};
 use df_unit::{Drafts, EventName, Handle, Spots};
 use std::alloc::Global;
 
@@ -76,7 +76,7 @@ impl Slot {
     }
 
     /// Drafts a part at the open handle.
-    pub fn draft(&mut self, part: Part) -> Result<(), NoMemory>
+    pub fn draft(&mut self, part: PartRef) -> Result<(), NoMemory>
         ensures ok { OnOk result (shown self.new ≡ option_map (drafted_in part) (shown self.old)) }
         ensures unchanged { OnErr result (shown self.new ≡ shown self.old) }
     {

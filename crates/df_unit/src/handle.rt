@@ -2,7 +2,7 @@ ghost use Rattle.std.specs.Prelude.{◌≡◌};
 
 use crate::EventName;
 use df_memory::NoMemory;
-use df_part::{Part, Parts, Spot};
+use df_part::{PartRef, Parts, Spot};
 use std::marker::Model;
 
 /// Spots that a release will delete, in order.
@@ -59,7 +59,7 @@ impl Spots {
 /// Parts that a publish or a release will add, in order.
 #[derive(Drop)]
 pub struct Drafts {
-    parts: Vec<Part>,
+    parts: Vec<PartRef>,
 }
 
 impl Model for Drafts {
@@ -79,19 +79,19 @@ impl Drafts {
     ghost use Rattle.std.specs.Prelude.{◌++◌, ◌∷◌, [], OnOk, OnErr};
 
     /// Takes no memory.
-    pub fn new(parts: Vec<Part>) -> Drafts
+    pub fn new(parts: Vec<PartRef>) -> Drafts
         ensures { result ≡ parts.items }
     {
         Drafts { parts }
     }
 
-    pub fn as_slice(&self) -> &[Part]
+    pub fn as_slice(&self) -> &[PartRef]
         ensures { result.now ≡ self.now }
     {
         self.parts.as_slice()
     }
 
-    pub fn push(&mut self, part: Part) -> Result<(), NoMemory>
+    pub fn push(&mut self, part: PartRef) -> Result<(), NoMemory>
         ensures ok { OnOk result (self.new ≡ self.old ++ part ∷ []) }
         ensures unchanged { OnErr result (self.new ≡ self.old) }
     {
