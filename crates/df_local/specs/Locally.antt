@@ -107,9 +107,10 @@ release_effect out d = if is_accepted (release_reply out d)
 abbrev pub accepted_effect : Reply → Effect → Option Effect
 accepted_effect r f = if is_accepted r then Some f else None
 
--- the call is answered with Ok and has this effect, whichever deliveries are left
-abbrev pub IsDone : LocalState → Call → Effect → Type 0
-IsDone l call effect = (left : List Given) → row_answer l left call ≡ (Reply.Ok, effect)
+-- what is told of an answer: its effect where the reply is Ok, and none where it is a refusal
+abbrev pub TellsEffect : Reply × Effect → Option Effect → Type 0
+TellsEffect answer (Some effect) = answer ≡ (Reply.Ok, effect)
+TellsEffect answer None = is_accepted answer.0 ≡ false
 
 -- whether the call is made of the unit's own state alone and has no effect
 abbrev pub is_alone : Call → Bool

@@ -1,10 +1,11 @@
 //! Closing a handle, and the commit that goes with it.
 
-ghost use Rattle.std.specs.Prelude.{◌≡◌, IfOk, IfSome, option_copied};
+ghost use Rattle.std.specs.Prelude.{◌≡◌, IfOk, List, option_copied};
 ghost use Rattle.df_unit.specs.Drafts.{relabelled};
 ghost use Rattle.df_unit.specs.Handles.{closed};
 ghost use Rattle.df_unit.specs.Rows.{unwritable};
-ghost use Rattle.df_local.specs.Locally.{IsDone, accepted_effect, closing, edited, publish_effect, publish_reply, release_effect, release_reply, with_own};
+ghost use Rattle.df_unit.specs.declared.commit.Given.{Given};
+ghost use Rattle.df_local.specs.Locally.{TellsEffect, accepted_effect, closing, edited, publish_effect, publish_reply, release_effect, release_reply, row_answer, with_own};
 
 use crate::Local;
 use crate::answer::{Answer, quiet};
@@ -31,9 +32,11 @@ impl Local {
         self.handles.close(h);
     }
 
-    /// The effect of a publish or a release of this handle, where it is answered with Ok.
+    /// The effect of a publish or a release of this handle, where it is answered with Ok; None
+    /// where it is refused.
     pub fn closing(&self, h: u32, how: Close) -> Result<Option<Effect>, NoMemory>
-        ensures { IfOk result (λ made. IfSome made (IsDone self.now (closing how h))) }
+        ensures { IfOk result (λ made. (left : List Given) →
+            TellsEffect (row_answer self.now left (closing how h)) made) }
     {
         let Some(handle) = self.handles.get(h) else {
             return Ok(None);

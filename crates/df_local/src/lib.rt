@@ -30,3 +30,4 @@ pub use close::Close;
 pub use fixed::Fixed;
 pub use local::Local;
 pub use named_parts::NamedParts;
+pub use take::is_accepted;

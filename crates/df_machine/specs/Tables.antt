@@ -24,9 +24,13 @@ pub record IsStep (core : State) (actor : UnitName) (call : Call) (told : Reply 
   pub answer : answer_in core actor call ≡ told
   pub entry : AgreesWith (appended actor call core) tables
 
+-- the answer to a call of the unit at a place
+abbrev pub answer_at : Tables → Option ℕ → Call → Reply × Effect
+answer_at tables place call = answer_from (row_by tables.board place) call
+
 -- the reply to a call of the unit at a place is Ok, and it has this effect
 abbrev pub Does : Tables → Option ℕ → Call → Effect → Type 0
-Does tables place call effect = answer_from (row_by tables.board place) call ≡ (Reply.Ok, effect)
+Does tables place call effect = answer_at tables place call ≡ (Reply.Ok, effect)
 
 -- whatever the tables agreed with, a call of the unit at a place that is answered so is a step
 abbrev pub Steps : Option ℕ → Call → Reply × Effect → Tables → Tables → Type 0

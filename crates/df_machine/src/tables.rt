@@ -3,7 +3,8 @@
 ghost use Rattle.std.specs.Prelude.{◌≡◌, ◌^◌, ◌<◌, ◌∷◌, [], length, IfOk, IfSome, OnErr, OnOk, Some, map, option_copied};
 ghost use Rattle.std.specs.Option.{option_map};
 ghost use Rattle.df_local.specs.Brief.{accepted_reply, brief_call};
-ghost use Rattle.df_local.specs.Locally.{closing, shows_one};
+ghost use Rattle.df_local.specs.Locally.{TellsEffect, closing, shows_one};
+ghost use Rattle.df_local.specs.declared.close.Close.{Close};
 ghost use Rattle.df_start.specs.Begun.{begun};
 ghost use Rattle.df_tables.specs.Hand.{received_answer};
 ghost use Rattle.df_tables.specs.Table.{rows_from};
@@ -14,7 +15,7 @@ ghost use Rattle.df_unit.specs.declared.reply.Reply.TheVariants as Reply;
 ghost use Rattle.df_unit.specs.declared.name.UnitName.{UnitName};
 ghost use Rattle.df_unit.specs.declared.name.UnitName.TheVariants.{Root};
 ghost use Rattle.df_machine.specs.Journal.{State, answer_in, appended, contamination_in};
-ghost use Rattle.df_machine.specs.Tables.{AgreesWith, Does, IsStep, Steps, StepsAlone, place_in};
+ghost use Rattle.df_machine.specs.Tables.{AgreesWith, Does, IsStep, Steps, StepsAlone, answer_at, place_in};
 
 use df_label::Label;
 use df_local::{Accepted, Answer, Brief, Close};
@@ -180,14 +181,14 @@ impl Tables {
     }
 
     /// The effect of a publish or a release of a handle by the unit at a place, where its reply is
-    /// Ok.
+    /// Ok; None where it is refused.
     pub fn closing(
         &self,
         place: Option<usize>,
         h: u32,
         how: Close,
     ) -> Result<Option<Effect>, NoMemory>
-        ensures { IfOk result (λ made. IfSome made (Does self.now place (closing how h))) }
+        ensures { IfOk result (TellsEffect (answer_at self.now place (closing how h))) }
     {
         self.board.closing(place, h, how)
     }
@@ -210,6 +211,26 @@ impl Tables {
             AgreesWith core self.new) }
     {
         self.board.book(place, call, &Reply::Ok, effect)
+    }
+
+    /// Makes a publish or a release of a handle by the unit at a place, whose reply is Ok and which
+    /// has this effect. Without memory the tables agree with what they agreed with.
+    pub fn accept_closing(
+        &mut self,
+        place: Option<usize>,
+        h: u32,
+        effect: &Effect,
+    ) -> Result<(), NoMemory>
+        requires agrees { (core : State) × AgreesWith core self.old }
+        requires seated { (actor : UnitName) × (place ≡ place_in self.old actor) }
+        ensures step { OnOk result ((core : State) (actor : UnitName) (how : Close) →
+            AgreesWith core self.old → place ≡ place_in self.old actor →
+            Does self.old place (closing how h) effect.now →
+            IsStep core actor (closing how h) (Reply.Ok, effect.now) self.new) }
+        ensures kept { OnErr result ((core : State) → AgreesWith core self.old →
+            AgreesWith core self.new) }
+    {
+        self.board.book_closing(place, h, effect)
     }
 
     /// Takes in an emitted commit. Whatever journal the tables agreed with, they agree with it and

@@ -1,9 +1,8 @@
 -- Tables that fit each other still do after a change of a row.
-use Rattle.df_tables.proofs.Names.{◌≡◌, inl, inr, ℕ, zero, suc, ◌+◌, ◌≤◌, ◌<◌, ◌==◌, ◌&&◌, ◌||◌, Bool, true, false, if◌then◌else◌, List, [], ◌∷◌, ◌++◌, length, map, get_or, set, Option, Some, None, refl, ap, sym, subst, ◌∙◌, arith, All, length-append, eqb-true, append-nil, get_or_default, length-map, All-head, All-push, All-tail, Clause, Pair, has_pair, Subscription, Label, Part, rows, Call, Commit, Given, Effect, EventName, UnitName, Reply, AreApart, FilterIndex, IsWhole, enrols, IsBoard, IsMovedBoard, IsOpenedBoard, IsReady, IsOpened, blank, IsCalm, IsNews, modify, news_at, with_news, with_state, AreLabels, inputs, LineState, is_in_out, moved_at, moved_row, names_of, place_of, taken, Board, Ready, EventRow, Unit}
+use Rattle.df_tables.proofs.Names.{◌≡◌, inl, inr, ℕ, zero, suc, ◌+◌, ◌≤◌, ◌<◌, ◌==◌, ◌&&◌, ◌||◌, Bool, true, false, if◌then◌else◌, List, [], ◌∷◌, ◌++◌, length, map, get_or, set, Option, Some, None, refl, ap, sym, subst, ◌∙◌, arith, All, length-append, eqb-true, append-nil, get_or_default, length-map, All-head, All-push, All-tail, Clause, Pair, has_pair, Subscription, Label, Part, rows, Call, Commit, Given, Effect, EventName, UnitName, Reply, AreApart, FilterIndex, IsWhole, all_new, enrols, if_new, rows_in, IsBoard, IsHandedBoard, IsMovedBoard, IsOpenedBoard, IsReady, IsShutBoard, receivers_of, IsOpened, blank, IsCalm, IsNews, modify, news_at, shut_row, with_news, AreLabels, inputs, LineState, moved_at, moved_row, names_of, place_of, taken, Board, Ready, EventRow, Unit}
 use Rattle.df_index.specs.IndexState as index
 use Rattle.df_tables.proofs.Each.{at_modify, length-modify, set_modify}
 use Rattle.df_tables.proofs.Handed.{at_map}
-use Rattle.df_tables.proofs.Inputs.{after_keeps}
 use Rattle.df_tables.proofs.Order.{apart_like, names-map, roll_like, same_length}
 use Rattle.df_tables.proofs.Places.{at_some}
 
@@ -166,44 +165,56 @@ board_steady old new board named calm reads roll events indexed labels stale =
           (subst (λ (ls : List Label). AreLabels (inputs us) ls new.stale) (sym labels) (subst (AreLabels (inputs us) old.labels.items) (sym stale) board.labels));
     }
 
--- a change of rows that keeps their units and the labels at which they read, and stages nothing
-pub record IsSteady (g : List Unit → List Unit) : Type 0 where
-  pub named : (us : List Unit) → names_of (g us) ≡ names_of us
-  pub calm : (us : List Unit) → All IsCalm us → All IsCalm (g us)
-  pub reads : (us : List Unit) → inputs (g us) ≡ inputs us
-
--- so is none
-pub steady_same : IsSteady (λ us. us)
-steady_same = record {
-  named = λ us. refl;
-  calm = λ us h. h;
-  reads = λ us. refl;
-}
-
--- so is that of an entry which changes no label
-pub steady_state : (k : ℕ) (c : Call) (r : Reply) (f : Effect) → is_in_out c ≡ false → IsSteady (modify k (with_state c r f))
-steady_state k c r f quiet = record {
-  named = names-modify (with_state c r f) (λ u. refl) k;
-  calm = calm-modify (with_state c r f) (λ u h. h) k;
-  reads = λ us. inputs-modify (with_state c r f) k us (λ d i. let u = get_or us k d in after_keeps u.local.unit u.local.own c r f quiet);
-}
-
 -- where receivers were handed their news
-pub board_handed : (g : List Unit → List Unit) (event : EventName) (after : List Part) (ps : List Pair) (old new : Board) → IsSteady g → IsBoard old → ((given : Unit → List Given) → IsNews given event after ps old.rows.items → new.rows.items ≡ g (map (with_news given) old.rows.items)) →
+pub board_handed : (event : EventName) (after : List Part) (ps : List Pair) (old new : Board) → IsBoard old →
+    ((given : Unit → List Given) → IsNews given event after ps old.rows.items → new.rows.items ≡ map (with_news given) old.rows.items) →
     new.roll.seats ≡ old.roll.seats → new.events ≡ old.events → new.index ≡ old.index → new.labels.items ≡ old.labels.items → new.stale ≡ old.stale → IsBoard new
-board_handed g event after ps old new steady board rows =
+board_handed event after ps old new board rows =
     let us = old.rows.items in
     let given : Unit → List Given = λ u. news_by event after ps u (place_of u.local.unit us) in
     let handed_to : List Unit = map (with_news given) us in
-    let is : new.rows.items ≡ g handed_to = rows given (own_news event after ps us board.whole.apart) in
+    let is : new.rows.items ≡ handed_to = rows given (own_news event after ps us board.whole.apart) in
     let calm : All IsCalm handed_to = λ i d within.
     let e = length-map us (with_news given) in
     let j : i < length us = omega (arith, e, within) in
     subst IsCalm (sym (at_map (with_news given) us i d d j)) (board.whole.calm i d j) in
     board_steady old new board
-    (ap names_of is ∙ steady.named handed_to ∙ names-map (with_news given) (λ u. refl) us)
-    (subst (All IsCalm) (sym is) (steady.calm handed_to calm))
-    (ap inputs is ∙ steady.reads handed_to ∙ inputs-map (with_news given) (λ u. refl) us)
+    (ap names_of is ∙ names-map (with_news given) (λ u. refl) us)
+    (subst (All IsCalm) (sym is) calm)
+    (ap inputs is ∙ inputs-map (with_news given) (λ u. refl) us)
+
+all_longer : (bs us : List Unit) → length us ≤ length (all_new bs us)
+all_longer [] us = omega arith
+all_longer (b ∷ bs) us =
+    let longer = all_longer bs (us ++ if_new b us) in
+    let e = length-append us (if_new b us) in
+    omega (arith, longer, e)
+
+-- a commit that is handed over takes no row away
+pub handed_longer : (k : Commit) (old new : Board) → IsWhole old.rows.items old.events old.index → IsHandedBoard k old new →
+    length old.rows.items ≤ length new.rows.items
+handed_longer k old new whole done =
+    let us = done.opened.rows.items in
+    let ps = receivers_of done.ready in
+    let after = done.ready.after in
+    let apart = (whole_opened k.event old done.opened done.opening whole).apart in
+    let given : Unit → List Given = λ u. news_by k.event after ps u (place_of u.local.unit us) in
+    let all = ap (λ (l : List Unit). length l) (done.rows given (own_news k.event after ps us apart)) in
+    let longer = all_longer (rows_in done.ready.called.born.items) (map (with_news given) us) in
+    let same = length-map us (with_news given) in
+    let before = ap (λ (l : List Unit). length l) done.opening.rows in
+    omega (arith, all, longer, same, before)
+
+-- where a handle is closed
+pub board_shut : (k h : ℕ) (old new : Board) → IsBoard old → IsShutBoard k h old new → new.labels.items ≡ old.labels.items →
+    new.stale ≡ old.stale → IsBoard new
+board_shut k h old new board shut labels stale =
+    let us = old.rows.items in
+    board_steady old new board
+    (ap names_of shut.rows ∙ names-modify (shut_row h) (λ u. refl) k us)
+    (subst (All IsCalm) (sym shut.rows) (calm-modify (shut_row h) (λ u is. is) k us board.whole.calm))
+    (ap inputs shut.rows ∙ inputs-modify (shut_row h) k us (λ d i. refl))
+    shut.roll shut.events shut.index labels stale
 
 -- and where an event is booked for receivers who have rows
 pub board_booked : (old new : Board) (ps : List Pair) (j : ℕ) → IsBoard old → All (λ (p : Pair). p.0 < length old.rows.items) ps → j < length old.events → new.rows.items ≡ old.rows.items → new.roll.seats ≡ old.roll.seats → new.labels.items ≡ old.labels.items → new.stale ≡ old.stale → new.index.enrolled ≡ old.index.enrolled →

@@ -1,5 +1,5 @@
 -- The tables tell of one more entry, once they are as the code makes them.
-use Rattle.df_tables.proofs.Names.{◌≡◌, ℕ, zero, suc, ◌≤◌, ◌<◌, Bool, false, All, List, [], ◌∷◌, ◌++◌, get_or, length, Option, Some, None, refl, ap, sym, subst, ◌∙◌, arith, option_or, append-nil, slice_get-get_or, Clause, Pair, Subscription, AreNumbered, kept_in, ManagedSubscription, Label, Privilege, Part, commit_in, answer, fixed_by, own, own_plain, Rules, rows, roots, row_taking_laws, same, OwnState, subscribes, Call, ChangeInOut, Instantiate, Subscribe, SubscribeManaged, Commit, Given, Effect, Entry, Done, EventName, UnitName, Root, Reply, Sub, same_name-exact, Agrees, AreWithin, FilterIndex, IsSeat, IsWhole, ManagedState, enrols, is_marked, subscribed_at, IsBooked, IsKept, IsMovedBoard, IsOpenedBoard, IsRenewed, TellsOf, answer_from, answer_on, managed_by, managed_of, place_on, row_by, row_on, event_place, IsAnsweredAt, IsNews, modify, news_at, IsAnswered, child_by, is_in_out, managed_sub_by, find, moved_at, moved_row, place_of, Board, EventRow, Unit}
+use Rattle.df_tables.proofs.Names.{◌≡◌, ℕ, zero, suc, ◌≤◌, ◌<◌, Bool, All, List, [], ◌∷◌, ◌++◌, get_or, length, Option, Some, None, refl, ap, sym, subst, ◌∙◌, arith, option_or, append-nil, slice_get-get_or, Clause, Pair, Subscription, AreNumbered, kept_in, ManagedSubscription, Label, Privilege, Part, commit_in, answer, fixed_by, own, own_plain, Rules, rows, roots, row_taking_laws, same, OwnState, subscribes, Call, Instantiate, Subscribe, SubscribeManaged, Commit, Given, Effect, Entry, Done, EventName, UnitName, Root, Reply, Sub, same_name-exact, Agrees, AreWithin, FilterIndex, IsSeat, IsWhole, ManagedState, enrols, is_marked, subscribed_at, IsBooked, IsKept, IsMovedBoard, IsOpenedBoard, IsRenewed, TellsOf, answer_from, answer_on, managed_by, managed_of, place_on, row_by, row_on, event_place, IsAnsweredAt, IsNews, modify, news_at, IsAnswered, child_by, managed_sub_by, find, moved_at, moved_row, place_of, Board, EventRow, Unit}
 use Rattle.df_instances.specs.Marks as marks
 use Rattle.df_unit.specs.declared.reply.Reply.TheVariants.{Unit as Made}
 use Rattle.df_tables.specs.Moves.{made_by}
@@ -45,21 +45,6 @@ pub modify_same : (f g : Unit → Unit) → ((u : Unit) → f u ≡ g u) → (k 
 modify_same f g e k [] = refl
 modify_same f g e zero (u ∷ us) = ap (λ (v : Unit). v ∷ us) (e u)
 modify_same f g e (suc k) (u ∷ us) = ap (λ (vs : List Unit). u ∷ vs) (modify_same f g e k us)
-
--- a commit is the effect of no call that subscribes or changes the label at which its unit reads
-
-pub commits_none : (c : Call) (r : Reply) (k : Commit) (u : Unit) → IsAnswered c r (Effect.Commit k) u → made_by c r ≡ None
-commits_none (Subscribe filter) r k u h = absurd (let e : Effect.Nothing ≡ Effect.Commit k = ap (λ (p : Reply × Effect). p.1) h in (let z : ⊥ = cc in z))
-commits_none _ r k u h = refl
-
-commits_quiet : (c : Call) (r : Reply) (k : Commit) (u : Unit) → IsAnswered c r (Effect.Commit k) u → is_in_out c ≡ false
-commits_quiet (ChangeInOut half act tag) r k u h = absurd (let e : Effect.Nothing ≡ Effect.Commit k = ap (λ (p : Reply × Effect). p.1) h in (let z : ⊥ = cc in z))
-commits_quiet _ r k u h = refl
-
--- a commit's call changes no label at which its unit reads
-pub commit_quiet : (us : List Unit) (q : ℕ) (c : Call) (r : Reply) (f : Effect) (k : Commit) → q < length us → f ≡ Effect.Commit k → IsAnsweredAt q c r f us → is_in_out c ≡ false
-commit_quiet [] q c r f k i is answered = absurd (omega (arith, i))
-commit_quiet (u ∷ us) q c r f k i is answered = commits_quiet c r k (get_or (u ∷ us) q u) (subst (λ (x : Effect). IsAnswered c r x (get_or (u ∷ us) q u)) is (answered u i))
 
 abbrev inside : Option (ℕ × List Clause) → ℕ × List Clause
 inside None = (0, [])

@@ -16,7 +16,7 @@ given_at k a d us new within given = record {
 }
 
 -- a get has no commit
-no_commit : (l : LocalState) (left : List Given) (r : Reply) (f : Effect) → row_answer l left Get ≡ (r, f) → commit_in f ≡ None
+pub no_commit : (l : LocalState) (left : List Given) (r : Reply) (f : Effect) → row_answer l left Get ≡ (r, f) → commit_in f ≡ None
 no_commit l left r f e = ap (λ (a : Reply × Effect). commit_in a.1) (sym e) ∙ by left (is_accepted (handed l.own left))
   where
     by : (ds : List Given) (accepted : Bool) → commit_in (if accepted then first_given ds else effect.Nothing) ≡ None

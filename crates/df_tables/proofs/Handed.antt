@@ -1,7 +1,7 @@
 -- What receivers were handed, row by row.
-use Rattle.df_tables.proofs.Names.{◌≡◌, ℕ, zero, suc, ◌<◌, List, [], ◌∷◌, ◌++◌, Bool, true, false, if◌then◌else◌, map, length, get_or, take, refl, ap, sym, subst, ◌∙◌, arith, All, append_assoc, append-nil, length-map, same_lists, Pair, LocalState, Part, Call, Given, Effect, EventName, Reply, IsAnsweredAt, IsCalm, IsNews, each, given_to, modify, moved_by, news_at, pairs_of, quiet_row, settled_row, staged_row, with_news, LineState, settled, IsAnswered, Unit}
+use Rattle.df_tables.proofs.Names.{◌≡◌, ℕ, zero, suc, ◌<◌, List, [], ◌∷◌, ◌++◌, Bool, true, false, if◌then◌else◌, map, length, get_or, take, refl, ap, sym, ◌∙◌, arith, All, append_assoc, append-nil, length-map, same_lists, Pair, LocalState, Part, Given, EventName, IsCalm, IsNews, each, given_to, news_at, pairs_of, quiet_row, settled_row, staged_row, with_news, LineState, settled, Unit}
 use Rattle.std.specs.Prelude.{◌==◌}
-use Rattle.df_tables.proofs.Each.{at_each, at_modify, length-each, length-modify, turned}
+use Rattle.df_tables.proofs.Each.{at_each, length-each, turned}
 
 -- a row with these deliveries left and staged
 abbrev row : LocalState → List Given → List Given → Unit
@@ -41,52 +41,34 @@ at_map f [] k d e h = absurd (omega arith)
 at_map f (x ∷ xs) zero d e h = refl
 at_map f (x ∷ xs) (suc k) d e h = at_map f xs k d e (omega arith)
 
--- what was staged and settled was handed, wherever the own state of one unit changed in between
-pub handed : (ev : EventName) (after : List Part) (ps : List Pair) (us : List Unit) (q : ℕ) (g : LocalState → LocalState) (news : Unit → List Given) → All IsCalm us → IsNews news ev after ps us →
-    each settled_row ps (modify q (moved_by g) (each (staged_row ev after) ps us)) ≡ modify q (moved_by g) (map (with_news news) us)
-handed ev after ps us q g news calm is =
-    same_lists _ _ (length-each settled_row ps staged ∙ length-modify q (moved_by g) (each (staged_row ev after) ps us) ∙ length-each (staged_row ev after) ps us ∙ sym (length-modify q (moved_by g) (map (with_news news) us) ∙ length-map us (with_news news)))
-    (λ k d i. at k d (let a = length-each settled_row ps staged in let b = length-modify q (moved_by g) (each (staged_row ev after) ps us) in let c = length-each (staged_row ev after) ps us in omega (arith, a, b, c, i)))
+-- what was staged and settled was handed
+pub handed_out : (ev : EventName) (after : List Part) (ps : List Pair) (us : List Unit) (news : Unit → List Given) → All IsCalm us →
+    IsNews news ev after ps us → each settled_row ps (each (staged_row ev after) ps us) ≡ map (with_news news) us
+handed_out ev after ps us news calm is =
+    same_lists _ _ (length-each settled_row ps staged ∙ length-each (staged_row ev after) ps us ∙ sym (length-map us (with_news news)))
+    (λ k d i. at k d (let a = length-each settled_row ps staged in let b = length-each (staged_row ev after) ps us in omega (arith, a, b, i)))
   where
     staged : List Unit
-    staged = modify q (moved_by g) (each (staged_row ev after) ps us)
+    staged = each (staged_row ev after) ps us
 
-    one : (k : ℕ) (u : Unit) (l : LocalState) → u.line.staged ≡ [] → news u ≡ news_at ev after u.local.own.input ps k →
-        turned settled_row ps k (record { local = l; line = record u.line { staged = u.line.staged ++ news_at ev after u.local.own.input ps k } }) ≡ record { local = l; line = record u.line { left = u.line.left ++ news u } }
-    one k u l none same =
-        ap (λ (s : List Given). turned settled_row ps k (row l u.line.left (s ++ news_at ev after u.local.own.input ps k))) none
-        ∙ settled_turned ps k (row l u.line.left (news_at ev after u.local.own.input ps k)) (λ e. ap (map (given_to ev after u.local.own.input)) e)
-        ∙ ap (λ (n : List Given). row l (u.line.left ++ n) []) (sym same)
-        ∙ ap (λ (s : List Given). row l (u.line.left ++ news u) s) (sym none)
+    brought : ℕ → Unit → List Given
+    brought k u = news_at ev after u.local.own.input ps k
 
-    by : (b : Bool) (k : ℕ) (u : Unit) → u.line.staged ≡ [] → news u ≡ news_at ev after u.local.own.input ps k → turned settled_row ps k (if b then moved_by g (turned (staged_row ev after) ps k u) else turned (staged_row ev after) ps k u) ≡ (if b then moved_by g (with_news news u) else with_news news u)
-    by true k u none same = ap (λ (v : Unit). turned settled_row ps k (moved_by g v)) (staged_turned ev after ps k u) ∙ one k u (g u.local) none same
-    by false k u none same = ap (turned settled_row ps k) (staged_turned ev after ps k u) ∙ one k u u.local none same
+    one : (k : ℕ) (u : Unit) → u.line.staged ≡ [] → news u ≡ brought k u →
+        turned settled_row ps k (record u { line = record u.line { staged = u.line.staged ++ brought k u } }) ≡ with_news news u
+    one k u none same =
+        ap (λ (s : List Given). turned settled_row ps k (row u.local u.line.left (s ++ brought k u))) none
+        ∙ settled_turned ps k (row u.local u.line.left (brought k u)) (λ e. ap (map (given_to ev after u.local.own.input)) e)
+        ∙ ap (λ (n : List Given). row u.local (u.line.left ++ n) []) (sym same)
+        ∙ ap (row u.local (u.line.left ++ news u)) (sym none)
 
-    at : (k : ℕ) (d : Unit) → k < length us → get_or (each settled_row ps staged) k d ≡ get_or (modify q (moved_by g) (map (with_news news) us)) k d
+    at : (k : ℕ) (d : Unit) → k < length us → get_or (each settled_row ps staged) k d ≡ get_or (map (with_news news) us) k d
     at k d i =
-        let a = length-modify q (moved_by g) (each (staged_row ev after) ps us) in
-        let b = length-each (staged_row ev after) ps us in
-        let c = length-map us (with_news news) in
-        at_each settled_row ps staged k d (omega (arith, a, b, i))
-        ∙ ap (turned settled_row ps k) (at_modify q (moved_by g) (each (staged_row ev after) ps us) k d (omega (arith, b, i)))
-        ∙ ap (λ (v : Unit). turned settled_row ps k (if q == k then moved_by g v else v)) (at_each (staged_row ev after) ps us k d i)
-        ∙ by (q == k) k (get_or us k d) (calm k d i) (is k d i)
-        ∙ ap (λ (v : Unit). if q == k then moved_by g v else v) (sym (at_map (with_news news) us k d d i))
-        ∙ sym (at_modify q (moved_by g) (map (with_news news) us) k d (omega (arith, c, i)))
-
--- and where no own state changed
-pub handed_out : (ev : EventName) (after : List Part) (ps : List Pair) (us : List Unit) (news : Unit → List Given) → All IsCalm us → IsNews news ev after ps us →
-    each settled_row ps (each (staged_row ev after) ps us) ≡ map (with_news news) us
-handed_out ev after ps us news calm is =
-    ap (each settled_row ps) (sym (still 0 (each (staged_row ev after) ps us)))
-    ∙ handed ev after ps us 0 (λ l. l) news calm is
-    ∙ still 0 (map (with_news news) us)
-  where
-    still : (q : ℕ) (us : List Unit) → modify q (moved_by (λ l. l)) us ≡ us
-    still q [] = refl
-    still zero (u ∷ us) = refl
-    still (suc q) (u ∷ us) = ap (λ (l : List Unit). u ∷ l) (still q us)
+        let u = get_or us k d in
+        at_each settled_row ps staged k d (let b = length-each (staged_row ev after) ps us in omega (arith, b, i))
+        ∙ ap (turned settled_row ps k) (at_each (staged_row ev after) ps us k d i ∙ staged_turned ev after ps k u)
+        ∙ one k u (calm k d i) (is k d i)
+        ∙ sym (at_map (with_news news) us k d d i)
 
 quiet_both : (ps : List Pair) (k : ℕ) (u v : Unit) → u.local ≡ v.local → u.line.left ≡ v.line.left → (pairs_of k ps ≡ [] → u ≡ v) → turned quiet_row ps k u ≡ turned quiet_row ps k v
 quiet_both [] k u v n l h = h refl
@@ -140,14 +122,3 @@ quiet_turned (p ∷ ps) k u e = by (p.0 == k) (quiet_turned ps k u e)
 -- where nothing was staged nothing is let go
 pub calm_stays : (ps : List Pair) (us : List Unit) → All IsCalm us → each quiet_row ps us ≡ us
 calm_stays ps us calm = same_lists _ _ (length-each quiet_row ps us) (λ k d h. let b = length-each quiet_row ps us in let i : k < length us = omega (arith, b, h) in at_each quiet_row ps us k d i ∙ quiet_turned ps k (get_or us k d) (calm k d i))
-
--- and what was staged at all of them
-pub all_staged : (ev : EventName) (after : List Part) (ps : List Pair) (us : List Unit) → each quiet_row ps (each (staged_row ev after) ps us) ≡ each quiet_row ps us
-all_staged ev after ps us = half_staged ev after ps ps us (λ k h. h)
-
--- what is staged changes no answer
-pub answered_still : (ev : EventName) (after : List Part) (ps : List Pair) (us : List Unit) (k : ℕ) (c : Call) (r : Reply) (f : Effect) → IsAnsweredAt k c r f us → IsAnsweredAt k c r f (each (staged_row ev after) ps us)
-answered_still ev after ps us k c r f h d i =
-    let b = length-each (staged_row ev after) ps us in
-    let j : k < length us = omega (arith, b, i) in
-    subst (IsAnswered c r f) (sym (at_each (staged_row ev after) ps us k d j ∙ staged_turned ev after ps k (get_or us k d))) (h d j)

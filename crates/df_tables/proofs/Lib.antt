@@ -34,6 +34,7 @@ pub mod Marked
 pub mod Calls
 pub mod Instances
 pub mod Committed
+pub mod Closes
 pub mod HandedOver
 pub mod Alike
 pub mod Swapped

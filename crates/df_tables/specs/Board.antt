@@ -33,7 +33,8 @@ use Rattle.df_roll.specs.declared.seat.Seat.{Seat}
 use Rattle.df_tables.specs.Agree.{Agrees, AreWithin, IsWhole, ManagedState, enrols}
 use Rattle.df_tables.specs.Labels.{AreLabels, inputs}
 use Rattle.df_tables.specs.Events.{IsOpened, event_place}
-use Rattle.df_tables.specs.Hand.{IsNews, modify, with_news}
+use Rattle.df_tables.specs.Hand.{IsAnsweredAt, IsNews, modify, shut_row, with_news}
+use Rattle.df_tables.specs.Moves.{closed_by}
 use Rattle.df_tables.specs.Births.{all_new, child_row, if_new, rows_in}
 use Rattle.df_tables.specs.Calls.{AreCalled, places_by}
 use Rattle.df_tables.specs.Table.{find, moved_row, parts_of, place_of}
@@ -197,6 +198,21 @@ pub record IsMovedBoard (k : ℕ) (c : Call) (r : Reply) (f : Effect)
   pub handed : new.index.handed ≡ old.index.handed
   pub told : new.marks.handed ≡ old.marks.handed
 
+-- a handle of the unit at a place is closed
+pub record IsShutBoard (k h : ℕ) (old new : Board) : Type 0 where
+  pub rows : new.rows.items ≡ modify k (shut_row h) old.rows.items
+  pub roll : new.roll.seats ≡ old.roll.seats
+  pub events : new.events ≡ old.events
+  pub index : new.index ≡ old.index
+  pub managed : new.managed ≡ old.managed
+  pub told : new.marks.handed ≡ old.marks.handed
+
+-- whichever call of the unit at a place closes the handle with this effect, it is taken in
+abbrev pub ClosesAt : ℕ → ℕ → Effect → Board → Board → Type 0
+ClosesAt k h f old new = (actor : UnitName) (c : Call) (r : Reply) →
+    place_on old actor ≡ Some k → closed_by c r ≡ Some h →
+    IsAnsweredAt k c r f old.rows.items → IsBooked actor c r f old new
+
 -- the row of a unit is new, unless it had one
 pub record IsBornBoard (born : Unit) (old new : Board) : Type 0 where
   pub rows : new.rows.items ≡ old.rows.items ++ if_new born old.rows.items
@@ -241,10 +257,9 @@ pub record IsClosed (ready : Ready) (old new : Board) : Type 0 where
       (e : EventName) → parts_of e new.events
       ≡ (if same_event event e then ready.after else parts_of e old.events)
 
--- a commit that changes the rows so is handed to its receivers and no other row, is marked so, its
--- event has the parts after it, and those who come to exist by it have their rows
-pub record IsHandedBoard (g : List Unit → List Unit) (commit : Commit) (old new : Board)
-    : Type 0 where
+-- a commit is handed to its receivers and no other row, is marked so, its event has the parts after
+-- it, and those who come to exist by it have their rows
+pub record IsHandedBoard (commit : Commit) (old new : Board) : Type 0 where
   pub opened : Board
   pub ready : Ready
   pub opening : IsOpenedBoard commit.event old opened
@@ -252,7 +267,7 @@ pub record IsHandedBoard (g : List Unit → List Unit) (commit : Commit) (old ne
   pub rows : (given : Unit → List Given) →
       IsNews given commit.event ready.after (receivers_of ready) opened.rows.items →
       new.rows.items ≡ all_new (rows_in ready.called.born.items)
-      (g (map (with_news given) opened.rows.items))
+      (map (with_news given) opened.rows.items)
   pub managed : new.managed ≡ opened.managed
   pub told : (e q : ℕ) → marks.was_handed new.marks.handed e q
       ≡ (marks.was_handed opened.marks.handed e q || marks.is_ready opened.marks.ready e q)

@@ -3,11 +3,10 @@ use Rattle.std.specs.Prelude.{◌≡◌, ℕ, zero, suc, ◌<◌, ◌==◌, true
 use Rattle.std.specs.List.{filter}
 use Rattle.df_index.specs.Due.{Pair}
 use Rattle.df_label.specs.declared.label.Label.{Label}
-use Rattle.df_local.specs.Locally.{is_alone}
-use Rattle.df_local.specs.code.LocalState.{LocalState}
+use Rattle.df_local.specs.Locally.{is_alone, with_own}
 use Rattle.df_part.specs.Part.{cut}
 use Rattle.df_part.specs.declared.part.Part.{Part}
-use Rattle.df_unit.specs.Rows.{after}
+use Rattle.df_unit.specs.Handles.{closed}
 use Rattle.df_unit.specs.declared.call.Call.{Call}
 use Rattle.df_unit.specs.declared.commit.Given.{Given}
 use Rattle.df_unit.specs.declared.entry.Effect.{Effect}
@@ -68,13 +67,11 @@ IsNews news event after ps us = (k : ℕ) (d : Unit) → k < length us →
 abbrev pub with_news : (Unit → List Given) → Unit → Unit
 with_news news u = record u { line = record u.line { left = u.line.left ++ news u } }
 
--- the row with another own state of the unit
-abbrev pub moved_by : (LocalState → LocalState) → Unit → Unit
-moved_by g u = record u { local = g u.local }
-
--- the row with an entry taken into the unit's own state
-abbrev pub with_state : Call → Reply → Effect → Unit → Unit
-with_state c r f u = moved_by (λ l. record { unit = l.unit; own = after l.unit l.own c r f }) u
+-- the row with a handle of the unit closed
+abbrev pub shut_row : ℕ → Unit → Unit
+shut_row h u = record u {
+  local = with_own u.local (record u.local.own { handles = closed u.local.own.handles h });
+}
 
 -- the reply and the effect are the answer of the unit at the place
 abbrev pub IsAnsweredAt : ℕ → Call → Reply → Effect → List Unit → Type 0

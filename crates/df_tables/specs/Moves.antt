@@ -1,10 +1,11 @@
 -- What the tables need of an entry before they move.
-use Rattle.std.specs.Prelude.{◌≡◌, ℕ, Bool, true, false, List, Option, Some, None}
+use Rattle.std.specs.Prelude.{◌≡◌, ℕ, Bool, true, false, if◌then◌else◌, List, Option, Some, None}
 use Rattle.df_filter.specs.declared.clause.Clause.{Clause}
 use Rattle.df_label.specs.declared.privilege.Privilege.{Privilege}
 use Rattle.df_local.specs.Locally.{row_answer}
+use Rattle.df_unit.specs.Rows.{is_accepted}
 use Rattle.df_unit.specs.declared.call.Call.{Call}
-use Rattle.df_unit.specs.declared.call.Call.TheVariants.{ChangeInOut, Instantiate, Subscribe, SubscribeManaged}
+use Rattle.df_unit.specs.declared.call.Call.TheVariants.{ChangeInOut, Instantiate, Publish, Release, Subscribe, SubscribeManaged}
 use Rattle.df_unit.specs.declared.entry.Effect.{Effect}
 use Rattle.df_unit.specs.declared.reply.Reply.{Reply}
 use Rattle.df_unit.specs.declared.reply.Reply.TheVariants.{Sub, Unit as Made}
@@ -34,3 +35,9 @@ child_by _ _ = None
 abbrev pub managed_sub_by : Call → Reply → Option (ℕ × List Clause)
 managed_sub_by (SubscribeManaged filter) (Sub n) = Some (n, filter)
 managed_sub_by _ _ = None
+
+-- the handle that a publish or a release with this reply closes
+abbrev pub closed_by : Call → Reply → Option ℕ
+closed_by (Publish h) r = if is_accepted r then Some h else None
+closed_by (Release h) r = if is_accepted r then Some h else None
+closed_by _ r = None

@@ -15,12 +15,13 @@ ghost use Rattle.df_unit.specs.declared.reply.Reply.TheVariants.{Sub};
 ghost use Rattle.df_unit.specs.UnitOrder.{unit_cmp};
 ghost use Rattle.df_label.specs.Ascending.{IsAscending};
 ghost use Rattle.df_local.specs.Brief.{accepted_reply, brief_call};
-ghost use Rattle.df_local.specs.Locally.{closing, shows_one};
+ghost use Rattle.df_local.specs.Locally.{TellsEffect, closing, shows_one};
+ghost use Rattle.df_local.specs.declared.close.Close.{Close};
 ghost use Rattle.df_tables.specs.Births.{IsEnrolled, IsNewborn, beside_of, rows_in};
 ghost use Rattle.df_tables.specs.Board.{AreBorn, HasRoom, IsBoard, IsBooked, IsBornBoard, IsChildBoard, IsKept, IsMade, IsMovedBoard, IsRenewed, MakesAlone, TellsOf, answer_from, place_on, row_by, row_on, units_in};
 ghost use Rattle.df_tables.specs.Hand.{IsAnsweredAt, IsCalm, received_answer};
 ghost use Rattle.df_tables.specs.Labels.{AreLabels, inputs};
-ghost use Rattle.df_tables.specs.Moves.{child_by, is_in_out, made_by, managed_sub_by};
+ghost use Rattle.df_tables.specs.Moves.{child_by, closed_by, is_in_out, made_by, managed_sub_by};
 ghost use Rattle.df_tables.specs.Table.{IsInOrder, rows_from};
 
 use crate::births::{Beside, Newborn, beside_of, child_of, count_child, make_room};
@@ -32,7 +33,7 @@ use df_filter::Filter;
 use df_index::Index;
 use df_instances::{Managed, Marks};
 use df_label::{Label, Privileges, TagSet};
-use df_local::{Accepted, Answer, Brief, Close};
+use df_local::{Accepted, Answer, Brief, Close, is_accepted};
 use df_memory::NoMemory;
 use df_part::Part;
 use df_roll::Roll;
@@ -93,6 +94,16 @@ fn child_by<'a>(call: &'a Call, reply: &Reply) -> Option<(u32, &'a TagSet, &'a P
         (Call::Instantiate { s, privileges }, Reply::Unit(number)) => {
             Some((*number, s, privileges))
         }
+        _ => None,
+    }
+}
+
+/// The handle that a publish or a release with this reply closes.
+fn closed_by(call: &Call, reply: &Reply) -> Option<u32>
+    ensures { result ≡ closed_by call.now reply.now }
+{
+    match call {
+        Call::Publish { h } | Call::Release { h } if is_accepted(reply) => Some(*h),
         _ => None,
     }
 }
@@ -424,9 +435,9 @@ impl Board {
         if let Some((number, filter)) = managed_sub_by(call, reply) {
             return self.enrol_managed(place, filter, number);
         }
-        match effect {
-            Effect::Commit(commit) => self.book_commit(place, call, reply, effect, commit),
-            _ => self.book_plain(place, call, reply, effect),
+        match closed_by(call, reply) {
+            Some(h) => self.book_close(place, h, effect),
+            None => self.book_plain(place, call, reply, effect),
         }
     }
 
@@ -450,6 +461,29 @@ impl Board {
     {
         match place {
             Some(place) => self.book_at(place, call, reply, effect),
+            None => Ok(()),
+        }
+    }
+
+    /// Takes in a publish or a release of a handle by the unit whose place this is, which is answered
+    /// with Ok and has this effect. Without memory the tables agree with the journal as before.
+    pub fn book_closing(
+        &mut self,
+        place: Option<usize>,
+        h: u32,
+        effect: &Effect,
+    ) -> Result<(), NoMemory>
+        requires board { IsBoard self.old }
+        requires seated { (actor : UnitName) × (place_on self.old actor ≡ place) }
+        ensures board { IsBoard self.new }
+        ensures ok { OnOk result ((actor : UnitName) (how : Close) →
+            place_on self.old actor ≡ place →
+            answer_from (row_by self.old place) (closing how h) ≡ (Reply.Ok, effect.now) →
+            IsBooked actor (closing how h) Reply.Ok effect.now self.old self.new) }
+        ensures kept { OnErr result (IsKept self.old self.new) }
+    {
+        match place {
+            Some(place) => self.book_close(place, h, effect),
             None => Ok(()),
         }
     }
@@ -520,15 +554,15 @@ impl Board {
     }
 
     /// The effect of a publish or a release of a handle by the unit at a place, where its reply is
-    /// Ok.
+    /// Ok; None where it is refused.
     pub fn closing(
         &self,
         place: Option<usize>,
         h: u32,
         how: Close,
     ) -> Result<Option<Effect>, NoMemory>
-        ensures { IfOk result (λ made. IfSome made (λ effect.
-            answer_from (row_by self.now place) (closing how h) ≡ (Reply.Ok, effect))) }
+        ensures { IfOk result
+            (TellsEffect (answer_from (row_by self.now place) (closing how h))) }
     {
         match self.row(place) {
             Some(unit) => unit.local.closing(h, how),
@@ -556,7 +590,7 @@ impl Board {
         let Some(effect) = self.closing(place, h, how)? else {
             return self.answer_first(place, call);
         };
-        self.book(place, call, &Reply::Ok, &effect)?;
+        self.book_closing(place, h, &effect)?;
         Ok(Answer {
             reply: Reply::Ok,
             effect,

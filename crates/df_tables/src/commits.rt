@@ -9,23 +9,23 @@ ghost use Rattle.df_index.specs.IndexState.{IsReceiver};
 ghost use Rattle.df_part.specs.Contents.{apply};
 ghost use Rattle.df_unit.specs.declared.entry.Effect.{Effect};
 ghost use Rattle.df_tables.specs.Births.{IsNewborn, rows_in};
-ghost use Rattle.df_tables.specs.Board.{HasRoom, IsBoard, IsClosed, IsEmitted, IsHandedBoard, IsKept, IsOpenedBoard, IsReady, IsRenewed, receivers_by};
+ghost use Rattle.df_tables.specs.Board.{ClosesAt, HasRoom, IsBoard, IsClosed, IsEmitted, IsHandedBoard, IsKept, IsOpenedBoard, IsReady, IsRenewed, IsShutBoard, receivers_by};
 ghost use Rattle.df_tables.specs.Calls.{AreCalled, places_by, places_from};
 ghost use Rattle.df_tables.specs.Events.{event_place};
-ghost use Rattle.df_tables.specs.Hand.{IsAnsweredAt, modify, with_state};
 ghost use Rattle.df_tables.specs.Labels.{inputs};
 ghost use Rattle.df_tables.specs.Table.{parts_of};
 
 use crate::births::Newborn;
 use crate::board::Board;
 use crate::calling::Called;
-use crate::handing::{News, hand_out, hand_over};
+use crate::handing::{News, hand_out};
+use crate::moves::shut_at;
 use df_filter::Filter;
 use df_index::{Index, Receivers, Steps};
 use df_label::Label;
 use df_memory::NoMemory;
 use df_part::{Contents, Edit};
-use df_unit::{Call, Commit, Effect, EventName, Reply};
+use df_unit::{Commit, Effect, EventName};
 use std::alloc::Global;
 use std::marker::Brand;
 use std::sync::ledger::{Blank, Ledger};
@@ -255,23 +255,11 @@ impl Board {
         self.bear_all(born);
     }
 
-    /// Takes in an entry with a commit of the unit at a place.
-    pub(crate) fn book_commit(
-        &mut self,
-        place: usize,
-        call: &Call,
-        reply: &Reply,
-        effect: &Effect,
-        commit: &Commit,
-    ) -> Result<(), NoMemory>
-        requires board { IsBoard self.old }
-        requires within { place < length self.old.rows.items }
-        requires commit { effect.now ≡ Effect.Commit commit.now }
-        requires right { IsAnsweredAt place call.now reply.now effect.now self.old.rows.items }
+    /// Hands a commit over.
+    fn hand_commit(&mut self, commit: &Commit) -> Result<(), NoMemory>
+        requires { IsBoard self.old }
         ensures board { IsBoard self.new }
-        ensures ok { OnOk result (IsHandedBoard
-            (modify place (with_state call.now reply.now effect.now)) commit.now
-            self.old self.new) }
+        ensures ok { OnOk result (IsHandedBoard commit.now self.old self.new) }
         ensures opened { OnErr result (IsOpenedBoard commit.now.event self.old self.new) }
     {
         let ready = self.open(commit)?;
@@ -281,28 +269,55 @@ impl Board {
             receivers: ready.receivers(),
         };
         let rows = self.rows.as_mut_slice();
-        hand_over(rows, place, call, reply, effect, &news)?;
+        hand_out(rows, &news)?;
         self.close(ready);
         Ok(())
     }
 
-    /// Hands over the commit of an emitted entry.
-    fn hand_emitted(&mut self, commit: &Commit) -> Result<(), NoMemory>
-        requires { IsBoard self.old }
+    /// Closes a handle of the unit at a place. Takes no memory.
+    fn shut(&mut self, place: usize, h: u32)
+        requires board { IsBoard self.old }
+        requires within { place < length self.old.rows.items }
         ensures board { IsBoard self.new }
-        ensures ok { OnOk result (IsHandedBoard (λ us. us) commit.now self.old self.new) }
-        ensures opened { OnErr result (IsOpenedBoard commit.now.event self.old self.new) }
+        ensures shut { IsShutBoard place h self.old self.new }
     {
-        let emitted = self.open(commit)?;
-        let news = News {
-            event: &commit.event,
-            after: &emitted.after,
-            receivers: emitted.receivers(),
-        };
-        let rows = self.rows.as_mut_slice();
-        hand_out(rows, &news)?;
-        self.close(emitted);
+        shut_at(self.rows.as_mut_slice(), place, h);
+    }
+
+    /// Takes in an entry with a commit of the unit at a place, which closes a handle.
+    fn book_commit(&mut self, place: usize, h: u32, commit: &Commit) -> Result<(), NoMemory>
+        requires board { IsBoard self.old }
+        requires within { place < length self.old.rows.items }
+        ensures board { IsBoard self.new }
+        ensures ok { OnOk result (ClosesAt place h (Effect.Commit commit.now)
+            self.old self.new) }
+        ensures kept { OnErr result (IsKept self.old self.new) }
+    {
+        self.hand_commit(commit)?;
+        self.shut(place, h);
         Ok(())
+    }
+
+    /// Takes in an entry of the unit at a place, which closes a handle.
+    pub(crate) fn book_close(
+        &mut self,
+        place: usize,
+        h: u32,
+        effect: &Effect,
+    ) -> Result<(), NoMemory>
+        requires board { IsBoard self.old }
+        requires within { place < length self.old.rows.items }
+        ensures board { IsBoard self.new }
+        ensures ok { OnOk result (ClosesAt place h effect.now self.old self.new) }
+        ensures kept { OnErr result (IsKept self.old self.new) }
+    {
+        match effect {
+            Effect::Commit(commit) => self.book_commit(place, h, commit),
+            _ => {
+                self.shut(place, h);
+                Ok(())
+            }
+        }
     }
 
     /// Takes in an emitted entry, whose commit is nobody's call. Without memory the tables agree
@@ -313,6 +328,6 @@ impl Board {
         ensures ok { OnOk result (IsEmitted commit.now self.old self.new) }
         ensures kept { OnErr result (IsKept self.old self.new) }
     {
-        self.hand_emitted(commit)
+        self.hand_commit(commit)
     }
 }

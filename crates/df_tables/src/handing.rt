@@ -3,14 +3,14 @@
 ghost use Rattle.std.specs.Prelude.{◌≡◌, ◌<◌, OnOk, OnErr, IfOk, List, length, map};
 ghost use Rattle.std.specs.List.{All};
 ghost use Rattle.df_unit.specs.declared.commit.Given.{Given};
-ghost use Rattle.df_tables.specs.Hand.{IsAnsweredAt, IsCalm, IsNews, each, given_to, modify, quiet_row, settled_row, staged_row, with_news, with_state};
+ghost use Rattle.df_tables.specs.Hand.{IsCalm, IsNews, each, given_to, quiet_row, settled_row, staged_row, with_news};
 ghost use Rattle.df_tables.specs.declared.units.Unit.{Unit};
 
 use crate::units::Unit;
 use df_label::Label;
 use df_memory::NoMemory;
 use df_part::Contents;
-use df_unit::{Call, Effect, EventName, Given, Reply};
+use df_unit::{EventName, Given};
 
 /// What a commit brings: the event, its parts after the commit, and to whom it is to be handed.
 #[derive(Drop)]
@@ -92,56 +92,6 @@ fn quiet(units: &mut [Unit], receivers: &[(usize, u32)])
         let unit = &mut units[receiver.0];
         unit.line.quiet();
     }
-}
-
-/// Takes an entry with a commit into the own state of the row at a place.
-fn take_commit(
-    units: &mut [Unit],
-    place: usize,
-    call: &Call,
-    reply: &Reply,
-    effect: &Effect,
-) -> Result<(), NoMemory>
-    requires within { place < length units.old }
-    requires right { IsAnsweredAt place call.now reply.now effect.now units.old }
-    ensures ok { OnOk result (units.new
-        ≡ modify place (with_state call.now reply.now effect.now) units.old) }
-    ensures unchanged { OnErr result (units.new ≡ units.old) }
-{
-    let unit = &mut units[place];
-    unit.local.take(call, reply, effect)
-}
-
-/// Hands an event to its receivers, and takes the commit's entry into the own state of the actor,
-/// whose row has this place. Where memory is wanting, the table is as before.
-pub(crate) fn hand_over(
-    units: &mut [Unit],
-    place: usize,
-    call: &Call,
-    reply: &Reply,
-    effect: &Effect,
-    news: &News<'_>,
-) -> Result<(), NoMemory>
-    requires within { place < length units.old }
-    requires receivers { All (λ p. p.0 < length units.old) news.now.receivers.now }
-    requires right { IsAnsweredAt place call.now reply.now effect.now units.old }
-    requires calm { All IsCalm units.old }
-    ensures ok { (given : Unit → List Given) → IsNews given news.now.event.now
-        news.now.after.now news.now.receivers.now units.old → OnOk result (units.new
-        ≡ modify place (with_state call.now reply.now effect.now)
-        (map (with_news given) units.old)) }
-    ensures unchanged { OnErr result (units.new ≡ units.old) }
-{
-    let Ok(()) = stage(units, news.receivers, news.event, news.after) else {
-        quiet(units, news.receivers);
-        return Err(NoMemory);
-    };
-    let Ok(()) = take_commit(units, place, call, reply, effect) else {
-        quiet(units, news.receivers);
-        return Err(NoMemory);
-    };
-    settle(units, news.receivers);
-    Ok(())
 }
 
 /// Hands an event to its receivers. Where memory is wanting, the table is as before.

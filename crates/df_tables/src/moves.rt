@@ -7,7 +7,7 @@ ghost use Rattle.df_unit.specs.declared.call.Call.TheVariants.{Subscribe};
 ghost use Rattle.df_unit.specs.declared.entry.Effect.{Effect};
 ghost use Rattle.df_unit.specs.declared.reply.Reply.TheVariants.{Sub};
 ghost use Rattle.df_local.specs.Brief.{accepted_reply, brief_call};
-ghost use Rattle.df_tables.specs.Hand.{IsAnsweredAt, IsGiven, IsGivenAt, IsMadeAt, modify, received_answer};
+ghost use Rattle.df_tables.specs.Hand.{IsAnsweredAt, IsGiven, IsGivenAt, IsMadeAt, modify, received_answer, shut_row};
 ghost use Rattle.df_tables.specs.Moves.{IsAnswered};
 ghost use Rattle.df_tables.specs.Table.{moved_row, taken};
 
@@ -155,6 +155,15 @@ pub fn give_at(units: &mut [Unit], place: usize) -> Result<Received, NoMemory>
 {
     let unit = &mut units[place];
     give(unit)
+}
+
+/// Closes a handle of the unit at a place. Takes no memory.
+pub fn shut_at(units: &mut [Unit], place: usize, h: u32)
+    requires within { place < length units.old }
+    ensures { units.new ≡ modify place (shut_row h) units.old }
+{
+    let unit = &mut units[place];
+    unit.local.shut(h);
 }
 
 /// Counts a subscription in the own state of the unit at a place. Takes no memory.

@@ -1,31 +1,33 @@
-use Rattle.df_tables.proofs.Names.{sym, OnOk, on_err_weaker, on_ok_weaker}
+use Rattle.df_tables.proofs.Names.{◌∙◌, sym, OnOk, on_err_weaker, on_ok_weaker}
 use Rattle.std.specs.Prelude.{Result, Ok, Err}
-use Rattle.df_tables.proofs.Booked.{booked_plain, child_at, kept_opened, kept_renewed, plain_else}
+use Rattle.df_tables.proofs.Booked.{booked_plain, child_at, kept_renewed}
 use Rattle.df_tables.proofs.Children.{booked_child}
 use Rattle.df_tables.proofs.Enrolling.{booked_managed, managed_at}
-use Rattle.df_tables.proofs.HandedOver.{booked_commit}
+use Rattle.df_tables.proofs.Closes.{plain_at}
 use Rattle.df_tables.proofs.board.Board.book_at.Goals as goal
 
-pub returns-in-Commit-clause-ok : goal.returns-in-Commit-clause-ok
-returns-in-Commit-clause-ok c =
-    on_ok_weaker c.book_commit.result
-    (λ handed actor here. booked_commit actor c.args.place c.args.call.now c.args.reply.now c.args.effect.now c.in-Commit.commit c.args.self.now c.book_commit.new.self here (sym c.in_default-managed_sub_by.ensures) (sym c.in_default.ensures)
-    c.requires.right c.in-Commit.is c.requires.board.whole handed)
-    c.book_commit.ensures.ok
+pub returns-in-Some-closed_by-clause-ok : goal.returns-in-Some-closed_by-clause-ok
+returns-in-Some-closed_by-clause-ok c =
+    on_ok_weaker c.book_close.result
+    (λ closes actor here. closes actor c.args.call.now c.args.reply.now here (sym c.closed_by.ensures ∙ c.in-Some-closed_by.is) c.requires.right)
+    c.book_close.ensures.ok
 
-pub returns-in-Commit-clause-kept : goal.returns-in-Commit-clause-kept
-returns-in-Commit-clause-kept c =
-    on_err_weaker c.book_commit.result (kept_opened c.in-Commit.commit.event c.args.self.now c.book_commit.new.self c.requires.board.whole) c.book_commit.ensures.opened
+pub book_plain-requires-clause-plain : goal.book_plain-requires-clause-plain
+book_plain-requires-clause-plain c =
+    plain_at c.args.self.now.rows.items c.args.place c.args.call.now c.args.reply.now c.args.effect.now c.requires.within
+    (sym c.closed_by.ensures ∙ c.in-None.is) c.requires.right
 
-pub returns-in_default-effect-clause-ok : goal.returns-in_default-effect-clause-ok
-returns-in_default-effect-clause-ok c =
+pub returns-in-None-clause-ok : goal.returns-in-None-clause-ok
+returns-in-None-clause-ok c =
     on_ok_weaker c.book_plain.result
     (λ moved actor here. booked_plain actor c.args.place c.args.call.now c.args.reply.now c.args.effect.now c.args.self.now c.book_plain.new.self here (sym c.in_default-managed_sub_by.ensures) (sym c.in_default.ensures)
-    c.requires.right (plain_else c.args.effect.now c.in_default-effect.not-Commit) c.requires.board.whole moved c.book_plain.ensures.managed)
+    c.requires.right
+    (plain_at c.args.self.now.rows.items c.args.place c.args.call.now c.args.reply.now c.args.effect.now c.requires.within
+    (sym c.closed_by.ensures ∙ c.in-None.is) c.requires.right) c.requires.board.whole moved c.book_plain.ensures.managed)
     c.book_plain.ensures.ok
 
-pub returns-in_default-effect-clause-kept : goal.returns-in_default-effect-clause-kept
-returns-in_default-effect-clause-kept c = on_err_weaker c.book_plain.result (kept_renewed c.args.self.now c.book_plain.new.self) c.book_plain.ensures.same
+pub returns-in-None-clause-kept : goal.returns-in-None-clause-kept
+returns-in-None-clause-kept c = on_err_weaker c.book_plain.result (kept_renewed c.args.self.now c.book_plain.new.self) c.book_plain.ensures.same
 
 pub make_child-requires-clause-right : goal.make_child-requires-clause-right
 make_child-requires-clause-right c =

@@ -1,79 +1,22 @@
-use Rattle.df_tables.proofs.Names.{List, All, length, map, refl, ap, sym, subst, ◌∙◌, arith, with_items_is, Pair, all_new, rows_in, receivers_of, IsAnsweredAt, IsNews, modify, with_news, with_state, Unit}
-use Rattle.df_tables.proofs.Boards.{board_handed, receivers_within, steady_state}
-use Rattle.df_tables.proofs.Booked.{commit_quiet}
-use Rattle.df_tables.proofs.Calls.{IsIn}
-use Rattle.df_tables.proofs.HandedOver.{ready_within}
-use Rattle.df_tables.proofs.Opened.{place_within}
+use Rattle.df_tables.proofs.Names.{arith}
+use Rattle.df_memory.proofs.Errors.{on_err}
+use Rattle.df_tables.proofs.Boards.{handed_longer}
+use Rattle.df_tables.proofs.Booked.{kept_opened}
+use Rattle.df_tables.proofs.HandedOver.{booked_commit}
 use Rattle.df_tables.proofs.board.Board.book_commit.Goals as goal
 
-pub hand_over-requires-clause-receivers : goal.hand_over-requires-clause-receivers
-hand_over-requires-clause-receivers c =
-    subst (λ (us : List Unit). All (IsIn us) c.receivers.result.now) (sym c.as_mut_slice-rows.ensures.value)
-    (subst (All (IsIn c.open.new.self.rows.items)) (sym c.receivers.ensures)
-    (ready_within c.args.commit.now c.open.new.self c.in_ok-ready.ready c.open.ensures.board.whole c.in_ok-ready.ensures.ready))
-
-pub hand_over-requires-clause-right : goal.hand_over-requires-clause-right
-hand_over-requires-clause-right c =
-    subst (λ (us : List Unit). IsAnsweredAt c.args.place c.args.call.now c.args.reply.now c.args.effect.now us) (sym (c.as_mut_slice-rows.ensures.value ∙ c.open.ensures.opened.rows)) c.requires.right
-
-pub close-requires-clause-board : goal.close-requires-clause-board
-close-requires-clause-board c =
-    let event = c.args.commit.now.event in
-    let after = c.in_ok-ready.ready.after in
-    let g : List Unit → List Unit = modify c.args.place (with_state c.args.call.now c.args.reply.now c.args.effect.now) in
-    board_handed g event after (receivers_of c.in_ok-ready.ready) c.open.new.self _
-    (steady_state c.args.place c.args.call.now c.args.reply.now c.args.effect.now
-    (commit_quiet c.args.self.now.rows.items c.args.place c.args.call.now c.args.reply.now c.args.effect.now c.args.commit.now c.requires.within c.requires.commit c.requires.right))
-    c.open.ensures.board
-    (λ given news.
-    with_items_is c.open.new.self.rows c.hand_over.new.units (c.hand_over.auto.units ∙ c.as_mut_slice-rows.ensures.len)
-    ∙ c.in_ok-hand_over.ensures.ok given
-    (subst (λ (us : List Unit). IsNews given event after c.receivers.result.now us) (sym c.as_mut_slice-rows.ensures.value)
-    (subst (λ (ps : List Pair). IsNews given event after ps c.open.new.self.rows.items) (sym c.receivers.ensures) news))
-    ∙ ap (λ (us : List Unit). g (map (with_news given) us)) c.as_mut_slice-rows.ensures.value)
-    refl refl refl refl refl
-
-pub close-requires-clause-within : goal.close-requires-clause-within
-close-requires-clause-within c = λ i d h.
-    let near = receivers_within c.args.commit.now c.open.new.self c.in_ok-ready.ready c.open.ensures.board.whole c.in_ok-ready.ensures.ready i d h in
-    let same = with_items_is c.open.new.self.rows c.hand_over.new.units (c.hand_over.auto.units ∙ c.as_mut_slice-rows.ensures.len) in
-    let size = ap (λ (l : List Unit). length l) same in
-    let value = ap (λ (l : List Unit). length l) c.as_mut_slice-rows.ensures.value in
-    omega (arith, near, size, value, c.hand_over.auto.units)
-
-pub close-requires-clause-place : goal.close-requires-clause-place
-close-requires-clause-place c = place_within c.args.commit.now.event c.open.new.self.events c.in_ok-ready.ready.place c.in_ok-ready.ensures.ready.place
-
-pub close-requires-clause-waits : goal.close-requires-clause-waits
-close-requires-clause-waits c = c.in_ok-ready.ensures.ready.waits
-
-pub close-requires-clause-newborn : goal.close-requires-clause-newborn
-close-requires-clause-newborn c = c.in_ok-ready.ensures.ready.called.newborn
+pub shut-requires-clause-within : goal.shut-requires-clause-within
+shut-requires-clause-within c =
+    let longer = handed_longer c.args.commit.now c.args.self.now c.hand_commit.new.self c.requires.board.whole c.in_ok-hand_commit.ensures.ok in
+    let within = c.requires.within in
+    omega (arith, longer, within)
 
 pub returns-clause-ok : goal.returns-clause-ok
-returns-clause-ok c =
-    let is = c.in_ok-ready.ensures.ready in
-    let after = c.in_ok-ready.ready.after in
-    let event = c.args.commit.now.event in
-    let closed = c.close.ensures.closed in
-    let g : List Unit → List Unit = modify c.args.place (with_state c.args.call.now c.args.reply.now c.args.effect.now) in record {
-      opened = c.open.new.self;
-      ready = c.in_ok-ready.ready;
-      opening = c.open.ensures.opened;
-      made = is;
-      rows = λ given news.
-          closed.rows
-          ∙ ap (all_new (rows_in c.in_ok-ready.ready.called.born.items))
-          (with_items_is c.open.new.self.rows c.hand_over.new.units (c.hand_over.auto.units ∙ c.as_mut_slice-rows.ensures.len)
-          ∙ c.in_ok-hand_over.ensures.ok given
-          (subst (λ (us : List Unit). IsNews given event after c.receivers.result.now us) (sym c.as_mut_slice-rows.ensures.value)
-          (subst (λ (ps : List Pair). IsNews given event after ps c.open.new.self.rows.items) (sym c.receivers.ensures) news))
-          ∙ ap (λ (us : List Unit). g (map (with_news given) us)) c.as_mut_slice-rows.ensures.value);
-      managed = closed.managed;
-      told = closed.told;
-      enrolled = closed.enrolled;
-      handed = closed.handed;
-      size = closed.size;
-      places = closed.places;
-      parts = λ e. closed.parts event is.place e;
-    }
+returns-clause-ok c actor call reply here closes answered =
+    booked_commit actor c.args.place c.args.h call reply c.args.commit.now c.args.self.now c.hand_commit.new.self _ here closes answered
+    c.requires.board.whole c.in_ok-hand_commit.ensures.ok c.shut.ensures.shut
+
+pub returns-in_err-hand_commit-clause-kept : goal.returns-in_err-hand_commit-clause-kept
+returns-in_err-hand_commit-clause-kept c =
+    on_err c.from_residual.result
+    (kept_opened c.args.commit.now.event c.args.self.now c.hand_commit.new.self c.requires.board.whole c.in_err-hand_commit.ensures.opened)
