@@ -1,40 +1,56 @@
 -- Entries of calls that are made and spelled.
-use Rattle.df_audit.proofs.Names.{◌≡◌, ℕ, ◌+◌, ◌<◌, ◌^◌, Bool, true, false, List, [], ◌∷◌, ◌++◌, Option, None, IfSome, codes, length, take, drop, refl, ap, sym, subst, ◌∙◌, arith, append-nil, length-append, flat_map, drop-append-le, drop_all, take-append-le, take_all, Label, State, answer_in, contamination_in, firsts, IsStep, place_in, Tables, past_of, answered, rows, RootStart, Call, Effect, Done, Noted, Root, Reply, effect_text, entry_text, note_text, noted_text, reads_text, CursorState, HasPassed, AppendsCall, IsNoteIn, IsReadCall, left_in, noted_call, stays_in, IsSoFar, PassesOne, TakesOne, wanted_of, Wanted}
+use Rattle.df_audit.proofs.Names.{◌≡◌, ℕ, ◌+◌, ◌<◌, ◌^◌, Bool, true, false, List, [], ◌∷◌, ◌++◌, Option, None, Some, IfSome, codes, length, take, drop, refl, ap, sym, subst, ◌∙◌, arith, append-nil, length-append, flat_map, drop-append-le, drop_all, take-append-le, take_all, Label, State, answer_in, contamination_in, firsts, AgreesWith, IsStep, place_in, Tables, past_of, rows, RootStart, Call, Effect, Done, Noted, Reply, effect_text, entry_text, note_text, noted_text, reads_text, CursorState, HasPassed, Enters, EntersNoted, MakesCall, AppendsCall, Keeps, label_in, left_in, noted_call, shown_by, stays_in, IsSoFar, PassesOne, TakesOne, wanted_of, Wanted}
+use Rattle.df_purge.specs.code.Left.{emitted_noted}
 use Rattle.df_rules.specs.Commits.{commit_in, commit_of}
+use Rattle.df_unit.specs.declared.commit.Commit.{Commit}
 use Rattle.df_unit.specs.declared.name.UnitName.{UnitName}
 use Rattle.df_value_text.specs.Fits.{IsLabel}
-use Rattle.df_journal_text.specs.Ask.{asked}
 use Rattle.df_journal_text.specs.Call.{call_words}
-use Rattle.df_journal_text.specs.Fits.{IsCall, IsReply, IsUnit}
-use Rattle.df_journal_text.specs.Front.{call_front}
+use Rattle.df_journal_text.specs.Fits.{IsCall, IsUnit}
 use Rattle.df_journal_text.specs.Line.{line, spaced}
 use Rattle.df_journal_text.specs.Name.{unit_text}
 use Rattle.df_journal_text.specs.Reply.{reply_words}
-use Rattle.df_journal_text.specs.declared.ask.Ask.{Ask}
-use Rattle.df_script_text.specs.Common.{common_line}
-use Rattle.df_script_text.specs.Script.{IsScriptLine}
 use Rattle.df_journal_file.specs.code.Entries.{IsWholeBy}
-use Rattle.df_spelled.specs.Spelled.{IsOutput}
 use Rattle.df_spelled.proofs.Rows.{answered_whole}
 use Rattle.df_audit.specs.declared.pass.Wanted.TheVariants as wanted
 use Rattle.df_audit.proofs.Passes.{one_fits, passes_one, so_far_more}
 
 -- a step was made, and the lines of its entry were appended
-pub appends_call : (core : State) (actor : UnitName) (call : Call) (note : Option Label) (tables : Tables) (before now : List ℕ) (reply : Reply)
-    (effect : Effect) → IsStep core actor call (reply, effect) tables → IsUnit actor × IsCall call → IsNoteIn core actor note → IsReply reply → IsOutput effect
-    → now ≡ before ++ entry_text note (Done actor call reply effect) → AppendsCall core actor call effect tables before now
-appends_call core actor call note tables before now reply effect step fits noted words output spelled =
+pub makes_call : (core : State) (actor : UnitName) (call : Call) (note : Option Label) (Heard : Reply × Effect → Type 0) (tables : Tables)
+    (before now : List ℕ) (answer : Reply × Effect) → IsStep core actor call answer tables → Heard answer
+    → now ≡ before ++ entry_text note (Done actor call answer.0 answer.1) → MakesCall core actor call note Heard tables before now
+makes_call core actor call note Heard tables before now answer step heard spelled =
     let told = sym step.answer in
     record {
       made = step.entry;
-      whole =
-          answered_whole (firsts core.0) core.1 actor call fits (subst (λ (a : Reply × Effect). IsReply a.0) told words)
-          (subst (λ (a : Reply × Effect). IsOutput a.1) told output) (subst (λ (n : Option Label). IfSome n IsLabel) noted.is noted.fits);
-      told = ap (λ (a : Reply × Effect). a.1) step.answer;
-      text =
-          spelled
-          ∙ ap (λ (a : Reply × Effect). before ++ entry_text note (Done actor call a.0 a.1)) told
-          ∙ ap (λ (n : Option Label). before ++ entry_text n (answered rows (firsts core.0) core.1 actor call)) noted.is;
+      heard = subst Heard told heard;
+      text = spelled ∙ ap (λ (a : Reply × Effect). before ++ entry_text note (Done actor call a.0 a.1)) told;
+    }
+
+module _ {old new : Tables} {place : Option ℕ} {words before now : List ℕ} {call : Call} {note : Option Label} {Heard : Reply × Effect → Type 0} where
+  -- where rows stand as they stood
+  pub enters_again : {again : Tables}
+      → ((core : State) → AgreesWith core again → AgreesWith core old) × ((actor : UnitName) → place_in old actor ≡ place_in again actor)
+      → Enters place words call note Heard old new before now → Enters place words call note Heard again new before now
+  enters_again left enters core actor agrees seated words = enters core actor (left.0 core agrees) (seated ∙ sym (left.1 actor)) words
+
+  -- where the note is the contamination of the unit before its call
+  pub enters_noted : ((core : State) (actor : UnitName) → AgreesWith core old → place ≡ place_in old actor → note ≡ contamination_in core actor)
+      → Enters place words call note Heard old new before now → EntersNoted place words call Heard old new before now
+  enters_noted is enters core actor agrees seated words =
+      subst (λ (n : Option Label). MakesCall core actor call n Heard new before now) (is core actor agrees seated) (enters core actor agrees seated words)
+
+-- a call that was read was made
+pub appends_call : (core : State) (actor : UnitName) (call : Call) (label : Option Label) (shown : Option Commit) (tables : Tables) (before now : List ℕ)
+    → IsUnit actor × IsCall call → IfSome (contamination_in core actor) IsLabel
+    → MakesCall core actor call (contamination_in core actor) (Keeps label shown) tables before now
+    → AppendsCall core actor call label shown tables before now
+appends_call core actor call label shown tables before now fits noted makes =
+    record {
+      made = makes.made;
+      whole = answered_whole (firsts core.0) core.1 actor call fits makes.heard.0 makes.heard.1 noted;
+      shows = makes.heard.2;
+      text = makes.text;
     }
 
 -- an entry's lines are some
@@ -85,8 +101,10 @@ wanted_lines w n text spelled now is false stays whole left =
     ∙ ap (λ (ns : List Noted). text ++ flat_map noted_text ns) (sym (left_wanted w n (sym stays)))
 
 module _ (w : Wanted) (roots : List RootStart) (bytes : List ℕ) (read : List Noted) (old new : CursorState) (before after : Tables) (count : ℕ)
-    (text spelled lines : List ℕ) (place : ℕ) (actor : UnitName) (call : Call) (effect : Effect) (so : IsSoFar w roots bytes read old before count text)
-    (appends : AppendsCall (roots, past_of read) actor call effect after text spelled) (begins : place ≡ length text) (are : lines ≡ drop place spelled)
+    (text spelled lines : List ℕ) (place : ℕ) (actor : UnitName) (call : Call) (label : Option Label)
+    (shown : Option Commit) (so : IsSoFar w roots bytes read old before count text)
+    (appends : AppendsCall (roots, past_of read) actor call label shown after text spelled)
+    (begins : place ≡ length text) (are : lines ≡ drop place spelled)
     (has : old.has_notes ≡ true)
     (passes : (roots : List RootStart) (notes : List Noted) (noted : Noted) → HasPassed roots notes old → IsWholeBy old.has_notes noted
     → lines ≡ noted_text noted → HasPassed roots (notes ++ noted ∷ []) new)
@@ -121,32 +139,15 @@ module _ (w : Wanted) (roots : List RootStart) (bytes : List ℕ) (read : List N
   pub call_fits : count + 1 < 2 ^ 64
   call_fits = one_fits w roots bytes read old before count text so given new after call_passes
 
-  pub takes_call : (now : List ℕ) (stays : Bool) → stays ≡ stays_in w (contamination_in (roots, past_of read) actor) → (stays ≡ true → now ≡ spelled)
-      → (stays ≡ false → now ≡ take place spelled ++ flat_map noted_text (left_in w (commit_in effect)))
+  pub takes_call : (now : List ℕ) (stays : Bool) → stays ≡ stays_in w (contamination_in (roots, past_of read) actor)
+      → (stays ≡ false → label ≡ label_in w) → (stays ≡ true → now ≡ spelled)
+      → (stays ≡ false → now ≡ take place spelled ++ flat_map noted_text (emitted_noted shown))
       → TakesOne w roots bytes read old None new after (count + 1) now
-  takes_call now stays is whole left =
+  takes_call now stays is sees whole left =
       let left_so = λ (gone : stays ≡ false).
       left gone
-      ∙ ap (λ (at : ℕ). take at spelled ++ flat_map noted_text (left_in w (commit_in effect))) begins
-      ∙ ap (λ (f : Effect). take (length text) spelled ++ flat_map noted_text (left_in w (commit_in f))) (sym appends.told) in
+      ∙ ap (λ (at : ℕ). take at spelled ++ flat_map noted_text (emitted_noted shown)) begins
+      ∙ ap (λ (c : Option Commit). take (length text) spelled ++ flat_map noted_text (emitted_noted c)) appends.shows
+      ∙ ap (λ (l : Option Label). take (length text) spelled ++ flat_map noted_text (emitted_noted (shown_by l (commit_in told.1)))) (sees gone) in
       let written = wanted_lines w given text spelled now appends.text stays is whole left_so in
       (onward, (call_passes.kept, so_far_more w roots bytes read old before count text so given new after (count + 1) now call_passes refl written))
-
--- ---- what was read
-
--- the note that stands is that of the unit
-pub note_in : (core : State) (actor : UnitName) (note told : Option Label) → note ≡ told → told ≡ contamination_in core actor → IfSome told IsLabel
-    → IsNoteIn core actor note
-note_in core actor _ _ same is fits = record { is = same ∙ is; fits = subst (λ (n : Option Label). IfSome n IsLabel) (sym same) fits }
-
--- where rows stand as they stood
-pub read_again : {old new : Tables} {place : Option ℕ} {actor : UnitName} {call : Call} {words : List ℕ} → IsReadCall old place actor call words
-    → place_in new actor ≡ place_in old actor → IsReadCall new place actor call words
-read_again read same = record { seated = read.seated ∙ sym same; fits = read.fits; spelled = read.spelled }
-
--- a root's common call
-pub read_common : (tables : Tables) (place : Option ℕ) (root : ℕ) (ask : Ask) (call : Call) (words : List ℕ) → place ≡ place_in tables (Root (root ∷ []))
-    → IsScriptLine (common_line root ask) → words ≡ call_front (Root (root ∷ [])) (asked ask) → call ≡ asked ask
-    → IsReadCall tables place (Root (root ∷ [])) call words
-read_common tables place root ask call words seated fits spelled is =
-    subst (λ (k : Call). IsReadCall tables place (Root (root ∷ [])) k words) (sym is) (record { seated = seated; fits = fits; spelled = spelled })

@@ -1,6 +1,7 @@
 -- The names that most proofs here cite, passed on from one place. Declares nothing.
 pub use Rattle.df_audit.specs.Audit.{Explains, IsCheckOfFirst, IsCheckOfSecond, IsPurgeOf, IsRightJournal, IsUpgradeOf, IsWhyOf, IsWrongAt, OfJournal, Purges, Upgrades, entries_at, entries_in, past_in, roots_in, wrong_text}
-pub use Rattle.df_audit.specs.code.Calling.{AppendsCall, IsNoteIn, IsReadCall, effect_in, left_in, noted_call, stays_in}
+pub use Rattle.df_audit.specs.Made.{Enters, EntersNoted, MakesCall}
+pub use Rattle.df_audit.specs.code.Calling.{AppendsCall, Keeps, label_in, left_in, noted_call, read_call, shown_by, stays_in}
 pub use Rattle.df_audit.specs.code.Passing.{ComesTo, EndsRight, HasComeTo, IsJudged, IsMade, IsSoFar, PassesOne, TakesKept, TakesNote, TakesOne, front_of, wanted_of, wanted_text}
 pub use Rattle.df_audit.specs.code.Picking.{AreGrounds, ExplainsNoted}
 pub use Rattle.df_audit.specs.declared.audit.Audit.{Audit}
@@ -12,7 +13,6 @@ pub use Rattle.df_journal_file.specs.Either.{First, IsJournalOf, Journal, Second
 pub use Rattle.df_journal_text.specs.Entry.{effect_text, entry_text, note_text, noted_text, reads_text}
 pub use Rattle.df_journal_text.specs.Start.{head_text, journal_text}
 pub use Rattle.df_label.specs.declared.label.Label.{Label}
-pub use Rattle.df_local.specs.declared.answer.Answer.{Answer}
 pub use Rattle.df_machine.specs.Journal.{State, answer_in, contamination_in, firsts}
 pub use Rattle.df_machine.specs.Tables.{AgreesWith, IsStep, place_in}
 pub use Rattle.df_machine.specs.declared.tables.Tables.{Tables}

@@ -1,3 +1,4 @@
 pub mod Audit
+pub mod Made
 pub mod Sound
 pub mod code

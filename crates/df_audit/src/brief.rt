@@ -16,7 +16,7 @@ use df_local::{Accepted, Brief};
 use df_memory::NoMemory;
 
 /// The call that creates an event or drops one, where the common call is such.
-pub fn brief_of(ask: Ask) -> Option<Brief>
+pub(crate) fn brief_of(ask: Ask) -> Option<Brief>
     ensures { IfSome result (λ brief. brief_call brief ≡ asked ask) }
 {
     match ask {
@@ -37,7 +37,8 @@ pub(crate) fn accepted_is_spelled(accepted: Accepted)
 }
 
 /// Appends the entry of a call that is accepted, behind its words, with this note.
-pub fn append_accepted(
+#[inline(always)]
+pub(crate) fn append_accepted(
     words: &[u8],
     accepted: Accepted,
     note: &Note,

@@ -1,31 +1,39 @@
 //! Entries of calls, in a journal with notes. Only the unit and the call are read. The call is
 //! made, and its entry's lines are spelled. Where these are the next lines, the entry is right.
-ghost use Rattle.std.specs.Prelude.{◌≡◌, ◌≤◌, ◌++◌, ℕ, true, false, List, IfOk, IfSome, None, OnOk, Some, drop, length, option_copied, take};
+ghost use Rattle.std.specs.Prelude.{◌≡◌, ◌≤◌, ◌++◌, ℕ, true, false, List, IfOk, None, OnOk, drop, length, option_copied, take};
 ghost use Rattle.std.specs.List.{flat_map};
-ghost use Rattle.df_local.specs.Brief.{brief_call};
 ghost use Rattle.df_machine.specs.Journal.{State};
 ghost use Rattle.df_machine.specs.Tables.{AgreesWith, place_in};
 ghost use Rattle.df_purge.specs.code.Left.{emitted_noted};
 ghost use Rattle.df_rules.specs.Commits.{commit_in};
-ghost use Rattle.df_rules.specs.Purge.{echo};
 ghost use Rattle.df_start.specs.declared.start.RootStart.{RootStart};
 ghost use Rattle.df_unit.specs.declared.entry.Noted.{Noted};
 ghost use Rattle.df_unit.specs.declared.name.UnitName.{UnitName};
 ghost use Rattle.df_journal_text.specs.Entry.{noted_text};
-ghost use Rattle.df_audit.specs.code.Calling.{AppendsCall, IsNoteIn, IsReadCall, effect_in, left_in, stays_in};
+ghost use Rattle.df_journal_text.specs.Fits.{IsReply};
+ghost use Rattle.df_spelled.specs.Spelled.{IsOutput};
+ghost use Rattle.df_tables.specs.Hand.{received_answer};
+ghost use Rattle.df_audit.specs.Made.{EntersNoted};
+ghost use Rattle.df_audit.specs.code.Calling.{IsReadCall, Keeps, label_in, read_call, shown_by, stays_in};
 ghost use Rattle.df_audit.specs.code.Passing.{IsSoFar, TakesOne};
 
-use crate::brief::{accepted_is_spelled, append_accepted};
+use crate::brief::accepted_is_spelled;
+use crate::made::{Hears, append_call, append_common};
 use crate::pass::{Made, Wanted};
 use df_journal_file::JournalCursor;
-use df_journal_text::{Note, Notes, append_quiet, append_seen_alone, append_spelled, write_entry};
+use df_journal_text::{Ask, Notes, write_entry};
 use df_label::Label;
-use df_local::{Answer, Brief};
-use df_machine::Tables;
+use df_local::Accepted;
+use df_machine::{Received, Tables};
 use df_memory::NoMemory;
+use df_part::Part;
 use df_purge::shown_of;
-use df_spelled::{answer_is_spelled, contamination_is_spelled, reply_is_spelled, seen_is_spelled};
-use df_unit::{Call, Commit, Effect, Entry};
+use df_spelled::{
+    contamination_is_spelled, effect_is_spelled, event_reply_is_spelled, given_is_spelled,
+    reply_is_spelled, seen_is_spelled,
+};
+use df_unit::{Call, Commit, Effect, Entry, Reply};
+use std::alloc::Global;
 
 /// Tables, and what is noted of their rows.
 #[derive(Drop)]
@@ -34,117 +42,115 @@ pub struct NotedTables {
     pub notes: Notes,
 }
 
-/// Makes a call that isn't known to be one of its unit's own state alone, and appends the lines of
-/// its entry with this note. It tells the answer.
-#[inline(never)]
-fn append_other(
-    tables: &mut Tables,
-    place: Option<usize>,
-    note: &Note,
-    words: &[u8],
-    call: &Call,
-    text: &mut Vec<u8>,
-    told: &mut Option<Answer>,
-) -> Result<(), NoMemory>
-    requires state { (core : State) × AgreesWith core tables.old }
-    requires seated { (actor : UnitName) × (place ≡ place_in tables.old actor) }
-    ensures { OnOk result ((core : State) (actor : UnitName) →
-        AgreesWith core tables.old → IsReadCall tables.old place actor call.now words.now →
-        IsNoteIn core actor note.now → AppendsCall core actor call.now (effect_in told.new)
-        tables.new text.old.items text.new.items) }
+/// What a get tells, and what it hands out, have a spelling. It has no commit.
+fn received_is_spelled(received: &Received)
+    ensures reply { IsReply (received_answer received.now).0 }
+    ensures effect { IsOutput (received_answer received.now).1 }
+    ensures commit { commit_in (received_answer received.now).1 ≡ None }
 {
-    let answer = tables.step_other(place, call)?;
-    answer_is_spelled(&answer.reply, &answer.effect);
-    append_spelled(words, &answer.reply, &answer.effect, note, text)?;
-    *told = Some(answer);
-    Ok(())
+    match received {
+        Received::Event { h, given } => {
+            event_reply_is_spelled(*h, given.sub);
+            given_is_spelled(given);
+        }
+        Received::Nothing | Received::TooManyHandles => (),
+    }
 }
 
-/// Makes a call that creates an event or drops one, and appends the lines of its entry with this
-/// note. It tells the answer only where that isn't accepted.
-fn append_brief(
-    tables: &mut Tables,
-    place: Option<usize>,
-    note: &Note,
-    words: &[u8],
-    brief: Brief,
-    call: &Call,
-    text: &mut Vec<u8>,
-    told: &mut Option<Answer>,
-) -> Result<(), NoMemory>
-    requires none { told.old ≡ None }
-    requires brief { brief_call brief ≡ call.now }
-    requires state { (core : State) × AgreesWith core tables.old }
-    requires seated { (actor : UnitName) × (place ≡ place_in tables.old actor) }
-    ensures { OnOk result ((core : State) (actor : UnitName) →
-        AgreesWith core tables.old → IsReadCall tables.old place actor call.now words.now →
-        IsNoteIn core actor note.now → AppendsCall core actor call.now (effect_in told.new)
-        tables.new text.old.items text.new.items) }
+/// What a label shows of the commit of an effect, where there is a label.
+fn shown_by(
+    alloc: Global,
+    label: Option<&Label>,
+    effect: &Effect,
+) -> Result<Option<Commit>, NoMemory>
+    ensures { IfOk result (λ shown. shown
+        ≡ shown_by (option_copied label.entry) (commit_in effect.now)) }
 {
-    match tables.step_brief(place, brief)? {
-        Some(accepted) => {
-            accepted_is_spelled(accepted);
-            append_accepted(words, accepted, note, text)?;
-            Ok(())
-        }
-        None => {
-            append_other(tables, place, note, words, call, text, told)?;
-            Ok(())
+    match (label, effect) {
+        (Some(label), Effect::Commit(commit)) => shown_of(alloc, label, commit),
+        _ => Ok(None),
+    }
+}
+
+/// Keeps what a label shows of the commit of the call that it was told of last.
+#[derive(Drop)]
+struct Shown<'a> {
+    alloc: Global,
+    /// None where nothing is to be kept.
+    label: Option<&'a Label>,
+    commit: Option<Commit>,
+}
+
+impl Shown<'_> {
+    /// The call made no commit.
+    fn hear_none(&mut self)
+        ensures { self.new.commit ≡ shown_by (option_copied self.old.label) None }
+    {
+        if self.commit.is_some() {
+            self.commit = None;
         }
     }
 }
 
-/// Makes the call of the unit at a place, and appends the lines of its entry. It tells the answer,
-/// unless that has no effect: the common calls hand none on.
-fn append_call(
+impl Hears for Shown<'_> {
+    ghost use Rattle.df_audit.specs.code.Calling.{Keeps};
+
+    ghost heard = { λ old new answer. Keeps (option_copied old.label) new.commit answer };
+
+    fn hear(&mut self, reply: &Reply, effect: &Effect) -> Result<(), NoMemory> {
+        reply_is_spelled(reply);
+        effect_is_spelled(effect);
+        self.commit = shown_by(self.alloc, self.label, effect)?;
+        Ok(())
+    }
+
+    fn hear_quiet(&mut self, reply: &Reply) {
+        reply_is_spelled(reply);
+        self.hear_none();
+    }
+
+    fn hear_accepted(&mut self, accepted: Accepted) {
+        accepted_is_spelled(accepted);
+        self.hear_none();
+    }
+
+    fn hear_seen(&mut self, part: &Part) {
+        seen_is_spelled(part);
+        self.hear_none();
+    }
+
+    fn hear_received(&mut self, received: &Received) {
+        received_is_spelled(received);
+        self.hear_none();
+    }
+}
+
+/// A call that was read: a common one, or any.
+#[derive(Clone, Copy)]
+pub enum ReadCall<'a> {
+    Common(Ask),
+    Any(&'a Call),
+}
+
+/// Makes the call of the unit at a place that was read, and appends the lines of its entry.
+fn append_read(
     behind: &mut NotedTables,
     place: Option<usize>,
     words: &[u8],
-    brief: Option<Brief>,
-    call: &Call,
+    call: ReadCall<'_>,
     text: &mut Vec<u8>,
-    told: &mut Option<Answer>,
+    to: &mut Shown<'_>,
 ) -> Result<(), NoMemory>
-    requires none { told.old ≡ None }
-    requires brief { IfSome brief (λ brief. brief_call brief ≡ call.now) }
     requires state { (core : State) × AgreesWith core behind.old.tables }
     requires seated { (actor : UnitName) × (place ≡ place_in behind.old.tables actor) }
-    ensures { OnOk result ((core : State) (actor : UnitName) →
-        AgreesWith core behind.old.tables →
-        IsReadCall behind.old.tables place actor call.now words.now →
-        AppendsCall core actor call.now (effect_in told.new) behind.new.tables text.old.items
-        text.new.items) }
+    ensures { OnOk result (EntersNoted place words.now (read_call call.entry)
+        (Keeps (option_copied to.old.label) to.new.commit) behind.old.tables behind.new.tables
+        text.old.items text.new.items) }
 {
-    let contamination = behind.tables.contamination(place);
-    contamination_is_spelled(contamination);
-    let note = behind.notes.of(place, contamination)?;
-    if let Some(brief) = brief {
-        return append_brief(
-            &mut behind.tables,
-            place,
-            note,
-            words,
-            brief,
-            call,
-            text,
-            told,
-        );
-    }
-    if let Some(part) = behind.tables.seen_alone(place, call) {
-        seen_is_spelled(part);
-        append_seen_alone(words, part, note, text)?;
-        return Ok(());
-    }
-    match behind.tables.step_alone(place, call)? {
-        Some(reply) => {
-            reply_is_spelled(&reply);
-            append_quiet(words, &reply, note, text)?;
-            Ok(())
-        }
-        None => {
-            append_other(&mut behind.tables, place, note, words, call, text, told)?;
-            Ok(())
-        }
+    let NotedTables { tables, notes } = behind;
+    match call {
+        ReadCall::Common(ask) => append_common(tables, notes, place, words, ask, text, to),
+        ReadCall::Any(call) => append_call(tables, notes, place, words, call, text, to),
     }
 }
 
@@ -159,53 +165,44 @@ fn stays(wanted: &Wanted<'_>, contamination: Option<&Label>) -> bool
     }
 }
 
-/// Appends what a label shows of a commit, as an emitted entry.
-fn append_shown(label: &Label, commit: &Commit, to: &mut Vec<u8>) -> Result<(), NoMemory>
-    ensures { OnOk result (to.new.items ≡ to.old.items
-        ++ flat_map noted_text (emitted_noted (echo label.now (Some commit.now)))) }
+/// The label by which a purge is wanted, where a call's entry doesn't stay whole.
+fn label_left<'a>(wanted: &Wanted<'a>, stays: bool) -> Option<&'a Label>
+    ensures { stays ≡ false → option_copied result ≡ label_in wanted.now }
 {
-    match shown_of(*to.allocator(), label, commit)? {
-        Some(shown) => write_entry(&Entry::Emitted(shown), to),
+    match wanted {
+        Wanted::Purge(label) if !stays => Some(label),
+        _ => None,
+    }
+}
+
+/// Appends what is shown of a commit, as an emitted entry.
+fn append_shown(shown: Option<Commit>, to: &mut Vec<u8>) -> Result<(), NoMemory>
+    ensures { OnOk result (to.new.items ≡ to.old.items
+        ++ flat_map noted_text (emitted_noted shown)) }
+{
+    match shown {
+        Some(commit) => write_entry(&Entry::Emitted(commit), to),
         None => Ok(()),
     }
 }
 
-/// Appends what is wanted of a call's entry that isn't wanted whole.
-#[inline(never)]
-fn append_left(
-    wanted: &Wanted<'_>,
-    answer: &Option<Answer>,
-    to: &mut Vec<u8>,
-) -> Result<(), NoMemory>
-    ensures { OnOk result (to.new.items ≡ to.old.items
-        ++ flat_map noted_text (left_in wanted.now (commit_in (effect_in answer.now)))) }
-{
-    let (Wanted::Purge(label), Some(answer)) = (wanted, answer) else {
-        return Ok(());
-    };
-    match &answer.effect {
-        Effect::Commit(commit) => append_shown(label, commit, to),
-        _ => Ok(()),
-    }
-}
-
-/// Leaves of the lines of an entry, which stand in a text from a place on, what is wanted of it.
+/// Leaves of the lines of an entry, which stand in a text from a place on, what is wanted of it: all,
+/// or what is shown of its commit.
 fn leave(
-    wanted: &Wanted<'_>,
     stays: bool,
-    answer: &Option<Answer>,
+    shown: Option<Commit>,
     before: usize,
     text: &mut Vec<u8>,
 ) -> Result<(), NoMemory>
     ensures whole { OnOk result (stays ≡ true → text.new.items ≡ text.old.items) }
     ensures left { OnOk result (stays ≡ false → text.new.items ≡ take before text.old.items
-        ++ flat_map noted_text (left_in wanted.now (commit_in (effect_in answer.now)))) }
+        ++ flat_map noted_text (emitted_noted shown)) }
 {
     if stays {
         return Ok(());
     }
     text.truncate(before);
-    append_left(wanted, answer, text)
+    append_shown(shown, text)
 }
 
 /// What stands in a text from a place on.
@@ -224,31 +221,36 @@ pub fn take_call(
     wanted: &Wanted<'_>,
     place: Option<usize>,
     words: &[u8],
-    brief: Option<Brief>,
-    call: &Call,
+    call: ReadCall<'_>,
     made: &mut Made,
 ) -> Result<Option<bool>, NoMemory>
-    requires brief { IfSome brief (λ brief. brief_call brief ≡ call.now) }
     requires heard { (roots : List RootStart) × (bytes : List ℕ) × (read : List Noted)
         × (actor : UnitName) × IsSoFar wanted.now roots bytes read cursor.old behind.old.tables
         made.old.count made.old.text.items
-        × IsReadCall behind.old.tables place actor call.now words.now
+        × IsReadCall behind.old.tables place actor (read_call call) words.now
         × (cursor.old.has_notes ≡ true) }
     ensures { IfOk result (λ ended. (roots : List RootStart) (bytes : List ℕ) (read : List Noted)
         (actor : UnitName) → IsSoFar wanted.now roots bytes read cursor.old behind.old.tables
         made.old.count made.old.text.items →
-        IsReadCall behind.old.tables place actor call.now words.now → cursor.old.has_notes ≡ true →
+        IsReadCall behind.old.tables place actor (read_call call.entry) words.now →
+        cursor.old.has_notes ≡ true →
         TakesOne wanted.now roots bytes read cursor.old ended cursor.new behind.new.tables
         made.new.count made.new.text.items) }
 {
     let before = made.text.len();
-    let stays = stays(wanted, behind.tables.contamination(place));
-    let mut told = None;
-    append_call(behind, place, words, brief, call, &mut made.text, &mut told)?;
+    let contamination = behind.tables.contamination(place);
+    contamination_is_spelled(contamination);
+    let stays = stays(wanted, contamination);
+    let mut shown = Shown {
+        alloc: *made.text.allocator(),
+        label: label_left(wanted, stays),
+        commit: None,
+    };
+    append_read(behind, place, words, call, &mut made.text, &mut shown)?;
     if !cursor.pass(lines_from(made.text.as_slice(), before)) {
         return Ok(Some(false));
     }
     made.count += 1;
-    leave(wanted, stays, &told, before, &mut made.text)?;
+    leave(stays, shown.commit, before, &mut made.text)?;
     Ok(None)
 }

@@ -12,8 +12,7 @@ ghost use Rattle.df_journal_file.specs.Cursor.{HasPassed};
 ghost use Rattle.df_audit.specs.Audit.{OfJournal};
 ghost use Rattle.df_audit.specs.code.Passing.{ComesTo, HasComeTo, IsJudged, IsMade, IsSoFar, TakesKept, TakesNote, TakesOne, front_of, wanted_of};
 
-use crate::brief::brief_of;
-use crate::called::{NotedTables, take_call};
+use crate::called::{NotedTables, ReadCall, take_call};
 use crate::text::write_notes;
 use df_journal_file::JournalCursor;
 use df_journal_text::{Notes, write_head, write_noted};
@@ -119,10 +118,8 @@ fn take_next(
     }
     if let Some(line) = cursor.common() {
         let place = behind.tables.root(line.root);
-        let (brief, call) = (brief_of(line.ask), line.ask.call());
-        return take_call(
-            cursor, behind, wanted, place, line.words, brief, &call, made,
-        );
+        let call = ReadCall::Common(line.ask);
+        return take_call(cursor, behind, wanted, place, line.words, call, made);
     }
     take_line(cursor, behind, wanted, made)
 }
@@ -149,9 +146,8 @@ fn take_line(
         return take_unit_line(cursor, behind, wanted, made);
     };
     let place = behind.tables.root(line.root);
-    let ended = take_call(
-        cursor, behind, wanted, place, line.words, None, &line.call, made,
-    );
+    let call = ReadCall::Any(&line.call);
+    let ended = take_call(cursor, behind, wanted, place, line.words, call, made);
     drop(line);
     ended
 }
@@ -178,16 +174,8 @@ fn take_unit_line(
         return take_entry(cursor, &mut behind.tables, wanted, made);
     };
     let place = behind.tables.place(&read.line.actor);
-    let ended = take_call(
-        cursor,
-        behind,
-        wanted,
-        place,
-        read.words,
-        None,
-        &read.line.call,
-        made,
-    );
+    let call = ReadCall::Any(&read.line.call);
+    let ended = take_call(cursor, behind, wanted, place, read.words, call, made);
     drop(read);
     ended
 }

@@ -2,13 +2,12 @@
 //! a number at most.
 
 ghost use Rattle.std.specs.Prelude.{◌≡◌, IfOk, OnErr};
-ghost use Rattle.df_local.specs.Brief.{MakesBriefly, brief_call};
+ghost use Rattle.df_local.specs.Brief.{MakesBriefly};
 ghost use Rattle.df_local.specs.declared.brief.Brief.TheVariants.{Create, Drop};
 
 use crate::Local;
 use crate::limits::MOST_NUMBERS;
 use df_memory::NoMemory;
-use df_unit::Call;
 
 /// A call that creates an event or drops one.
 #[derive(Clone, Copy, Debug, PartialEq, Eq)]
@@ -23,18 +22,6 @@ pub enum Brief {
 pub enum Accepted {
     Handle(u32),
     Ok,
-}
-
-impl Brief {
-    /// The call itself.
-    pub fn call(self) -> Call
-        ensures { result ≡ brief_call self }
-    {
-        match self {
-            Brief::Create => Call::CreateEvent,
-            Brief::Drop { h } => Call::DropEvent { h },
-        }
-    }
 }
 
 impl Local {

@@ -193,26 +193,6 @@ impl Tables {
         self.board.closing(place, h, how)
     }
 
-    /// Makes a call whose reply is Ok and that has this effect. Without memory the tables agree with
-    /// what they agreed with.
-    pub fn accept(
-        &mut self,
-        place: Option<usize>,
-        call: &Call,
-        effect: &Effect,
-    ) -> Result<(), NoMemory>
-        requires agrees { (core : State) × AgreesWith core self.old }
-        requires seated { (actor : UnitName) × (place ≡ place_in self.old actor) }
-        requires told { Does self.old place call.now effect.now }
-        ensures step { OnOk result ((core : State) (actor : UnitName) →
-            AgreesWith core self.old → place ≡ place_in self.old actor →
-            IsStep core actor call.now (Reply.Ok, effect.now) self.new) }
-        ensures kept { OnErr result ((core : State) → AgreesWith core self.old →
-            AgreesWith core self.new) }
-    {
-        self.board.book(place, call, &Reply::Ok, effect)
-    }
-
     /// Makes a publish or a release of a handle by the unit at a place, whose reply is Ok and which
     /// has this effect. Without memory the tables agree with what they agreed with.
     pub fn accept_closing(

@@ -5,7 +5,8 @@ ghost use Rattle.df_journal_file.specs.Journal.{IsWholeEntry};
 ghost use Rattle.df_journal_text.specs.Fits.{AreRoots, IsCall, IsCommit, IsPart, IsPartRead, IsReply, IsRoot, IsSpot};
 ghost use Rattle.df_spelled.specs.Spelled.{IsJoined, IsOutput, IsWorded};
 ghost use Rattle.df_unit.specs.Drafts.{show};
-ghost use Rattle.df_unit.specs.declared.reply.Reply.TheVariants.{Parts};
+ghost use Rattle.df_unit.specs.declared.entry.Effect.TheVariants as effect;
+ghost use Rattle.df_unit.specs.declared.reply.Reply.TheVariants.{Event, Parts};
 ghost use Rattle.df_value_text.specs.Fits.{IsLabel};
 
 use crate::laws::worded_and_joined_is_whole;
@@ -19,7 +20,7 @@ use df_frozen::Name;
 use df_label::Label;
 use df_part::{Part, PartRef, Spot};
 use df_start::{RootStart, Start};
-use df_unit::{Call, Commit, Effect, Entry, PartRead, Reply};
+use df_unit::{Call, Commit, Effect, Entry, Given, PartRead, Reply};
 
 /// A number has 64 bits.
 fn count_is_short(count: u64)
@@ -88,6 +89,14 @@ impl Spelled for PartRead {
     }
 }
 
+/// What a get tells of an event has a spelling.
+pub fn event_reply_is_spelled(h: u32, sub: u32)
+    ensures { IsReply (Event h sub) }
+{
+    number_is_short(h);
+    number_is_short(sub);
+}
+
 /// A reply has a spelling.
 pub fn reply_is_spelled(reply: &Reply)
     ensures { IsReply reply.now }
@@ -97,10 +106,7 @@ pub fn reply_is_spelled(reply: &Reply)
         Reply::Tag(tag) => tag.is_spelled(),
         Reply::Sub(n) => number_is_short(*n),
         Reply::Unit(n) => number_is_short(*n),
-        Reply::Event { h, sub } => {
-            number_is_short(*h);
-            number_is_short(*sub);
-        }
+        Reply::Event { h, sub } => event_reply_is_spelled(*h, *sub),
         Reply::Parts(parts) => each_is_spelled(parts.as_slice()),
         Reply::TooManyParts { wanted } => count_is_short(*wanted),
         Reply::Lacks(p) => p.is_spelled(),
@@ -158,22 +164,27 @@ fn commit_is_spelled(commit: &Commit)
     each_is_spelled(commit.edit.added());
 }
 
+/// What a get hands out has a spelling.
+pub fn given_is_spelled(given: &Given)
+    ensures { IsOutput (effect.Given given.now) }
+{
+    event_is_spelled(&given.event);
+    each_is_spelled(given.parts.as_slice());
+}
+
 /// An effect has a spelling.
-fn effect_is_spelled(effect: &Effect)
+pub fn effect_is_spelled(effect: &Effect)
     ensures { IsOutput effect.now }
 {
     match effect {
         Effect::Nothing => (),
         Effect::Commit(commit) => commit_is_spelled(commit),
-        Effect::Given(given) => {
-            event_is_spelled(&given.event);
-            each_is_spelled(given.parts.as_slice());
-        }
+        Effect::Given(given) => given_is_spelled(given),
     }
 }
 
 /// The words of an answer are literals.
-pub fn answer_is_spelled(reply: &Reply, effect: &Effect)
+fn answer_is_spelled(reply: &Reply, effect: &Effect)
     ensures reply { IsReply reply.now }
     ensures effect { IsOutput effect.now }
 {

@@ -1,5 +1,4 @@
 use Rattle.df_audit.proofs.Names.{[], ◌∷◌, sym, IfOk-weaker, Root}
-use Rattle.df_audit.proofs.Calls.{read_common}
 use Rattle.df_audit.proofs.pass.take_next.Goals as goal
 
 pub returns-in-Some : goal.returns-in-Some
@@ -8,8 +7,7 @@ returns-in-Some c =
     IfOk-weaker c.take_call.result _ _
     (λ ended takes roots bytes read so.
     takes roots bytes read (Root (line.root ∷ [])) so
-    (read_common c.args.behind.now.tables c.root-place.result line.root line.ask c.call-call.result line.words.now c.root-place.ensures
-    c.in-Some.ensures.fits c.in-Some.ensures.words c.call-call.ensures) (sym c.if-not-has_notes.ensures))
+    (record { seated = c.root-place.ensures; fits = c.in-Some.ensures.fits; spelled = c.in-Some.ensures.words }) (sym c.if-not-has_notes.ensures))
     c.take_call.ensures
 
 pub returns : goal.returns

@@ -1,24 +1,14 @@
-use Rattle.std.proofs.Common.{[], ◌∷◌, ap, sym, subst, ◌∙◌}
-use Rattle.std.specs.Prelude.{OnOk}
-use Rattle.df_journal_text.specs.Front.{call_front}
-use Rattle.df_machine.specs.Journal.{State}
-use Rattle.df_script_text.specs.Common.{root_call}
-use Rattle.df_unit.specs.declared.call.Call.{Call}
+use Rattle.std.proofs.Common.{[], ◌∷◌}
+use Rattle.std.proofs.lemmas.Result.{on_ok_weaker}
 use Rattle.df_unit.specs.declared.name.UnitName.TheVariants.{Root}
-use Rattle.df_steps.specs.Steps.{AppendsStep}
-use Rattle.df_steps.proofs.Appending.{on_ok_each}
+use Rattle.df_steps.proofs.Appending.{appends_step}
 use Rattle.df_steps.proofs.step.append_common.Goals as goal
 
-pub append_brief-requires-clause-seated : goal.append_brief-requires-clause-seated
-append_brief-requires-clause-seated c = (Root (c.args.line.root ∷ []), c.root-place.ensures)
+pub append_common-requires-clause-seated : goal.append_common-requires-clause-seated
+append_common-requires-clause-seated c = (Root (c.args.line.root ∷ []), c.root-place.ensures)
 
-pub returns-in-Some : goal.returns-in-Some
-returns-in-Some c =
-    let root = c.args.line.root in
-    on_ok_each _ c.append_brief.result
-    (λ (core : State). on_ok_each _ c.append_brief.result
-    (λ agrees. subst
-    (λ (call : Call). OnOk c.append_brief.result (AppendsStep (root_call root call) core c.append_brief.new.tables c.args.text.now.items c.append_brief.new.text.items))
-    c.in-Some.ensures
-    (c.append_brief.ensures core (Root (root ∷ [])) agrees c.root-place.ensures
-    (c.requires.words ∙ ap (call_front (Root (root ∷ []))) (sym c.in-Some.ensures)))))
+pub returns : goal.returns
+returns c =
+    on_ok_weaker c.append_common.result
+    (λ enters core agrees. appends_step (enters core (Root (c.args.line.root ∷ [])) agrees c.root-place.ensures c.requires.words))
+    c.append_common.ensures

@@ -1,0 +1,13 @@
+use Rattle.df_audit.proofs.Names.{on_ok_weaker}
+use Rattle.df_audit.proofs.Calls.{makes_call}
+use Rattle.df_audit.proofs.made.append_answered.Goals as goal
+
+pub returns : goal.returns
+returns g c =
+    let answer = c.in_ok-answer.answer in
+    on_ok_weaker c.hear.result
+    (λ heard core actor agrees seated words.
+    makes_call core actor c.args.call.now c.args.note.now (g.H.Hears.heard c.args.to.now c.hear.new.self) c.step_other.new.self c.args.text.now.items
+    c.append_spelled.new.to.items (answer.reply, answer.effect) (c.in_ok-answer.ensures.step core actor agrees seated) heard
+    (c.in_ok-append_spelled.ensures actor c.args.call.now words))
+    c.hear.ensures
