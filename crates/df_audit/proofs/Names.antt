@@ -1,5 +1,5 @@
 -- The names that most proofs here cite, passed on from one place. Declares nothing.
-pub use Rattle.df_audit.specs.Audit.{Explains, IsCheckOfFirst, IsCheckOfSecond, IsPurgeOf, IsRightJournal, IsUpgradeOf, IsWhyOf, IsWrongAt, OfJournal, Purges, Upgrades, entries_at, entries_in, past_in, roots_in, wrong_text}
+pub use Rattle.df_audit.specs.Audit.{Explains, IsCheckOf, IsCheckOfFirst, IsCheckOfSecond, IsPurgeOf, IsRightJournal, IsUpgradeOf, IsWhyOf, IsWrongAt, OfJournal, Purges, Upgrades, entries_at, entries_in, past_in, roots_in, valid_text, wrong_text}
 pub use Rattle.df_audit.specs.Made.{Enters, EntersNoted, MakesCall}
 pub use Rattle.df_audit.specs.code.Calling.{AppendsCall, Keeps, label_in, left_in, noted_call, read_call, shown_by, stays_in}
 pub use Rattle.df_audit.specs.code.Passing.{ComesTo, EndsRight, HasComeTo, IsJudged, IsMade, IsSoFar, PassesOne, TakesKept, TakesNote, TakesOne, front_of, wanted_of, wanted_text}

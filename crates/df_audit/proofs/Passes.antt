@@ -1,5 +1,5 @@
 -- A journal that is gone over entry by entry, as far as it has come.
-use Rattle.df_audit.proofs.Names.{◌≡◌, ℕ, ◌+◌, ◌<◌, ◌^◌, Bool, true, false, List, [], ◌∷◌, ◌++◌, ◌-◌, Option, None, Some, Result, Ok, Err, IfOk, OnOk, length, map, reverse, refl, ap, sym, subst, ◌∙◌, arith, append_assoc, append-nil, length-append, flat_map, length-map, map-append, reverse-append, Label, State, firsts, AgreesWith, Tables, Legal, purge, rows, RootStart, Entry, Noted, contamination_of, noted, noted_in, past_of, noted_past, right_notes, noted_text, head_text, CursorState, HasPassed, IsJournalOf, Journal, journal_by, IsPurgeOf, IsRightJournal, IsUpgradeOf, OfJournal, past_in, roots_in, ComesTo, EndsRight, HasComeTo, IsMade, IsSoFar, IsJudged, PassesOne, TakesKept, TakesNote, TakesOne, front_of, wanted_of, wanted_text, Wanted}
+use Rattle.df_audit.proofs.Names.{◌≡◌, ℕ, ◌+◌, ◌<◌, ◌^◌, Bool, true, false, List, [], ◌∷◌, ◌++◌, ◌-◌, Option, None, Some, Result, Ok, Err, IfOk, OnOk, length, map, reverse, refl, ap, sym, subst, ◌∙◌, arith, append_assoc, append-nil, length-append, flat_map, length-map, map-append, reverse-append, Label, State, firsts, AgreesWith, Tables, Legal, purge, rows, RootStart, Entry, Noted, contamination_of, noted, noted_in, past_of, noted_past, right_notes, noted_text, head_text, CursorState, HasPassed, First, IsJournalOf, Journal, Second, journal_by, Right, IsCheckOf, valid_text, IsPurgeOf, IsRightJournal, IsUpgradeOf, OfJournal, past_in, roots_in, ComesTo, EndsRight, HasComeTo, IsMade, IsSoFar, IsJudged, PassesOne, TakesKept, TakesNote, TakesOne, front_of, wanted_of, wanted_text, Wanted}
 use Rattle.std.proofs.lemmas.Grind.{flat_map-append}
 use Rattle.df_memory.specs.declared.NoMemory.{NoMemory}
 use Rattle.df_replay.specs.Replay.{Compares, entry_for, replayed}
@@ -210,3 +210,9 @@ purge_made w label journal count text wants front m =
       separates = separates;
       sound = legal_is_sound roots (purge rows (firsts roots) label past) separates.legal;
     }
+
+-- a journal that was gone over for its entries' count alone is checked
+pub count_checked : (journal : Journal) (count : ℕ) (text told : List ℕ) → IsMade wanted.Count count text journal → told ≡ valid_text count
+    → IsCheckOf journal Right told
+count_checked (First start entries) count text told m is = (m.right, is ∙ ap valid_text m.counted)
+count_checked (Second start notes) count text told m is = (m.right, is ∙ ap valid_text (m.counted ∙ length-map notes bare))

@@ -1,3 +1,7 @@
+ghost use Rattle.std.specs.Prelude.{◌≡◌};
+
+use df_machine::Tables;
+
 /// What an audit finds. A place counts the entries before it.
 #[derive(Clone, Copy, Debug, PartialEq, Eq)]
 pub enum Finding {
@@ -12,4 +16,32 @@ pub enum Finding {
 pub struct Audit {
     pub finding: Finding,
     pub text: Vec<u8>,
+    /// The tables behind the journal, where they are left: freeing them is up to the caller.
+    pub tables: Option<Tables>,
+}
+
+impl Audit {
+    /// An audit that leaves no tables.
+    pub(crate) fn new(finding: Finding, text: Vec<u8>) -> Audit
+        ensures finding { result.finding ≡ finding }
+        ensures text { result.text ≡ text }
+    {
+        Audit {
+            finding,
+            text,
+            tables: None,
+        }
+    }
+
+    /// An audit that leaves the tables behind the journal.
+    pub(crate) fn with(finding: Finding, text: Vec<u8>, tables: Tables) -> Audit
+        ensures finding { result.finding ≡ finding }
+        ensures text { result.text ≡ text }
+    {
+        Audit {
+            finding,
+            text,
+            tables: Some(tables),
+        }
+    }
 }

@@ -38,10 +38,12 @@ fn counted(alloc: Global, bytes: &[u8]) -> Result<Option<Audit>, NoMemory>
     ensures { IfOk result (λ told. IfSome told (λ audit. OfJournal bytes.now (λ journal.
         IsCheckOf journal audit.finding audit.text.items))) }
 {
-    let Some(made) = right_text(alloc, bytes, &Wanted::Count)? else {
+    let Some((made, tables)) = right_text(alloc, bytes, &Wanted::Count)? else {
         return Ok(None);
     };
-    Ok(Some(right(alloc, made.count)?))
+    let mut audit = right(alloc, made.count)?;
+    audit.tables = Some(tables);
+    Ok(Some(audit))
 }
 
 /// Whether the whole journal that these bytes are is right, or where it first isn't.
@@ -108,10 +110,7 @@ fn right(alloc: Global, count: usize) -> Result<Audit, NoMemory>
     ensures text { IfOk result (λ audit. audit.text.items ≡ valid_text count) }
 {
     let text = valid_text(alloc, count)?;
-    Ok(Audit {
-        finding: Finding::Right,
-        text,
-    })
+    Ok(Audit::new(Finding::Right, text))
 }
 
 /// What is told of a wrong place.
@@ -128,8 +127,5 @@ fn wrong(
         (entry_text kept_note.now kept.now) (entry_text expected_note.now expected.now)) }
 {
     let text = wrong_text(alloc, place, kept, kept_note, expected, expected_note)?;
-    Ok(Audit {
-        finding: Finding::Wrong { place },
-        text,
-    })
+    Ok(Audit::new(Finding::Wrong { place }, text))
 }

@@ -49,14 +49,14 @@ pub enum Passed {
     Other,
 }
 
-/// What is wanted of the journal that these bytes are, where it is right.
+/// What is wanted of the journal that these bytes are, where it is right, and the tables behind it.
 pub fn right_text(
     alloc: Global,
     bytes: &[u8],
     wanted: &Wanted<'_>,
-) -> Result<Option<Made>, NoMemory>
+) -> Result<Option<(Made, Tables)>, NoMemory>
     ensures { IfOk result (λ made. IfSome made (λ m.
-        OfJournal bytes.now (IsMade wanted.now m.count m.text.items))) }
+        OfJournal bytes.now (IsMade wanted.now m.0.count m.0.text.items))) }
 {
     let Some((start, mut cursor)) = begin(alloc, bytes)? else {
         return Ok(None);
@@ -69,9 +69,10 @@ pub fn right_text(
     drop(start);
     let is_right = go_over(&mut cursor, &mut behind, wanted, &mut made)?;
     drop(cursor);
-    drop(behind);
+    let NotedTables { tables, notes } = behind;
+    drop(notes);
     if is_right {
-        Ok(Some(made))
+        Ok(Some((made, tables)))
     } else {
         drop(made);
         Ok(None)

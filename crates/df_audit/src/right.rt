@@ -15,6 +15,7 @@ use df_check::{NotedVerdict, check_noted};
 use df_journal_file::{Journal, read_either};
 use df_label::Label;
 use df_lines::FileRefused;
+use df_machine::Tables;
 use df_memory::NoMemory;
 use df_purge::purge_noted;
 use df_start::Start;
@@ -37,7 +38,7 @@ pub fn purge_text(alloc: Global, label: &Label, bytes: &[u8]) -> Result<Audit, F
     ensures refuses { IfErr result (NamesBadLine IsEitherText (IsLargeIn IsEitherText) bytes.now) }
 {
     match right_text(alloc, bytes, &Wanted::Purge(label)) {
-        Ok(Some(made)) => Ok(right(made)),
+        Ok(Some((made, tables))) => Ok(right(made, tables)),
         Ok(None) => purge_whole(alloc, label, bytes),
         Err(NoMemory) => Err(FileRefused::NoMemory),
     }
@@ -67,7 +68,7 @@ pub fn upgrade_text(alloc: Global, bytes: &[u8]) -> Result<Audit, FileRefused>
     ensures refuses { IfErr result (NamesBadLine IsEitherText (IsLargeIn IsEitherText) bytes.now) }
 {
     match right_text(alloc, bytes, &Wanted::Notes) {
-        Ok(Some(made)) => Ok(right(made)),
+        Ok(Some((made, tables))) => Ok(right(made, tables)),
         Ok(None) => upgrade_whole(alloc, bytes),
         Err(NoMemory) => Err(FileRefused::NoMemory),
     }
@@ -147,21 +148,15 @@ fn told(alloc: Global, start: &Start, notes: &[Noted]) -> Result<Audit, NoMemory
     ensures text { IfOk result (λ audit. audit.text.items ≡ journal_text start.now notes.now) }
 {
     let text = noted_text(alloc, start, notes)?;
-    Ok(Audit {
-        finding: Finding::Right,
-        text,
-    })
+    Ok(Audit::new(Finding::Right, text))
 }
 
-/// What was made of a right journal.
-fn right(made: Made) -> Audit
+/// What was made of a right journal, with the tables behind it.
+fn right(made: Made, tables: Tables) -> Audit
     ensures finding { result.finding ≡ Right }
     ensures text { result.text ≡ made.text }
 {
-    Audit {
-        finding: Finding::Right,
-        text: made.text,
-    }
+    Audit::with(Finding::Right, made.text, tables)
 }
 
 /// Nothing but a wrong place.
@@ -169,8 +164,5 @@ pub fn silent(alloc: Global, place: u64) -> Audit
     ensures finding { result.finding ≡ Wrong place }
     ensures text { result.text.items ≡ [] }
 {
-    Audit {
-        finding: Finding::Wrong { place },
-        text: Vec::new(alloc),
-    }
+    Audit::new(Finding::Wrong { place }, Vec::new(alloc))
 }

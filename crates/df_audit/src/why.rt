@@ -65,10 +65,7 @@ fn explain_noted(
     }
     let places = grounds_of(alloc, start, notes, place as usize)?;
     let text = text_at(alloc, start, notes, places.as_slice())?;
-    Ok(Audit {
-        finding: Finding::Right,
-        text,
-    })
+    Ok(Audit::new(Finding::Right, text))
 }
 
 /// Nothing but the number of entries.
@@ -76,12 +73,8 @@ fn no_place(alloc: Global, count: usize) -> Audit
     ensures finding { result.finding ≡ NoPlace count }
     ensures text { result.text.items ≡ [] }
 {
-    Audit {
-        finding: Finding::NoPlace {
-            entries: count as u64,
-        },
-        text: Vec::new(alloc),
-    }
+    let entries = count as u64;
+    Audit::new(Finding::NoPlace { entries }, Vec::new(alloc))
 }
 
 /// The places on which the entry at a place rests.

@@ -5,6 +5,7 @@ ghost use Rattle.df_floor_run.specs.Load.{IsLoadText, load_config, load_pair, lo
 ghost use Rattle.df_floor_run.specs.code.Running.{TellsReport};
 
 use crate::journal::report_of;
+use crate::run::FloorRun;
 use crate::running::{fresh_crew, run_crew};
 use df_config::{Config, PairNumbers, PairRow, PairRows, TraderRow, TraderRows};
 use df_crew::Crew;
@@ -73,22 +74,24 @@ pub fn load_config(alloc: Global) -> Result<Config, NoMemory>
     })
 }
 
-/// The summary of the load on the first n ticks of a key. It always comes to rest.
-pub fn run_load(alloc: Global, key: u64, n: u32) -> Result<Vec<u8>, NoMemory>
+/// The run of the load on the first n ticks of a key, whose text is its summary. It always comes to
+/// rest.
+pub fn run_load(alloc: Global, key: u64, n: u32) -> Result<FloorRun, NoMemory>
     requires { n ≤ 4_000 }
-    ensures { IfOk result (λ text. IsLoadText key n text.items) }
+    ensures { IfOk result (λ run. IsLoadText key n run.text.items) }
 {
     let config = load_config(alloc)?;
     let ticks = gen_ticks(alloc, key, n)?;
-    let mut crew = fresh_crew(alloc, &config, ticks)?;
-    told_report(alloc, &mut crew, config.max_steps)
+    let crew = fresh_crew(alloc, &config, ticks)?;
+    told_report(alloc, crew, config.max_steps)
 }
 
 /// Makes the plain run of a crew, and its summary.
-fn told_report(alloc: Global, crew: &mut Crew<FloorBrain>, max: u64) -> Result<Vec<u8>, NoMemory>
-    requires { crew.old.core.1 ≡ [] }
-    ensures { IfOk result (λ text. TellsReport max crew.old text.items) }
+fn told_report(alloc: Global, mut crew: Crew<FloorBrain>, max: u64) -> Result<FloorRun, NoMemory>
+    requires { crew.core.1 ≡ [] }
+    ensures { IfOk result (λ run. TellsReport max crew run.text.items) }
 {
-    let _end = run_crew(alloc, crew, max)?;
-    report_of(alloc, crew.core())
+    let end = run_crew(alloc, &mut crew, max)?;
+    let text = report_of(alloc, crew.core())?;
+    Ok(FloorRun { text, end, crew })
 }

@@ -25,11 +25,12 @@ pub enum FloorEnd {
     Unsettled { steps: u64 },
 }
 
-/// What is written of a run of a floor, and how the run ended.
+/// What is written of a run of a floor, how the run ended, and the crew that it left.
 #[derive(Drop)]
 pub struct FloorRun {
     pub text: Vec<u8>,
     pub end: FloorEnd,
+    pub crew: Crew<FloorBrain>,
 }
 
 /// Runs a floor on ticks by the plain scheduler. The text is that of its journal and of its
@@ -40,16 +41,16 @@ pub fn run_floor(alloc: Global, config: &Config, ticks: Vec<Tick>) -> Result<Flo
     ensures { IfOk result (λ run.
         IsFloorRun config.now ticks.items run.text.items run.end) }
 {
-    let mut crew = fresh_crew(alloc, config, ticks)?;
-    told_run(alloc, &mut crew, config.max_steps)
+    let crew = fresh_crew(alloc, config, ticks)?;
+    told_run(alloc, crew, config.max_steps)
 }
 
 /// Makes the plain run of a crew, and its text.
-fn told_run(alloc: Global, crew: &mut Crew<FloorBrain>, max: u64) -> Result<FloorRun, NoMemory>
-    requires { crew.old.core.1 ≡ [] }
-    ensures { IfOk result (λ run. TellsRun max crew.old run.text.items run.end) }
+fn told_run(alloc: Global, mut crew: Crew<FloorBrain>, max: u64) -> Result<FloorRun, NoMemory>
+    requires { crew.core.1 ≡ [] }
+    ensures { IfOk result (λ run. TellsRun max crew run.text.items run.end) }
 {
-    let end = run_crew(alloc, crew, max)?;
+    let end = run_crew(alloc, &mut crew, max)?;
     let text = run_text(alloc, crew.core())?;
-    Ok(FloorRun { text, end })
+    Ok(FloorRun { text, end, crew })
 }

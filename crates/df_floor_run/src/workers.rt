@@ -121,7 +121,7 @@ fn told_work<R: Threads + Wait + Sync, G: Gate + Sync>(
 {
     let (crew, end) = work(rt, alloc, crew, workers, max, gate)?;
     let text = run_text(alloc, crew.core())?;
-    Ok(FloorRun { text, end })
+    Ok(FloorRun { text, end, crew })
 }
 
 /// Runs a floor on ticks: the plain opening, then rounds of workers, and then plain passes, until it

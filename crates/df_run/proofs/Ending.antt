@@ -1,5 +1,5 @@
 -- The status of a run that made a text.
-use Rattle.df_run.proofs.Names.{◌≡◌, ◌⊎◌, ℕ, List, Option, ap, inl, inr, refl, sym, subst, IsWritten, status_of, BadInputIsDue, BadInputIsExact, DoesInput, IsHindered, IsOfACommand, IsOutcome, IsTextOfSome, IsToldBad, IsToldLong, NoPlaceIsDue, NoPlaceIsExact, OfTold, Reaches, TooLongIsDue, TooLongIsExact, UnsettledIsDue, UnsettledIsExact, WereRead, WriteFaultIsDue, Writes, WrongIsDue, WrongIsExact, IsCutInput, IsNoPlaceInput, IsRightInput, IsText, IsWrongInput, Status, End, Command}
+use Rattle.df_run.proofs.Names.{◌≡◌, ◌⊎◌, ℕ, List, Option, ap, inl, inr, refl, sym, subst, IsWritten, status_of, BadInputIsDue, BadInputIsExact, DoesInput, IsHindered, IsOfACommand, IsOutcome, IsTextOfSome, IsToldBad, IsToldLong, NoPlaceIsDue, NoPlaceIsExact, OfTold, Reaches, TooLongIsDue, TooLongIsExact, UnsettledIsDue, UnsettledIsExact, WereRead, WriteFaultIsDue, Writes, WrongIsDue, WrongIsExact, IsCutInput, IsNoPlaceInput, IsRightInput, IsWrongInput, Status, End, Command}
 use Rattle.df_io.specs.Pieces.{HasAll}
 use Rattle.df_run.specs.declared.status.Status.TheVariants as status
 use Rattle.df_run.specs.declared.tasks.End.TheVariants as end

@@ -1,5 +1,5 @@
 -- How what was read ends, and what is written of it tells.
-use Rattle.df_run.proofs.Names.{⊤, ◌≡◌, ◌≤◌, ◌<◌, ℕ, suc, List, [], ◌∷◌, length, refl, ap, subst, sym, ◌∙◌, arith, HasPlace, IsCheckOf, IsPurgeOf, IsRightJournal, IsUpgradeOf, IsWhyOf, IsWrongAt, LacksPlace, OfJournal, TellsCount, TellsPlace, past_in, Config, First, IsEitherText, IsJournalOf, Journal, Second, IsScriptText, settling_bound, Tick, Command, Steps, Check, Purge, Upgrade, Why, Auction, Lint, Gen, Floor, FloorWorkers, Load, IsCutAt, MayBeCutAt, OfFloor, RunsFloor, Settles, SettlesAnyhow, WorksFloor, IsCutInput, IsInput, IsNoPlaceInput, IsOrders, IsRightInput, IsText, IsUnsettledInput, IsWrongInput, OfOne, OfTwo, End}
+use Rattle.df_run.proofs.Names.{⊤, ◌≡◌, ◌≤◌, ℕ, suc, List, [], ◌∷◌, refl, ap, subst, sym, ◌∙◌, arith, HasPlace, IsCheckOf, IsPurgeOf, IsRightJournal, IsUpgradeOf, IsWhyOf, IsWrongAt, LacksPlace, OfJournal, TellsCount, TellsPlace, Config, First, IsEitherText, Journal, Second, IsScriptText, settling_bound, Tick, Command, Steps, Check, Purge, Upgrade, Why, Auction, Lint, Gen, Floor, FloorWorkers, Load, IsCutAt, MayBeCutAt, OfFloor, RunsFloor, Settles, SettlesAnyhow, WorksFloor, IsCutInput, IsInput, IsNoPlaceInput, IsOrders, IsRightInput, IsText, IsUnsettledInput, IsWrongInput, OfOne, OfTwo, End}
 use Rattle.df_audit.proofs.Exact.{one_count, one_place, right_is_not_wrong}
 use Rattle.df_audit.specs.declared.audit.Finding.TheVariants as finding
 use Rattle.df_auction.specs.AuctionText.{IsTextOfFile}

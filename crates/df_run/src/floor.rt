@@ -12,7 +12,7 @@ ghost use Rattle.df_words.specs.declared.command.Command.TheVariants.{Floor, Flo
 
 use crate::input::input_of;
 use crate::status::{BadKind, Status};
-use crate::tasks::{End, Output};
+use crate::tasks::{End, Kept, Output};
 use df_config::{Config, ConfigRefused, read_config};
 use df_floor_run::{FloorEnd, FloorRun, run_floor, run_floor_by};
 use df_io::Shelf;
@@ -205,15 +205,16 @@ fn work_of<R: Threads + Wait + Sync, G: Gate + Sync>(
     Ok(told(run))
 }
 
-/// What is written of a run, and how it ends.
+/// What is written of a run, how it ends, and its crew.
 fn told(run: FloorRun) -> Output
     ensures text { result.text.items ≡ run.text.items }
     ensures end { result.end ≡ end_of_floor run.end }
 {
-    let FloorRun { text, end } = run;
+    let FloorRun { text, end, crew } = run;
     let end = match end {
         FloorEnd::Quiet => End::Done,
         FloorEnd::Unsettled { steps } => End::Unsettled { steps },
     };
-    Output { text, end }
+    let kept = Kept::Crew(crew);
+    Output { text, end, kept }
 }

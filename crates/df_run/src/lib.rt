@@ -13,5 +13,5 @@ mod steps;
 mod tasks;
 
 pub use program::run_program;
-pub use run::{run_main, run_plain};
+pub use run::{Left, run_main, run_plain};
 pub use status::{BadKind, Status};

@@ -1,13 +1,11 @@
 ghost use Rattle.std.specs.Prelude.{◌≡◌};
-ghost use Rattle.std.specs.Process.{exit_status};
 ghost use Rattle.df_run.specs.Status.{code_of};
 
-use crate::run::run_main;
+use crate::run::{Left, run_main};
 use crate::status::Status;
 use df_io::{FileShelf, OutSink};
 use df_workers::OpenGate;
 use std::env::Env;
-use std::process::ExitCode;
 use std::rt::Files;
 use std::sync::Wait;
 use std::thread::Threads;
@@ -83,12 +81,13 @@ fn told(words: &[String]) -> Option<&'static str> {
 }
 
 /// The program: answers a lone `--help` or `--version`, and else does what the user's words ask for
-/// on the real files and the real output. A status other than Done is one line on standard error.
+/// on the real files and the real output, and leaves what the run made and kept. A status other than
+/// Done is one line on standard error. It gives the code with which the program ends.
 pub fn run_program<
     R: Env + AllocGlobal + Files + Print + Eprint + Threads + Wait + Sync + Clone + Drop,
->(rt: &R) -> ExitCode {
+>(rt: &R, left: &mut Left) -> u8 {
     let status = match own_words(rt) {
-        Ok(words) => done(rt, words.as_slice()),
+        Ok(words) => done(rt, words.as_slice(), left),
         Err(status) => status,
     };
     end(rt, status)
@@ -98,6 +97,7 @@ pub fn run_program<
 fn done<R: AllocGlobal + Files + Print + Threads + Wait + Sync + Clone + Drop>(
     rt: &R,
     words: &[String],
+    left: &mut Left,
 ) -> Status {
     if let Some(text) = told(words) {
         return match print!(rt; "{text}") {
@@ -110,15 +110,15 @@ fn done<R: AllocGlobal + Files + Print + Threads + Wait + Sync + Clone + Drop>(
     };
     let mut shelf = FileShelf::new(rt.alloc(), files);
     let mut out = OutSink::new(io::writer(rt));
-    run_main(rt, rt.alloc(), words, &mut shelf, &mut out, &OpenGate)
+    run_main(rt, rt.alloc(), words, &mut shelf, &mut out, &OpenGate, left)
 }
 
 /// Prints the status line, but for Done, and gives the code with which the program ends.
-fn end<R: Eprint>(rt: &R, status: Status) -> ExitCode
-    ensures { exit_status result ≡ code_of status }
+fn end<R: Eprint>(rt: &R, status: Status) -> u8
+    ensures { result ≡ code_of status }
 {
     if !matches!(status, Status::Done) {
         let _ = eprintln!(rt; "{status}");
     }
-    ExitCode::from(status.code())
+    status.code()
 }

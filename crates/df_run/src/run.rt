@@ -4,12 +4,26 @@ ghost use Rattle.df_words.specs.Words.{Ask, texts};
 
 use crate::making::{made_by, made_of, plain_command, write_output};
 use crate::status::Status;
+use crate::tasks::Output;
 use df_io::{Shelf, Sink};
 use df_words::{Command, WordsRefused, read_words};
 use df_workers::Gate;
 use std::alloc::Global;
 use std::sync::Wait;
 use std::thread::Threads;
+
+/// Where a run leaves what it made and kept. Whoever ends the process with it frees nothing.
+#[derive(Drop)]
+pub struct Left {
+    output: Option<Output>,
+}
+
+impl Left {
+    /// Of no run yet.
+    pub fn nothing() -> Left {
+        Left { output: None }
+    }
+}
 
 /// Does what a command without workers says. Its files are read and the text is made before anything
 /// is written.
@@ -32,7 +46,7 @@ fn run_command<F: Shelf, W: Sink>(
     }
 }
 
-/// Does what a command says, by workers where it asks for them.
+/// Does what a command says, by workers where it asks for them, and leaves what it made and kept.
 fn run_any<R: Threads + Wait + Sync, F: Shelf, W: Sink, G: Gate + Sync>(
     rt: &R,
     alloc: Global,
@@ -41,6 +55,7 @@ fn run_any<R: Threads + Wait + Sync, F: Shelf, W: Sink, G: Gate + Sync>(
     shelf: &mut F,
     out: &mut W,
     gate: &G,
+    left: &mut Left,
 ) -> Status
     requires { Ask (texts words.now) command.now }
     ensures { IsOutcome command.now
@@ -49,7 +64,11 @@ fn run_any<R: Threads + Wait + Sync, F: Shelf, W: Sink, G: Gate + Sync>(
         (W.written out.old) (W.written out.new) result }
 {
     match made_by(rt, alloc, command, words, shelf, gate) {
-        Ok(output) => write_output(&output, out),
+        Ok(output) => {
+            let status = write_output(&output, out);
+            left.output = Some(output);
+            status
+        }
         Err(status) => status,
     }
 }
@@ -77,8 +96,9 @@ pub fn run_plain<F: Shelf, W: Sink>(
     }
 }
 
-/// What the program calls with the real shelf and sink, and a gate that does nothing. With workers it
-/// may wait, and keeps its promises if it returns.
+/// What the program calls with the real shelf and sink, and a gate that does nothing. What the run
+/// made and kept is left to the caller. With workers it may wait, and keeps its promises if it
+/// returns.
 pub fn run_main<R: Threads + Wait + Sync, F: Shelf, W: Sink, G: Gate + Sync>(
     rt: &R,
     alloc: Global,
@@ -86,6 +106,7 @@ pub fn run_main<R: Threads + Wait + Sync, F: Shelf, W: Sink, G: Gate + Sync>(
     shelf: &mut F,
     out: &mut W,
     gate: &G,
+    left: &mut Left,
 ) -> Status
     ensures usage { UsageIsExact Ask (texts words.now) result }
     ensures unused { AsksNothing Ask (texts words.now) → W.written out.new ≡ W.written out.old }
@@ -95,7 +116,7 @@ pub fn run_main<R: Threads + Wait + Sync, F: Shelf, W: Sink, G: Gate + Sync>(
         (W.written out.old) (W.written out.new) result) }
 {
     match read_words(alloc, words) {
-        Ok(command) => run_any(rt, alloc, &command, words, shelf, out, gate),
+        Ok(command) => run_any(rt, alloc, &command, words, shelf, out, gate, left),
         Err(WordsRefused::Usage) => Status::Usage,
         Err(WordsRefused::NoMemory) => Status::NoMemory,
     }

@@ -23,9 +23,16 @@ use std::alloc::Global;
 // A journal has mostly two to five times as many bytes as its script.
 const JOURNAL_TIMES: usize = 4;
 
-/// The text of the journal of a script's calls.
-pub fn steps(alloc: Global, bytes: &[u8]) -> Result<Vec<u8>, FileRefused>
-    ensures records { IfOk result (λ text. RecordsScript bytes.now text.items) }
+/// The text of a journal, and the tables behind it.
+#[derive(Drop)]
+pub struct Recorded {
+    pub text: Vec<u8>,
+    pub tables: Tables,
+}
+
+/// The journal of a script's calls.
+pub fn steps(alloc: Global, bytes: &[u8]) -> Result<Recorded, FileRefused>
+    ensures records { IfOk result (λ made. RecordsScript bytes.now made.text.items) }
     ensures refuses { IfErr result (NamesBadLine IsScriptText IsTooLargeIn bytes.now) }
 {
     let (start, mut reader) = match ScriptReader::begin(alloc, bytes) {
@@ -43,16 +50,16 @@ fn roomy(alloc: Global, room: usize) -> Result<Vec<u8>, NoMemory>
     Ok(Vec::with_capacity(alloc, room)?)
 }
 
-/// Makes the calls that are left to a reader, each as it is read, and gives the text of their
-/// journal, which nothing keeps. The text is begun with room for this many bytes.
+/// Makes the calls that are left to a reader, each as it is read, and gives their journal, of which
+/// no entry is kept. The text is begun with room for this many bytes.
 fn journal_of(
     alloc: Global,
     start: Start,
     reader: &mut ScriptReader<'_>,
     room: usize,
-) -> Result<Vec<u8>, FileRefused>
+) -> Result<Recorded, FileRefused>
     requires { HasRead start [] reader.old }
-    ensures records { IfOk result (λ text. RecordsScript reader.old.bytes text.items) }
+    ensures records { IfOk result (λ made. RecordsScript reader.old.bytes made.text.items) }
     ensures refuses { IfErr result (NamesBadLine IsScriptText IsTooLargeIn reader.old.bytes) }
 {
     let mut text = roomy(alloc, room)?;
@@ -60,7 +67,7 @@ fn journal_of(
     let mut tables = Tables::begin(alloc, &start)?;
     let mut notes = Notes::new(alloc);
     'lines: while append_next(reader, &mut tables, &mut notes, &mut text)? {}
-    Ok(text)
+    Ok(Recorded { text, tables })
 }
 
 /// Makes the next call that is left to a reader, and appends its entry: whether there was one.

@@ -14,10 +14,13 @@ use crate::status::BadKind;
 use crate::steps::steps;
 use df_auction::{OrdersRefused, auction_text};
 use df_audit::{Audit, Finding, check_text, purge_text, upgrade_text, why_text};
+use df_crew::Crew;
 use df_floor_run::run_load;
+use df_floor_units::FloorBrain;
 use df_gen::gen_ticks;
 use df_label::Label;
 use df_lines::FileRefused;
+use df_machine::Tables;
 use df_memory::NoMemory;
 use df_ticks::write_ticks;
 use df_words::Command;
@@ -43,11 +46,20 @@ pub enum End {
     NoPlace { entries: u64 },
 }
 
-/// What a command writes, and how its run then ends.
+/// What a run keeps to its end, and need not be freed by a program that ends with it.
+#[derive(Drop)]
+pub enum Kept {
+    Nothing,
+    Tables(Tables),
+    Crew(Crew<FloorBrain>),
+}
+
+/// What a command writes, how its run then ends, and what is kept of the run.
 #[derive(Drop)]
 pub struct Output {
     pub text: Vec<u8>,
     pub end: End,
+    pub kept: Kept,
 }
 
 /// What a command of one file writes of its bytes.
@@ -108,6 +120,7 @@ fn done(text: Vec<u8>) -> Output
     Output {
         text,
         end: End::Done,
+        kept: Kept::Nothing,
     }
 }
 
@@ -116,13 +129,21 @@ fn audited(audit: Audit) -> Output
     ensures text { result.text.items ≡ audit.text.items }
     ensures end { result.end ≡ end_of audit.finding }
 {
-    let Audit { finding, text } = audit;
+    let Audit {
+        finding,
+        text,
+        tables,
+    } = audit;
     let end = match finding {
         Finding::Right => End::Done,
         Finding::Wrong { place } => End::Wrong { place },
         Finding::NoPlace { entries } => End::NoPlace { entries },
     };
-    Output { text, end }
+    let kept = match tables {
+        Some(tables) => Kept::Tables(tables),
+        None => Kept::Nothing,
+    };
+    Output { text, end, kept }
 }
 
 fn journal_of_script(alloc: Global, bytes: &[u8]) -> Result<Output, Refused>
@@ -131,7 +152,11 @@ fn journal_of_script(alloc: Global, bytes: &[u8]) -> Result<Output, Refused>
     ensures refuses { (file : ℕ) → IfErr result (RefusesInput (Steps file) bytes.now) }
 {
     match steps(alloc, bytes) {
-        Ok(text) => Ok(done(text)),
+        Ok(made) => Ok(Output {
+            text: made.text,
+            end: End::Done,
+            kept: Kept::Tables(made.tables),
+        }),
         Err(refused) => Err(blamed_line(refused)),
     }
 }
@@ -224,8 +249,12 @@ fn load_of_key(alloc: Global, key: u64, n: u32) -> Result<Output, NoMemory>
     requires { n ≤ 4_000 }
     ensures { IfOk result (λ o. IsText (Load key n) [] o.end o.text.items) }
 {
-    let text = run_load(alloc, key, n)?;
-    Ok(done(text))
+    let run = run_load(alloc, key, n)?;
+    Ok(Output {
+        text: run.text,
+        end: End::Done,
+        kept: Kept::Crew(run.crew),
+    })
 }
 
 /// The record of an order file that is blamed, or want of memory.

@@ -6,7 +6,7 @@ use crate::table::{Fault, Line, Share, Source, texts_of};
 use crate::tell::tell;
 use crate::text::{Text, append_body, append_line};
 use df_io::{FileShelf, MemoryShelf, MemorySink, read_file};
-use df_run::run_main;
+use df_run::{Left, run_main};
 use df_workers::OpenGate;
 use std::alloc::Global;
 use std::sync::Wait;
@@ -92,6 +92,7 @@ fn run_bytes<R: Threads + Wait + Sync>(
         shelf,
         &mut sink,
         &OpenGate,
+        &mut Left::nothing(),
     );
     let mut bytes = Vec::new(alloc);
     bytes.extend_from_slice(sink.bytes())?;
@@ -261,7 +262,10 @@ fn is_told_on<R: Threads + Wait + Sync>(
         Some(Fault::Write(call)) => sink.fail(call)?,
         None => {}
     }
-    let status = run_main(threads, alloc, words, shelf, &mut sink, &OpenGate);
+    let mut left = Left::nothing();
+    let status = run_main(
+        threads, alloc, words, shelf, &mut sink, &OpenGate, &mut left,
+    );
     tell(
         rt,
         case,
