@@ -97,6 +97,30 @@ fn append_next(
         append_root(tables, notes, line, text)?;
         return Ok(true);
     }
+    append_any(reader, tables, notes, text)
+}
+
+/// Makes the next call that is left to a reader, of whichever unit, and appends its entry: whether
+/// there was one.
+#[inline(never)]
+fn append_any(
+    reader: &mut ScriptReader<'_>,
+    tables: &mut Tables,
+    notes: &mut Notes,
+    text: &mut Vec<u8>,
+) -> Result<bool, FileRefused>
+    requires { (roots : List RootStart) × (lines : List ScriptLine)
+        × HasRead roots lines reader.old × IsWritten roots lines tables.old text.old.items }
+    ensures written { IfOk result (λ more. (roots : List RootStart) (lines : List ScriptLine) →
+        HasRead roots lines reader.old → IsWritten roots lines tables.old text.old.items →
+        WritesOn roots lines more reader.new tables.new text.new.items) }
+    ensures further { IfOk result (λ more. more ≡ true → reader.old.place < reader.new.place) }
+    ensures within { reader.new.place ≤ length reader.new.bytes }
+    ensures bytes { reader.new.bytes ≡ reader.old.bytes }
+    ensures refused { IfErr result (λ e. (roots : List RootStart) (lines : List ScriptLine) →
+        HasRead roots lines reader.old →
+        NamesBadLine IsScriptText IsTooLargeIn reader.old.bytes e) }
+{
     let Some(read) = reader.next_line()? else {
         return Ok(false);
     };
