@@ -1,4 +1,5 @@
 ghost use Rattle.std.specs.Prelude.{◌≡◌};
+ghost use Rattle.std.specs.Process.{exit_status};
 ghost use Rattle.df_run.specs.Status.{code_of};
 
 use crate::run::{Left, run_main};
@@ -6,6 +7,8 @@ use crate::status::Status;
 use df_io::{FileShelf, OutSink};
 use df_workers::OpenGate;
 use std::env::Env;
+use std::mem::forget;
+use std::process::ExitCode;
 use std::rt::Files;
 use std::sync::Wait;
 use std::thread::Threads;
@@ -81,23 +84,21 @@ fn told(words: &[String]) -> Option<&'static str> {
 }
 
 /// The program: answers a lone `--help` or `--version`, and else does what the user's words ask for
-/// on the real files and the real output, and leaves what the run made and kept. A status other than
-/// Done is one line on standard error. It gives the code with which the program ends.
+/// on the real files and the real output. A status other than Done is one line on standard error.
 pub fn run_program<
     R: Env + AllocGlobal + Files + Print + Eprint + Threads + Wait + Sync + Clone + Drop,
->(rt: &R, left: &mut Left) -> u8 {
+>(rt: &R) -> ExitCode {
     let status = match own_words(rt) {
-        Ok(words) => done(rt, words.as_slice(), left),
+        Ok(words) => done(rt, words.as_slice()),
         Err(status) => status,
     };
     end(rt, status)
 }
 
-/// Does what the words ask for.
+/// Does what the words ask for. What the run made and kept isn't freed, since the program ends.
 fn done<R: AllocGlobal + Files + Print + Threads + Wait + Sync + Clone + Drop>(
     rt: &R,
     words: &[String],
-    left: &mut Left,
 ) -> Status {
     if let Some(text) = told(words) {
         return match print!(rt; "{text}") {
@@ -110,15 +111,26 @@ fn done<R: AllocGlobal + Files + Print + Threads + Wait + Sync + Clone + Drop>(
     };
     let mut shelf = FileShelf::new(rt.alloc(), files);
     let mut out = OutSink::new(io::writer(rt));
-    run_main(rt, rt.alloc(), words, &mut shelf, &mut out, &OpenGate, left)
+    let mut left = Left::nothing();
+    let status = run_main(
+        rt,
+        rt.alloc(),
+        words,
+        &mut shelf,
+        &mut out,
+        &OpenGate,
+        &mut left,
+    );
+    forget(left);
+    status
 }
 
 /// Prints the status line, but for Done, and gives the code with which the program ends.
-fn end<R: Eprint>(rt: &R, status: Status) -> u8
-    ensures { result ≡ code_of status }
+fn end<R: Eprint>(rt: &R, status: Status) -> ExitCode
+    ensures { exit_status result ≡ code_of status }
 {
     if !matches!(status, Status::Done) {
         let _ = eprintln!(rt; "{status}");
     }
-    status.code()
+    ExitCode::from(status.code())
 }

@@ -12,7 +12,7 @@ use std::alloc::Global;
 use std::sync::Wait;
 use std::thread::Threads;
 
-/// Where a run leaves what it made and kept. Whoever ends the process with it frees nothing.
+/// Where a run leaves what it made and kept. A program that ends may forget it.
 #[derive(Drop)]
 pub struct Left {
     output: Option<Output>,
