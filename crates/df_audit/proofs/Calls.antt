@@ -1,5 +1,5 @@
 -- Entries of calls that are made and spelled.
-use Rattle.df_audit.proofs.Names.{◌≡◌, ℕ, ◌+◌, ◌<◌, ◌^◌, Bool, true, false, List, [], ◌∷◌, ◌++◌, Option, None, Some, IfSome, codes, length, take, drop, refl, ap, sym, subst, ◌∙◌, arith, append-nil, length-append, flat_map, drop-append-le, drop_all, take-append-le, take_all, Label, State, answer_in, contamination_in, firsts, AgreesWith, IsStep, place_in, Tables, past_of, rows, RootStart, Call, Effect, Done, Noted, Reply, effect_text, entry_text, note_text, noted_text, reads_text, CursorState, HasPassed, Enters, EntersNoted, MakesCall, AppendsCall, Keeps, label_in, left_in, noted_call, shown_by, stays_in, IsSoFar, PassesOne, TakesOne, wanted_of, Wanted}
+use Rattle.df_audit.proofs.Names.{◌≡◌, ℕ, ◌+◌, ◌<◌, ◌^◌, Bool, true, false, List, [], ◌∷◌, ◌++◌, Option, None, IfSome, codes, length, take, drop, refl, ap, sym, subst, ◌∙◌, arith, append-nil, length-append, flat_map, drop-append-le, drop_all, take-append-le, take_all, Label, State, answer_in, contamination_in, firsts, AgreesWith, IsStep, Stays, place_in, Tables, past_of, rows, RootStart, Call, Effect, Done, Noted, Reply, effect_text, entry_text, note_text, noted_text, reads_text, CursorState, HasPassed, Enters, EntersNoted, MakesCall, AppendsCall, Keeps, label_in, left_in, noted_call, shown_by, stays_in, IsSoFar, PassesOne, TakesOne, wanted_of, Wanted}
 use Rattle.df_purge.specs.code.Left.{emitted_noted}
 use Rattle.df_rules.specs.Commits.{commit_in, commit_of}
 use Rattle.df_unit.specs.declared.commit.Commit.{Commit}
@@ -29,10 +29,9 @@ makes_call core actor call note Heard tables before now answer step heard spelle
 
 module _ {old new : Tables} {place : Option ℕ} {words before now : List ℕ} {call : Call} {note : Option Label} {Heard : Reply × Effect → Type 0} where
   -- where rows stand as they stood
-  pub enters_again : {again : Tables}
-      → ((core : State) → AgreesWith core again → AgreesWith core old) × ((actor : UnitName) → place_in old actor ≡ place_in again actor)
+  pub enters_again : {again : Tables} → Stays again old
       → Enters place words call note Heard old new before now → Enters place words call note Heard again new before now
-  enters_again left enters core actor agrees seated words = enters core actor (left.0 core agrees) (seated ∙ sym (left.1 actor)) words
+  enters_again left enters core actor agrees seated words = enters core actor (left.agrees core agrees) (seated ∙ sym (left.places actor)) words
 
   -- where the note is the contamination of the unit before its call
   pub enters_noted : ((core : State) (actor : UnitName) → AgreesWith core old → place ≡ place_in old actor → note ≡ contamination_in core actor)

@@ -14,7 +14,7 @@ pub use Rattle.df_journal_text.specs.Entry.{effect_text, entry_text, note_text, 
 pub use Rattle.df_journal_text.specs.Start.{head_text, journal_text}
 pub use Rattle.df_label.specs.declared.label.Label.{Label}
 pub use Rattle.df_machine.specs.Journal.{State, answer_in, contamination_in, firsts}
-pub use Rattle.df_machine.specs.Tables.{AgreesWith, IsStep, place_in}
+pub use Rattle.df_machine.specs.Tables.{AgreesWith, IsStep, Stays, place_in}
 pub use Rattle.df_machine.specs.declared.tables.Tables.{Tables}
 pub use Rattle.df_replay.proofs.Notes.{noted_past, right_notes}
 pub use Rattle.df_replay.specs.Noted.{AreRight, contamination_of, noted, noted_in, past_of}

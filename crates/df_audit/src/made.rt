@@ -96,6 +96,24 @@ fn ask_of(call: &Call) -> Option<Ask>
     }
 }
 
+/// Appends the entry of a call that was answered so, with this note, and lets it be heard.
+#[inline(always)]
+fn append_heard<H: Hears>(
+    words: &[u8],
+    reply: &Reply,
+    effect: &Effect,
+    note: &Note,
+    text: &mut Vec<u8>,
+    to: &mut H,
+) -> Result<(), NoMemory>
+    ensures { OnOk result (H.heard to.old to.new (reply.now, effect.now)
+        × ((actor : UnitName) (call : Call) → words.now ≡ call_front actor call → text.new.items
+        ≡ text.old.items ++ entry_text note.now (Done actor call reply.now effect.now))) }
+{
+    append_spelled(words, reply, effect, note, text)?;
+    to.hear(reply, effect)
+}
+
 /// Makes a call of the unit at a place that isn't known to be one of its own state alone, and
 /// appends its entry with this note.
 #[inline(never)]
@@ -114,8 +132,7 @@ fn append_answered<H: Hears>(
         tables.old tables.new text.old.items text.new.items) }
 {
     let answer = tables.step_other(place, call)?;
-    append_spelled(words, &answer.reply, &answer.effect, note, text)?;
-    to.hear(&answer.reply, &answer.effect)
+    append_heard(words, &answer.reply, &answer.effect, note, text, to)
 }
 
 /// Makes a common call of the unit at a place in the way of any other, and appends its entry with
@@ -141,17 +158,22 @@ fn append_as_any<H: Hears>(
     appended
 }
 
-/// Appends the entry of a get by which this was received, with this note.
-fn append_told(
+/// Appends the entry of a get by which this was received, with this note, and lets it be heard.
+#[inline(always)]
+fn append_told<H: Hears>(
     received: &Received,
     note: &Note,
     words: &[u8],
     text: &mut Vec<u8>,
+    to: &mut H,
 ) -> Result<(), NoMemory>
-    ensures { OnOk result ((actor : UnitName) (call : Call) → words.now ≡ call_front actor call →
+    ensures text { OnOk result ((actor : UnitName) (call : Call) →
+        words.now ≡ call_front actor call →
         text.new.items ≡ text.old.items ++ entry_text note.now (Done actor call
         (received_answer received.now).0 (received_answer received.now).1)) }
+    ensures heard { H.heard to.old to.new (received_answer received.now) }
 {
+    to.hear_received(received);
     match received {
         Received::Event { h, given } => append_received(words, *h, given, note, text),
         Received::Nothing => append_quiet(words, &Reply::Nothing, note, text),
@@ -177,11 +199,11 @@ fn append_get<H: Hears>(
     let Some(seat) = place else {
         return append_as_any(tables, place, note, words, Ask::Get, text, to);
     };
-    let received = tables.give(seat)?;
-    let appended = append_told(&received, note, words, text);
-    to.hear_received(&received);
-    drop(received);
-    appended
+    let given = tables.give(seat);
+    match &given {
+        Ok(received) => append_told(received, note, words, text, to),
+        Err(refused) => Err(*refused),
+    }
 }
 
 /// Makes the publish or the release by the unit at a place that a common call is, and appends its
@@ -204,16 +226,35 @@ fn append_closing<H: Hears>(
     ensures { OnOk result (Enters place words.now (closing how h) note.now (H.heard to.old to.new)
         tables.old tables.new text.old.items text.new.items) }
 {
-    let made = tables.closing(place, h, how);
-    match &made {
-        Ok(Some(effect)) => {
-            tables.accept_closing(place, h, effect)?;
-            append_spelled(words, &Reply::Ok, effect, note, text)?;
-            to.hear(&Reply::Ok, effect)
-        }
-        Ok(None) => append_as_any(tables, place, note, words, ask, text, to),
-        Err(refused) => Err(*refused),
+    let mut effect = Effect::Nothing;
+    match tables.close_handle(place, h, how, &mut effect) {
+        Ok(true) => append_heard(words, &Reply::Ok, &effect, note, text, to),
+        Ok(false) => append_as_any(tables, place, note, words, ask, text, to),
+        Err(refused) => Err(refused),
     }
+}
+
+/// Makes a common call of the unit at a place as one of its own state alone, and appends its entry
+/// with this note.
+#[inline(never)]
+fn append_refused<H: Hears>(
+    tables: &mut Tables,
+    place: Option<usize>,
+    note: &Note,
+    words: &[u8],
+    ask: Ask,
+    text: &mut Vec<u8>,
+    to: &mut H,
+) -> Result<(), NoMemory>
+    requires state { (core : State) × AgreesWith core tables.old }
+    requires seated { (actor : UnitName) × (place ≡ place_in tables.old actor) }
+    ensures { OnOk result (Enters place words.now (asked ask) note.now (H.heard to.old to.new)
+        tables.old tables.new text.old.items text.new.items) }
+{
+    let call = ask.call();
+    let appended = append_alone(tables, place, note, words, &call, text, to);
+    drop(call);
+    appended
 }
 
 /// Makes the common call of the unit at a place that creates an event or drops one, and appends its
@@ -240,7 +281,7 @@ fn append_brief<H: Hears>(
             to.hear_accepted(accepted);
             Ok(())
         }
-        None => append_as_any(tables, place, note, words, ask, text, to),
+        None => append_refused(tables, place, note, words, ask, text, to),
     }
 }
 
@@ -294,6 +335,33 @@ fn append_other<H: Hears>(
     }
 }
 
+/// Makes a call of the unit at a place, one of its own state alone in a way of its own, and appends
+/// its entry with this note.
+#[inline(always)]
+fn append_alone<H: Hears>(
+    tables: &mut Tables,
+    place: Option<usize>,
+    note: &Note,
+    words: &[u8],
+    call: &Call,
+    text: &mut Vec<u8>,
+    to: &mut H,
+) -> Result<(), NoMemory>
+    requires state { (core : State) × AgreesWith core tables.old }
+    requires seated { (actor : UnitName) × (place ≡ place_in tables.old actor) }
+    ensures { OnOk result (Enters place words.now call.now note.now (H.heard to.old to.new)
+        tables.old tables.new text.old.items text.new.items) }
+{
+    match tables.step_alone(place, call)? {
+        Some(reply) => {
+            append_quiet(words, &reply, note, text)?;
+            to.hear_quiet(&reply);
+            Ok(())
+        }
+        None => append_other(tables, place, note, words, call, text, to),
+    }
+}
+
 /// Makes a common call of the unit at a place, and appends its entry with the unit's contamination
 /// before it. Without memory nothing is told of the tables and the text.
 pub fn append_common<H: Hears>(
@@ -341,12 +409,5 @@ pub fn append_call<H: Hears>(
         to.hear_seen(part);
         return Ok(());
     }
-    match tables.step_alone(place, call)? {
-        Some(reply) => {
-            append_quiet(words, &reply, note, text)?;
-            to.hear_quiet(&reply);
-            Ok(())
-        }
-        None => append_other(tables, place, note, words, call, text, to),
-    }
+    append_alone(tables, place, note, words, call, text, to)
 }

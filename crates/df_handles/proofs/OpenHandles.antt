@@ -74,6 +74,12 @@ opened_end d [] h = refl
 opened_end d (None ∷ hs) h = absurd (omega arith)
 opened_end d (Some x ∷ hs) h = ap (λ l. Some x ∷ l) (opened_end d hs (omega arith))
 
+-- no handle is open behind the last number
+pub none_behind : (hs : List (Option Handle)) (h : ℕ) → length hs ≤ h → handle_at hs h ≡ None
+none_behind [] h k = refl
+none_behind (o ∷ hs) zero k = absurd (omega (arith, k))
+none_behind (o ∷ hs) (suc h) k = none_behind hs h (omega (arith, k))
+
 -- a free number that is written over as free changes nothing
 pub none_kept : (hs : List (Option Handle)) (h : ℕ) → h < length hs → None ≡ get_or hs h None → (set hs h None ≡ hs) × (handle_at hs h ≡ None)
 none_kept [] h k e = absurd (omega arith)

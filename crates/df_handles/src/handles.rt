@@ -2,14 +2,14 @@
 
 use crate::copies::copies;
 use crate::limits::MOST_HANDLES;
-use crate::places::{attach, begin, close, delete, draft, handle_at, least_free, open};
+use crate::places::{attach, begin, close, delete, draft, handle_at, least_free, open, take};
 use crate::same::same;
 use crate::slot::Slot;
 use df_frozen::Name;
 use df_label::{Label, Privilege};
 use df_memory::NoMemory;
 use df_part::{PartRef, Parts, Spot};
-use df_unit::{EventName, Handle};
+use df_unit::{Effect, EventName, Handle};
 use std::alloc::Global;
 use std::marker::Model;
 
@@ -42,6 +42,7 @@ impl Model for Handles {
 
 impl Handles {
     ghost use Rattle.std.specs.Prelude.{◌≡◌, ◌↔◌, ◌∷◌, ◌++◌, [], false, IfOk, IsTrue, OnErr, OnOk, option_copied};
+    ghost use Rattle.df_handles.specs.Commits.{committed};
     ghost use Rattle.df_unit.specs.Drafts.{attached_in, deleted_in, spot};
     ghost use Rattle.df_unit.specs.Handles.{changed_at, closed, draft_of, handle_at, is_full, least_free, open_count, opened, view_of};
 
@@ -171,6 +172,22 @@ impl Handles {
         ensures unchanged { OnErr result (self.new ≡ self.old) }
     {
         attach(&mut self.slots, h, name, label, p)
+    }
+
+    /// Puts what an open handle commits in place of an effect, and closes it.
+    #[tactic(auto, using(crate::proofs::OpenHandles::none_less_open, crate::proofs::OpenHandles::one_less_open))]
+    pub fn take(&mut self, h: u32, output: &Label, to: &mut Effect) -> Result<(), NoMemory>
+        ensures effect { OnOk result (to.new
+            ≡ committed output.now (handle_at self.old h) to.old) }
+        ensures closed { OnOk result (self.new ≡ closed self.old h) }
+        ensures unchanged { OnErr result (self.new ≡ self.old) }
+    {
+        let is_open = self.get(h).is_some();
+        take(&mut self.slots, h, output, to)?;
+        if is_open {
+            self.count -= 1;
+        }
+        Ok(())
     }
 
     /// Closes a handle.

@@ -1,12 +1,13 @@
 //! Labels and parts as a unit writes and copies them.
 
-ghost use Rattle.std.specs.Prelude.{◌≡◌, IfOk, IsTrue};
+ghost use Rattle.std.specs.Prelude.{◌≡◌, IfOk, IsTrue, OnErr};
 ghost use Rattle.df_unit.specs.Drafts.{new_part, raised, relabel, relabelled};
 
 use df_frozen::{Frozen, Name};
 use df_label::{Label, Privileges};
 use df_memory::NoMemory;
 use df_part::{Part, PartRef, Parts, Spot};
+use df_unit::Drafts;
 use std::alloc::Global;
 
 /// A label with the confidentiality of the output label added, and cut to its integrity.
@@ -81,7 +82,23 @@ fn relabelled_one(alloc: Global, output: &Label, part: &PartRef) -> Result<PartR
     PartRef::new(alloc, relabel(output, part.part())?)
 }
 
+/// The parts of a draft, each labelled again at the output label. One that this changes nothing of is
+/// taken out, and left there where memory is wanting.
+pub fn taken_out(alloc: Global, output: &Label, drafts: &mut Drafts) -> Result<Parts, NoMemory>
+    ensures ok { IfOk result (λ p. p ≡ relabelled output.now drafts.old) }
+    ensures unchanged { OnErr result (drafts.new ≡ drafts.old) }
+{
+    if let [part] = drafts.as_slice()
+        && is_raised(output, &part.part().label)
+        && let Some(part) = drafts.take_one()
+    {
+        return Ok(Parts::one(alloc, part));
+    }
+    relabelled(alloc, output, drafts.as_slice())
+}
+
 /// The parts, each labelled again at the output label.
+#[inline(never)]
 pub fn relabelled(alloc: Global, output: &Label, parts: &[PartRef]) -> Result<Parts, NoMemory>
     ensures { IfOk result (λ p. p ≡ relabelled output.now parts.now) }
 {

@@ -3,6 +3,7 @@
 ghost use Rattle.std.specs.Prelude.{◌≡◌, ◌≤◌, ◌∷◌, [], ◌++◌, Some, length, option_copied, OnOk, OnErr};
 ghost use Rattle.df_unit.specs.Drafts.{attached_in, deleted_in, spot};
 ghost use Rattle.df_unit.specs.Handles.{changed_at, closed, handle_at, least_free, opened};
+ghost use Rattle.df_handles.specs.Commits.{committed};
 ghost use Rattle.df_handles.specs.code.Slot.{all_shown, begun};
 
 use crate::slot::{Slot, begun};
@@ -10,7 +11,7 @@ use df_frozen::Name;
 use df_label::{Label, Privilege};
 use df_memory::NoMemory;
 use df_part::{PartRef, Parts, Spot};
-use df_unit::{EventName, Handle};
+use df_unit::{Effect, EventName, Handle};
 
 /// The least number that isn't open.
 pub fn least_free(slots: &[Slot]) -> usize
@@ -134,6 +135,22 @@ pub fn attach(
     let place = h as usize;
     if place < slots.len() {
         return slots[place].attach(alloc, name, label, p);
+    }
+    Ok(())
+}
+
+/// Puts what an open handle commits in place of an effect, and closes it.
+pub fn take(slots: &mut Vec<Slot>, h: u32, output: &Label, to: &mut Effect) -> Result<(), NoMemory>
+    ensures effect { OnOk result (to.new
+        ≡ committed output.now (handle_at (all_shown slots.old.items) h) to.old) }
+    ensures closed { OnOk result (all_shown slots.new.items
+        ≡ closed (all_shown slots.old.items) h) }
+    ensures unchanged { OnErr result (all_shown slots.new.items ≡ all_shown slots.old.items) }
+{
+    let alloc = *slots.allocator();
+    let place = h as usize;
+    if place < slots.len() {
+        return slots[place].take(alloc, output, to);
     }
     Ok(())
 }

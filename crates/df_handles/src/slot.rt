@@ -2,15 +2,19 @@
 
 ghost use Rattle.std.specs.Prelude.{◌≡◌, None, OnErr, OnOk, Some, option_copied, option_map};
 ghost use Rattle.df_unit.specs.Drafts.{attached_in, deleted_in, spot};
+ghost use Rattle.df_unit.specs.declared.entry.Effect.{Effect};
+ghost use Rattle.df_handles.specs.Commits.{commit_of, committed, deletions};
 ghost use Rattle.df_handles.specs.code.Slot.{begun, drafted_in, shown};
 
 use crate::edits::{attach_in, delete_in};
+use crate::parts::taken_out;
 use df_frozen::Name;
 use df_label::{Label, Privilege};
 use df_memory::NoMemory;
-use df_part::{PartRef, Parts, Spot};
-use df_unit::{Drafts, EventName, Handle, Spots};
+use df_part::{Edit, PartRef, Parts, Spot};
+use df_unit::{Commit, Drafts, Effect, EventName, Handle, Path, Spots, UnitName};
 use std::alloc::Global;
+use std::mem;
 
 /// A place: an open handle, or the room that a closed one has left for the next.
 #[derive(Drop)]
@@ -124,6 +128,27 @@ impl Slot {
         }
     }
 
+    /// Puts what the open handle commits in place of an effect, and closes it.
+    pub fn take(&mut self, alloc: Global, output: &Label, to: &mut Effect) -> Result<(), NoMemory>
+        ensures effect { OnOk result (to.new ≡ committed output.now (shown self.old) to.old) }
+        ensures closed { OnOk result (shown self.new ≡ None) }
+        ensures unchanged { OnErr result (shown self.new ≡ shown self.old) }
+    {
+        if !self.is_open {
+            return Ok(());
+        }
+        let Some(handle) = &mut self.kept else {
+            return Ok(());
+        };
+        match commit_from(alloc, output, handle, to) {
+            Ok(()) => {
+                self.close(alloc);
+                Ok(())
+            }
+            Err(refused) => Err(refused),
+        }
+    }
+
     /// Lets go what the handle had, and keeps the room of its lists.
     pub fn close(&mut self, alloc: Global)
         ensures { shown self.new ≡ None }
@@ -134,6 +159,48 @@ impl Slot {
             handle.named.clear();
             handle.drafted.clear();
         }
+    }
+}
+
+/// Puts what an open handle commits in place of an effect. What is left is to be let go.
+fn commit_from(
+    alloc: Global,
+    output: &Label,
+    handle: &mut Handle,
+    to: &mut Effect,
+) -> Result<(), NoMemory>
+    ensures effect { OnOk result (to.new ≡ Effect.Commit (commit_of output.now handle.old)) }
+    ensures unchanged { OnErr result (handle.new ≡ handle.old) }
+{
+    let added = match taken_out(alloc, output, &mut handle.drafted) {
+        Ok(added) => added,
+        Err(refused) => return Err(refused),
+    };
+    let event = mem::replace(&mut handle.event, no_event());
+    let deleted = deletions(alloc, handle);
+    *to = Effect::Commit(Commit {
+        event,
+        edit: Edit::adding(deleted, added),
+    });
+    Ok(())
+}
+
+/// Takes out the deletions that a release of a view makes; a draft has none.
+fn deletions(alloc: Global, handle: &mut Handle) -> Vec<Spot>
+    ensures { result.items ≡ deletions handle.old }
+{
+    if handle.is_view {
+        handle.named.take()
+    } else {
+        Vec::new(alloc)
+    }
+}
+
+/// What stands for the event of a handle that is closed.
+fn no_event() -> EventName {
+    EventName {
+        unit: UnitName::Root(Path::root(0)),
+        number: 0,
     }
 }
 

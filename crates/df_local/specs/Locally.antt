@@ -9,7 +9,7 @@ use Rattle.df_unit.specs.declared.entry.Effect.{Effect}
 use Rattle.df_unit.specs.declared.reply.Reply.{Reply}
 use Rattle.df_unit.specs.declared.name.UnitName.TheVariants.{Root}
 use Rattle.df_unit.specs.Beginnings.{root}
-use Rattle.df_unit.specs.Handles.{handle_at}
+use Rattle.df_unit.specs.Handles.{closed, handle_at}
 use Rattle.df_unit.specs.Limits.{most_parts}
 use Rattle.df_unit.specs.OwnState.{OwnState}
 use Rattle.df_unit.specs.declared.handle.Handle.{Handle}
@@ -103,14 +103,32 @@ release_effect out d = if is_accepted (release_reply out d)
     else Effect.Commit (edited d.event d.named (relabelled out d.drafted))
     else Effect.Nothing
 
--- the effect of a call with this reply, where it is accepted
-abbrev pub accepted_effect : Reply → Effect → Option Effect
-accepted_effect r f = if is_accepted r then Some f else None
+-- what a publish or a release of an open handle is answered
+abbrev pub closing_reply : Close → Label → Handle → Reply
+closing_reply Publish out d = publish_reply d
+closing_reply Release out d = release_reply out d
+
+-- the effect of a call that was made, if it was
+abbrev pub made_where : Bool → Effect → Option Effect
+made_where true f = Some f
+made_where false f = None
+
+-- the unit with a handle closed, where a call had an effect
+abbrev pub closed_where : Option Effect → ℕ → LocalState → LocalState
+closed_where None h l = l
+closed_where (Some f) h l = with_own l (record l.own { handles = closed l.own.handles h })
 
 -- what is told of an answer: its effect where the reply is Ok, and none where it is a refusal
 abbrev pub TellsEffect : Reply × Effect → Option Effect → Type 0
 TellsEffect answer (Some effect) = answer ≡ (Reply.Ok, effect)
 TellsEffect answer None = is_accepted answer.0 ≡ false
+
+-- whichever deliveries are left, a publish or a release is answered so, and closes the handle where
+-- it is answered with Ok
+pub record Closes (how : Close) (h : ℕ) (made : Option Effect) (old new : LocalState)
+    : Type 0 where
+  pub told : (left : List Given) → TellsEffect (row_answer old left (closing how h)) made
+  pub moved : new ≡ closed_where made h old
 
 -- whether the call is made of the unit's own state alone and has no effect
 abbrev pub is_alone : Call → Bool

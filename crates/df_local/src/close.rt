@@ -1,11 +1,10 @@
 //! Closing a handle, and the commit that goes with it.
 
-ghost use Rattle.std.specs.Prelude.{◌≡◌, IfOk, List, option_copied};
+ghost use Rattle.std.specs.Prelude.{◌≡◌, IfOk, OnErr, option_copied};
 ghost use Rattle.df_unit.specs.Drafts.{relabelled};
 ghost use Rattle.df_unit.specs.Handles.{closed};
-ghost use Rattle.df_unit.specs.Rows.{unwritable};
-ghost use Rattle.df_unit.specs.declared.commit.Given.{Given};
-ghost use Rattle.df_local.specs.Locally.{TellsEffect, accepted_effect, closing, edited, publish_effect, publish_reply, release_effect, release_reply, row_answer, with_own};
+ghost use Rattle.df_unit.specs.Rows.{is_accepted, unwritable};
+ghost use Rattle.df_local.specs.Locally.{Closes, closing_reply, edited, made_where, publish_effect, publish_reply, release_effect, release_reply, with_own};
 
 use crate::Local;
 use crate::answer::{Answer, quiet};
@@ -32,50 +31,41 @@ impl Local {
         self.handles.close(h);
     }
 
-    /// The effect of a publish or a release of this handle, where it is answered with Ok; None
-    /// where it is refused.
-    pub fn closing(&self, h: u32, how: Close) -> Result<Option<Effect>, NoMemory>
-        ensures { IfOk result (λ made. (left : List Given) →
-            TellsEffect (row_answer self.now left (closing how h)) made) }
+    /// Closes a handle by a publish or a release that is answered with Ok, puts its effect there, and
+    /// tells so. Where it is refused, nothing is done.
+    pub fn close(&mut self, h: u32, how: Close, effect: &mut Effect) -> Result<bool, NoMemory>
+        ensures made { IfOk result (λ is. Closes how h (made_where is effect.new)
+            self.old self.new) }
+        ensures unchanged { OnErr result (self.new ≡ self.old) }
     {
         let Some(handle) = self.handles.get(h) else {
-            return Ok(None);
+            return Ok(false);
         };
-        match how {
-            Close::Publish => published(self.alloc, &self.writing.output, handle),
-            Close::Release => released(self.alloc, &self.writing.output, handle),
+        if !is_closed_by(&self.writing.output, handle, how) {
+            return Ok(false);
+        }
+        if handle.named.as_slice().is_empty() && handle.drafted.as_slice().is_empty() {
+            *effect = Effect::Nothing;
+            self.shut(h);
+            return Ok(true);
+        }
+        match self.handles.take(h, &self.writing.output, effect) {
+            Ok(()) => Ok(true),
+            Err(refused) => Err(refused),
         }
     }
 }
 
-/// The effect of a publish of an open handle, where it is accepted.
-#[inline(always)]
-fn published(alloc: Global, output: &Label, handle: &Handle) -> Result<Option<Effect>, NoMemory>
-    ensures { IfOk result (λ made. made ≡ accepted_effect (publish_reply handle.now)
-        (publish_effect output.now handle.now)) }
+/// Whether a publish or a release of this open handle is answered with Ok.
+fn is_closed_by(output: &Label, handle: &Handle, how: Close) -> bool
+    ensures { result ≡ is_accepted (closing_reply how output.now handle.now) }
 {
-    if handle.is_view || handle.drafted.as_slice().is_empty() {
-        return Ok(None);
+    match how {
+        Close::Publish => !handle.is_view && !handle.drafted.as_slice().is_empty(),
+        Close::Release => {
+            handle.is_view && unwritable(output, handle.named.as_slice()).is_none()
+        }
     }
-    let made = commit_of(alloc, output, handle, Vec::new(alloc))?;
-    Ok(Some(Effect::Commit(made)))
-}
-
-/// The effect of a release of an open handle, where it is accepted.
-fn released(alloc: Global, output: &Label, handle: &Handle) -> Result<Option<Effect>, NoMemory>
-    ensures { IfOk result (λ made. made ≡ accepted_effect (release_reply output.now handle.now)
-        (release_effect output.now handle.now)) }
-{
-    let named = handle.named.as_slice();
-    if !handle.is_view || unwritable(output, named).is_some() {
-        return Ok(None);
-    }
-    if named.is_empty() && handle.drafted.as_slice().is_empty() {
-        return Ok(Some(Effect::Nothing));
-    }
-    let deleted = copies_of(alloc, named)?;
-    let made = commit_of(alloc, output, handle, deleted)?;
-    Ok(Some(Effect::Commit(made)))
 }
 
 /// What a publish of an open handle is answered.
@@ -91,13 +81,13 @@ pub(crate) fn publish_answer(
     if handle.is_view {
         return Ok(quiet(Reply::NotDraft));
     }
-    match published(alloc, output, handle)? {
-        Some(effect) => Ok(Answer {
-            reply: Reply::Ok,
-            effect,
-        }),
-        None => Ok(quiet(Reply::EmptyEvent)),
+    if handle.drafted.as_slice().is_empty() {
+        return Ok(quiet(Reply::EmptyEvent));
     }
+    Ok(Answer {
+        reply: Reply::Ok,
+        effect: Effect::Commit(commit_of(alloc, output, handle, Vec::new(alloc))?),
+    })
 }
 
 /// What a release of an open handle is answered.
@@ -110,23 +100,24 @@ pub(crate) fn release_answer(
     ensures reply { IfOk result (λ a. a.reply ≡ release_reply output.now handle.now) }
     ensures effect { IfOk result (λ a. a.effect ≡ release_effect output.now handle.now) }
 {
+    let named = handle.named.as_slice();
     if !handle.is_view {
         return Ok(quiet(Reply::NotReceived));
     }
-    if let Some(spot) = unwritable(output, handle.named.as_slice()) {
+    if let Some(spot) = unwritable(output, named) {
         return Ok(quiet(cannot_write(output, &spot.label)?));
     }
-    match released(alloc, output, handle)? {
-        Some(effect) => Ok(Answer {
-            reply: Reply::Ok,
-            effect,
-        }),
-        None => unreachable!(),
+    if named.is_empty() && handle.drafted.as_slice().is_empty() {
+        return Ok(quiet(Reply::Ok));
     }
+    let deleted = copies_of(alloc, named)?;
+    Ok(Answer {
+        reply: Reply::Ok,
+        effect: Effect::Commit(commit_of(alloc, output, handle, deleted)?),
+    })
 }
 
 /// The commit of what is drafted at a handle, with these deletions.
-#[inline(always)]
 fn commit_of(
     alloc: Global,
     output: &Label,

@@ -1,7 +1,7 @@
 -- A step of the tables, which keep no journal.
 use Rattle.std.proofs.Common.{◌≡◌, ℕ, List, ◌∷◌, Option, None, Some, map, ap, sym, subst, ◌∙◌}
 use Rattle.df_start.specs.Begun.{begun}
-use Rattle.df_tables.specs.Board.{IsBoard, IsKept, IsMade, IsRenewed, MakesAlone, TellsOf, answer_from}
+use Rattle.df_tables.specs.Board.{IsBoard, IsKept, IsMade, IsRenewed, MakesAlone, MakesClosing, TellsOf, answer_from}
 use Rattle.df_tables.specs.Table.{place_of}
 use Rattle.df_tables.specs.declared.units.Unit.{Unit}
 use Rattle.df_tables.proofs.Booked.{answer_is, kept_renewed, row_is}
@@ -11,7 +11,7 @@ use Rattle.df_unit.specs.declared.entry.Entry.TheVariants.{Done}
 use Rattle.df_unit.specs.declared.name.UnitName.{UnitName}
 use Rattle.df_unit.specs.declared.reply.Reply.{Reply}
 use Rattle.df_machine.specs.Journal.{State, answer_in}
-use Rattle.df_machine.specs.Tables.{AgreesWith, IsStep, StepsAlone, place_in}
+use Rattle.df_machine.specs.Tables.{AgreesWith, IsStep, Stays, StepsAlone, StepsClosing, place_in}
 use Rattle.df_machine.specs.declared.tables.Tables.{Tables}
 
 -- what a board makes of a call is the rules' answer, and its tables agree with one more entry
@@ -38,12 +38,22 @@ kept_on core old new agrees board kept = record { board = board; tells = kept (m
 pub renewed_on : (core : State) (old new : Tables) → AgreesWith core old → IsBoard new.board → IsRenewed old.board new.board → AgreesWith core new
 renewed_on core old new agrees board same = kept_on core old new agrees board (kept_renewed old.board new.board same)
 
+stays_on : (old new : Tables) → IsBoard new.board → IsRenewed old.board new.board → Stays old new
+stays_on old new board same = record {
+  agrees = λ core agrees. renewed_on core old new agrees board same;
+  places = λ actor. ap (λ (us : List Unit). place_of actor us) same.rows;
+}
+
 -- and so where a call of the unit's own state alone is made, or none
 pub stepped_alone : (place : Option ℕ) (call : Call) (made : Option Reply) (old new : Tables) → IsBoard new.board → MakesAlone place call made old.board new.board
     → StepsAlone place call made old new
-stepped_alone place call None old new board same = (
-  λ core agrees. renewed_on core old new agrees board same,
-  λ actor. ap (λ (us : List Unit). place_of actor us) same.rows,
-)
+stepped_alone place call None old new board same = stays_on old new board same
 stepped_alone place call (Some reply) old new board made =
     λ core actor agrees seated. stepped core actor place call (reply, Effect.Nothing) old new agrees seated board made
+
+-- and where a handle is closed, or not
+pub stepped_closing : (place : Option ℕ) (call : Call) (made : Option Effect) (old new : Tables) → IsBoard new.board → MakesClosing place call made old.board new.board
+    → StepsClosing place call made old new
+stepped_closing place call None old new board is = (is.0, stays_on old new board is.1)
+stepped_closing place call (Some effect) old new board made =
+    λ core actor agrees seated. stepped core actor place call (Reply.Ok, effect) old new agrees seated board made

@@ -3,19 +3,17 @@
 ghost use Rattle.std.specs.Prelude.{◌≡◌, ◌^◌, ◌<◌, ◌∷◌, [], length, IfOk, IfSome, OnErr, OnOk, Some, map, option_copied};
 ghost use Rattle.std.specs.Option.{option_map};
 ghost use Rattle.df_local.specs.Brief.{accepted_reply, brief_call};
-ghost use Rattle.df_local.specs.Locally.{TellsEffect, closing, shows_one};
-ghost use Rattle.df_local.specs.declared.close.Close.{Close};
+ghost use Rattle.df_local.specs.Locally.{closing, made_where, shows_one};
 ghost use Rattle.df_start.specs.Begun.{begun};
 ghost use Rattle.df_tables.specs.Hand.{received_answer};
 ghost use Rattle.df_tables.specs.Table.{rows_from};
 ghost use Rattle.df_unit.specs.declared.call.Call.TheVariants.{Get};
 ghost use Rattle.df_unit.specs.declared.entry.Effect.{Effect};
 ghost use Rattle.df_unit.specs.declared.entry.Entry.TheVariants.{Emitted};
-ghost use Rattle.df_unit.specs.declared.reply.Reply.TheVariants as Reply;
 ghost use Rattle.df_unit.specs.declared.name.UnitName.{UnitName};
 ghost use Rattle.df_unit.specs.declared.name.UnitName.TheVariants.{Root};
 ghost use Rattle.df_machine.specs.Journal.{State, answer_in, appended, contamination_in};
-ghost use Rattle.df_machine.specs.Tables.{AgreesWith, Does, IsStep, Steps, StepsAlone, answer_at, place_in};
+ghost use Rattle.df_machine.specs.Tables.{AgreesWith, IsStep, Steps, StepsAlone, StepsClosing, place_in};
 
 use df_label::Label;
 use df_local::{Accepted, Answer, Brief, Close};
@@ -180,37 +178,22 @@ impl Tables {
         self.board.answer_and_book(place, call)
     }
 
-    /// The effect of a publish or a release of a handle by the unit at a place, where its reply is
-    /// Ok; None where it is refused.
-    pub fn closing(
-        &self,
-        place: Option<usize>,
-        h: u32,
-        how: Close,
-    ) -> Result<Option<Effect>, NoMemory>
-        ensures { IfOk result (TellsEffect (answer_at self.now place (closing how h))) }
-    {
-        self.board.closing(place, h, how)
-    }
-
-    /// Makes a publish or a release of a handle by the unit at a place, whose reply is Ok and which
-    /// has this effect. Without memory the tables agree with what they agreed with.
-    pub fn accept_closing(
+    /// Publishes or releases a handle of the unit at a place, where that is answered with Ok, puts
+    /// the effect there, and tells so. Where it is refused, the tables agree with what they agreed
+    /// with. Without memory nothing is told of them.
+    pub fn close_handle(
         &mut self,
         place: Option<usize>,
         h: u32,
-        effect: &Effect,
-    ) -> Result<(), NoMemory>
+        how: Close,
+        effect: &mut Effect,
+    ) -> Result<bool, NoMemory>
         requires agrees { (core : State) × AgreesWith core self.old }
         requires seated { (actor : UnitName) × (place ≡ place_in self.old actor) }
-        ensures step { OnOk result ((core : State) (actor : UnitName) (how : Close) →
-            AgreesWith core self.old → place ≡ place_in self.old actor →
-            Does self.old place (closing how h) effect.now →
-            IsStep core actor (closing how h) (Reply.Ok, effect.now) self.new) }
-        ensures kept { OnErr result ((core : State) → AgreesWith core self.old →
-            AgreesWith core self.new) }
+        ensures { IfOk result (λ is. StepsClosing place (closing how h)
+            (made_where is effect.new) self.old self.new) }
     {
-        self.board.book_closing(place, h, effect)
+        self.board.close_handle(place, h, how, effect)
     }
 
     /// Takes in an emitted commit. Whatever journal the tables agreed with, they agree with it and

@@ -30,7 +30,7 @@ alone_quiet (ChangeInOut half act tag) h = absurd (let z : ⊥ = cc in z)
 alone_quiet _ h = refl
 
 -- the row with another own state of its unit
-abbrev with_local : Unit → LocalState → Unit
+abbrev pub with_local : Unit → LocalState → Unit
 with_local u l = record { local = l; line = u.line }
 
 -- where nothing is done of the unit at a place, the table is as before

@@ -36,11 +36,11 @@ pub use Rattle.df_rules.specs.Start.{root_of, roots, rows}
 pub use Rattle.df_rules.specs.Subscriptions.{ComesBefore, subscribed_by, subscriptions}
 pub use Rattle.df_tables.specs.Agree.{Agrees, AreApart, AreWithin, FilterIndex, IsRow, IsSeat, IsWhole, MakesNoManaged, MakesNoUnit, ManagedState, enrols, is_marked, is_told, subscribed_at, subscriptions_at}
 pub use Rattle.df_tables.specs.Births.{IsEnrolled, IsNewborn, all_new, child_row, if_new, instance_row, rows_in}
-pub use Rattle.df_tables.specs.Board.{AreReceivers, HasRoom, IsBoard, IsBooked, IsChildBoard, IsEmitted, IsHandedBoard, IsKept, IsMade, IsMovedBoard, IsOpenedBoard, IsReady, IsRenewed, IsRollOf, IsShutBoard, MakesAlone, TellsOf, answer_from, answer_on, is_brought, managed_by, managed_of, place_on, receivers_by, receivers_of, row_by, row_on}
+pub use Rattle.df_tables.specs.Board.{AreReceivers, HasRoom, IsBoard, IsBooked, IsChildBoard, IsEmitted, IsHandedBoard, IsKept, IsMade, IsMarked, IsMovedBoard, IsOpenedBoard, IsReady, IsRenewed, IsRollOf, IsShutBoard, MakesAlone, MakesClosing, TakesClosed, TellsOf, answer_from, answer_on, is_brought, managed_by, managed_of, place_on, receivers_by, receivers_of, row_by, row_on}
 pub use Rattle.df_tables.specs.Calls.{AreCalled, birth_of, births_by, name_at, names_at, pair_at, pair_of, pairs_by, places_by, places_from}
 pub use Rattle.df_tables.specs.EventPlaces.{Near, Others, Strays, key_by, key_of, numbers_cmp, place_at, root_number, same_key, slot, slot_in}
 pub use Rattle.df_tables.specs.Events.{IsOpened, IsPlaced, blank, event_place, place_by, root_event}
-pub use Rattle.df_tables.specs.Hand.{IsAnsweredAt, IsCalm, IsGiven, IsGivenAt, IsMadeAt, IsNews, each, given_to, modify, news_at, pairs_of, quiet_row, settled_row, shut_row, staged_row, with_news}
+pub use Rattle.df_tables.specs.Hand.{IsAnsweredAt, IsCalm, IsClosedAt, IsGiven, IsGivenAt, IsMadeAt, IsNews, TellsAt, each, given_to, modify, news_at, pairs_of, quiet_row, settled_row, shut_row, shut_where, staged_row, with_news}
 pub use Rattle.df_tables.specs.Labels.{AreLabels, inputs}
 pub use Rattle.df_tables.specs.Line.{LineState, settled}
 pub use Rattle.df_tables.specs.Moves.{IsAnswered, child_by, closed_by, is_in_out, managed_sub_by}

@@ -1,5 +1,5 @@
 -- When a board agrees with a journal.
-use Rattle.std.specs.Prelude.{◌≡◌, ◌↔◌, ℕ, ◌+◌, ◌≤◌, ◌==◌, ◌&&◌, ◌||◌, if◌then◌else◌, Bool, List, ◌∷◌, ◌++◌, Option, Some, None, length, map, nat_lt, slice_get, slice_index_or, vec_capacity, vec_len}
+use Rattle.std.specs.Prelude.{◌≡◌, ◌↔◌, ℕ, ◌+◌, ◌≤◌, ◌==◌, ◌&&◌, ◌||◌, if◌then◌else◌, Bool, false, List, ◌∷◌, ◌++◌, Option, Some, None, length, map, nat_lt, slice_get, slice_index_or, vec_capacity, vec_len}
 use Rattle.std.specs.Global.{Vec}
 use Rattle.std.specs.List.{Contains, list_any}
 use Rattle.std.specs.List.Sorted.{IsStrictlySortedBy}
@@ -22,6 +22,7 @@ use Rattle.df_unit.specs.declared.entry.Entry.{Entry}
 use Rattle.df_unit.specs.declared.entry.Entry.TheVariants.{Done, Emitted}
 use Rattle.df_unit.specs.Name.{same, same_event}
 use Rattle.df_unit.specs.OwnState.{OwnState}
+use Rattle.df_unit.specs.Rows.{is_accepted}
 use Rattle.df_unit.specs.declared.commit.Commit.{Commit}
 use Rattle.df_unit.specs.declared.commit.Given.{Given}
 use Rattle.df_unit.specs.declared.name.EventName.{EventName}
@@ -33,7 +34,7 @@ use Rattle.df_roll.specs.declared.seat.Seat.{Seat}
 use Rattle.df_tables.specs.Agree.{Agrees, AreWithin, IsWhole, ManagedState, enrols}
 use Rattle.df_tables.specs.Labels.{AreLabels, inputs}
 use Rattle.df_tables.specs.Events.{IsOpened, event_place}
-use Rattle.df_tables.specs.Hand.{IsAnsweredAt, IsNews, modify, shut_row, with_news}
+use Rattle.df_tables.specs.Hand.{IsAnsweredAt, IsNews, TellsAt, modify, shut_row, shut_where, with_news}
 use Rattle.df_tables.specs.Moves.{closed_by}
 use Rattle.df_tables.specs.Births.{all_new, child_row, if_new, rows_in}
 use Rattle.df_tables.specs.Calls.{AreCalled, places_by}
@@ -164,7 +165,6 @@ pub record IsReady (c : Commit) (b : Board) (ready : Ready) : Type 0 where
     ready.place,
     places_by (length b.rows.items) ready.called.pairs.items (rows_in ready.called.born.items),
   )
-  pub room : HasRoom (vec_len ready.called.born) b
 
 -- at most the labels are others
 pub record IsRenewed (old new : Board) : Type 0 where
@@ -206,6 +206,24 @@ pub record IsShutBoard (k h : ℕ) (old new : Board) : Type 0 where
   pub index : new.index ≡ old.index
   pub managed : new.managed ≡ old.managed
   pub told : new.marks.handed ≡ old.marks.handed
+
+-- the unit at a place answers the call so, and its handle is closed where that is with Ok
+pub record TakesClosed (k : ℕ) (c : Call) (h : ℕ) (made : Option Effect) (old new : Board)
+    : Type 0 where
+  pub answered : TellsAt k c made old.rows.items
+  pub rows : new.rows.items ≡ shut_where made k h old.rows.items
+  pub roll : new.roll.seats ≡ old.roll.seats
+  pub events : new.events ≡ old.events
+  pub index : new.index ≡ old.index
+  pub managed : new.managed ≡ old.managed
+  pub told : new.marks.handed ≡ old.marks.handed
+
+-- a publish or a release that is answered with Ok is made, and this is its effect; at one that is
+-- refused at most the labels are others
+abbrev pub MakesClosing : Option ℕ → Call → Option Effect → Board → Board → Type 0
+MakesClosing place c None old new =
+    (is_accepted (answer_from (row_by old place) c).0 ≡ false) × IsRenewed old new
+MakesClosing place c (Some f) old new = IsMade place c (Reply.Ok, f) old new
 
 -- whichever call of the unit at a place closes the handle with this effect, it is taken in
 abbrev pub ClosesAt : ℕ → ℕ → Effect → Board → Board → Type 0
@@ -257,6 +275,20 @@ pub record IsClosed (ready : Ready) (old new : Board) : Type 0 where
       (e : EventName) → parts_of e new.events
       ≡ (if same_event event e then ready.after else parts_of e old.events)
 
+-- a commit that was made ready is marked as handed, and its event has the parts after it
+pub record IsMarked (commit : Commit) (opened : Board) (ready : Ready) (new : Board)
+    : Type 0 where
+  pub managed : new.managed ≡ opened.managed
+  pub told : (e q : ℕ) → marks.was_handed new.marks.handed e q
+      ≡ (marks.was_handed opened.marks.handed e q || marks.is_ready opened.marks.ready e q)
+  pub enrolled : new.index.enrolled ≡ opened.index.enrolled
+  pub handed : (e : ℕ) (p : Pair) → was_handed new.index.handed e p
+      ≡ (was_handed opened.index.handed e p || ((e == ready.place) && has_pair ready.to p))
+  pub size : length new.events ≡ length opened.events
+  pub places : (e : EventName) → event_place e new.events ≡ event_place e opened.events
+  pub parts : (e : EventName) → parts_of e new.events
+      ≡ (if same_event commit.event e then ready.after else parts_of e opened.events)
+
 -- a commit is handed to its receivers and no other row, is marked so, its event has the parts after
 -- it, and those who come to exist by it have their rows
 pub record IsHandedBoard (commit : Commit) (old new : Board) : Type 0 where
@@ -268,13 +300,4 @@ pub record IsHandedBoard (commit : Commit) (old new : Board) : Type 0 where
       IsNews given commit.event ready.after (receivers_of ready) opened.rows.items →
       new.rows.items ≡ all_new (rows_in ready.called.born.items)
       (map (with_news given) opened.rows.items)
-  pub managed : new.managed ≡ opened.managed
-  pub told : (e q : ℕ) → marks.was_handed new.marks.handed e q
-      ≡ (marks.was_handed opened.marks.handed e q || marks.is_ready opened.marks.ready e q)
-  pub enrolled : new.index.enrolled ≡ opened.index.enrolled
-  pub handed : (e : ℕ) (p : Pair) → was_handed new.index.handed e p
-      ≡ (was_handed opened.index.handed e p || ((e == ready.place) && has_pair ready.to p))
-  pub size : length new.events ≡ length opened.events
-  pub places : (e : EventName) → event_place e new.events ≡ event_place e opened.events
-  pub parts : (e : EventName) → parts_of e new.events
-      ≡ (if same_event commit.event e then ready.after else parts_of e opened.events)
+  pub marked : IsMarked commit opened ready new

@@ -3,7 +3,7 @@ use Rattle.std.specs.Prelude.{◌≡◌, ℕ, zero, suc, ◌<◌, ◌==◌, true
 use Rattle.std.specs.List.{filter}
 use Rattle.df_index.specs.Due.{Pair}
 use Rattle.df_label.specs.declared.label.Label.{Label}
-use Rattle.df_local.specs.Locally.{is_alone, with_own}
+use Rattle.df_local.specs.Locally.{TellsEffect, is_alone, row_answer, with_own}
 use Rattle.df_part.specs.Part.{cut}
 use Rattle.df_part.specs.declared.part.Part.{Part}
 use Rattle.df_unit.specs.Handles.{closed}
@@ -76,6 +76,22 @@ shut_row h u = record u {
 -- the reply and the effect are the answer of the unit at the place
 abbrev pub IsAnsweredAt : ℕ → Call → Reply → Effect → List Unit → Type 0
 IsAnsweredAt k c r f us = (d : Unit) → k < length us → IsAnswered c r f (slice_index_or us k d)
+
+-- the unit at the place answers the call with Ok and this effect; where that is none, it refuses it
+abbrev pub TellsAt : ℕ → Call → Option Effect → List Unit → Type 0
+TellsAt k c made us = (d : Unit) → k < length us →
+    TellsEffect (row_answer (slice_index_or us k d).local (slice_index_or us k d).line.left c) made
+
+-- the rows with a handle of the unit at a place closed, where its call had an effect
+abbrev pub shut_where : Option Effect → ℕ → ℕ → List Unit → List Unit
+shut_where None k h us = us
+shut_where (Some f) k h us = modify k (shut_row h) us
+
+-- the unit at the place answers the call so, and its handle is closed where that is with Ok
+pub record IsClosedAt (k : ℕ) (c : Call) (h : ℕ) (made : Option Effect) (old new : List Unit)
+    : Type 0 where
+  pub told : TellsAt k c made old
+  pub moved : new ≡ shut_where made k h old
 
 -- the unit at the place has made the call of its own state alone, with this reply; where that is
 -- none, nothing is another

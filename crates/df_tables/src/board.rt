@@ -15,10 +15,9 @@ ghost use Rattle.df_unit.specs.declared.reply.Reply.TheVariants.{Sub};
 ghost use Rattle.df_unit.specs.UnitOrder.{unit_cmp};
 ghost use Rattle.df_label.specs.Ascending.{IsAscending};
 ghost use Rattle.df_local.specs.Brief.{accepted_reply, brief_call};
-ghost use Rattle.df_local.specs.Locally.{TellsEffect, closing, shows_one};
-ghost use Rattle.df_local.specs.declared.close.Close.{Close};
+ghost use Rattle.df_local.specs.Locally.{closing, made_where, shows_one};
 ghost use Rattle.df_tables.specs.Births.{IsEnrolled, IsNewborn, beside_of, rows_in};
-ghost use Rattle.df_tables.specs.Board.{AreBorn, HasRoom, IsBoard, IsBooked, IsBornBoard, IsChildBoard, IsKept, IsMade, IsMovedBoard, IsRenewed, MakesAlone, TellsOf, answer_from, place_on, row_by, row_on, units_in};
+ghost use Rattle.df_tables.specs.Board.{AreBorn, HasRoom, IsBoard, IsBooked, IsBornBoard, IsChildBoard, IsKept, IsMade, IsMovedBoard, IsRenewed, MakesAlone, MakesClosing, TellsOf, answer_from, place_on, row_by, row_on, units_in};
 ghost use Rattle.df_tables.specs.Hand.{IsAnsweredAt, IsCalm, received_answer};
 ghost use Rattle.df_tables.specs.Labels.{AreLabels, inputs};
 ghost use Rattle.df_tables.specs.Moves.{child_by, closed_by, is_in_out, made_by, managed_sub_by};
@@ -465,29 +464,6 @@ impl Board {
         }
     }
 
-    /// Takes in a publish or a release of a handle by the unit whose place this is, which is answered
-    /// with Ok and has this effect. Without memory the tables agree with the journal as before.
-    pub fn book_closing(
-        &mut self,
-        place: Option<usize>,
-        h: u32,
-        effect: &Effect,
-    ) -> Result<(), NoMemory>
-        requires board { IsBoard self.old }
-        requires seated { (actor : UnitName) × (place_on self.old actor ≡ place) }
-        ensures board { IsBoard self.new }
-        ensures ok { OnOk result ((actor : UnitName) (how : Close) →
-            place_on self.old actor ≡ place →
-            answer_from (row_by self.old place) (closing how h) ≡ (Reply.Ok, effect.now) →
-            IsBooked actor (closing how h) Reply.Ok effect.now self.old self.new) }
-        ensures kept { OnErr result (IsKept self.old self.new) }
-    {
-        match place {
-            Some(place) => self.book_close(place, h, effect),
-            None => Ok(()),
-        }
-    }
-
     /// Makes a call that the unit at a place makes of its own state alone; None where it is
     /// another. Where memory is wanting, at most the labels are others.
     pub fn make_alone(
@@ -553,48 +529,26 @@ impl Board {
         give_at(self.rows.as_mut_slice(), place)
     }
 
-    /// The effect of a publish or a release of a handle by the unit at a place, where its reply is
-    /// Ok; None where it is refused.
-    pub fn closing(
-        &self,
-        place: Option<usize>,
-        h: u32,
-        how: Close,
-    ) -> Result<Option<Effect>, NoMemory>
-        ensures { IfOk result
-            (TellsEffect (answer_from (row_by self.now place) (closing how h))) }
-    {
-        match self.row(place) {
-            Some(unit) => unit.local.closing(h, how),
-            None => Ok(None),
-        }
-    }
-
-    /// Publishes or releases a handle of the unit at a place. Without memory the tables agree with
-    /// the journal as before.
-    fn make_closing(
+    /// Publishes or releases a handle of the unit whose place this is, where that is answered with
+    /// Ok, puts the effect there, and tells so. Where it is refused, at most the labels are others.
+    /// Without memory the handle may be closed, and nothing is told of the journal.
+    pub fn close_handle(
         &mut self,
         place: Option<usize>,
         h: u32,
         how: Close,
-        call: &Call,
-    ) -> Result<Answer, NoMemory>
+        effect: &mut Effect,
+    ) -> Result<bool, NoMemory>
         requires board { IsBoard self.old }
         requires seated { (actor : UnitName) × (place_on self.old actor ≡ place) }
-        requires closing { call.now ≡ closing how h }
         ensures board { IsBoard self.new }
-        ensures made { IfOk result (λ a. IsMade place call.now (a.reply, a.effect)
-            self.old self.new) }
-        ensures kept { OnErr result (IsKept self.old self.new) }
+        ensures made { IfOk result (λ is. MakesClosing place (closing how h)
+            (made_where is effect.new) self.old self.new) }
     {
-        let Some(effect) = self.closing(place, h, how)? else {
-            return self.answer_first(place, call);
-        };
-        self.book_closing(place, h, &effect)?;
-        Ok(Answer {
-            reply: Reply::Ok,
-            effect,
-        })
+        match place {
+            Some(place) => self.close_at(place, h, how, effect),
+            None => Ok(false),
+        }
     }
 
     /// Works out the answer of a call of the unit whose place this is, and takes the entry in.
@@ -626,8 +580,6 @@ impl Board {
     {
         match (place, call) {
             (Some(place), Call::Get) => Ok(self.give(place)?.answer()),
-            (_, Call::Publish { h }) => self.make_closing(place, *h, Close::Publish, call),
-            (_, Call::Release { h }) => self.make_closing(place, *h, Close::Release, call),
             _ => self.answer_first(place, call),
         }
     }

@@ -6,10 +6,12 @@ ghost use Rattle.std.specs.List.Sorted.{IsStrictlySortedBy};
 ghost use Rattle.df_index.specs.Due.{Pair, pair_cmp};
 ghost use Rattle.df_index.specs.Filter.{matches};
 ghost use Rattle.df_index.specs.IndexState.{IsReceiver};
+ghost use Rattle.df_local.specs.Locally.{closing, made_where};
 ghost use Rattle.df_part.specs.Contents.{apply};
 ghost use Rattle.df_unit.specs.declared.entry.Effect.{Effect};
+ghost use Rattle.df_unit.specs.declared.name.UnitName.{UnitName};
 ghost use Rattle.df_tables.specs.Births.{IsNewborn, rows_in};
-ghost use Rattle.df_tables.specs.Board.{ClosesAt, HasRoom, IsBoard, IsClosed, IsEmitted, IsHandedBoard, IsKept, IsOpenedBoard, IsReady, IsRenewed, IsShutBoard, receivers_by};
+ghost use Rattle.df_tables.specs.Board.{ClosesAt, HasRoom, IsBoard, IsClosed, IsEmitted, IsHandedBoard, IsKept, IsOpenedBoard, IsReady, IsRenewed, IsShutBoard, MakesClosing, TakesClosed, place_on, receivers_by};
 ghost use Rattle.df_tables.specs.Calls.{AreCalled, places_by, places_from};
 ghost use Rattle.df_tables.specs.Events.{event_place};
 ghost use Rattle.df_tables.specs.Labels.{inputs};
@@ -19,10 +21,11 @@ use crate::births::Newborn;
 use crate::board::Board;
 use crate::calling::Called;
 use crate::handing::{News, hand_out};
-use crate::moves::shut_at;
+use crate::moves::{close_at, shut_at};
 use df_filter::Filter;
 use df_index::{Index, Receivers, Steps};
 use df_label::Label;
+use df_local::Close;
 use df_memory::NoMemory;
 use df_part::{Contents, Edit};
 use df_unit::{Commit, Effect, EventName};
@@ -199,6 +202,7 @@ impl Board {
             self.old.marks.handed commit.now place after called }
         ensures board { IsBoard self.new }
         ensures ready { IfOk result (λ r. IsReady commit.now self.new r) }
+        ensures room { IfOk result (λ r. HasRoom (vec_len r.called.born) self.new) }
         ensures opened { IsOpenedBoard commit.now.event self.old self.new }
     {
         self.make_places(place, &called)?;
@@ -221,6 +225,7 @@ impl Board {
         requires { IsBoard self.old }
         ensures board { IsBoard self.new }
         ensures ready { IfOk result (λ r. IsReady commit.now self.new r) }
+        ensures room { IfOk result (λ r. HasRoom (vec_len r.called.born) self.new) }
         ensures opened { IsOpenedBoard commit.now.event self.old self.new }
     {
         let place = self.open_event(&commit.event)?;
@@ -318,6 +323,47 @@ impl Board {
                 Ok(())
             }
         }
+    }
+
+    /// Takes a handle of the unit at a place out, where a publish or a release is answered with Ok.
+    fn take_closed(
+        &mut self,
+        place: usize,
+        h: u32,
+        how: Close,
+        effect: &mut Effect,
+    ) -> Result<bool, NoMemory>
+        requires board { IsBoard self.old }
+        requires within { place < length self.old.rows.items }
+        ensures board { IsBoard self.new }
+        ensures taken { IfOk result (λ is. TakesClosed place (closing how h) h
+            (made_where is effect.new) self.old self.new) }
+    {
+        close_at(self.rows.as_mut_slice(), place, h, how, effect)
+    }
+
+    /// Publishes or releases a handle of the unit at a place, where that is answered with Ok, puts
+    /// the effect there, and tells so.
+    pub(crate) fn close_at(
+        &mut self,
+        place: usize,
+        h: u32,
+        how: Close,
+        effect: &mut Effect,
+    ) -> Result<bool, NoMemory>
+        requires board { IsBoard self.old }
+        requires seated { (actor : UnitName) × (place_on self.old actor ≡ Some place) }
+        ensures board { IsBoard self.new }
+        ensures made { IfOk result (λ is. MakesClosing (Some place) (closing how h)
+            (made_where is effect.new) self.old self.new) }
+    {
+        if !self.take_closed(place, h, how, effect)? {
+            return Ok(false);
+        }
+        if let Effect::Commit(commit) = effect {
+            self.hand_commit(commit)?;
+        }
+        Ok(true)
     }
 
     /// Takes in an emitted entry, whose commit is nobody's call. Without memory the tables agree

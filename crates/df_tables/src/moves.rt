@@ -7,7 +7,8 @@ ghost use Rattle.df_unit.specs.declared.call.Call.TheVariants.{Subscribe};
 ghost use Rattle.df_unit.specs.declared.entry.Effect.{Effect};
 ghost use Rattle.df_unit.specs.declared.reply.Reply.TheVariants.{Sub};
 ghost use Rattle.df_local.specs.Brief.{accepted_reply, brief_call};
-ghost use Rattle.df_tables.specs.Hand.{IsAnsweredAt, IsGiven, IsGivenAt, IsMadeAt, modify, received_answer, shut_row};
+ghost use Rattle.df_local.specs.Locally.{closing, made_where};
+ghost use Rattle.df_tables.specs.Hand.{IsAnsweredAt, IsClosedAt, IsGiven, IsGivenAt, IsMadeAt, modify, received_answer, shut_row};
 ghost use Rattle.df_tables.specs.Moves.{IsAnswered};
 ghost use Rattle.df_tables.specs.Table.{moved_row, taken};
 
@@ -15,7 +16,7 @@ use crate::line::Line;
 use crate::units::Unit;
 use df_filter::Filter;
 use df_index::Index;
-use df_local::{Accepted, Answer, Brief};
+use df_local::{Accepted, Answer, Brief, Close};
 use df_memory::NoMemory;
 use df_unit::{Call, Effect, Given, Reply};
 
@@ -164,6 +165,24 @@ pub fn shut_at(units: &mut [Unit], place: usize, h: u32)
 {
     let unit = &mut units[place];
     unit.local.shut(h);
+}
+
+/// Closes a handle of the unit at a place by a publish or a release that is answered with Ok, puts
+/// its effect there, and tells so. Where it is refused or memory is wanting, the table is as before.
+pub fn close_at(
+    units: &mut [Unit],
+    place: usize,
+    h: u32,
+    how: Close,
+    effect: &mut Effect,
+) -> Result<bool, NoMemory>
+    requires within { place < length units.old }
+    ensures made { IfOk result (λ is. IsClosedAt place (closing how h) h (made_where is effect.new)
+        units.old units.new) }
+    ensures unchanged { OnErr result (units.new ≡ units.old) }
+{
+    let unit = &mut units[place];
+    unit.local.close(h, how, effect)
 }
 
 /// Counts a subscription in the own state of the unit at a place. Takes no memory.

@@ -4,6 +4,7 @@ use crate::EventName;
 use df_memory::NoMemory;
 use df_part::{PartRef, Parts, Spot};
 use std::marker::Model;
+use std::mem;
 
 /// Spots that a release will delete, in order.
 #[derive(Drop)]
@@ -54,6 +55,15 @@ impl Spots {
     {
         self.spots.clear();
     }
+
+    /// Takes all out, with the room that they had. Takes no memory.
+    pub fn take(&mut self) -> Vec<Spot>
+        ensures spots { result.items ≡ self.old }
+        ensures none { self.new ≡ [] }
+    {
+        let alloc = *self.spots.allocator();
+        mem::replace(&mut self.spots, Vec::new(alloc))
+    }
 }
 
 /// Parts that a publish or a release will add, in order.
@@ -76,7 +86,7 @@ impl Model for Drafts {
 }
 
 impl Drafts {
-    ghost use Rattle.std.specs.Prelude.{◌++◌, ◌∷◌, [], OnOk, OnErr};
+    ghost use Rattle.std.specs.Prelude.{◌++◌, ◌∷◌, [], IfNone, IfSome, OnOk, OnErr};
 
     /// Takes no memory.
     pub fn new(parts: Vec<PartRef>) -> Drafts
@@ -104,6 +114,17 @@ impl Drafts {
         ensures { self.new ≡ [] }
     {
         self.parts.clear();
+    }
+
+    /// Takes the part out, where there is no other, and keeps the room that it had.
+    pub fn take_one(&mut self) -> Option<PartRef>
+        ensures one { IfSome result (λ part. (self.old ≡ part ∷ []) × (self.new ≡ [])) }
+        ensures same { IfNone result (self.new ≡ self.old) }
+    {
+        if self.parts.len() != 1 {
+            return None;
+        }
+        self.parts.pop()
     }
 }
 

@@ -5,9 +5,10 @@ use Rattle.df_audit.proofs.made.append_answered.Goals as goal
 pub returns : goal.returns
 returns g c =
     let answer = c.in_ok-answer.answer in
-    on_ok_weaker c.hear.result
+    let told = c.append_heard in
+    on_ok_weaker told.result
     (λ heard core actor agrees seated words.
-    makes_call core actor c.args.call.now c.args.note.now (g.H.Hears.heard c.args.to.now c.hear.new.self) c.step_other.new.self c.args.text.now.items
-    c.append_spelled.new.to.items (answer.reply, answer.effect) (c.in_ok-answer.ensures.step core actor agrees seated) heard
-    (c.in_ok-append_spelled.ensures actor c.args.call.now words))
-    c.hear.ensures
+    makes_call core actor c.args.call.now c.args.note.now (g.H.Hears.heard c.args.to.now told.new.to) c.step_other.new.self c.args.text.now.items
+    told.new.text.items (answer.reply, answer.effect) (c.in_ok-answer.ensures.step core actor agrees seated) heard.0
+    (heard.1 actor c.args.call.now words))
+    told.ensures

@@ -4,15 +4,16 @@ use Rattle.df_unit.specs.declared.call.Call.TheVariants.{Get}
 use Rattle.df_audit.proofs.Calls.{makes_call}
 use Rattle.df_audit.proofs.made.append_get.Goals as goal
 
-pub give-requires-clause-seated : goal.give-requires-clause-seated
-give-requires-clause-seated g c = (c.requires.seated.0, sym c.in-Some.is ∙ c.requires.seated.1)
+pub give-given-requires-clause-seated : goal.give-given-requires-clause-seated
+give-given-requires-clause-seated g c = (c.requires.seated.0, sym c.in-Some.is ∙ c.requires.seated.1)
 
-pub returns : goal.returns
-returns g c =
-    let told = c.append_told-appended in
+pub returns-in-Ok : goal.returns-in-Ok
+returns-in-Ok g c =
+    let told = c.append_told in
+    let made = rw c.in-Ok.is at c.give-given.ensures.made in
     on_ok_weaker told.result
     (λ spelled core actor agrees seated words.
-    makes_call core actor Get c.args.note.now (g.H.Hears.heard c.args.to.now c.hear_received.new.self) c.give.new.self c.args.text.now.items told.new.text.items
-    (received_answer c.in_ok-received.received) (c.in_ok-received.ensures.made core actor agrees (sym c.in-Some.is ∙ seated)) c.hear_received.ensures
+    makes_call core actor Get c.args.note.now (g.H.Hears.heard c.args.to.now told.new.to) c.give-given.new.self c.args.text.now.items told.new.text.items
+    (received_answer c.in-Ok.received) (made core actor agrees (sym c.in-Some.is ∙ seated)) told.ensures.heard
     (spelled actor Get words))
-    told.ensures
+    told.ensures.text

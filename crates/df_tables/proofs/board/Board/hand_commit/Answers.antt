@@ -59,11 +59,13 @@ returns-clause-ok c =
           (subst (λ (us : List Unit). IsNews given event after c.receivers.result.now us) (sym c.as_mut_slice-rows.ensures.value)
           (subst (λ (ps : List Pair). IsNews given event after ps c.open.new.self.rows.items) (sym c.receivers.ensures) news))
           ∙ ap (map (with_news given)) c.as_mut_slice-rows.ensures.value);
-      managed = closed.managed;
-      told = closed.told;
-      enrolled = closed.enrolled;
-      handed = closed.handed;
-      size = closed.size;
-      places = closed.places;
-      parts = λ e. closed.parts event is.place e;
+      marked = record {
+        managed = closed.managed;
+        told = closed.told;
+        enrolled = closed.enrolled;
+        handed = closed.handed;
+        size = closed.size;
+        places = closed.places;
+        parts = λ e. closed.parts event is.place e;
+      };
     }

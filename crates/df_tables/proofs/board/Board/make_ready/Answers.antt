@@ -25,5 +25,8 @@ returns-clause-ready c =
           (subst (λ (h : List (List ℕ)). AreCalled c.args.self.now.rows.items c.args.self.now.managed h commit place after called) (sym same.told) c.requires.called));
       receivers = ap (receivers_by c.in_ok-both.both) (sym c.as_slice.ensures) ∙ c.in_ok-both.ensures ∙ ap (λ (ps : List Pair). ps ++ c.as_slice-2.result.now) c.as_slice.ensures ∙ ap (λ (ps : List Pair). to ++ ps) c.as_slice-2.ensures.value;
       marked = made.marked ∙ ap (λ (us : List Unit). Some (place, places_by (length us) called.pairs.items (rows_in called.born.items))) (sym same.rows);
-      room = record { rows = made.room.rows; labels = made.room.labels; seats = made.room.seats };
     }
+
+pub returns-clause-room : goal.returns-clause-room
+returns-clause-room c =
+    let room = c.in_ok-make_places.ensures.room in record { rows = room.rows; labels = room.labels; seats = room.seats }
