@@ -33,15 +33,12 @@ impl Audit {
         }
     }
 
-    /// An audit that leaves the tables behind the journal.
-    pub(crate) fn with(finding: Finding, text: Vec<u8>, tables: Tables) -> Audit
-        ensures finding { result.finding ≡ finding }
-        ensures text { result.text ≡ text }
+    /// The same audit, which leaves the tables behind the journal.
+    pub(crate) fn leaving(mut self, tables: Tables) -> Audit
+        ensures finding { result.finding ≡ self.finding }
+        ensures text { result.text ≡ self.text }
     {
-        Audit {
-            finding,
-            text,
-            tables: Some(tables),
-        }
+        self.tables = Some(tables);
+        self
     }
 }

@@ -41,9 +41,8 @@ fn counted(alloc: Global, bytes: &[u8]) -> Result<Option<Audit>, NoMemory>
     let Some((made, tables)) = right_text(alloc, bytes, &Wanted::Count)? else {
         return Ok(None);
     };
-    let mut audit = right(alloc, made.count)?;
-    audit.tables = Some(tables);
-    Ok(Some(audit))
+    let audit = right(alloc, made.count)?;
+    Ok(Some(audit.leaving(tables)))
 }
 
 /// Whether the whole journal that these bytes are is right, or where it first isn't.

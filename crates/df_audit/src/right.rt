@@ -156,7 +156,7 @@ fn right(made: Made, tables: Tables) -> Audit
     ensures finding { result.finding ≡ Right }
     ensures text { result.text ≡ made.text }
 {
-    Audit::with(Finding::Right, made.text, tables)
+    Audit::new(Finding::Right, made.text).leaving(tables)
 }
 
 /// Nothing but a wrong place.
