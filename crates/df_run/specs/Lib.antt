@@ -3,4 +3,5 @@ pub mod Lint
 pub mod Making
 pub mod Outcome
 pub mod Status
+pub mod Steps
 pub mod Tasks

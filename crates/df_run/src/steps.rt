@@ -1,4 +1,4 @@
-ghost use Rattle.std.specs.Prelude.{◌≡◌, ◌<◌, ◌≤◌, [], IfOk, IfErr, List, OnOk, length, true};
+ghost use Rattle.std.specs.Prelude.{◌≡◌, [], IfOk, IfErr, OnOk};
 ghost use Rattle.df_journal_text.specs.Front.{call_front};
 ghost use Rattle.df_lines.specs.Refused.{NamesBadLine};
 ghost use Rattle.df_machine.specs.Journal.{State};
@@ -6,10 +6,8 @@ ghost use Rattle.df_machine.specs.Tables.{AgreesWith};
 ghost use Rattle.df_script_text.specs.Reader.{HasRead};
 ghost use Rattle.df_script_text.specs.Script.{IsScriptText};
 ghost use Rattle.df_script_text.specs.TooLarge.{IsTooLargeIn};
-ghost use Rattle.df_script_text.specs.declared.line.ScriptLine.{ScriptLine};
-ghost use Rattle.df_start.specs.declared.start.RootStart.{RootStart};
 ghost use Rattle.df_steps.specs.Steps.{AppendsStep, RecordsScript};
-ghost use Rattle.df_steps.specs.code.Written.{IsWritten, WritesOn};
+ghost use Rattle.df_run.specs.Steps.{AppendsNext, IsUnderWay};
 
 use df_journal_text::{Notes, write_head};
 use df_lines::FileRefused;
@@ -77,17 +75,9 @@ fn append_next(
     notes: &mut Notes,
     text: &mut Vec<u8>,
 ) -> Result<bool, FileRefused>
-    requires { (roots : List RootStart) × (lines : List ScriptLine)
-        × HasRead roots lines reader.old × IsWritten roots lines tables.old text.old.items }
-    ensures written { IfOk result (λ more. (roots : List RootStart) (lines : List ScriptLine) →
-        HasRead roots lines reader.old → IsWritten roots lines tables.old text.old.items →
-        WritesOn roots lines more reader.new tables.new text.new.items) }
-    ensures further { IfOk result (λ more. more ≡ true → reader.old.place < reader.new.place) }
-    ensures within { reader.new.place ≤ length reader.new.bytes }
-    ensures bytes { reader.new.bytes ≡ reader.old.bytes }
-    ensures refused { IfErr result (λ e. (roots : List RootStart) (lines : List ScriptLine) →
-        HasRead roots lines reader.old →
-        NamesBadLine IsScriptText IsTooLargeIn reader.old.bytes e) }
+    requires { IsUnderWay reader.old tables.old text.old.items }
+    ensures { AppendsNext reader.old reader.new tables.old tables.new text.old.items
+        text.new.items result }
 {
     if let Some(line) = reader.next_common() {
         append_common(tables, notes, line, text)?;
@@ -101,7 +91,7 @@ fn append_next(
 }
 
 /// Makes the next call that is left to a reader, of whichever unit, and appends its entry: whether
-/// there was one.
+/// there was one. The room for a line of any unit is made here alone.
 #[inline(never)]
 fn append_any(
     reader: &mut ScriptReader<'_>,
@@ -109,17 +99,9 @@ fn append_any(
     notes: &mut Notes,
     text: &mut Vec<u8>,
 ) -> Result<bool, FileRefused>
-    requires { (roots : List RootStart) × (lines : List ScriptLine)
-        × HasRead roots lines reader.old × IsWritten roots lines tables.old text.old.items }
-    ensures written { IfOk result (λ more. (roots : List RootStart) (lines : List ScriptLine) →
-        HasRead roots lines reader.old → IsWritten roots lines tables.old text.old.items →
-        WritesOn roots lines more reader.new tables.new text.new.items) }
-    ensures further { IfOk result (λ more. more ≡ true → reader.old.place < reader.new.place) }
-    ensures within { reader.new.place ≤ length reader.new.bytes }
-    ensures bytes { reader.new.bytes ≡ reader.old.bytes }
-    ensures refused { IfErr result (λ e. (roots : List RootStart) (lines : List ScriptLine) →
-        HasRead roots lines reader.old →
-        NamesBadLine IsScriptText IsTooLargeIn reader.old.bytes e) }
+    requires { IsUnderWay reader.old tables.old text.old.items }
+    ensures { AppendsNext reader.old reader.new tables.old tables.new text.old.items
+        text.new.items result }
 {
     let Some(read) = reader.next_line()? else {
         return Ok(false);

@@ -14,18 +14,18 @@ lines-init c = (
 )
 
 pub append_next-requires : goal.append_next-requires
-append_next-requires c = (c.args.start, c.lines.invariant.0, c.lines.invariant.1, c.lines.invariant.2)
+append_next-requires c = (c.args.start, c.lines.invariant.0, (c.lines.invariant.1, c.lines.invariant.2))
 
 pub lines-preserved : goal.lines-preserved
 lines-preserved c =
     let past = c.lines.invariant.0 in
-    let on = rw c.if-branch.true at (c.in_ok-append_next.ensures.written c.args.start past c.lines.invariant.1 c.lines.invariant.2) in
+    let on = rw c.if-branch.true at (c.in_ok-append_next.ensures.written_on c.args.start past (c.lines.invariant.1, c.lines.invariant.2)) in
     (past ++ on.0 ∷ [], on.1, on.2, c.append_next.ensures.bytes ∙ c.lines.invariant.3)
 
 pub returns-clause-records : goal.returns-clause-records
 returns-clause-records c =
     let lines = c.lines.invariant.0 in
-    let all = rw c.if-branch.false at (c.in_ok-append_next.ensures.written c.args.start lines c.lines.invariant.1 c.lines.invariant.2) in (
+    let all = rw c.if-branch.false at (c.in_ok-append_next.ensures.written_on c.args.start lines (c.lines.invariant.1, c.lines.invariant.2)) in (
       c.args.start,
       lines,
       all.0,
