@@ -1,12 +1,12 @@
 -- Where a name stands among ascending names, and what is there.
-use Rattle.std.proofs.Common.{◌≡◌, ℕ, zero, suc, ◌<◌, ◌≤◌, List, [], ◌∷◌, get_or, set, length, arith, refl, ap, sym, subst, ◌∙◌, Option, Some, None, cond}
+use Rattle.std.proofs.Common.{◌≡◌, ℕ, zero, suc, ◌-◌, ◌<◌, ◌≤◌, List, [], ◌∷◌, get_or, set, length, arith, refl, ap, sym, subst, ◌∙◌, Option, Some, None, cond}
 use Rattle.std.specs.Prelude.{Bool, true, false, if◌then◌else◌, Result, Ok, Err, option_map, pos}
 use Rattle.std.specs.Str.{bytes_eq}
 use Rattle.std.specs.List.{insert}
 use Rattle.std.specs.List.Sorted.{IsSearchInRange, IsBinarySearchResult, IsNonDecreasingBy}
 use Rattle.std.specs.declared.cmp.Ordering.{Ordering}
 use Rattle.std.specs.declared.cmp.Ordering.TheVariants.{Less, Equal, Greater}
-use Rattle.std.specs.Ordering.{match_ordering, ordering_reverse, ordering_index, is_eq}
+use Rattle.std.specs.Ordering.{match_ordering, ordering_reverse, ordering_index, is_eq, is_lt}
 use Rattle.std.specs.FinMap.{slice_cmp-IsAntisymmetric, nat_cmp-IsAntisymmetric}
 use Rattle.std.proofs.lemmas.List.{get_or-map, length-map}
 use Rattle.std.proofs.lemmas.Cmp.{nat_list_cmp_total}
@@ -103,6 +103,32 @@ name_at es i d e h = get_or-map (λ (x : List ℕ × Value). x.0) es i e d h
 -- as many names as entries
 length-names : (es : List (List ℕ × Value)) → length (names es) ≡ length es
 length-names es = length-map es (λ (x : List ℕ × Value). x.0)
+
+-- the place of a name behind the last
+pub place_of-behind : (k : List ℕ) (es : List (List ℕ × Value)) (last : List ℕ × Value) → IsAscending (names es)
+    → get_or es (length es - 1) last ≡ last → is_lt (name_cmp last.0 k) ≡ true → place_of k (names es) ≡ Err (length es)
+place_of-behind k es last s e h =
+    let n = length-names es in
+    place_of-missing k (names es) (length es) (omega (arith, n)) (λ j d g. lowest (name_cmp (get_or (names es) j d) k) (at j d g))
+    (λ j d g l. absurd (omega (arith, g, l, n)))
+  where
+    less : (o : Ordering) → is_lt o ≡ true → ordering_index o ≤ 0
+    less Less g = omega arith
+    less Equal g = absurd (cc)
+    less Greater g = absurd (cc)
+
+    lowest : (o : Ordering) → ordering_index o ≤ 0 → o ≡ Less
+    lowest Less g = refl
+    lowest Equal g = absurd (omega (arith, g))
+    lowest Greater g = absurd (omega (arith, g))
+
+    at : (j : ℕ) (d : List ℕ) → j < length es → ordering_index (name_cmp (get_or (names es) j d) k) ≤ 0
+    at j d g =
+        let n = length-names es in
+        let i = length es - 1 in
+        let rises = ascending_index k (names es) s j i d (omega (arith, g)) (omega (arith, g, n)) in
+        let named : get_or (names es) i d ≡ last.0 = name_at es i d last (omega (arith, g)) ∙ ap (λ (x : List ℕ × Value). x.0) e in
+        omega (arith, subst (λ m. ordering_index (name_cmp (get_or (names es) j d) k) ≤ ordering_index (name_cmp m k)) named rises, less (name_cmp last.0 k) h)
 
 -- what a binary search by name answers
 pub place_of-searched : (k : List ℕ) (es : List (List ℕ × Value)) (r : Result ℕ ℕ) → IsAscending (names es) → IsSearchInRange r (length es) → IsBinarySearchResult (λ e. name_cmp e.0 k) es r → r ≡ place_of k (names es)

@@ -197,5 +197,8 @@ fn place(entries: &[(Name, Value)], name: &Name) -> Result<usize, usize>
     ensures within { MatchResult result (λ k. k < length entries.now)
         (λ k. k ≤ length entries.now) }
 {
-    entries.binary_search_by_key(name, |entry| entry.0)
+    match entries.last() {
+        Some(last) if last.0 < *name => Err(entries.len()),
+        _ => entries.binary_search_by(|entry| entry.0.cmp(name)),
+    }
 }

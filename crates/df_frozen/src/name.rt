@@ -165,7 +165,7 @@ impl PartialEq for Name {
     ghost laws = { partial_equiv_from_equiv nat_list_eq_equiv };
 
     fn eq(&self, other: &Name) -> bool {
-        if self.len != other.len || self.head() != other.head() {
+        if self.head() != other.head() || self.len != other.len {
             return false;
         }
         self.len <= 8 || self.as_bytes() == other.as_bytes()
@@ -197,6 +197,7 @@ impl Ord for Name {
 
     fn cmp(&self, other: &Name) -> Ordering {
         match self.head().cmp(&other.head()) {
+            Ordering::Equal if self == other => Ordering::Equal,
             Ordering::Equal => self.as_bytes().cmp(&other.as_bytes()),
             order => order,
         }

@@ -12,7 +12,7 @@ returns-then-self-le8 c =
     let alike = c.if-self-other.false in
     let kept = subst (IsKept others) (sym alike) c.other.invariant in
     let heads =
-    ap head_of c.self.view_is ∙ sym c.head.ensures.value ∙ c.if-head.false ∙ c.head-else-self-other.ensures.value ∙ ap head_of (sym c.other.view_is)
+    ap head_of c.self.view_is ∙ sym c.head.ensures.value ∙ c.if-head.false ∙ c.head-2.ensures.value ∙ ap head_of (sym c.other.view_is)
     ∙ ap (λ (n : ℕ). head_of (take n others)) (sym alike) in
     let same = same_by_head bytes others c.self.inside.len c.self.invariant kept c.if-self-le8.true heads in
     let now : c.args.self.now ≡ c.args.other.now = sym c.self.view_is ∙ same ∙ ap (λ (n : ℕ). take n others) alike ∙ c.other.view_is in
