@@ -1,4 +1,4 @@
-ghost use Rattle.std.specs.Prelude.{◌≡◌, ◌↔◌, [], ◌++◌, IsTrue, OnOk, IfOk};
+ghost use Rattle.std.specs.Prelude.{◌≡◌, ◌↔◌, ◌<◌, [], ◌++◌, length, true, IsTrue, OnOk, IfOk};
 ghost use Rattle.std.specs.List.{list_all};
 ghost use Rattle.df_part.specs.Contents.{apply, is_deleted, spared};
 ghost use Rattle.df_part.specs.Part.{cut, readable};
@@ -151,10 +151,25 @@ fn edited(alloc: Global, parts: &[PartRef], edit: &Edit) -> Result<Vec<PartRef>,
 fn put_spared(parts: &[PartRef], deleted: &[Spot], to: &mut Vec<PartRef>) -> Result<(), NoMemory>
     ensures { OnOk result (to.new.items ≡ to.old.items ++ spared deleted.now parts.now) }
 {
+    // Spots mostly stand in the order of their parts: the next one is tried before all.
+    let mut next = 0;
     for part in parts {
-        if !is_deleted(part.part(), deleted) {
+        if is_deleted_by(part.part(), deleted, next) {
+            next += 1;
+        } else if !is_deleted(part.part(), deleted) {
             to.push(part.share()?)?;
         }
     }
     Ok(())
+}
+
+/// Whether the spot of this number is the part's.
+fn is_deleted_by(part: &Part, deleted: &[Spot], k: usize) -> bool
+    ensures deleted { IsTrue result → is_deleted part.now deleted.now ≡ true }
+    ensures within { IsTrue result → k < length deleted.now }
+{
+    match deleted.get(k) {
+        Some(spot) => part.is_at(&spot.name, &spot.label),
+        None => false,
+    }
 }
