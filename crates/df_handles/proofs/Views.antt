@@ -1,5 +1,5 @@
 -- What is looked for in a view is found in one go.
-use Rattle.df_handles.proofs.Names.{◌≡◌, ℕ, suc, ◌<◌, Bool, true, false, not, ◌&&◌, ◌||◌, List, [], ◌∷◌, length, get_or, drop, drop-cons, refl, sym, ap, ◌∙◌, arith, filter, list_any, is_at, is_deleted, Part, has_at, visible, visible_named, Handle, is_visible, named_in, has_seen, shown_in, visible_in}
+use Rattle.df_handles.proofs.Names.{◌≡◌, ℕ, zero, suc, ◌<◌, Bool, true, false, not, ◌&&◌, ◌||◌, List, [], ◌∷◌, length, get_or, refl, sym, ap, subst, ◌∙◌, arith, filter, list_any, is_at, is_deleted, Part, has_at, visible, visible_named, Handle, is_visible, named_in, has_seen, shown_in, visible_in}
 use Rattle.std.specs.Str.{bytes_eq}
 use Rattle.std.proofs.lemmas.Bool.{and_parts}
 use Rattle.std.proofs.lemmas.Slice.Eq.{bytes_eq-Decides}
@@ -73,6 +73,14 @@ seen_first input named d x xs h = by (is_visible input named x) refl
     by true e = rw (e, h) refl
     by false e = rw e (hidden_all input named d x h e xs)
 
-pub seen_here : (input : Label) (named : List Spot) (d : Spot) (xs : List Part) (i : ℕ) (x : Part) → i < length xs → x ≡ get_or xs i x → is_at x d ≡ true → has_seen input named d (drop i xs) ≡ is_visible input named x
-seen_here input named d xs i x lt e h =
-    ap (has_seen input named d) (drop-cons xs i x lt ∙ ap (λ (y : Part). y ∷ drop (suc i) xs) (sym e)) ∙ seen_first input named d x (drop (suc i) xs) h
+-- so does any other at the spot
+pub seen_any : (input : Label) (named : List Spot) (d : Spot) (xs : List Part) (i : ℕ) (x : Part) → i < length xs → x ≡ get_or xs i x
+    → is_at x d ≡ true → has_seen input named d xs ≡ is_visible input named x
+seen_any input named d [] i x lt e h = absurd (omega (arith, lt))
+seen_any input named d (y ∷ ys) zero x lt e h =
+    subst (λ z. has_seen input named d (z ∷ ys) ≡ is_visible input named x) e (seen_first input named d x ys h)
+seen_any input named d (y ∷ ys) (suc i) x lt e h = by (is_at y d) refl (seen_any input named d ys i x (omega (arith, lt)) e h)
+  where
+    by : (t : Bool) → is_at y d ≡ t → has_seen input named d ys ≡ is_visible input named x → has_seen input named d (y ∷ ys) ≡ is_visible input named x
+    by true k rest = seen_first input named d y ys k ∙ same_visible input named d x y h k
+    by false k rest = let all = rest in grind (arith, k, all)

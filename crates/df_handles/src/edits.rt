@@ -63,13 +63,29 @@ pub fn has_drafted(parts: &[PartRef], name: &Name, label: &Label) -> bool
 pub fn has_visible(input: &Label, handle: &Handle, name: &Name, label: &Label) -> bool
     ensures { result ≡ has_at (visible input.now handle.now) (spot name.now label.now) }
 {
-    has_seen(
+    has_next_or_other(
         input,
         handle.named.as_slice(),
         handle.seen.as_slice(),
         name,
         label,
     )
+}
+
+// Parts are mostly deleted in their order: the one behind those named is tried before all.
+fn has_next_or_other(
+    input: &Label,
+    named: &[Spot],
+    seen: &[PartRef],
+    name: &Name,
+    label: &Label,
+) -> bool
+    ensures { result ≡ has_seen input.now named.now (spot name.now label.now) seen.now }
+{
+    match seen.get(named.len()) {
+        Some(next) if next.part().is_at(name, label) => is_visible(input, named, next.part()),
+        _ => has_seen(input, named, seen, name, label),
+    }
 }
 
 fn has_seen(input: &Label, named: &[Spot], seen: &[PartRef], name: &Name, label: &Label) -> bool
