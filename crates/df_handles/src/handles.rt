@@ -2,14 +2,16 @@
 
 use crate::copies::copies;
 use crate::limits::MOST_HANDLES;
-use crate::places::{attach, begin, close, delete, draft, handle_at, least_free, open, take};
+use crate::places::{
+    attach, begin_draft, begin_view, close, delete, draft, handle_at, least_free, open, take,
+};
 use crate::same::same;
 use crate::slot::Slot;
 use df_frozen::Name;
 use df_label::{Label, Privilege};
 use df_memory::NoMemory;
 use df_part::{PartRef, Parts, Spot};
-use df_unit::{Effect, EventName, Handle};
+use df_unit::{Effect, EventName, Handle, UnitName};
 use std::alloc::Global;
 use std::marker::Model;
 
@@ -115,14 +117,14 @@ impl Handles {
         Ok(())
     }
 
-    /// Opens an empty draft, in the room that a closed handle has left.
+    /// Opens an empty draft of a unit's event, in the room that a closed handle has left.
     #[tactic(auto, using(crate::proofs::OpenHandles::one_more_open))]
-    pub fn open_draft(&mut self, event: EventName) -> Result<(), NoMemory>
-        ensures ok { OnOk result (self.new ≡ opened (draft_of event []) self.old) }
+    pub fn open_draft(&mut self, unit: &UnitName, number: u32) -> Result<(), NoMemory>
+        ensures ok { OnOk result (self.new
+            ≡ opened (draft_of (record { unit = unit.now; number = number }) []) self.old) }
         ensures unchanged { OnErr result (self.new ≡ self.old) }
     {
-        let alloc = *self.slots.allocator();
-        begin(&mut self.slots, false, event, Parts::new(Vec::new(alloc)))?;
+        begin_draft(&mut self.slots, unit, number)?;
         self.count += 1;
         Ok(())
     }
@@ -133,7 +135,7 @@ impl Handles {
         ensures ok { OnOk result (self.new ≡ opened (view_of event seen) self.old) }
         ensures unchanged { OnErr result (self.new ≡ self.old) }
     {
-        begin(&mut self.slots, true, event, seen)?;
+        begin_view(&mut self.slots, event, seen)?;
         self.count += 1;
         Ok(())
     }

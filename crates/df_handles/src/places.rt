@@ -1,17 +1,17 @@
 //! The places of handles: each open or free.
 
-ghost use Rattle.std.specs.Prelude.{◌≡◌, ◌≤◌, ◌∷◌, [], ◌++◌, Some, length, option_copied, OnOk, OnErr};
+ghost use Rattle.std.specs.Prelude.{◌≡◌, ◌≤◌, ◌∷◌, [], ◌++◌, Some, false, length, true, option_copied, OnOk, OnErr};
 ghost use Rattle.df_unit.specs.Drafts.{attached_in, deleted_in, spot};
 ghost use Rattle.df_unit.specs.Handles.{changed_at, closed, handle_at, least_free, opened};
 ghost use Rattle.df_handles.specs.Commits.{committed};
-ghost use Rattle.df_handles.specs.code.Slot.{all_shown, begun};
+ghost use Rattle.df_handles.specs.code.Slot.{all_shown, begun, event_of};
 
 use crate::slot::{Slot, begun};
 use df_frozen::Name;
 use df_label::{Label, Privilege};
 use df_memory::NoMemory;
 use df_part::{PartRef, Parts, Spot};
-use df_unit::{Effect, EventName, Handle};
+use df_unit::{Effect, EventName, Handle, UnitName};
 
 /// The least number that isn't open.
 pub fn least_free(slots: &[Slot]) -> usize
@@ -53,26 +53,49 @@ pub fn open(slots: &mut Vec<Slot>, handle: Handle) -> Result<(), NoMemory>
     Ok(())
 }
 
-/// Opens a handle with nothing named and nothing drafted at the least number that isn't open, in
-/// the room of the one before.
+/// Opens a view at the least number that isn't open, in the room of the handle before.
 #[inline(always)]
-pub fn begin(
-    slots: &mut Vec<Slot>,
-    is_view: bool,
-    event: EventName,
-    seen: Parts,
-) -> Result<(), NoMemory>
+pub fn begin_view(slots: &mut Vec<Slot>, event: EventName, seen: Parts) -> Result<(), NoMemory>
     ensures ok { OnOk result (all_shown slots.new.items
-        ≡ opened (begun is_view event seen) (all_shown slots.old.items)) }
+        ≡ opened (begun true event seen) (all_shown slots.old.items)) }
     ensures unchanged { OnErr result (all_shown slots.new.items ≡ all_shown slots.old.items) }
 {
     let alloc = *slots.allocator();
     let h = least_free(slots.as_slice());
     if h < slots.len() {
-        slots[h].begin(alloc, is_view, event, seen);
+        slots[h].begin_view(alloc, event, seen);
         return Ok(());
     }
-    push_begun(slots, is_view, event, seen)
+    push_begun(slots, true, event, seen)
+}
+
+/// Opens an empty draft of a unit's event at the least number that isn't open, in the room of the
+/// handle before.
+#[inline(always)]
+pub fn begin_draft(slots: &mut Vec<Slot>, unit: &UnitName, number: u32) -> Result<(), NoMemory>
+    ensures ok { OnOk result (all_shown slots.new.items
+        ≡ opened (begun false (event_of unit.now number) []) (all_shown slots.old.items)) }
+    ensures unchanged { OnErr result (all_shown slots.new.items ≡ all_shown slots.old.items) }
+{
+    let alloc = *slots.allocator();
+    let h = least_free(slots.as_slice());
+    if h < slots.len() {
+        return slots[h].begin_draft(alloc, unit, number);
+    }
+    push_draft(slots, unit, number)
+}
+
+/// Opens an empty draft at a new place.
+#[inline(never)]
+fn push_draft(slots: &mut Vec<Slot>, unit: &UnitName, number: u32) -> Result<(), NoMemory>
+    ensures ok { OnOk result (all_shown slots.new.items ≡ all_shown slots.old.items
+        ++ Some (begun false (event_of unit.now number) []) ∷ []) }
+    ensures unchanged { OnErr result (all_shown slots.new.items ≡ all_shown slots.old.items) }
+{
+    let alloc = *slots.allocator();
+    let unit = unit.copy()?;
+    let event = EventName { unit, number };
+    push_begun(slots, false, event, Parts::new(Vec::new(alloc)))
 }
 
 /// Opens a handle with nothing named and nothing drafted at a new place.

@@ -1,10 +1,10 @@
 //! The place of a handle.
 
-ghost use Rattle.std.specs.Prelude.{◌≡◌, None, OnErr, OnOk, Some, option_copied, option_map};
+ghost use Rattle.std.specs.Prelude.{◌≡◌, [], None, OnErr, OnOk, Some, false, option_copied, option_map, true};
 ghost use Rattle.df_unit.specs.Drafts.{attached_in, deleted_in, spot};
 ghost use Rattle.df_unit.specs.declared.entry.Effect.{Effect};
 ghost use Rattle.df_handles.specs.Commits.{commit_of, committed, deletions};
-ghost use Rattle.df_handles.specs.code.Slot.{begun, drafted_in, shown};
+ghost use Rattle.df_handles.specs.code.Slot.{begun, drafted_in, event_of, shown};
 
 use crate::edits::{attach_in, delete_in};
 use crate::parts::taken_out;
@@ -53,21 +53,65 @@ impl Slot {
         self.kept = Some(handle);
     }
 
-    /// Opens a handle in the room of the one before.
-    pub fn begin(&mut self, alloc: Global, is_view: bool, event: EventName, seen: Parts)
-        ensures { shown self.new ≡ Some (begun is_view event seen) }
+    /// Opens a view in the room of the handle before.
+    pub fn begin_view(&mut self, alloc: Global, event: EventName, seen: Parts)
+        ensures { shown self.new ≡ Some (begun true event seen) }
     {
         self.is_open = true;
         match &mut self.kept {
             Some(handle) => {
-                handle.is_view = is_view;
+                handle.is_view = true;
                 handle.event = event;
                 handle.seen = seen;
                 handle.named.clear();
                 handle.drafted.clear();
             }
-            None => self.keep(alloc, is_view, event, seen),
+            None => self.keep(alloc, true, event, seen),
         }
+    }
+
+    /// Opens a draft of a unit's event in the room of the handle before.
+    pub fn begin_draft(
+        &mut self,
+        alloc: Global,
+        unit: &UnitName,
+        number: u32,
+    ) -> Result<(), NoMemory>
+        ensures ok { OnOk result (shown self.new ≡ Some (begun false (event_of unit.now number) [])) }
+        ensures unchanged { OnErr result (shown self.new ≡ shown self.old) }
+    {
+        match &mut self.kept {
+            Some(handle) => {
+                match handle.event.unit.copy_from(unit) {
+                    Ok(()) => {}
+                    Err(refused) => return Err(refused),
+                }
+                handle.event.number = number;
+                handle.is_view = false;
+                handle.seen = Parts::new(Vec::new(alloc));
+                handle.named.clear();
+                handle.drafted.clear();
+            }
+            None => match self.keep_draft(alloc, unit, number) {
+                Ok(()) => {}
+                Err(refused) => return Err(refused),
+            },
+        }
+        self.is_open = true;
+        Ok(())
+    }
+
+    /// Makes the room of a place and a draft in it.
+    #[inline(never)]
+    fn keep_draft(&mut self, alloc: Global, unit: &UnitName, number: u32) -> Result<(), NoMemory>
+        ensures kept { OnOk result (self.new.kept
+            ≡ Some (begun false (event_of unit.now number) [])) }
+        ensures unchanged { OnErr result (self.new ≡ self.old) }
+    {
+        let unit = unit.copy()?;
+        let event = EventName { unit, number };
+        self.keep(alloc, false, event, Parts::new(Vec::new(alloc)));
+        Ok(())
     }
 
     /// Makes the room of a place and a handle in it.

@@ -53,9 +53,7 @@ impl Local {
         if self.events >= MOST_NUMBERS {
             return Err(NoMemory);
         }
-        let unit = self.name.copy()?;
-        let number = self.events;
-        self.handles.open_draft(EventName { unit, number })?;
+        self.handles.open_draft(&self.name, self.events)?;
         self.events += 1;
         Ok(())
     }

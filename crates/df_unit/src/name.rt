@@ -1,4 +1,4 @@
-ghost use Rattle.std.specs.Prelude.{◌≡◌, ◌↔◌, IsTrue, IfOk, Some, refl};
+ghost use Rattle.std.specs.Prelude.{◌≡◌, ◌↔◌, IsTrue, IfOk, OnOk, OnErr, Some, refl};
 ghost use Rattle.std.specs.Cmp.{partial_equiv_from_equiv};
 ghost use Rattle.df_unit.specs.Name.{same};
 ghost use Rattle.df_unit.specs.UnitOrder.{unit_cmp};
@@ -41,6 +41,29 @@ impl UnitName {
                 })
             }
         }
+    }
+
+    /// Becomes a copy of the other. The path of a plain unit is copied into the one that there is.
+    pub fn copy_from(&mut self, other: &UnitName) -> Result<(), NoMemory>
+        ensures copied { OnOk result (self.new ≡ other.now) }
+        ensures unchanged { OnErr result (self.new ≡ self.old) }
+    {
+        match other {
+            UnitName::Root(path) => match self {
+                UnitName::Root(own) => own.copy_from(path),
+                UnitName::Managed { .. } => self.become_copy(other),
+            },
+            UnitName::Managed { .. } => self.become_copy(other),
+        }
+    }
+
+    #[inline(never)]
+    fn become_copy(&mut self, other: &UnitName) -> Result<(), NoMemory>
+        ensures copied { OnOk result (self.new ≡ other.now) }
+        ensures unchanged { OnErr result (self.new ≡ self.old) }
+    {
+        *self = other.copy()?;
+        Ok(())
     }
 
     /// Whether the two names are equal.

@@ -1,4 +1,4 @@
-ghost use Rattle.std.specs.Prelude.{◌≡◌, ◌<◌, ◌≤◌, [], ◌∷◌, length, IfOk, Some, nat_eq, refl};
+ghost use Rattle.std.specs.Prelude.{◌≡◌, ◌<◌, ◌≤◌, [], ◌∷◌, length, IfOk, OnOk, OnErr, Some, nat_eq, refl};
 ghost use Rattle.std.specs.Ordering.{nat_cmp};
 ghost use Rattle.std.specs.Cmp.{partial_equiv_from_equiv};
 ghost use Rattle.std.specs.Cmp.Lexicographic.{pointwise, slice_cmp, nat_list_eq_equiv, nat_list_cmp_total, texts_po, texts_ties};
@@ -86,6 +86,27 @@ impl Path {
                 kept: Kept::Long(copy_of(numbers)?),
             }),
         }
+    }
+
+    /// Becomes a copy of the other, in its own room.
+    pub fn copy_from(&mut self, other: &Path) -> Result<(), NoMemory>
+        ensures copied { OnOk result (self.new ≡ other.now) }
+        ensures unchanged { OnErr result (self.new ≡ self.old) }
+    {
+        match &other.kept {
+            Kept::Short(numbers, len) => self.kept = Kept::Short(*numbers, *len),
+            Kept::Long(_) => return self.become_copy(other),
+        }
+        Ok(())
+    }
+
+    #[inline(never)]
+    fn become_copy(&mut self, other: &Path) -> Result<(), NoMemory>
+        ensures copied { OnOk result (self.new ≡ other.now) }
+        ensures unchanged { OnErr result (self.new ≡ self.old) }
+    {
+        *self = other.copy()?;
+        Ok(())
     }
 }
 

@@ -1,8 +1,9 @@
 -- What places of handles show.
-use Rattle.std.specs.Prelude.{Bool, true, false, List, [], ◌∷◌, ◌++◌, Option, None, map}
+use Rattle.std.specs.Prelude.{ℕ, Bool, true, false, List, [], ◌∷◌, ◌++◌, Option, None, map}
 use Rattle.df_part.specs.declared.part.Part.{Part}
 use Rattle.df_unit.specs.declared.handle.Handle.{Handle}
 use Rattle.df_unit.specs.declared.name.EventName.{EventName}
+use Rattle.df_unit.specs.declared.name.UnitName.{UnitName}
 use Rattle.df_handles.specs.declared.slot.Slot.{Slot}
 
 -- what is kept, where the place is open
@@ -17,6 +18,10 @@ shown slot = shown_if slot.is_open slot.kept
 -- the handles of places
 abbrev pub all_shown : List Slot → List (Option Handle)
 all_shown slots = map shown slots
+
+-- a unit's event of this number
+abbrev pub event_of : UnitName → ℕ → EventName
+event_of unit number = record { unit = unit; number = number }
 
 -- a handle with nothing named and nothing drafted
 abbrev pub begun : Bool → EventName → List Part → Handle

@@ -3,4 +3,4 @@ use Rattle.df_handles.proofs.OpenHandles.{one_more, open_fits}
 use Rattle.df_handles.proofs.handles.Handles.open_draft.Goals as goal
 
 pub overflow_add-self : goal.overflow_add-self
-overflow_add-self c = omega (arith, c.self.invariant, one_more _ _ _ c.in_ok-begin.ensures.ok, open_fits c.begin.new.slots)
+overflow_add-self c = omega (arith, c.self.invariant, one_more _ _ _ c.in_ok-begin_draft.ensures.ok, open_fits c.begin_draft.new.slots)
