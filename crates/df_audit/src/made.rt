@@ -352,13 +352,15 @@ fn append_alone<H: Hears>(
     ensures { OnOk result (Enters place words.now call.now note.now (H.heard to.old to.new)
         tables.old tables.new text.old.items text.new.items) }
 {
-    match tables.step_alone(place, call)? {
-        Some(reply) => {
+    let mut reply = Reply::Ok;
+    match tables.step_alone(place, call, &mut reply) {
+        Ok(true) => {
             append_quiet(words, &reply, note, text)?;
             to.hear_quiet(&reply);
             Ok(())
         }
-        None => append_other(tables, place, note, words, call, text, to),
+        Ok(false) => append_other(tables, place, note, words, call, text, to),
+        Err(refused) => Err(refused),
     }
 }
 

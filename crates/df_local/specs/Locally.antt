@@ -153,6 +153,11 @@ pub record IsMadeAlone (call : Call) (r : Reply) (old new : LocalState) : Type 0
 abbrev pub shows_one : Part → Reply
 shows_one part = Reply.Parts (show part ∷ [])
 
+-- a reply, if one is told
+abbrev pub told_if : Bool → Reply → Option Reply
+told_if true r = Some r
+told_if false r = None
+
 -- such a call is made, with this reply; at any other nothing is done
 abbrev pub MakesAlone : Call → Option Reply → LocalState → LocalState → Type 0
 MakesAlone call (Some r) old new = IsMadeAlone call r old new

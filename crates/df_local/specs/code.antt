@@ -1,2 +1,3 @@
+pub mod Edits
 pub mod LocalState
 pub mod Shown

@@ -4,6 +4,7 @@ ghost use Rattle.std.specs.Prelude.{◌≡◌, [], IfOk, OnOk, OnErr};
 ghost use Rattle.df_unit.specs.Rows.{changed, drafting, reply};
 ghost use Rattle.df_unit.specs.declared.call.Call.{Call};
 ghost use Rattle.df_unit.specs.declared.entry.Effect.{Effect};
+ghost use Rattle.df_unit.specs.declared.reply.Reply.{Reply};
 ghost use Rattle.df_local.specs.Locally.{Answers, added_reply, with_own};
 
 use crate::Local;
@@ -108,6 +109,30 @@ impl Local {
         match self.put_part(h, label, name, value) {
             Ok(()) => Ok(reply),
             Err(refused) => Err(refused),
+        }
+    }
+
+    /// Drafts a part as `add_part` does, and puts a refusal in place of an Ok.
+    #[inline(always)]
+    pub(crate) fn add_or_refuse(
+        &mut self,
+        h: u32,
+        label: &Label,
+        name: &Name,
+        value: &Frozen,
+        reply: &mut Reply,
+    ) -> Result<(), NoMemory>
+        requires { reply.old ≡ Reply.Ok }
+        ensures ok { OnOk result (Answers
+            (Call.AddPart h label.now name.now value.now) reply.new self.old self.new) }
+        ensures unchanged { OnErr result (self.new ≡ self.old) }
+    {
+        match self.add_reply(h) {
+            Reply::Ok => self.put_part(h, label, name, value),
+            refusal => {
+                *reply = refusal;
+                Ok(())
+            }
         }
     }
 

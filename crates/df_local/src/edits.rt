@@ -64,6 +64,30 @@ impl Local {
         }
     }
 
+    /// Deletes as `del_part` does, and puts a refusal in place of an Ok.
+    #[inline(always)]
+    pub(crate) fn del_or_refuse(
+        &mut self,
+        h: u32,
+        label: &Label,
+        name: &Name,
+        reply: &mut Reply,
+    ) -> Result<(), NoMemory>
+        requires { reply.old ≡ Reply.Ok }
+        ensures ok { OnOk result (Answers
+            (Call.DelPart h label.now name.now) reply.new self.old self.new) }
+        ensures unchanged { OnErr result (self.new ≡ self.old) }
+    {
+        match self.del_reply(h, label, name) {
+            Ok(Reply::Ok) => self.put_deleted(h, label, name),
+            Ok(refusal) => {
+                *reply = refusal;
+                Ok(())
+            }
+            Err(refused) => Err(refused),
+        }
+    }
+
     pub(crate) fn del_reply(&self, h: u32, label: &Label, name: &Name) -> Result<Reply, NoMemory>
         ensures { IfOk result (λ r. r ≡ reply self.now.unit self.now.own []
             (Call.DelPart h label.now name.now)) }

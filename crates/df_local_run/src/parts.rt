@@ -6,7 +6,7 @@ ghost use Rattle.df_local_run.specs.Runs.{called, is_local};
 
 use df_local::Local;
 use df_memory::NoMemory;
-use df_unit::{Call, Effect, Entry, UnitName};
+use df_unit::{Call, Effect, Entry, Reply, UnitName};
 
 /// What a run is made of.
 #[derive(Drop)]
@@ -46,8 +46,9 @@ fn make(unit: &mut Local, entries: &mut Vec<Entry>, call: Call) -> Result<(), No
     let Ok(actor) = prepare(unit, entries) else {
         return Err(NotCalled { call });
     };
-    match unit.make_alone(&call) {
-        Ok(Some(reply)) => {
+    let mut reply = Reply::Ok;
+    match unit.make_alone(&call, &mut reply) {
+        Ok(true) => {
             let effect = Effect::Nothing;
             entries.push_reserved(Entry::Done {
                 actor,

@@ -3,7 +3,7 @@
 ghost use Rattle.std.specs.Prelude.{◌≡◌, ◌^◌, ◌<◌, ◌∷◌, [], length, IfOk, IfSome, OnErr, OnOk, Some, map, option_copied};
 ghost use Rattle.std.specs.Option.{option_map};
 ghost use Rattle.df_local.specs.Brief.{accepted_reply, brief_call};
-ghost use Rattle.df_local.specs.Locally.{closing, made_where, shows_one};
+ghost use Rattle.df_local.specs.Locally.{closing, made_where, shows_one, told_if};
 ghost use Rattle.df_start.specs.Begun.{begun};
 ghost use Rattle.df_tables.specs.Hand.{received_answer};
 ghost use Rattle.df_tables.specs.Table.{rows_from};
@@ -103,22 +103,25 @@ impl Tables {
         self.board.make(place, call)
     }
 
-    /// Makes a call that the unit at a place makes of its own state alone, and answers it; none,
-    /// and nothing is made, where the call is another or there is no such row. Which calls are made
-    /// here is left open: `step_other` makes any. Without memory the tables agree with what they
-    /// agreed with.
+    /// Makes a call that the unit at a place makes of its own state alone, and puts what it is told
+    /// in place of an Ok; false, and nothing is made, where the call is another or there is no such
+    /// row. Which calls are made here is left open: `step_other` makes any. Without memory the tables
+    /// agree with what they agreed with.
     pub fn step_alone(
         &mut self,
         place: Option<usize>,
         call: &Call,
-    ) -> Result<Option<Reply>, NoMemory>
+        reply: &mut Reply,
+    ) -> Result<bool, NoMemory>
         requires agrees { (core : State) × AgreesWith core self.old }
         requires seated { (actor : UnitName) × (place ≡ place_in self.old actor) }
-        ensures made { IfOk result (λ made. StepsAlone place call.now made self.old self.new) }
+        requires ok { reply.old ≡ Reply.Ok }
+        ensures made { IfOk result (λ made. StepsAlone place call.now (told_if made reply.new)
+            self.old self.new) }
         ensures kept { OnErr result ((core : State) → AgreesWith core self.old →
             AgreesWith core self.new) }
     {
-        self.board.make_alone(place, call)
+        self.board.make_alone(place, call, reply)
     }
 
     /// The part that a call of the unit at a place shows, where it is a read that shows no other, and

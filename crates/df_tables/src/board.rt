@@ -15,7 +15,7 @@ ghost use Rattle.df_unit.specs.declared.reply.Reply.TheVariants.{Sub};
 ghost use Rattle.df_unit.specs.UnitOrder.{unit_cmp};
 ghost use Rattle.df_label.specs.Ascending.{IsAscending};
 ghost use Rattle.df_local.specs.Brief.{accepted_reply, brief_call};
-ghost use Rattle.df_local.specs.Locally.{closing, made_where, shows_one};
+ghost use Rattle.df_local.specs.Locally.{closing, made_where, shows_one, told_if};
 ghost use Rattle.df_tables.specs.Births.{IsEnrolled, IsNewborn, beside_of, rows_in};
 ghost use Rattle.df_tables.specs.Board.{AreBorn, HasRoom, IsBoard, IsBooked, IsBornBoard, IsChildBoard, IsKept, IsMade, IsMovedBoard, IsRenewed, MakesAlone, MakesClosing, TellsOf, answer_from, place_on, row_by, row_on, units_in};
 ghost use Rattle.df_tables.specs.Hand.{IsAnsweredAt, IsCalm, received_answer};
@@ -464,22 +464,26 @@ impl Board {
         }
     }
 
-    /// Makes a call that the unit at a place makes of its own state alone; None where it is
-    /// another. Where memory is wanting, at most the labels are others.
+    /// Makes a call that the unit at a place makes of its own state alone, and puts what it is told
+    /// in place of an Ok; false where it is another. Where memory is wanting, at most the labels are
+    /// others.
     pub fn make_alone(
         &mut self,
         place: Option<usize>,
         call: &Call,
-    ) -> Result<Option<Reply>, NoMemory>
+        reply: &mut Reply,
+    ) -> Result<bool, NoMemory>
         requires board { IsBoard self.old }
         requires seated { (actor : UnitName) × (place_on self.old actor ≡ place) }
+        requires ok { reply.old ≡ Reply.Ok }
         ensures board { IsBoard self.new }
-        ensures made { IfOk result (λ made. MakesAlone place call.now made self.old self.new) }
+        ensures made { IfOk result (λ made. MakesAlone place call.now (told_if made reply.new)
+            self.old self.new) }
         ensures same { OnErr result (IsRenewed self.old self.new) }
     {
         match place {
-            Some(place) => make_at(self.rows.as_mut_slice(), place, call),
-            None => Ok(None),
+            Some(place) => make_at(self.rows.as_mut_slice(), place, call, reply),
+            None => Ok(false),
         }
     }
 
@@ -594,12 +598,13 @@ impl Board {
             self.old self.new) }
         ensures kept { OnErr result (IsKept self.old self.new) }
     {
-        match self.make_alone(place, call)? {
-            Some(reply) => Ok(Answer {
+        let mut reply = Reply::Ok;
+        if self.make_alone(place, call, &mut reply)? {
+            return Ok(Answer {
                 reply,
                 effect: Effect::Nothing,
-            }),
-            None => self.answer_and_book(place, call),
+            });
         }
+        self.answer_and_book(place, call)
     }
 }

@@ -5,9 +5,10 @@ ghost use Rattle.std.specs.Option.{option_map};
 ghost use Rattle.df_rules.specs.Start.{rows};
 ghost use Rattle.df_unit.specs.declared.call.Call.TheVariants.{Subscribe};
 ghost use Rattle.df_unit.specs.declared.entry.Effect.{Effect};
+ghost use Rattle.df_unit.specs.declared.reply.Reply.{Reply};
 ghost use Rattle.df_unit.specs.declared.reply.Reply.TheVariants.{Sub};
 ghost use Rattle.df_local.specs.Brief.{accepted_reply, brief_call};
-ghost use Rattle.df_local.specs.Locally.{closing, made_where};
+ghost use Rattle.df_local.specs.Locally.{closing, made_where, told_if};
 ghost use Rattle.df_tables.specs.Hand.{IsAnsweredAt, IsClosedAt, IsGiven, IsGivenAt, IsMadeAt, modify, received_answer, shut_row};
 ghost use Rattle.df_tables.specs.Moves.{IsAnswered};
 ghost use Rattle.df_tables.specs.Table.{moved_row, taken};
@@ -59,15 +60,22 @@ pub fn move_at(
     move_row(unit, call, reply, effect)
 }
 
-/// Makes a call that the unit at a place makes of its own state alone; None where it is another.
-/// Where memory is wanting, the table is as before.
-pub fn make_at(units: &mut [Unit], place: usize, call: &Call) -> Result<Option<Reply>, NoMemory>
+/// Makes a call that the unit at a place makes of its own state alone, and puts what it is told in
+/// place of an Ok; false where it is another. Where memory is wanting, the table is as before.
+pub fn make_at(
+    units: &mut [Unit],
+    place: usize,
+    call: &Call,
+    reply: &mut Reply,
+) -> Result<bool, NoMemory>
     requires within { place < length units.old }
-    ensures made { IfOk result (λ made. IsMadeAt place call.now made units.old units.new) }
+    requires ok { reply.old ≡ Reply.Ok }
+    ensures made { IfOk result (λ made. IsMadeAt place call.now (told_if made reply.new)
+        units.old units.new) }
     ensures unchanged { OnErr result (units.new ≡ units.old) }
 {
     let unit = &mut units[place];
-    match unit.local.make_alone(call) {
+    match unit.local.make_alone(call, reply) {
         Ok(made) => Ok(made),
         Err(refused) => Err(refused),
     }

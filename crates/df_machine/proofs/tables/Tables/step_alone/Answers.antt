@@ -1,5 +1,6 @@
 use Rattle.std.proofs.Common.{sym}
 use Rattle.std.proofs.lemmas.Result.{IfOk-weaker, on_err_weaker}
+use Rattle.df_local.specs.Locally.{told_if}
 use Rattle.df_machine.specs.declared.tables.Tables.{Tables}
 use Rattle.df_machine.proofs.Steps.{renewed_on, stepped_alone}
 use Rattle.df_machine.proofs.tables.Tables.step_alone.Goals as goal
@@ -16,7 +17,7 @@ after c = record { board = c.make_alone.new.self }
 pub returns-clause-made : goal.returns-clause-made
 returns-clause-made c =
     IfOk-weaker c.make_alone.result _ _
-    (λ made is. stepped_alone c.args.place c.args.call.now made c.args.self.now (after c) c.make_alone.ensures.board is)
+    (λ made is. stepped_alone c.args.place c.args.call.now (told_if made c.make_alone.new.reply) c.args.self.now (after c) c.make_alone.ensures.board is)
     c.make_alone.ensures.made
 
 pub returns-clause-kept : goal.returns-clause-kept
