@@ -194,15 +194,16 @@ all_longer (b ∷ bs) us =
 pub handed_longer : (k : Commit) (old new : Board) → IsWhole old.rows.items old.events old.index → IsHandedBoard k old new →
     length old.rows.items ≤ length new.rows.items
 handed_longer k old new whole done =
-    let us = done.opened.rows.items in
-    let ps = receivers_of done.ready in
-    let after = done.ready.after in
-    let apart = (whole_opened k.event old done.opened done.opening whole).apart in
+    let m = done.marked in
+    let us = m.opened.rows.items in
+    let ps = receivers_of m.ready in
+    let after = m.ready.after in
+    let apart = (whole_opened k.event old m.opened m.opening whole).apart in
     let given : Unit → List Given = λ u. news_by k.event after ps u (place_of u.local.unit us) in
     let all = ap (λ (l : List Unit). length l) (done.rows given (own_news k.event after ps us apart)) in
-    let longer = all_longer (rows_in done.ready.called.born.items) (map (with_news given) us) in
+    let longer = all_longer (rows_in m.ready.called.born.items) (map (with_news given) us) in
     let same = length-map us (with_news given) in
-    let before = ap (λ (l : List Unit). length l) done.opening.rows in
+    let before = ap (λ (l : List Unit). length l) m.opening.rows in
     omega (arith, all, longer, same, before)
 
 -- where a handle is closed

@@ -1,5 +1,5 @@
 -- After a commit that was handed to all to whom it is to be handed the tables tell of it.
-use Rattle.df_tables.proofs.Names.{◌≡◌, ◌↔◌, ℕ, ◌+◌, ◌≤◌, ◌==◌, ◌&&◌, ◌||◌, All, false, List, ◌∷◌, ◌++◌, length, map, Option, Some, None, refl, ap, sym, subst, ◌∙◌, arith, length-append, length-map, All-append, append-nil, Clause, Contains, IsReceiver, Pair, AreChosen, has_place, is_ready, AreNumbered, Instance, ManagedSubscription, Label, Privilege, apply, Part, contents, answer, own, rows, roots, OwnState, subscribes, Call, Commit, Given, Effect, Entry, Done, Emitted, UnitName, Reply, Agrees, FilterIndex, IsWhole, MakesNoManaged, MakesNoUnit, all_new, enrols, rows_in, IsBooked, IsEmitted, IsHandedBoard, IsBoard, IsMarked, IsOpenedBoard, IsReady, IsShutBoard, MakesClosing, TakesClosed, TellsOf, answer_from, managed_by, receivers_of, row_by, births_by, pairs_by, places_by, event_place, IsOpened, IsAnsweredAt, IsCalm, IsNews, TellsAt, modify, with_news, inputs, closed_by, shut_row, shut_where, moved_at, moved_row, names_of, parts_of, place_of, Board, EventRow, Ready, Unit, Bool, Result, Ok, Err, IfOk, OnErr, NoMemory}
+use Rattle.df_tables.proofs.Names.{◌≡◌, ◌↔◌, ℕ, ◌+◌, ◌≤◌, ◌==◌, ◌&&◌, ◌||◌, All, false, List, ◌∷◌, ◌++◌, length, map, Option, Some, None, refl, ap, sym, subst, ◌∙◌, arith, length-append, length-map, All-append, append-nil, Clause, Contains, IsReceiver, Pair, AreChosen, has_place, is_ready, AreNumbered, Instance, ManagedSubscription, Label, Privilege, apply, Part, contents, answer, own, rows, roots, OwnState, subscribes, Call, Commit, Given, Effect, Entry, Done, Emitted, UnitName, Reply, Agrees, FilterIndex, IsWhole, MakesNoManaged, MakesNoUnit, all_new, enrols, rows_in, IsBooked, IsEmitted, IsHandedBoard, IsBoard, AreMarked, IsMarkedBoard, IsReady, IsShutBoard, MakesClosing, TakesClosed, TellsOf, answer_from, managed_by, receivers_of, row_by, births_by, pairs_by, places_by, IsOpened, IsAnsweredAt, IsCalm, IsNews, TellsAt, modify, with_news, inputs, closed_by, shut_row, shut_where, moved_at, moved_row, names_of, place_of, Board, EventRow, Ready, Unit, Bool, Result, Ok, Err, IfOk, OnErr, NoMemory}
 use Rattle.df_index.specs.Filter.{matches}
 use Rattle.df_index.specs.IndexState as index
 use Rattle.df_instances.specs.Marks as marks
@@ -8,7 +8,7 @@ use Rattle.df_local.specs.declared.close.Close.{Close}
 use Rattle.df_tables.proofs.Alone.{IsBesideRows}
 use Rattle.df_tables.proofs.Places.{at_some}
 use Rattle.df_tables.proofs.Boards.{board_shut, board_steady, far_unbooked, inputs-modify, modify-moved, names-modify, receivers_within, whole_opened}
-use Rattle.df_tables.proofs.Booked.{booked_plain, found, kept_opened, makes, modify_same, place_in, plain_else, right, row_is}
+use Rattle.df_tables.proofs.Booked.{booked_plain, found, kept_opened, kept_renewed, makes, modify_same, place_in, plain_else, right, row_is}
 use Rattle.df_tables.proofs.Built.{childless_makes_none, unmanaged_makes_none}
 use Rattle.df_tables.proofs.Calls.{IsIn, pairs_within}
 use Rattle.df_tables.proofs.Closes.{called_like, closed_is, closes_only, map-modify, modify-append, news_modify, shut_is, takes_none}
@@ -27,9 +27,20 @@ ready_within k b ready whole is =
     (subst (All (IsIn b.rows.items)) (sym is.called.pairs) (pairs_within b.rows.items b.managed b.marks.handed ready.place is.called.instances)))
 
 -- what the commit of an event at a place leaves, once it was made ready and is marked
-module _ (k : Commit) (old opened new : Board) (ready : Ready) (whole : IsWhole old.rows.items old.events old.index)
-    (opening : IsOpenedBoard k.event old opened) (made : IsReady k opened ready) (marked : IsMarked k opened ready new)
+module _ (k : Commit) (old new : Board) (whole : IsWhole old.rows.items old.events old.index) (marked : IsMarkedBoard k old new)
     (starts : List (Label × List Privilege)) (past : List Entry) (tells : TellsOf starts past old) where
+  abbrev opened : Board
+  opened = marked.opened
+
+  abbrev ready : Ready
+  ready = marked.ready
+
+  abbrev made : IsReady k opened ready
+  made = marked.made
+
+  left : AreMarked k ready opened.managed new.managed opened.marks new.marks opened.index new.index opened.events new.events
+  left = marked.left
+
   abbrev us : List Unit
   us = opened.rows.items
 
@@ -51,10 +62,10 @@ module _ (k : Commit) (old opened new : Board) (ready : Ready) (whole : IsWhole 
 
   -- the tables tell what they told once the event is opened
   pub before : TellsOf starts past opened
-  before = kept_opened k.event old opened whole opening starts past tells
+  before = kept_opened k.event old opened whole marked.opening starts past tells
 
   there : IsWhole us opened.events opened.index
-  there = whole_opened k.event old opened opening whole
+  there = whole_opened k.event old opened marked.opening whole
 
   is : after ≡ apply k.edit (contents past k.event)
   is = made.after ∙ ap (apply k.edit) (before.agrees.parts k.event)
@@ -65,7 +76,7 @@ module _ (k : Commit) (old opened new : Board) (ready : Ready) (whole : IsWhole 
   told : (e q : ℕ) → marks.was_handed new.marks.handed e q ≡ (marks.was_handed opened.marks.handed e q || ((e == ready.place) && has_place (places_by (length us) qs bs) q))
   told e q =
       let b = marks.was_handed opened.marks.handed e q in
-      marked.told e q
+      left.told e q
       ∙ ap (λ (r : Option (ℕ × List ℕ)). b || is_ready r e q) made.marked
       ∙ ap (λ (ps : List Pair). b || ((e == ready.place) && has_place (places_by (length us) ps (rows_in ready.called.born.items)) q)) made.called.pairs
       ∙ ap (λ (l : List Unit). b || ((e == ready.place) && has_place (places_by (length us) qs l) q)) made.called.born
@@ -85,13 +96,13 @@ module _ (k : Commit) (old opened new : Board) (ready : Ready) (whole : IsWhole 
 
   -- who has no row is marked as handed nothing
   unmarked : (event : ℕ) (p : Pair) → length us ≤ p.0 → index.was_handed new.index.handed event p ≡ false
-  unmarked = far_unbooked ready.to (length us) ready.place opened.index.handed new.index.handed (receivers_within k opened ready there made) marked.handed there.seated
+  unmarked = far_unbooked ready.to (length us) ready.place opened.index.handed new.index.handed (receivers_within k opened ready there made) left.handed there.seated
 
   -- they agree with an emitted entry
   pub agrees_here : Agrees rows (roots starts) (Emitted k ∷ past) (map (with_news brings) us ++ bs) new.events new.index (managed_by opened.managed new.marks.handed)
   agrees_here =
       agrees_told starts past us opened.events opened.index opened.managed opened.marks.handed before.agrees before.numbered there.apart k ready.place after made.place made.after
-      ready.to (inputs us) refl made.ascending made.due xs made.called.ascending are new.events new.index new.marks.handed before.within marked.parts marked.places marked.size marked.enrolled marked.handed told there.enrolled unmarked
+      ready.to (inputs us) refl made.ascending made.due xs made.called.ascending are new.events new.index new.marks.handed before.within left.parts left.places left.size left.enrolled left.handed told there.enrolled unmarked
 
   -- they agree with a call's
   pub agrees_done : (a : UnitName) (c : Call) (r : Reply) → MakesNoUnit rows c r → answer rows (roots starts) past a c ≡ (r, Effect.Commit k) →
@@ -99,19 +110,19 @@ module _ (k : Commit) (old opened new : Board) (ready : Ready) (whole : IsWhole 
       Agrees rows (roots starts) (Done a c r (Effect.Commit k) ∷ past) (moved_at a (moved_row rows c r (Effect.Commit k)) (map (with_news brings) us) ++ bs) new.events new.index (managed_by opened.managed new.marks.handed)
   agrees_done a c r childless right unfixed makes =
       agrees_called starts past us opened.events opened.index opened.managed opened.marks.handed before.agrees before.numbered there.apart k ready.place after made.place made.after
-      ready.to (inputs us) refl made.ascending made.due xs made.called.ascending are new.events new.index new.marks.handed before.within marked.parts marked.places marked.size marked.enrolled marked.handed told
+      ready.to (inputs us) refl made.ascending made.due xs made.called.ascending are new.events new.index new.marks.handed before.within left.parts left.places left.size left.enrolled left.handed told
       a c r childless right unfixed makes there.enrolled unmarked
 
   -- where they agree with an entry, the tables tell of it
   pub told_after : (now : List Entry) → length new.rows.items ≡ length us + length bs →
       Agrees rows (roots starts) now new.rows.items new.events new.index (managed_by opened.managed new.marks.handed) → TellsOf starts now new
   told_after now size agrees = record {
-    agrees = subst (λ (m : List ManagedSubscription). Agrees rows (roots starts) now new.rows.items new.events new.index (managed_by m new.marks.handed)) (sym marked.managed) agrees;
-    numbered = subst AreNumbered (sym marked.managed) before.numbered;
+    agrees = subst (λ (m : List ManagedSubscription). Agrees rows (roots starts) now new.rows.items new.events new.index (managed_by m new.marks.handed)) (sym left.managed) agrees;
+    numbered = subst AreNumbered (sym left.managed) before.numbered;
     within = within_called starts past us opened.events opened.index opened.managed opened.marks.handed
         before.agrees before.numbered there.apart k ready.place after made.place made.after ready.to (inputs us) refl
-        made.ascending made.due xs made.called.ascending are new.events new.index new.marks.handed before.within marked.parts
-        marked.places marked.size marked.enrolled marked.handed told new.rows.items size;
+        made.ascending made.due xs made.called.ascending are new.events new.index new.marks.handed before.within left.parts
+        left.places left.size left.enrolled left.handed told new.rows.items size;
   }
 
   -- and of a call that closes a handle of the unit at a place
@@ -122,7 +133,7 @@ module _ (k : Commit) (old opened new : Board) (ready : Ready) (whole : IsWhole 
       let now : List Entry = Done a c r (Effect.Commit k) ∷ past in
       let F = moved_row rows c r (Effect.Commit k) in
       let vs : List Unit = map (with_news brings) us in
-      let also : place_of a vs ≡ Some q = place_of-names a us vs (names-map (with_news brings) (λ u. refl) us) ∙ ap (place_of a) opening.rows ∙ place in
+      let also : place_of a vs ≡ Some q = place_of-names a us vs (names-map (with_news brings) (λ u. refl) us) ∙ ap (place_of a) marked.opening.rows ∙ place in
       let only = closes_only c r h closes in
       let moved : new.rows.items ≡ moved_at a F vs ++ bs =
       rows_are
@@ -136,50 +147,42 @@ module _ (k : Commit) (old opened new : Board) (ready : Ready) (whole : IsWhole 
       (unmanaged_makes_none c r only.unmanaged)
       (λ st owned. makes starts past old tells a q place c r (Effect.Commit k) answered st owned ∙ only.made)))
 
+  -- and of an emitted commit
+  pub told_emitted : new.rows.items ≡ all_new (rows_in ready.called.born.items) (map (with_news brings) us) → TellsOf starts (Emitted k ∷ past) new
+  told_emitted come =
+      let vs : List Unit = map (with_news brings) us in
+      let rows_are : new.rows.items ≡ vs ++ bs = come ∙ all_come vs (names-map (with_news brings) (λ u. refl) us) in
+      let all = ap length rows_are in
+      told_after (Emitted k ∷ past) (omega (arith, all, length-append vs bs, length-map us (with_news brings)))
+      (subst (λ (l : List Unit). Agrees rows (roots starts) (Emitted k ∷ past) l new.events new.index (managed_by opened.managed new.marks.handed)) (sym rows_are)
+      agrees_here)
+
 -- after an emitted commit
 pub emitted : (k : Commit) (old new : Board) → IsWhole old.rows.items old.events old.index → IsHandedBoard k old new → IsEmitted k old new
 emitted k old new whole done starts past tells =
     let m = done.marked in
-    let g = brings k old done.opened new done.ready whole done.opening done.made m starts past tells in
-    let vs : List Unit = map (with_news g) done.opened.rows.items in
-    let bs : List Unit = births_by done.opened.rows.items done.opened.managed k.event done.ready.after done.made.called.instances in
-    let rows_are : new.rows.items ≡ vs ++ bs =
-    done.rows g (news k old done.opened new done.ready whole done.opening done.made m starts past tells)
-    ∙ all_come k old done.opened new done.ready whole done.opening done.made m starts past tells vs (names-map (with_news g) (λ u. refl) done.opened.rows.items) in
-    let all = ap length rows_are in
-    told_after k old done.opened new done.ready whole done.opening done.made m starts past tells (Emitted k ∷ past)
-    (omega (arith, all, length-append vs bs, length-map done.opened.rows.items (with_news g)))
-    (subst (λ (l : List Unit). Agrees rows (roots starts) (Emitted k ∷ past) l new.events new.index (managed_by done.opened.managed new.marks.handed)) (sym rows_are)
-    (agrees_here k old done.opened new done.ready whole done.opening done.made m starts past tells))
-
--- a handle that is closed changes nothing of what is marked
-marked_shut : (k : Commit) (q h : ℕ) (opened mid new : Board) (ready : Ready) → IsShutBoard q h mid new → IsMarked k opened ready mid → IsMarked k opened ready new
-marked_shut k q h opened mid new ready shut m = record {
-  managed = shut.managed ∙ m.managed;
-  told = λ e p. ap (λ (l : List (List ℕ)). marks.was_handed l e p) shut.told ∙ m.told e p;
-  enrolled = ap (λ (x : FilterIndex). x.enrolled) shut.index ∙ m.enrolled;
-  handed = λ e p. ap (λ (x : FilterIndex). index.was_handed x.handed e p) shut.index ∙ m.handed e p;
-  size = ap length shut.events ∙ m.size;
-  places = λ e. ap (event_place e) shut.events ∙ m.places e;
-  parts = λ e. ap (parts_of e) shut.events ∙ m.parts e;
-}
+    told_emitted k old new whole m starts past tells
+    (done.rows (brings k old new whole m starts past tells) (news k old new whole m starts past tells))
 
 -- after a commit of the unit at a place, by a call that closes a handle behind it
 pub booked_commit : (a : UnitName) (q h : ℕ) (c : Call) (r : Reply) (k : Commit) (old mid new : Board) → place_of a old.rows.items ≡ Some q →
     closed_by c r ≡ Some h → IsAnsweredAt q c r (Effect.Commit k) old.rows.items → IsWhole old.rows.items old.events old.index →
     IsHandedBoard k old mid → IsShutBoard q h mid new → IsBooked a c r (Effect.Commit k) old new
 booked_commit a q h c r k old mid new place closes answered whole done shut starts past tells =
-    let us = done.opened.rows.items in
-    let m = marked_shut k q h done.opened mid new done.ready shut done.marked in
-    let g = brings k old done.opened new done.ready whole done.opening done.made m starts past tells in
+    let with_rows : Board = record mid { rows = new.rows } in
+    let d = done.marked in
+    let m : IsMarkedBoard k old with_rows = record { opened = d.opened; ready = d.ready; opening = d.opening; made = d.made; left = d.left } in
+    let us = d.opened.rows.items in
+    let g = brings k old with_rows whole m starts past tells in
     let vs : List Unit = map (with_news g) us in
-    let bs : List Unit = births_by us done.opened.managed k.event done.ready.after done.made.called.instances in
     let named : names_of vs ≡ names_of us = names-map (with_news g) (λ u. refl) us in
-    told_closed k old done.opened new done.ready whole done.opening done.made m starts past tells a q h c r place closes answered
+    kept_renewed with_rows new (record { rows = refl; roll = shut.roll; events = shut.events; index = shut.index; managed = shut.managed; told = shut.told })
+    starts (Done a c r (Effect.Commit k) ∷ past)
+    (told_closed k old with_rows whole m starts past tells a q h c r place closes answered
     (shut.rows
-    ∙ ap (modify q (shut_row h)) (done.rows g (news k old done.opened new done.ready whole done.opening done.made m starts past tells)
-    ∙ all_come k old done.opened new done.ready whole done.opening done.made m starts past tells vs named)
-    ∙ modify-append q (shut_row h) vs bs (place_in a vs q (place_of-names a us vs named ∙ ap (place_of a) done.opening.rows ∙ place)))
+    ∙ ap (modify q (shut_row h)) (done.rows g (news k old with_rows whole m starts past tells) ∙ all_come k old with_rows whole m starts past tells vs named)
+    ∙ modify-append q (shut_row h) vs (bs k old with_rows whole m starts past tells)
+    (place_in a vs q (place_of-names a us vs named ∙ ap (place_of a) d.opening.rows ∙ place))))
 
 -- the board that was opened, with the rows before a handle was closed
 abbrev unshut : Board → Board → Board
@@ -203,44 +206,43 @@ made_unshut k q h old opened ready shut made =
       marked = made.marked ∙ ap (λ (n : ℕ). Some (ready.place, places_by n ready.called.pairs.items (rows_in ready.called.born.items))) size;
     }
 
+-- a handle that was closed before it changes nothing of what is marked
+marked_unshut : (k : Commit) (q h : ℕ) (old mid new : Board) → IsShutBoard q h old mid → IsMarkedBoard k mid new → IsMarkedBoard k old new
+marked_unshut k q h old mid new shut m =
+    let o = m.opening in record {
+      opened = unshut old m.opened;
+      ready = m.ready;
+      opening = record {
+        rows = refl;
+        roll = o.roll ∙ shut.roll;
+        enrolled = o.enrolled ∙ ap (λ (x : FilterIndex). x.enrolled) shut.index;
+        handed = o.handed ∙ ap (λ (x : FilterIndex). x.handed) shut.index;
+        managed = o.managed ∙ shut.managed;
+        told = o.told ∙ shut.told;
+        opened = subst (λ (es : List EventRow). IsOpened k.event es m.opened.events) shut.events o.opened;
+      };
+      made = made_unshut k q h old m.opened m.ready (o.rows ∙ shut.rows) m.made;
+      left = m.left;
+    }
+
 -- after a commit of the unit at a place, by a call that closed a handle before it
 pub booked_taken : (a : UnitName) (q h : ℕ) (c : Call) (r : Reply) (k : Commit) (old mid new : Board) → place_of a old.rows.items ≡ Some q →
     closed_by c r ≡ Some h → IsAnsweredAt q c r (Effect.Commit k) old.rows.items → IsWhole old.rows.items old.events old.index →
     IsShutBoard q h old mid → IsHandedBoard k mid new → IsBooked a c r (Effect.Commit k) old new
+unfolding marked_unshut
 booked_taken a q h c r k old mid new place closes answered whole shut done starts past tells =
     let us = old.rows.items in
-    let opened : Board = unshut old done.opened in
-    let is : done.opened.rows.items ≡ modify q (shut_row h) us = done.opening.rows ∙ shut.rows in
-    let o = done.opening in
-    let n = done.marked in
-    let opening : IsOpenedBoard k.event old opened = record {
-      rows = refl;
-      roll = o.roll ∙ shut.roll;
-      enrolled = o.enrolled ∙ ap (λ (x : FilterIndex). x.enrolled) shut.index;
-      handed = o.handed ∙ ap (λ (x : FilterIndex). x.handed) shut.index;
-      managed = o.managed ∙ shut.managed;
-      told = o.told ∙ shut.told;
-      opened = subst (λ (es : List EventRow). IsOpened k.event es done.opened.events) shut.events o.opened;
-    } in
-    let made : IsReady k opened done.ready = made_unshut k q h old done.opened done.ready is done.made in
-    let m : IsMarked k opened done.ready new = record {
-      managed = n.managed;
-      told = n.told;
-      enrolled = n.enrolled;
-      handed = n.handed;
-      size = n.size;
-      places = n.places;
-      parts = n.parts;
-    } in
-    let g = brings k old opened new done.ready whole opening made m starts past tells in
+    let ready = done.marked.ready in
+    let is : done.marked.opened.rows.items ≡ modify q (shut_row h) us = done.marked.opening.rows ∙ shut.rows in
+    let m = marked_unshut k q h old mid new shut done.marked in
+    let g = brings k old new whole m starts past tells in
     let vs : List Unit = map (with_news g) us in
-    told_closed k old opened new done.ready whole opening made m starts past tells a q h c r place closes answered
-    (done.rows g (subst (IsNews g k.event done.ready.after (receivers_of done.ready)) (sym is)
-    (news_modify g k.event done.ready.after (receivers_of done.ready) us q (shut_row h) (λ u. refl) (λ u. refl)
-    (news k old opened new done.ready whole opening made m starts past tells)))
-    ∙ ap (λ (l : List Unit). all_new (rows_in done.ready.called.born.items) (map (with_news g) l)) is
-    ∙ ap (all_new (rows_in done.ready.called.born.items)) (map-modify (with_news g) (shut_row h) (λ u. refl) q us)
-    ∙ all_come k old opened new done.ready whole opening made m starts past tells (modify q (shut_row h) vs)
+    told_closed k old new whole m starts past tells a q h c r place closes answered
+    (done.rows g (subst (IsNews g k.event ready.after (receivers_of ready)) (sym is)
+    (news_modify g k.event ready.after (receivers_of ready) us q (shut_row h) (λ u. refl) (λ u. refl) (news k old new whole m starts past tells)))
+    ∙ ap (λ (l : List Unit). all_new (rows_in ready.called.born.items) (map (with_news g) l)) is
+    ∙ ap (all_new (rows_in ready.called.born.items)) (map-modify (with_news g) (shut_row h) (λ u. refl) q us)
+    ∙ all_come k old new whole m starts past tells (modify q (shut_row h) vs)
     (names-modify (shut_row h) (λ u. refl) q vs ∙ names-map (with_news g) (λ u. refl) us))
 
 -- after one without a commit
@@ -269,15 +271,8 @@ board_taken : (k h : ℕ) (made : Option Effect) (old new : Board) → IsBoard o
 board_taken k h None old new board beside e =
     board_steady old new board (ap names_of e) (subst (All IsCalm) (sym e) board.whole.calm) (ap inputs e) beside.seats beside.events beside.index beside.labels beside.stale
 board_taken k h (Some f) old new board beside e =
-    board_shut k h old new board (record {
-      rows = e;
-      roll = beside.seats;
-      events = beside.events;
-      index = beside.index;
-      managed = beside.managed;
-      told = beside.told;
-    })
-    beside.labels beside.stale
+    board_shut k h old new board
+    (record { rows = e; roll = beside.seats; events = beside.events; index = beside.index; managed = beside.managed; told = beside.told }) beside.labels beside.stale
 
 -- and so where memory was wanting
 pub board_taken_either : (k h : ℕ) (old new : Board) (f : Effect) → IsBoard old → IsBesideRows old new → (r : Result Bool NoMemory) →
@@ -294,23 +289,18 @@ module _ (a : UnitName) (k : ℕ) (how : Close) (h : ℕ) (old mid : Board) (her
       subst (λ (o : Option Unit). TellsEffect (answer_from o (closing how h)) made)
       (sym (row_is old a (Some k) here ∙ (at_some a old.rows.items k d here).0)) (tells d (place_in a old.rows.items k here))
 
-  shuts : (f : Effect) → TakesClosed k (closing how h) h (Some f) old mid → IsShutBoard k h old mid
-  shuts f is = record { rows = is.rows; roll = is.roll; events = is.events; index = is.index; managed = is.managed; told = is.told }
-
   pub closing_taken : (c : Commit) (new : Board) → TakesClosed k (closing how h) h (Some (Effect.Commit c)) old mid → IsHandedBoard c mid new →
       MakesClosing (Some k) (closing how h) (Some (Effect.Commit c)) old new
   closing_taken c new is done = record {
     answer = told_here (Some (Effect.Commit c)) is.answered;
-    booked = λ actor at.
-        booked_taken actor k h (closing how h) Reply.Ok c old mid new at (closed_is how h) is.answered board.whole (shuts (Effect.Commit c) is) done;
+    booked = λ actor at. booked_taken actor k h (closing how h) Reply.Ok c old mid new at (closed_is how h) is.answered board.whole is.moved done;
   }
 
   pub closing_made : (made : Option Effect) → ((c : Commit) → made ≡ Some (Effect.Commit c) → ⊥) → TakesClosed k (closing how h) h made old mid →
       MakesClosing (Some k) (closing how h) made old mid
-  closing_made None never is =
-      (told_here None is.answered, record { rows = is.rows; roll = is.roll; events = is.events; index = is.index; managed = is.managed; told = is.told })
+  closing_made None never is = (told_here None is.answered, is.moved)
   closing_made (Some f) never is = record {
     answer = told_here (Some f) is.answered;
     booked = λ actor at.
-        booked_shut actor k h (closing how h) Reply.Ok f old mid at (closed_is how h) is.answered (λ c e. never c (ap (λ (x : Effect). Some x) e)) board.whole (shuts f is);
+        booked_shut actor k h (closing how h) Reply.Ok f old mid at (closed_is how h) is.answered (λ c e. never c (ap (λ (x : Effect). Some x) e)) board.whole is.moved;
   }

@@ -36,7 +36,7 @@ pub use Rattle.df_rules.specs.Start.{root_of, roots, rows}
 pub use Rattle.df_rules.specs.Subscriptions.{ComesBefore, subscribed_by, subscriptions}
 pub use Rattle.df_tables.specs.Agree.{Agrees, AreApart, AreWithin, FilterIndex, IsRow, IsSeat, IsWhole, MakesNoManaged, MakesNoUnit, ManagedState, enrols, is_marked, is_told, subscribed_at, subscriptions_at}
 pub use Rattle.df_tables.specs.Births.{IsEnrolled, IsNewborn, all_new, child_row, if_new, instance_row, rows_in}
-pub use Rattle.df_tables.specs.Board.{AreReceivers, HasRoom, IsBoard, IsBooked, IsChildBoard, IsEmitted, IsHandedBoard, IsKept, IsMade, IsMarked, IsMovedBoard, IsOpenedBoard, IsReady, IsRenewed, IsRollOf, IsShutBoard, MakesAlone, MakesClosing, TakesClosed, TellsOf, answer_from, answer_on, is_brought, managed_by, managed_of, place_on, receivers_by, receivers_of, row_by, row_on}
+pub use Rattle.df_tables.specs.Board.{AreMarked, AreReceivers, HasRoom, IsBoard, IsBooked, IsChildBoard, IsEmitted, IsHandedBoard, IsKept, IsMade, IsMarkedBoard, IsMovedBoard, IsOpenedBoard, IsReady, IsRenewed, IsRollOf, IsShutBoard, MakesAlone, MakesClosing, TakesClosed, TellsOf, answer_from, answer_on, is_brought, managed_by, managed_of, place_on, receivers_by, receivers_of, row_by, row_on}
 pub use Rattle.df_tables.specs.Calls.{AreCalled, birth_of, births_by, name_at, names_at, pair_at, pair_of, pairs_by, places_by, places_from}
 pub use Rattle.df_tables.specs.EventPlaces.{Near, Others, Strays, key_by, key_of, numbers_cmp, place_at, root_number, same_key, slot, slot_in}
 pub use Rattle.df_tables.specs.Events.{IsOpened, IsPlaced, blank, event_place, place_by, root_event}

@@ -31,7 +31,7 @@ use Rattle.df_unit.specs.declared.name.UnitName.{UnitName}
 use Rattle.df_unit.specs.declared.reply.Reply.{Reply}
 use Rattle.df_roll.specs.Roll.{names_in, seat_of}
 use Rattle.df_roll.specs.declared.seat.Seat.{Seat}
-use Rattle.df_tables.specs.Agree.{Agrees, AreWithin, IsWhole, ManagedState, enrols}
+use Rattle.df_tables.specs.Agree.{Agrees, AreWithin, FilterIndex, IsWhole, ManagedState, enrols}
 use Rattle.df_tables.specs.Labels.{AreLabels, inputs}
 use Rattle.df_tables.specs.Events.{IsOpened, event_place}
 use Rattle.df_tables.specs.Hand.{IsAnsweredAt, IsNews, TellsAt, modify, shut_row, shut_where, with_news}
@@ -41,6 +41,7 @@ use Rattle.df_tables.specs.Calls.{AreCalled, places_by}
 use Rattle.df_tables.specs.Table.{find, moved_row, parts_of, place_of}
 use Rattle.df_tables.specs.declared.board.Board.{Board}
 use Rattle.df_tables.specs.declared.commits.Ready.{Ready}
+use Rattle.df_tables.specs.declared.events.EventRow.{EventRow}
 use Rattle.df_tables.specs.declared.units.Unit.{Unit}
 
 -- the roll has the place of each unit's row
@@ -166,14 +167,18 @@ pub record IsReady (c : Commit) (b : Board) (ready : Ready) : Type 0 where
     places_by (length b.rows.items) ready.called.pairs.items (rows_in ready.called.born.items),
   )
 
--- at most the labels are others
-pub record IsRenewed (old new : Board) : Type 0 where
-  pub rows : new.rows.items ≡ old.rows.items
+-- the rows are these, and beside them at most the labels are others
+pub record IsBeside (us : List Unit) (old new : Board) : Type 0 where
+  pub rows : new.rows.items ≡ us
   pub roll : new.roll.seats ≡ old.roll.seats
   pub events : new.events ≡ old.events
   pub index : new.index ≡ old.index
   pub managed : new.managed ≡ old.managed
   pub told : new.marks.handed ≡ old.marks.handed
+
+-- at most the labels are others
+abbrev pub IsRenewed : Board → Board → Type 0
+IsRenewed old new = IsBeside old.rows.items old new
 
 -- the row at a place answers so to a call, which whatever the tables told is its unit's next entry
 pub record IsMade (place : Option ℕ) (c : Call) (a : Reply × Effect) (old new : Board)
@@ -199,24 +204,14 @@ pub record IsMovedBoard (k : ℕ) (c : Call) (r : Reply) (f : Effect)
   pub told : new.marks.handed ≡ old.marks.handed
 
 -- a handle of the unit at a place is closed
-pub record IsShutBoard (k h : ℕ) (old new : Board) : Type 0 where
-  pub rows : new.rows.items ≡ modify k (shut_row h) old.rows.items
-  pub roll : new.roll.seats ≡ old.roll.seats
-  pub events : new.events ≡ old.events
-  pub index : new.index ≡ old.index
-  pub managed : new.managed ≡ old.managed
-  pub told : new.marks.handed ≡ old.marks.handed
+abbrev pub IsShutBoard : ℕ → ℕ → Board → Board → Type 0
+IsShutBoard k h old new = IsBeside (modify k (shut_row h) old.rows.items) old new
 
 -- the unit at a place answers the call so, and its handle is closed where that is with Ok
 pub record TakesClosed (k : ℕ) (c : Call) (h : ℕ) (made : Option Effect) (old new : Board)
     : Type 0 where
   pub answered : TellsAt k c made old.rows.items
-  pub rows : new.rows.items ≡ shut_where made k h old.rows.items
-  pub roll : new.roll.seats ≡ old.roll.seats
-  pub events : new.events ≡ old.events
-  pub index : new.index ≡ old.index
-  pub managed : new.managed ≡ old.managed
-  pub told : new.marks.handed ≡ old.marks.handed
+  pub moved : IsBeside (shut_where made k h old.rows.items) old new
 
 -- a publish or a release that is answered with Ok is made, and this is its effect; at one that is
 -- refused at most the labels are others
@@ -275,29 +270,37 @@ pub record IsClosed (ready : Ready) (old new : Board) : Type 0 where
       (e : EventName) → parts_of e new.events
       ≡ (if same_event event e then ready.after else parts_of e old.events)
 
--- a commit that was made ready is marked as handed, and its event has the parts after it
-pub record IsMarked (commit : Commit) (opened : Board) (ready : Ready) (new : Board)
+-- of what stands beside the rows, the marks tell of a commit that was made ready, and its event has
+-- the parts after it
+pub record AreMarked (commit : Commit) (ready : Ready) (subs subs' : List ManagedSubscription)
+    (marked marked' : marks.MarksState) (index index' : FilterIndex) (events events' : List EventRow)
     : Type 0 where
-  pub managed : new.managed ≡ opened.managed
-  pub told : (e q : ℕ) → marks.was_handed new.marks.handed e q
-      ≡ (marks.was_handed opened.marks.handed e q || marks.is_ready opened.marks.ready e q)
-  pub enrolled : new.index.enrolled ≡ opened.index.enrolled
-  pub handed : (e : ℕ) (p : Pair) → was_handed new.index.handed e p
-      ≡ (was_handed opened.index.handed e p || ((e == ready.place) && has_pair ready.to p))
-  pub size : length new.events ≡ length opened.events
-  pub places : (e : EventName) → event_place e new.events ≡ event_place e opened.events
-  pub parts : (e : EventName) → parts_of e new.events
-      ≡ (if same_event commit.event e then ready.after else parts_of e opened.events)
+  pub managed : subs' ≡ subs
+  pub told : (e q : ℕ) → marks.was_handed marked'.handed e q
+      ≡ (marks.was_handed marked.handed e q || marks.is_ready marked.ready e q)
+  pub enrolled : index'.enrolled ≡ index.enrolled
+  pub handed : (e : ℕ) (p : Pair) → was_handed index'.handed e p
+      ≡ (was_handed index.handed e p || ((e == ready.place) && has_pair ready.to p))
+  pub size : length events' ≡ length events
+  pub places : (e : EventName) → event_place e events' ≡ event_place e events
+  pub parts : (e : EventName) → parts_of e events'
+      ≡ (if same_event commit.event e then ready.after else parts_of e events)
 
--- a commit is handed to its receivers and no other row, is marked so, its event has the parts after
--- it, and those who come to exist by it have their rows
-pub record IsHandedBoard (commit : Commit) (old new : Board) : Type 0 where
+-- the event has its row, and a commit that was made ready there is marked
+pub record IsMarkedBoard (commit : Commit) (old new : Board) : Type 0 where
   pub opened : Board
   pub ready : Ready
   pub opening : IsOpenedBoard commit.event old opened
   pub made : IsReady commit opened ready
+  pub left : AreMarked commit ready opened.managed new.managed opened.marks new.marks
+      opened.index new.index opened.events new.events
+
+-- a commit is handed to its receivers and no other row, is marked so, its event has the parts after
+-- it, and those who come to exist by it have their rows
+pub record IsHandedBoard (commit : Commit) (old new : Board) : Type 0 where
+  pub marked : IsMarkedBoard commit old new
   pub rows : (given : Unit → List Given) →
-      IsNews given commit.event ready.after (receivers_of ready) opened.rows.items →
-      new.rows.items ≡ all_new (rows_in ready.called.born.items)
-      (map (with_news given) opened.rows.items)
-  pub marked : IsMarked commit opened ready new
+      IsNews given commit.event marked.ready.after (receivers_of marked.ready)
+      marked.opened.rows.items →
+      new.rows.items ≡ all_new (rows_in marked.ready.called.born.items)
+      (map (with_news given) marked.opened.rows.items)

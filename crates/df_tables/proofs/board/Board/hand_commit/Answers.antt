@@ -47,10 +47,21 @@ returns-clause-ok c =
     let after = c.in_ok-ready.ready.after in
     let event = c.args.commit.now.event in
     let closed = c.close.ensures.closed in record {
-      opened = c.open.new.self;
-      ready = c.in_ok-ready.ready;
-      opening = c.open.ensures.opened;
-      made = is;
+      marked = record {
+        opened = c.open.new.self;
+        ready = c.in_ok-ready.ready;
+        opening = c.open.ensures.opened;
+        made = is;
+        left = record {
+          managed = closed.managed;
+          told = closed.told;
+          enrolled = closed.enrolled;
+          handed = closed.handed;
+          size = closed.size;
+          places = closed.places;
+          parts = λ e. closed.parts event is.place e;
+        };
+      };
       rows = λ given news.
           closed.rows
           ∙ ap (all_new (rows_in c.in_ok-ready.ready.called.born.items))
@@ -59,13 +70,4 @@ returns-clause-ok c =
           (subst (λ (us : List Unit). IsNews given event after c.receivers.result.now us) (sym c.as_mut_slice-rows.ensures.value)
           (subst (λ (ps : List Pair). IsNews given event after ps c.open.new.self.rows.items) (sym c.receivers.ensures) news))
           ∙ ap (map (with_news given)) c.as_mut_slice-rows.ensures.value);
-      marked = record {
-        managed = closed.managed;
-        told = closed.told;
-        enrolled = closed.enrolled;
-        handed = closed.handed;
-        size = closed.size;
-        places = closed.places;
-        parts = λ e. closed.parts event is.place e;
-      };
     }

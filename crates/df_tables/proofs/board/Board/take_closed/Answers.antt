@@ -18,12 +18,7 @@ returns-clause-taken c =
     IfOk-weaker c.close_at.result _ _
     (λ is closed. let made = made_where is c.close_at.new.effect in record {
       answered = subst (TellsAt c.args.place (closing c.args.how c.args.h) made) c.as_mut_slice.ensures.value closed.told;
-      rows = rows_taken c made closed.moved;
-      roll = refl;
-      events = refl;
-      index = refl;
-      managed = refl;
-      told = refl;
+      moved = record { rows = rows_taken c made closed.moved; roll = refl; events = refl; index = refl; managed = refl; told = refl };
     })
     c.close_at.ensures.made
 
