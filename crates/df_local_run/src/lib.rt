@@ -5,4 +5,4 @@ mod local_run;
 mod parts;
 
 pub use local_run::{LocalRun, is_local};
-pub use parts::{NotCalled, RunParts};
+pub use parts::RunParts;

@@ -1,8 +1,8 @@
 //! Runs of local calls of one unit, apart from all others.
 
-ghost use Rattle.std.specs.Prelude.{◌≡◌, [], IfErr, IfOk, OnErr, OnOk, true};
+ghost use Rattle.std.specs.Prelude.{◌≡◌, [], IfOk, OnErr, OnOk, true};
 
-use crate::parts::{NotCalled, RunParts};
+use crate::parts::RunParts;
 use df_local::Local;
 use df_memory::NoMemory;
 use df_unit::{Call, Entry};
@@ -46,12 +46,12 @@ impl LocalRun {
         Ok(LocalRun { parts })
     }
 
-    /// Makes one local call more. The first costs a copy of the unit.
-    pub fn call(&mut self, call: Call) -> Result<(), NotCalled>
-        requires { is_local call ≡ true }
-        ensures ok { OnOk result (self.new ≡ called self.old call) }
+    /// Makes one local call more, which is moved into its entry. The first costs a copy of the unit.
+    pub fn call(&mut self, call: &mut Call) -> Result<(), NoMemory>
+        requires { is_local call.old ≡ true }
+        ensures ok { OnOk result (self.new ≡ called self.old call.old) }
         ensures unchanged { OnErr result (self.new ≡ self.old) }
-        ensures back { IfErr result (λ refused. refused.call ≡ call) }
+        ensures call { OnErr result (call.new ≡ call.old) }
     {
         self.parts.call(call)
     }

@@ -1,12 +1,13 @@
 //! What a run of local calls is made of.
 
-ghost use Rattle.std.specs.Prelude.{◌≡◌, ◌<◌, IfErr, IfOk, OnErr, OnOk, true, vec_capacity, vec_len};
+ghost use Rattle.std.specs.Prelude.{◌≡◌, ◌<◌, IfOk, OnErr, OnOk, true, vec_capacity, vec_len};
 ghost use Rattle.df_local_run.specs.code.Parts.{IsCalled, IsRun, state_of};
 ghost use Rattle.df_local_run.specs.Runs.{called, is_local};
 
 use df_local::Local;
 use df_memory::NoMemory;
 use df_unit::{Call, Effect, Entry, Reply, UnitName};
+use std::mem;
 
 /// What a run is made of.
 #[derive(Drop)]
@@ -16,12 +17,6 @@ pub struct RunParts {
     pub present: Option<Local>,
     /// The oldest first.
     pub entries: Vec<Entry>,
-}
-
-/// There is no memory for the call, which is given back.
-#[derive(Drop)]
-pub struct NotCalled {
-    pub call: Call,
 }
 
 /// The unit's name, and room for its entry.
@@ -34,32 +29,27 @@ fn prepare(unit: &Local, entries: &mut Vec<Entry>) -> Result<UnitName, NoMemory>
     unit.name().copy()
 }
 
-/// Makes a local call of a unit, whose entry is put behind the others.
-fn make(unit: &mut Local, entries: &mut Vec<Entry>, call: Call) -> Result<(), NotCalled>
-    requires { is_local call ≡ true }
-    ensures ok { OnOk result (IsCalled call unit.old unit.new entries.old.items
+/// Makes a local call of a unit, and moves it into its entry, which is put behind the others.
+fn make(unit: &mut Local, entries: &mut Vec<Entry>, call: &mut Call) -> Result<(), NoMemory>
+    requires { is_local call.old ≡ true }
+    ensures ok { OnOk result (IsCalled call.old unit.old unit.new entries.old.items
         entries.new.items) }
     ensures unit { OnErr result (unit.new ≡ unit.old) }
     ensures entries { OnErr result (entries.new.items ≡ entries.old.items) }
-    ensures back { IfErr result (λ refused. refused.call ≡ call) }
+    ensures call { OnErr result (call.new ≡ call.old) }
 {
-    let Ok(actor) = prepare(unit, entries) else {
-        return Err(NotCalled { call });
-    };
+    let actor = prepare(unit, entries)?;
     let mut reply = Reply::Ok;
-    match unit.make_alone(&call, &mut reply) {
-        Ok(true) => {
-            let effect = Effect::Nothing;
-            entries.push_reserved(Entry::Done {
-                actor,
-                call,
-                reply,
-                effect,
-            });
-            Ok(())
-        }
-        _ => Err(NotCalled { call }),
+    if !unit.make_alone(call, &mut reply)? {
+        return Err(NoMemory);
     }
+    entries.push_reserved(Entry::Done {
+        actor,
+        call: mem::replace(call, Call::Get),
+        reply,
+        effect: Effect::Nothing,
+    });
+    Ok(())
 }
 
 impl RunParts {
@@ -74,6 +64,7 @@ impl RunParts {
     }
 
     /// Copies the unit, where it wasn't.
+    #[inline(never)]
     fn copy_unit(&mut self) -> Result<(), NoMemory>
         ensures run { IsRun self.old → IsRun self.new }
         ensures state { state_of self.new ≡ state_of self.old }
@@ -84,19 +75,19 @@ impl RunParts {
         Ok(())
     }
 
-    /// Makes one local call more.
-    pub(crate) fn call(&mut self, call: Call) -> Result<(), NotCalled>
+    /// Makes one local call more, which is moved into its entry.
+    pub(crate) fn call(&mut self, call: &mut Call) -> Result<(), NoMemory>
         requires run { IsRun self.old }
-        requires local { is_local call ≡ true }
+        requires local { is_local call.old ≡ true }
         ensures run { IsRun self.new }
-        ensures ok { OnOk result (state_of self.new ≡ called (state_of self.old) call) }
+        ensures ok { OnOk result (state_of self.new ≡ called (state_of self.old) call.old) }
         ensures unchanged { OnErr result (state_of self.new ≡ state_of self.old) }
-        ensures back { IfErr result (λ refused. refused.call ≡ call) }
+        ensures call { OnErr result (call.new ≡ call.old) }
     {
         let _copied = self.copy_unit();
         match &mut self.present {
             Some(present) => make(present, &mut self.entries, call),
-            None => Err(NotCalled { call }),
+            None => Err(NoMemory),
         }
     }
 }

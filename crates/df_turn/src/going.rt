@@ -12,7 +12,7 @@ ghost use Rattle.df_unit.specs.declared.entry.Entry.{Entry};
 use crate::mind::Mind;
 use crate::ready::Ready;
 use crate::shared::Shared;
-use crate::stage::{Stage, take};
+use crate::stage::Stage;
 use df_brain::{Brain, Last, Want};
 use df_local::Local;
 use df_local_run::LocalRun;
@@ -108,24 +108,6 @@ impl<B: Brain> Going<B> {
         run.let_go();
     }
 
-    /// Makes the local call that is wanted.
-    fn make(&mut self) -> Result<(), NoMemory>
-        requires { goes_on self.old.stage ≡ true }
-        ensures taken { OnOk result (IsTaken self.old.run self.new.run self.old.stage) }
-        ensures stage { OnOk result (self.new.stage ≡ Answered) }
-        ensures state { self.new.state ≡ self.old.state }
-        ensures unchanged { OnErr result (self.new ≡ self.old) }
-    {
-        let wanted = mem::replace(&mut self.stage, Stage::Answered);
-        match take(&mut self.run, wanted) {
-            Ok(()) => Ok(()),
-            Err(wanted) => {
-                self.stage = wanted;
-                Err(NoMemory)
-            }
-        }
-    }
-
     /// The reply to the newest call, which the brain is told.
     fn newest(&self) -> Result<Last, NoMemory>
         ensures { IfOk result (λ l. last_of l ≡ told_behind self.now.run.entries) }
@@ -136,7 +118,26 @@ impl<B: Brain> Going<B> {
         }
     }
 
+    /// Asks the brain, which is told what it is to be told first.
+    #[inline(never)]
+    fn ask_first(&mut self, alloc: Global) -> Result<(), NoMemory>
+        requires few { length self.old.run.entries < most_local }
+        requires told { steps_made self.old.stage ≡ 0 }
+        ensures run { self.new.run ≡ self.old.run }
+        ensures going { (m : B × Told) → IsGoing (brain_of B.next B.instance) m self.old →
+            IsGoing (brain_of B.next B.instance) m self.new }
+        ensures wants { OnOk result (steps_made self.new.stage ≡ 1) }
+    {
+        let Stage::Told(last) = &self.stage else {
+            return self.ask_on(alloc);
+        };
+        let want = self.state.next(alloc, last)?;
+        self.stage = Stage::Wants(want);
+        Ok(())
+    }
+
     /// Asks the brain, which is told the reply to the newest call.
+    #[inline(never)]
     fn ask_on(&mut self, alloc: Global) -> Result<(), NoMemory>
         requires few { length self.old.run.entries < most_local }
         requires answered { self.old.stage ≡ Answered }
@@ -151,6 +152,29 @@ impl<B: Brain> Going<B> {
         Ok(())
     }
 
+    /// Makes the local call that is wanted.
+    #[inline(never)]
+    fn make(&mut self) -> Result<(), NoMemory>
+        requires goes_on { goes_on self.old.stage ≡ true }
+        requires wants { steps_made self.old.stage ≡ 1 }
+        ensures taken { OnOk result (IsTaken self.old.run self.new.run self.old.stage) }
+        ensures stage { OnOk result (self.new.stage ≡ Answered) }
+        ensures state { self.new.state ≡ self.old.state }
+        ensures unchanged { OnErr result (self.new ≡ self.old) }
+    {
+        let wanted = mem::replace(&mut self.stage, Stage::Answered);
+        let Stage::Wants(Want::Call(mut call)) = wanted else {
+            unreachable!()
+        };
+        match self.run.call(&mut call) {
+            Ok(()) => Ok(()),
+            Err(NoMemory) => {
+                self.stage = Stage::Wants(Want::Call(call));
+                Err(NoMemory)
+            }
+        }
+    }
+
     /// Asks the brain, or makes the local call that it wants.
     fn step(&mut self, alloc: Global) -> Result<(), NoMemory>
         requires few { length self.old.run.entries < most_local }
@@ -161,11 +185,7 @@ impl<B: Brain> Going<B> {
         ensures fewer { OnOk result (steps_left self.new < steps_left self.old) }
     {
         match &self.stage {
-            Stage::Told(last) => {
-                let want = self.state.next(alloc, last)?;
-                self.stage = Stage::Wants(want);
-                Ok(())
-            }
+            Stage::Told(_) => self.ask_first(alloc),
             Stage::Answered => self.ask_on(alloc),
             Stage::Wants(_) => self.make(),
         }

@@ -1,10 +1,10 @@
 //! What a brain does next in a turn.
 
-ghost use Rattle.std.specs.Prelude.{◌≡◌, IfErr, OnErr, OnOk, true};
-ghost use Rattle.df_turn.specs.code.Going.{IsTaken, goes_on};
+ghost use Rattle.std.specs.Prelude.{◌≡◌};
+ghost use Rattle.df_turn.specs.code.Going.{goes_on};
 
 use df_brain::{Last, Want};
-use df_local_run::{LocalRun, is_local};
+use df_local_run::is_local;
 
 /// What a brain does next in a turn.
 #[derive(Drop)]
@@ -27,21 +27,5 @@ impl Stage {
             Stage::Wants(Want::Call(call)) => is_local(call),
             Stage::Wants(Want::Wait) => false,
         }
-    }
-}
-
-/// Makes the local call that is wanted, or gives the stage back where there is no memory.
-pub(crate) fn take(run: &mut LocalRun, stage: Stage) -> Result<(), Stage>
-    requires { goes_on stage ≡ true }
-    ensures taken { OnOk result (IsTaken run.old run.new stage) }
-    ensures unchanged { OnErr result (run.new ≡ run.old) }
-    ensures back { IfErr result (λ s. s ≡ stage) }
-{
-    match stage {
-        Stage::Wants(Want::Call(call)) => match run.call(call) {
-            Ok(()) => Ok(()),
-            Err(refused) => Err(Stage::Wants(Want::Call(refused.call))),
-        },
-        other => Err(other),
     }
 }

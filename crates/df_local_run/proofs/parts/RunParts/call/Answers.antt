@@ -11,7 +11,7 @@ returns-in-Some-clause-run c =
     let before : IsRun p = c.copy_unit-copied.ensures.run c.requires.run in
     let run = subst (λ (o : Option LocalState). LeadTo p.entries.items p.base (present_of p.base o)) c.in-Some.is before.run in
     record {
-      run = stays_run p.base c.in-Some.present c.make.new.unit p.entries.items c.make.new.entries.items c.args.call c.make.result
+      run = stays_run p.base c.in-Some.present c.make.new.unit p.entries.items c.make.new.entries.items c.args.call.now c.make.result
           run c.requires.local c.make.ensures.ok c.make.ensures.unit c.make.ensures.entries;
       copied = λ e. absurd (let z : ⊥ = cc in z);
     }
