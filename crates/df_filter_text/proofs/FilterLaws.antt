@@ -1,7 +1,5 @@
 -- Filters are read as they are spelled.
-use Rattle.df_filter_text.proofs.Names.{both_false, ◌≡◌, ℕ, zero, suc, ◌≤◌, Bool, true, false, cond, eqb, List, [], ◌∷◌, ◌++◌, length, Option, Some, None, Ok, refl, sym, ap, subst, ◌∙◌, append_assoc, arith, inl, inr, nat_lt, nat_tests, eqb-true, append-nil, then_at, maybe_spell, more_spell, CanGoOn, Ends, Format, told, ends_never, nowhere, nowhere_is_local, viewed, behind_format, MaybeFits, maybe_goes, maybe_format, listed, optional, Clause, then_spell, ThenFits, then_extend, then_behind, then_format, clause_text, filter_text, IsClause, AreClauses, IsFilter, clause_at, more_clauses_at, filter_at}
-use Rattle.df_format.proofs.Laws.{format_of}
-use Rattle.df_value_text.proofs.TagLaws.{joined_items}
+use Rattle.df_filter_text.proofs.Names.{◌≡◌, ℕ, ◌+◌, ◌-◌, ◌<◌, ◌≤◌, Bool, true, false, eqb, List, [], ◌∷◌, ◌++◌, length, refl, sym, ap, subst, ◌∙◌, arith, nat_lt, nat_tests, append-nil, map, eqb-true, cond, and_parts, Follow, ItemsFit, Leads, Parts, format_shrinks, items_format, items_spell, last_goes, Format, nowhere, made, fitting, viewed, Clause, clause_text, filter_text, IsClause, AreClauses, IsFilter, Placed, with_room, placed_at, leads_clause, next_clause_at, clauses_of, filter_at}
 use Rattle.df_filter.specs.declared.clause.Test.TheVariants as test
 use Rattle.df_filter_text.proofs.ClauseLaws.{clause_goes, clause_ends, clause_format}
 
@@ -12,141 +10,110 @@ short_clause = record { name = 97 ∷ []; test = test.Present }
 pub short_fits : IsClause short_clause
 short_fits = (refl, tt)
 
--- clauses, each behind `&`
-abbrev more_text : List Clause → List ℕ
-more_text clauses = more_spell 38 clause_text clauses
+-- ---- clauses in their places
 
--- at most so many
-abbrev AreMore : ℕ → List Clause → Type 0
-AreMore most clauses = AreClauses clauses × (length clauses ≤ most)
+abbrev pub clause : Placed → Clause
+clause p = p.0
 
--- where so many more may stand, `&` leads to one
-abbrev pub more_goes : ℕ → List Clause → ℕ → Bool
-more_goes zero xs c = false
-more_goes (suc most) [] c = eqb c 38
-more_goes (suc most) (x ∷ []) c = cond (more_goes most [] c) true (clause_goes x c)
-more_goes (suc most) (x ∷ y ∷ ys) c = more_goes most (y ∷ ys) c
+abbrev pub placed_text : Placed → List ℕ
+placed_text p = clause_text p.0
 
--- a clause, and at most so many behind it
-abbrev pair_goes : ℕ → Clause × List Clause → ℕ → Bool
-pair_goes most p c = more_goes (suc most) (p.0 ∷ p.1) c
+abbrev pub placed_goes : Placed → ℕ → Bool
+placed_goes p c = clause_goes p.0 c
 
-abbrev pub filter_goes : List Clause → ℕ → Bool
-filter_goes clauses c = more_goes 4 clauses c
+abbrev pub IsPlaced : Placed → Type 0
+IsPlaced p = IsClause p.0
 
--- fewer go on at `&`, and no others
-goes_at : (most : ℕ) (xs : List Clause) → length xs ≤ most → more_goes most xs 38 ≡ nat_lt (length xs) most
-goes_at zero xs h = grind (arith, nat_tests)
-goes_at (suc most) [] h = grind (arith, nat_tests)
-goes_at (suc most) (x ∷ []) h = rw (goes_at most [] (omega arith), clause_ends x 38 refl) (grind (arith, nat_tests))
-goes_at (suc most) (x ∷ y ∷ ys) h = goes_at most (y ∷ ys) (omega (arith, h)) ∙ grind (arith, nat_tests)
+-- with so much room behind it
+abbrev HasRoom : ℕ → Placed → Type 0
+HasRoom room p = IsClause p.0 × (p.1 ≡ room)
 
-pub four_end : (clauses : List Clause) → length clauses ≡ 4 → filter_goes clauses 38 ≡ false
-four_end clauses n = goes_at 4 clauses (omega (arith, n)) ∙ rw n refl
+abbrev pub AfterPlaced : Placed → Placed → Type 0
+AfterPlaced prev p = IsClause p.0 × (p.1 + 1 ≡ prev.1)
 
-pub fewer_go_on : (clauses : List Clause) → IsFilter clauses → filter_goes clauses 38 ≡ false → length clauses ≡ 4
-fewer_go_on clauses fits h =
-    let all : nat_lt (length clauses) 4 ≡ false = sym (goes_at 4 clauses fits.2) ∙ h in
-    grind (arith, nat_tests, fits.2)
+placed_format : (room : ℕ) → Format nowhere placed_text (HasRoom room) placed_goes (placed_at room)
+placed_format room =
+    fitting (λ p h. subst (HasRoom room) h.2 (h.1, refl)) (λ p h. (p.0, h.0, ap (λ (n : ℕ). (p.0, n)) (sym h.1)))
+    (made (with_room room) clause_format (λ x h. refl) (λ x c h. refl))
 
-joined_ends : (most : ℕ) (x : Clause) (ys : List Clause) (rest : List ℕ) → Ends clause_goes x (more_text ys ++ rest) → Ends (more_goes most) ys rest
-    → Ends (pair_goes most) (x, ys) rest
-joined_ends most x ys [] first others = tt
-joined_ends most x [] (c ∷ rest) first others = rw (others, first) refl
-joined_ends most x (y ∷ ys) (c ∷ rest) first others = others
-
-ends_apart : (most : ℕ) (x : Clause) (ys : List Clause) (rest : List ℕ) → Ends (pair_goes most) (x, ys) rest
-    → Ends clause_goes x (more_text ys ++ rest) × Ends (more_goes most) ys rest
-ends_apart most x [] [] h = (tt, tt)
-ends_apart most x [] (c ∷ rest) h = let b = both_false (more_goes most [] c) (clause_goes x c) h in (b.1, b.0)
-ends_apart most x (y ∷ ys) [] h = (clause_ends x 38 refl, tt)
-ends_apart most x (y ∷ ys) (c ∷ rest) h = (clause_ends x 38 refl, h)
-
-abbrev pair_text : Clause × List Clause → List ℕ
-pair_text p = then_spell clause_text more_text p
-
-abbrev PairFits : ℕ → Clause × List Clause → Type 0
-PairFits most p = ThenFits IsClause (AreMore most) p
-
-abbrev SomeFit : ℕ → Option (Clause × List Clause) → Type 0
-SomeFit most x = MaybeFits (PairFits most) x
-
-some_to : (most : ℕ) (x : Option (Clause × List Clause)) → SomeFit most x → AreMore (suc most) (optional x)
-some_to most None h = (tt, omega arith)
-some_to most (Some p) h = ((h.0, h.1.0), omega (arith, h.1.1))
-
-some_from : (most : ℕ) (xs : List Clause) → AreMore (suc most) xs → (x : Option (Clause × List Clause)) × SomeFit most x × (optional x ≡ xs)
-some_from most [] h = (None, tt, refl)
-some_from most (x ∷ xs) h = (Some (x, xs), (h.0.0, (h.0.1, omega (arith, h.1))), refl)
-
-some_spelled : (x : Option (Clause × List Clause)) → more_text (optional x) ≡ maybe_spell (λ p. (38 ∷ []) ++ pair_text p) x
-some_spelled None = refl
-some_spelled (Some p) = refl
-
-some_alike : (most : ℕ) (x : Option (Clause × List Clause)) (c : ℕ) → more_goes (suc most) (optional x) c ≡ maybe_goes (λ c. eqb c 38) (pair_goes most) x c
-some_alike most None c = refl
-some_alike most (Some p) c = refl
-
-some_can : (most : ℕ) (c : ℕ) → eqb c 38 ≡ true → CanGoOn (λ p. (38 ∷ []) ++ pair_text p) (PairFits most) (c ∷ [])
-some_can most c h = record {
-  some = (short_clause, []);
-  fits = (short_fits, (tt, omega arith));
-  more = clause_text short_clause ++ [];
-  is = ap (λ (v : ℕ). v ∷ (clause_text short_clause ++ [])) (sym (eqb-true c 38 h));
+pub placed_parts : Parts (λ prev. nowhere) leads_clause 38 placed_text IsPlaced AfterPlaced placed_goes next_clause_at
+placed_parts = record {
+  item = λ prev cs fits h. let some : 0 < prev.1 = grind (arith, nat_tests) in
+      fitting (λ p f. (f.0, omega (arith, f.1, some))) (λ p f. (f.0, omega (arith, f.1))) (placed_format (prev.1 - 1));
+  shrinks = λ prev. format_shrinks nowhere placed_text (HasRoom (prev.1 - 1)) placed_goes (next_clause_at prev) (placed_format (prev.1 - 1));
+  fits = λ prev p fits after. after.0;
+  only = λ prev c cs h. eqb-true c 38 (and_parts (eqb c 38) (nat_lt 0 prev.1) h).0;
+  led = λ prev p more fits after. let some : 0 < prev.1 = omega (arith, after.1) in grind (arith, nat_tests);
+  at_sep = λ p fits. clause_ends p.0 38 refl;
 }
 
-from_filter : (clauses : List Clause) → IsFilter clauses → (p : Clause × List Clause) × PairFits 3 p × (listed p ≡ clauses)
+placed_lead : Leads nowhere (λ prev. nowhere) leads_clause 38 placed_text IsPlaced AfterPlaced
+placed_lead = record {
+  first = λ prev c cs ds. refl;
+  some = λ prev cs fits h. let some : 0 < prev.1 = grind (arith, nat_tests) in
+      ((short_clause, prev.1 - 1), (short_fits, omega (arith, some)));
+  near = λ p ps q front rest fits follow after near. near;
+}
+
+-- ---- a filter
+
+-- clauses in their places
+abbrev pub placed : ℕ → List Clause → List Placed
+placed room [] = []
+placed room (x ∷ xs) = (x, room) ∷ placed (room - 1) xs
+
+-- as far as the last goes on, or another may follow
+abbrev pub filter_goes : List Clause → ℕ → Bool
+filter_goes [] c = false
+filter_goes (x ∷ xs) c = last_goes leads_clause placed_goes (x, 3) (placed 2 xs) c
+
+-- fewer go on at `&`, and no others
+goes_at : (room : ℕ) (x : Clause) (xs : List Clause) → last_goes leads_clause placed_goes (x, room) (placed (room - 1) xs) 38 ≡ nat_lt (length xs) room
+goes_at room x [] = rw (clause_ends x 38 refl) (elim (nat_lt 0 room) as (λ b. cond b true false ≡ b) [ true ↦ refl | false ↦ refl ])
+goes_at room x (y ∷ ys) = goes_at (room - 1) y ys ∙ grind (arith, nat_tests)
+
+pub four_end : (clauses : List Clause) → length clauses ≡ 4 → filter_goes clauses 38 ≡ false
+four_end [] n = refl
+four_end (x ∷ xs) n = goes_at 3 x xs ∙ grind (arith, nat_tests, n)
+
+pub fewer_go_on : (clauses : List Clause) → IsFilter clauses → filter_goes clauses 38 ≡ false → length clauses ≡ 4
+fewer_go_on [] fits h = absurd (omega (arith, fits.1))
+fewer_go_on (x ∷ xs) fits h = let all : nat_lt (length xs) 3 ≡ false = sym (goes_at 3 x xs) ∙ h in grind (arith, nat_tests, fits.2)
+
+placed_fit : (p : Placed) (ps : List Placed) → Follow AfterPlaced p ps → AreClauses (map clause ps) × (length (map clause ps) ≤ p.1)
+placed_fit p [] h = (tt, omega arith)
+placed_fit p (q ∷ qs) h = let r = placed_fit q qs h.1 in ((h.0.0, r.0), omega (arith, h.0.1, r.1))
+
+placed_same : (p : Placed) (ps : List Placed) → Follow AfterPlaced p ps → placed (p.1 - 1) (map clause ps) ≡ ps
+placed_same p [] h = refl
+placed_same p (q ∷ qs) h =
+    let room : p.1 - 1 ≡ q.1 = omega (arith, h.0.1) in
+    ap (λ (n : ℕ). (q.0, n) ∷ placed (n - 1) (map clause qs)) room ∙ ap (λ (l : List Placed). q ∷ l) (placed_same q qs h.1)
+
+placed_follow : (room : ℕ) (x : Clause) (xs : List Clause) → AreClauses xs → length xs ≤ room → Follow AfterPlaced (x, room) (placed (room - 1) xs)
+placed_follow room x [] h le = tt
+placed_follow room x (y ∷ ys) h le = ((h.0, omega (arith, le)), placed_follow (room - 1) y ys h.1 (omega (arith, le)))
+
+placed_back : (room : ℕ) (xs : List Clause) → map clause (placed room xs) ≡ xs
+placed_back room [] = refl
+placed_back room (x ∷ xs) = ap (λ (l : List Clause). x ∷ l) (placed_back (room - 1) xs)
+
+from_filter : (clauses : List Clause) → IsFilter clauses → (ps : Placed × List Placed) × ItemsFit (HasRoom 3) AfterPlaced ps × (clauses_of ps ≡ clauses)
 from_filter [] h = absurd (omega (arith, h.1))
-from_filter (x ∷ xs) h = ((x, xs), (h.0.0, (h.0.1, omega (arith, h.2))), refl)
+from_filter (x ∷ xs) h =
+    (((x, 3), placed 2 xs), ((h.0.0, refl), placed_follow 3 x xs h.0.1 (omega (arith, h.2))), ap (λ (l : List Clause). x ∷ l) (placed_back 2 xs))
 
-abbrev MoreLaw : ℕ → Type 0
-MoreLaw most = Format nowhere more_text (AreMore most) (more_goes most) (more_clauses_at most)
-
-pair_on : (most : ℕ) → MoreLaw most → (x : Clause) (ys : List Clause) (c : ℕ) → IsClause x → AreMore most ys → pair_goes most (x, ys) c ≡ true
-    → CanGoOn pair_text (PairFits most) ((clause_text x ++ more_text ys) ++ c ∷ [])
-pair_on most f x ys c fx fy g = by ys fy g
-  where
-    behind : (ys : List Clause) → AreMore most ys → more_goes most ys c ≡ true → CanGoOn pair_text (PairFits most) ((clause_text x ++ more_text ys) ++ c ∷ [])
-    behind ys fy h =
-        subst (CanGoOn pair_text (PairFits most)) (sym (append_assoc (clause_text x) (more_text ys) (c ∷ [])))
-        (then_behind clause_text IsClause more_text (AreMore most) x fx (more_text ys ++ c ∷ []) (f.on ys c fy h))
-
-    by : (ys : List Clause) → AreMore most ys → pair_goes most (x, ys) c ≡ true → CanGoOn pair_text (PairFits most) ((clause_text x ++ more_text ys) ++ c ∷ [])
-    by (y ∷ ys) fy g = behind (y ∷ ys) fy g
-    by [] fy g = elim (told (more_goes most [] c)) [
-      | inl h ↦ behind [] fy h
-      | inr h ↦
-          subst (λ (u : List ℕ). CanGoOn pair_text (PairFits most) (u ++ c ∷ [])) (sym (append-nil (clause_text x)))
-          (then_extend clause_text IsClause more_text (AreMore most) [] (tt, omega arith) (clause_text x ++ c ∷ [])
-          (clause_format.on x c fx (sym (ap (λ b. cond b true (clause_goes x c)) h) ∙ g)))
-    ]
-
-pair_format : (most : ℕ) → MoreLaw most → Format nowhere pair_text (PairFits most) (pair_goes most) (then_at clause_at (more_clauses_at most))
-pair_format most f =
-    then_format (λ front rest low. low) (λ x front rest fits low. low) clause_format f [] (tt, omega arith)
-    (record { joined = λ x ys rest fx fy. joined_ends most x ys rest; apart = λ x ys rest fx fy. ends_apart most x ys rest; on = pair_on most f })
-
-more_format : (most : ℕ) → MoreLaw most
-more_format zero =
-    format_of (λ bytes. record { parts = refl; fits = (tt, omega arith); ends = ends_never {X = List Clause} [] bytes }) again
-    (λ xs c fits g. absurd (let no : false ≡ true = g in cc))
-  where
-    again : (xs : List Clause) (rest : List ℕ) → AreMore 0 xs → Ends (more_goes 0) xs rest → more_clauses_at 0 (more_text xs ++ rest) ≡ Ok (xs, rest)
-    again [] rest fits ends = refl
-    again (x ∷ xs) rest fits ends = absurd (omega (arith, fits.1))
-more_format (suc most) =
-    viewed optional
-    (maybe_format (λ c. eqb c 38)
-    (behind_format (38 ∷ []) (nowhere_is_local (38 ∷ [])) (short_clause, []) (short_fits, (tt, omega arith)) (pair_format most (more_format most)))
-    (λ p fits. record { first = 38; others = pair_text p; is = refl; test = refl }) (some_can most))
-    (record { to = some_to most; from = some_from most; spelled = λ x fits. some_spelled x; alike = λ x c fits. some_alike most x c })
+spelled : (p : Placed) (ps : List Placed) → filter_text (clauses_of (p, ps)) ≡ items_spell 38 placed_text (p, ps)
+spelled p [] = sym (append-nil (clause_text p.0))
+spelled p (q ∷ qs) = ap (λ (u : List ℕ). clause_text p.0 ++ (38 ∷ u)) (spelled q qs)
 
 pub filter_format : Format nowhere filter_text IsFilter filter_goes filter_at
 filter_format =
-    viewed listed (pair_format 3 (more_format 3))
-    (record {
-      to = λ p h. ((h.0, h.1.0), omega arith, omega (arith, h.1.1));
+    viewed clauses_of (items_format placed_parts placed_lead (λ p h. h.0) (placed_at 3) (placed_format 3)) (record {
+      to = λ ps h. let r = placed_fit ps.0 ps.1 h.1 in ((h.0.0, r.0), omega arith, omega (arith, h.0.1, r.1));
       from = from_filter;
-      spelled = λ p h. joined_items 38 clause_text p.0 p.1;
-      alike = λ p c h. refl;
+      spelled = λ ps h. spelled ps.0 ps.1;
+      alike = λ ps c h.
+          ap (λ (n : ℕ). last_goes leads_clause placed_goes (ps.0.0, n) (placed (n - 1) (map clause ps.1)) c) (sym h.0.1)
+          ∙ ap (λ (l : List Placed). last_goes leads_clause placed_goes ps.0 l c) (placed_same ps.0 ps.1 h.1);
     })

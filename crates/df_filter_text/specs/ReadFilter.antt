@@ -1,15 +1,15 @@
 -- Reading a filter.
-use Rattle.std.specs.Prelude.{ℕ, zero, suc, ◌-◌, List, [], ◌∷◌, Ok, ◌==◌}
+use Rattle.std.specs.Prelude.{ℕ, ◌-◌, Bool, ◌&&◌, List, [], ◌∷◌, map, nat_lt, ◌==◌}
 use Rattle.df_filter.specs.Limits.{most_clauses}
 use Rattle.df_filter.specs.declared.clause.Clause.{Clause}
 use Rattle.df_filter.specs.declared.clause.Test.{Test}
 use Rattle.df_filter.specs.declared.clause.Test.TheVariants as test
 use Rattle.df_filter.specs.declared.field_test.FieldTest.{FieldTest}
 use Rattle.df_filter.specs.declared.field_test.FieldTest.TheVariants as field
-use Rattle.df_format.specs.Reading.{Read, as_at, then_at, maybe_at, either_at, text_at, behind_at}
+use Rattle.df_format.specs.Reading.{Read, as_at, then_at, either_at, text_at, behind_at, items_at}
 use Rattle.df_filter_text.specs.ReadFieldTest.{field_test_at}
 use Rattle.df_value_text.specs.ReadName.{name_at}
-use Rattle.df_value_text.specs.ReadTag.{listed, optional}
+use Rattle.df_value_text.specs.ReadTag.{listed}
 
 -- what is asked of a field, asked of the value itself
 abbrev pub test_of : FieldTest → Test
@@ -52,13 +52,30 @@ clause_of parts = record { name = parts.0; test = parts.1 }
 abbrev pub clause_at : List ℕ → Read ℕ Clause
 clause_at bytes = as_at clause_of (then_at name_at test_at) bytes
 
--- at most so many clauses, each behind `&`
-abbrev pub more_clauses_at : ℕ → List ℕ → Read ℕ (List Clause)
-more_clauses_at zero bytes = Ok ([], bytes)
-more_clauses_at (suc most) bytes =
-    as_at optional (maybe_at (λ c. c == 38) (behind_at (38 ∷ [])
-    (then_at clause_at (more_clauses_at most)))) bytes
+-- a clause, and how many may stand behind it
+abbrev pub Placed : Type 0
+Placed = Clause × ℕ
 
--- at least one clause
+abbrev pub with_room : ℕ → Clause → Placed
+with_room room clause = (clause, room)
+
+abbrev pub placed_at : ℕ → List ℕ → Read ℕ Placed
+placed_at room bytes = as_at (with_room room) clause_at bytes
+
+-- `&` leads on to another, where there is room for one
+abbrev pub leads_clause : Placed → ℕ → List ℕ → Bool
+leads_clause prev c cs = (c == 38) && nat_lt 0 prev.1
+
+abbrev pub next_clause_at : Placed → List ℕ → Read ℕ Placed
+next_clause_at prev bytes = placed_at (prev.1 - 1) bytes
+
+-- at least one clause, and no more than a filter has
+abbrev pub placed_clauses_at : List ℕ → Read ℕ (Placed × List Placed)
+placed_clauses_at bytes =
+    items_at leads_clause (placed_at (most_clauses - 1)) next_clause_at bytes
+
+abbrev pub clauses_of : Placed × List Placed → List Clause
+clauses_of ps = map (λ p. p.0) (listed ps)
+
 abbrev pub filter_at : List ℕ → Read ℕ (List Clause)
-filter_at bytes = as_at listed (then_at clause_at (more_clauses_at (most_clauses - 1))) bytes
+filter_at bytes = as_at clauses_of placed_clauses_at bytes

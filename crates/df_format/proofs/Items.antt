@@ -12,11 +12,11 @@ abbrev pub Follow : {X : Type 0} → (X → X → Type 0) → X → List X → T
 Follow After prev [] = Unit {0}
 Follow After prev (x ∷ xs) = After prev x × Follow After x xs
 
--- What may stand behind an item is read exactly; only the separator leads to it, and does so before each;
--- an item ends before the separator.
+-- What may stand behind an item, where the separator leads to it, is read exactly; only the separator leads
+-- to it, and does so before each; an item ends before the separator.
 pub record Parts {T X : Type 0} (Near : X → List T → List T → Type 0) (leads : X → T → List T → Bool) (sep : T) (spell : X → List T)
     (Fits : X → Type 0) (After : X → X → Type 0) (goes : X → T → Bool) (next : X → List T → Read T X) : Type 0 where
-  pub item : (prev : X) → Fits prev → Format (Near prev) spell (After prev) goes (next prev)
+  pub item : (prev : X) (ts : List T) → Fits prev → leads prev sep ts ≡ true → Format (Near prev) spell (After prev) goes (next prev)
   pub shrinks : (prev : X) → Shrinks (next prev)
   pub fits : (prev x : X) → Fits prev → After prev x → Fits x
   pub only : (prev : X) (t : T) (ts : List T) → leads prev t ts ≡ true → t ≡ sep
@@ -38,6 +38,14 @@ ItemsFit Fits After xs = Fits xs.0 × Follow After xs.0 xs.1
 
 module _ {T X : Type 0} {Near : X → List T → List T → Type 0} {leads : X → T → List T → Bool} {sep : T} {spell : X → List T} {Fits : X → Type 0}
     {After : X → X → Type 0} {goes : X → T → Bool} {next : X → List T → Read T X} (p : Parts Near leads sep spell Fits After goes next) where
+  -- the next one, where this token leads to it
+  pub item_led : (prev : X) (t : T) (ts : List T) → Fits prev → leads prev t ts ≡ true → Format (Near prev) spell (After prev) goes (next prev)
+  item_led prev t ts fits h = p.item prev ts fits (ap (λ (v : T). leads prev v ts) (sym (p.only prev t ts h)) ∙ h)
+
+  -- or where it fits there
+  pub item_after : (prev x : X) → Fits prev → After prev x → Format (Near prev) spell (After prev) goes (next prev)
+  item_after prev x fits after = p.item prev (spell x ++ []) fits (p.led prev x [] fits after)
+
   pub record MoreFound (prev : X) (tokens : List T) (xs : List X) (rest : List T) : Type 0 where
     pub parts : tokens ≡ more_spell sep spell xs ++ rest
     pub fits : Follow After prev xs
@@ -59,7 +67,7 @@ module _ {T X : Type 0} {Near : X → List T → List T → Type 0} {leads : X �
         | inl h ↦
             subst Goal (sym (more_step leads next p.shrinks prev t ts h))
             (told_bind _ _ _ _ (next prev ts) (λ x. more_of leads next x.0 x.1 >>= onto x.0) (self_told (next prev ts)) (λ x e.
-            let f = (p.item prev fits).found ts x.0 x.1 e in
+            let f = (item_led prev t ts fits h).found ts x.0 x.1 e in
             let shorter = p.shrinks prev ts x.0 x.1 e in
             told_bind _ _ _ _ (more_of leads next x.0 x.1) (onto x.0)
             (more_told Q s n x.0 x.1 (p.fits prev x.0 fits f.fits) (omega arith) f.ends) (λ xs r. record {
@@ -86,38 +94,41 @@ module _ {T X : Type 0} {Near : X → List T → List T → Type 0} {leads : X �
   more_again prev (x ∷ xs) rest fits each ends =
       let left : List T = more_spell sep spell xs ++ rest in
       let fits_x = p.fits prev x fits each.0 in
-      let one : next prev (spell x ++ left) ≡ Ok (x, left) = (p.item prev fits).again x left each.0 (ends_before x xs rest fits_x ends) in
+      let ends_x = ends_before x xs rest fits_x ends in
+      let one : next prev (spell x ++ left) ≡ Ok (x, left) = (item_after prev x fits each.0).again x left each.0 ends_x in
       ap (λ (u : List T). more_of leads next prev (sep ∷ u)) (append_assoc (spell x) (more_spell sep spell xs) rest)
       ∙ more_step leads next p.shrinks prev sep (spell x ++ left) (p.led prev x left fits each.0) ∙ rw (one, more_again x xs rest fits_x each.1 ends) refl
 
-  pub record ItemsFound (tokens : List T) (xs : X × List X) (rest : List T) : Type 0 where
-    pub parts : tokens ≡ items_spell sep spell xs ++ rest
-    pub fits : ItemsFit Fits After xs
-    pub ends : LastEnds leads goes xs.0 xs.1 rest
+  -- where what stands first fits as an item does
+  module _ {First : X → Type 0} (to : (x : X) → First x → Fits x) where
+    pub record ItemsFound (tokens : List T) (xs : X × List X) (rest : List T) : Type 0 where
+      pub parts : tokens ≡ items_spell sep spell xs ++ rest
+      pub fits : ItemsFit First After xs
+      pub ends : LastEnds leads goes xs.0 xs.1 rest
 
-  pub items_told : {IsLow : List T → List T → Type 0} {first : List T → Read T X} (R : Stop T → Type 0) (Q : X → List T → Stop T → Type 0) → Stops Q
-      → Format IsLow spell Fits goes first → (tokens : List T) → ((stop : Stop T) → first tokens ≡ Err stop → R stop)
-      → ((x : X) (left : List T) (stop : Stop T) → Found spell Fits goes tokens x left → Q x left stop → R stop)
-      → Told (λ xs. ItemsFound tokens xs.0 xs.1) R (items_at leads first next tokens)
-  items_told {first = first} R Q s fx tokens none behind =
-      told_bind _ _ _ _ (first tokens) (λ x. more_of leads next x.0 x.1 >>= λ xs. Ok ((x.0, xs.0), xs.1)) (self_told (first tokens)) (λ x e.
-      let f = fx.found tokens x.0 x.1 e in
-      told_bind _ _ _ _ (more_of leads next x.0 x.1) (λ xs. Ok ((x.0, xs.0), xs.1))
-      (more_told Q s (length x.1) x.0 x.1 f.fits (omega arith) f.ends) (λ xs r. record {
-        parts = f.parts ∙ ap (λ (u : List T). spell x.0 ++ u) r.parts ∙ sym (append_assoc (spell x.0) (more_spell sep spell xs.0) xs.1);
-        fits = (f.fits, r.fits);
-        ends = r.ends;
-      }) (λ stop q. behind x.0 x.1 stop f q)) none
+    pub items_told : {IsLow : List T → List T → Type 0} {first : List T → Read T X} (R : Stop T → Type 0) (Q : X → List T → Stop T → Type 0) → Stops Q
+        → Format IsLow spell First goes first → (tokens : List T) → ((stop : Stop T) → first tokens ≡ Err stop → R stop)
+        → ((x : X) (left : List T) (stop : Stop T) → Found spell First goes tokens x left → Q x left stop → R stop)
+        → Told (λ xs. ItemsFound tokens xs.0 xs.1) R (items_at leads first next tokens)
+    items_told {first = first} R Q s fx tokens none behind =
+        told_bind _ _ _ _ (first tokens) (λ x. more_of leads next x.0 x.1 >>= λ xs. Ok ((x.0, xs.0), xs.1)) (self_told (first tokens)) (λ x e.
+        let f = fx.found tokens x.0 x.1 e in
+        told_bind _ _ _ _ (more_of leads next x.0 x.1) (λ xs. Ok ((x.0, xs.0), xs.1))
+        (more_told Q s (length x.1) x.0 x.1 (to x.0 f.fits) (omega arith) f.ends) (λ xs r. record {
+          parts = f.parts ∙ ap (λ (u : List T). spell x.0 ++ u) r.parts ∙ sym (append_assoc (spell x.0) (more_spell sep spell xs.0) xs.1);
+          fits = (f.fits, r.fits);
+          ends = r.ends;
+        }) (λ stop q. behind x.0 x.1 stop f q)) none
 
-  pub items_again : (IsLow : List T → List T → Type 0) (first : List T → Read T X) → Format IsLow spell Fits goes first
-      → (xs : X × List X) (rest : List T) → ItemsFit Fits After xs → LastEnds leads goes xs.0 xs.1 rest
-      → items_at leads first next (items_spell sep spell xs ++ rest) ≡ Ok (xs, rest)
-  items_again IsLow first fx xs rest fits ends =
-      ap (items_at leads first next) (append_assoc (spell xs.0) (more_spell sep spell xs.1) rest)
-      ∙ rw (
-        fx.again xs.0 (more_spell sep spell xs.1 ++ rest) fits.0 (ends_before xs.0 xs.1 rest fits.0 ends),
-        more_again xs.0 xs.1 rest fits.0 fits.1 ends,
-      ) refl
+    pub items_again : (IsLow : List T → List T → Type 0) (first : List T → Read T X) → Format IsLow spell First goes first
+        → (xs : X × List X) (rest : List T) → ItemsFit First After xs → LastEnds leads goes xs.0 xs.1 rest
+        → items_at leads first next (items_spell sep spell xs ++ rest) ≡ Ok (xs, rest)
+    items_again IsLow first fx xs rest fits ends =
+        ap (items_at leads first next) (append_assoc (spell xs.0) (more_spell sep spell xs.1) rest)
+        ∙ rw (
+          fx.again xs.0 (more_spell sep spell xs.1 ++ rest) fits.0 (ends_before xs.0 xs.1 rest (to xs.0 fits.0) ends),
+          more_again xs.0 xs.1 rest (to xs.0 fits.0) fits.1 ends,
+        ) refl
 
 -- ---- items as a format: one token tells whether another item follows
 
@@ -228,7 +239,7 @@ module _ {T X : Type 0} {IsLow : List T → List T → Type 0} {Near : X → Lis
   one_stuck prev t ts stop fits h e =
       let same : t ≡ sep = p.only prev t ts h in
       let lead : leads prev sep ts ≡ true = ap (λ (v : T). leads prev v ts) (sym same) ∙ h in
-      let s = (p.item prev fits).stuck ts stop e in
+      let s = (p.item prev ts fits lead).stuck ts stop e in
       let y = l.some prev ts fits lead in
       stuck_behind s (sep ∷ []) (t ∷ ts) (ap (λ (v : T). v ∷ ts) same) (λ front v. viable_one prev front (can_go_on spell (After prev) y.0 y.1 front v))
       (λ u tail other is e. let more : List T = s.front ++ u ∷ other in
@@ -243,16 +254,9 @@ module _ {T X : Type 0} {IsLow : List T → List T → Type 0} {Near : X → Lis
       (λ front v. viable_more prev x front f.fits (can_go_on (more_spell sep spell) (Follow After x) [] tt front v)) (λ u tail other is e.
       let more : List T = s.front ++ u ∷ other in
       let ends = stop_ends goes x left s.front u tail other is f.ends in
-      let one : next prev (spell x ++ more) ≡ Ok (x, more) = (p.item prev fits).again x more f.fits ends in
+      let one : next prev (spell x ++ more) ≡ Ok (x, more) = (item_after p prev x fits f.fits).again x more f.fits ends in
       let lead = l.first prev sep (spell x ++ more) ts ∙ ap (λ (v : T). leads prev v ts) (sym same) ∙ h in
       more_step leads next p.shrinks prev sep (spell x ++ more) lead ∙ rw (one, e) refl) (λ rest low. low_more prev x s.front rest f.fits low)
-
-  items_extend : (front : List T) → CanGoOn spell Fits front → CanGoOn (items_spell sep spell) (ItemsFit Fits After) front
-  items_extend front v = can_within v (v.some, []) (v.fits, tt) [] [] refl
-
-  items_behind : (x : X) (front : List T) → Fits x → CanGoOn (more_spell sep spell) (Follow After x) front
-      → CanGoOn (items_spell sep spell) (ItemsFit Fits After) (spell x ++ front)
-  items_behind x front fits v = can_behind v (x, v.some) (fits, v.fits) (spell x) refl
 
   -- where the last item goes on, or another may follow, a longer text begins so
   items_on : (F : X → Type 0) → ((x : X) (t : T) → F x → goes x t ≡ true → CanGoOn spell F (spell x ++ t ∷ [])) → ((x : X) → F x → Fits x)
@@ -281,7 +285,7 @@ module _ {T X : Type 0} {IsLow : List T → List T → Type 0} {Near : X → Lis
             }
       ]
   items_on F one fits x (y ∷ ys) t a each g =
-      let v = items_on (After x) (p.item x (fits x a)).on (λ z b. p.fits x z (fits x a) b) y ys t each.0 each.1 g in
+      let v = items_on (After x) (item_after p x y (fits x a) each.0).on (λ z b. p.fits x z (fits x a) b) y ys t each.0 each.1 g in
       let others : List T = items_spell sep spell (y, ys) in
       record {
         some = (x, v.some.0 ∷ v.some.1);
@@ -291,19 +295,28 @@ module _ {T X : Type 0} {IsLow : List T → List T → Type 0} {Near : X → Lis
             ∙ sym (append_assoc (spell x) (sep ∷ others) (t ∷ v.more)) ∙ sym (append_assoc (spell x ++ (sep ∷ others)) (t ∷ []) v.more);
       }
 
-  pub items_format : (first : List T → Read T X) → Format IsLow spell Fits goes first
-      → Format IsLow (items_spell sep spell) (ItemsFit Fits After) (items_goes leads goes) (items_at leads first next)
-  items_format first fx =
-      format_of (λ tokens. told_on _ _ _ _ (items_at leads first next tokens)
-      (items_told p (λ stop. ItemsStuck tokens stop) MoreStuck (record { one = one_stuck; more = then_stuck }) fx tokens
-      (λ stop e. stuck_as (fx.stuck tokens stop e) items_extend (λ t tail other is e. rw e refl) (λ front rest low. low))
-      (λ x left stop f s. stuck_behind s (spell x) tokens f.parts
-      (λ front v. items_behind x front f.fits (can_go_on (more_spell sep spell) (Follow After x) [] tt front v)) (λ t tail other is e.
-      let ends = stop_ends goes x left s.front t tail other is f.ends in rw (fx.again x (s.front ++ t ∷ other) f.fits ends, e) refl)
-      (λ rest low. low_items x s.front rest f.fits low)))
-      (λ xs f. record { parts = f.parts; fits = f.fits; ends = last_ends xs.0 xs.1 f.ends }) (λ stop s. s))
-      (λ xs rest fits ends. items_again p IsLow first fx xs rest fits (ends_last xs rest ends))
-      (λ xs t fits g. items_on Fits fx.on (λ x a. a) xs.0 xs.1 t fits.0 fits.1 g)
-    where
-      ItemsStuck : List T → Stop T → Type 0
-      ItemsStuck tokens stop = Stuck IsLow (items_spell sep spell) (ItemsFit Fits After) (items_at leads first next) tokens stop
+  -- where what stands first fits as an item does
+  module _ {First : X → Type 0} (to : (x : X) → First x → Fits x) where
+    items_extend : (front : List T) → CanGoOn spell First front → CanGoOn (items_spell sep spell) (ItemsFit First After) front
+    items_extend front v = can_within v (v.some, []) (v.fits, tt) [] [] refl
+
+    items_behind : (x : X) (front : List T) → First x → CanGoOn (more_spell sep spell) (Follow After x) front
+        → CanGoOn (items_spell sep spell) (ItemsFit First After) (spell x ++ front)
+    items_behind x front fits v = can_behind v (x, v.some) (fits, v.fits) (spell x) refl
+
+    pub items_format : (first : List T → Read T X) → Format IsLow spell First goes first
+        → Format IsLow (items_spell sep spell) (ItemsFit First After) (items_goes leads goes) (items_at leads first next)
+    items_format first fx =
+        format_of (λ tokens. told_on _ _ _ _ (items_at leads first next tokens)
+        (items_told p to (λ stop. ItemsStuck tokens stop) MoreStuck (record { one = one_stuck; more = then_stuck }) fx tokens
+        (λ stop e. stuck_as (fx.stuck tokens stop e) items_extend (λ t tail other is e. rw e refl) (λ front rest low. low))
+        (λ x left stop f s. stuck_behind s (spell x) tokens f.parts
+        (λ front v. items_behind x front f.fits (can_go_on (more_spell sep spell) (Follow After x) [] tt front v)) (λ t tail other is e.
+        let ends = stop_ends goes x left s.front t tail other is f.ends in rw (fx.again x (s.front ++ t ∷ other) f.fits ends, e) refl)
+        (λ rest low. low_items x s.front rest (to x f.fits) low)))
+        (λ xs f. record { parts = f.parts; fits = f.fits; ends = last_ends xs.0 xs.1 f.ends }) (λ stop s. s))
+        (λ xs rest fits ends. items_again p to IsLow first fx xs rest fits (ends_last xs rest ends))
+        (λ xs t fits g. items_on First fx.on to xs.0 xs.1 t fits.0 fits.1 g)
+      where
+        ItemsStuck : List T → Stop T → Type 0
+        ItemsStuck tokens stop = Stuck IsLow (items_spell sep spell) (ItemsFit First After) (items_at leads first next) tokens stop

@@ -1,7 +1,7 @@
 -- Another view of what is read, the same reader in another form, and fixed bytes before and behind.
 use Rattle.df_format.proofs.Names.{◌≡◌, ℕ, Bool, false, List, [], ◌∷◌, ◌++◌, Ok, Err, refl, sym, ap, subst, ◌∙◌, Read, ◌>>=◌, as_at, text_at, behind_at, closed_at, CanGoOn, Ends, Format}
 use Rattle.df_format.proofs.Laws.{ends_as, never, ends_never, stuck_as, Reads, told_on, told_of, bind_told, format_of}
-use Rattle.df_format.proofs.Thens.{then_format, ends_of_second}
+use Rattle.df_format.proofs.Thens.{then_format}
 use Rattle.df_format.proofs.Texts.{text_format}
 
 -- ---- another view
@@ -72,7 +72,7 @@ pub behind_format : {X : Type 0} {IsLow Out : List ℕ → List ℕ → Type 0} 
 behind_format {X} {Out = Out} ws low {spell = spell} {read = read} x0 fits0 f =
     same_read (λ bytes. second_of (text_at ws bytes) read) (viewed (λ (p : List ℕ × X). p.1)
     (then_format (λ front rest here. here) (λ w front rest is here. subst (λ (u : List ℕ). Out (u ++ front) rest) (sym is) (low front rest here))
-    (text_format Out ws) f x0 fits0 (ends_of_second f (λ x y rest fx fy ends. ends_never x (spell y ++ rest))))
+    (text_format Out ws) f x0 fits0 (λ x y rest fx fy ends. ends_never x (spell y ++ rest)))
     (record {
       to = λ p fits. fits.1;
       from = λ x fits. ((ws, x), (refl, fits), refl);
@@ -102,7 +102,7 @@ closed_format {X} w ws {spell = spell} {goes = goes} {read = read} ends_at f =
     let text = text_format (λ front rest. ⊥) (w ∷ ws) in
     same_read (λ bytes. first_of (read bytes) (w ∷ ws)) (viewed (λ (p : X × List ℕ). p.0)
     (then_format (λ front rest low. low) (λ x front rest fits low. absurd low) f text (w ∷ ws) refl
-    (ends_of_second text (λ x y rest fx fy ends. subst (λ (t : List ℕ). Ends goes x (t ++ rest)) (sym fy) (ends_at x fx))))
+    (λ x y rest fx fy ends. subst (λ (t : List ℕ). Ends goes x (t ++ rest)) (sym fy) (ends_at x fx)))
     (record {
       to = λ p fits. fits.0;
       from = λ x fits. ((x, w ∷ ws), (fits, refl), refl);

@@ -1,4 +1,5 @@
 -- Steps of readers, and one thing behind another.
+use Rattle.std.specs.Prelude.{IsErrAnd}
 use Rattle.df_format.proofs.Names.{◌≡◌, Bool, true, false, cond, List, [], ◌∷◌, ◌++◌, Result, Ok, Err, refl, sym, ap, subst, ◌∙◌, append_assoc, append-nil, ◌⊎◌, inl, inr, Stop, Bad, Low, Read, ◌>>=◌, CanGoOn, Stands, FirstBad, Ends, Found, IsViable, place, Cause, Stuck, Format}
 
 -- ---- steps
@@ -17,6 +18,11 @@ err_is s t e = cc
 
 pub not_both : {T A B : Type 0} (x : A) (s : Stop T) → done x ≡ failed s → B
 not_both x s e = absurd cc
+
+-- an answer that is only an error is this one
+pub failed_is : {X E : Type 0} {e : E} (r : Result X E) → IsErrAnd r (λ x. x ≡ e) → r ≡ Err e
+failed_is (Ok x) h = absurd h
+failed_is (Err x) h = ap (λ x. Err x) h
 
 -- the value of a step that did not stop
 pub bind_ok : {T A B : Type 0} (r : Result A (Stop T)) (f : A → Result B (Stop T)) (y : B) → (r >>= f) ≡ Ok y → (x : A) × (r ≡ Ok x) × (f x ≡ Ok y)

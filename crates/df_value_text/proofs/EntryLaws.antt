@@ -1,5 +1,5 @@
 -- Items in front of a closing byte, how deep values nest, and entries, read as they are spelled.
-use Rattle.df_value_text.proofs.Names.{suc, is_ascii_digit, negsuc, ◌≡◌, ℕ, Bool, true, false, eqb, List, [], ◌∷◌, ◌++◌, refl, sym, ap, subst, ◌∙◌, ◌⊎◌, inl, inr, Read, items_spell, Format, never, closed_format, Refuses, Follow, ItemsFit, IsText, text_format, Of, made, fitting, either_by, joined, listed, none_listed, ended_at, ◌≤◌, max, arith, is_lt, name_cmp, Plain, Plains, Pairs, items, entries, no_items, item, no_entries, entry, from_list, from_pairs, IsSpelled, AreSpelled, AreEntries, AreBehind, append_assoc, pos, eqb-true, and_parts, items_at, then_at, in_map, low_as, nowhere, append-nil, flat_map, Parts, Leads, items_goes, items_format, format_shrinks, behind_format, own, int, greatest, leads_entry, given_at, entry_at, next_entry_at, value_text, entry_text, last_of, last_split, LowWithin, MayFollow, IsOpen, Open, open_text, entries_led, then_format, ends_of_second}
+use Rattle.df_value_text.proofs.Names.{suc, is_ascii_digit, negsuc, ◌≡◌, ℕ, Bool, true, false, eqb, List, [], ◌∷◌, ◌++◌, refl, sym, ap, subst, ◌∙◌, ◌⊎◌, inl, inr, Read, items_spell, Format, never, closed_format, Refuses, Follow, ItemsFit, IsText, text_format, Of, made, fitting, either_by, joined, listed, none_listed, ended_at, ◌≤◌, max, arith, is_lt, name_cmp, Plain, Plains, Pairs, items, entries, no_items, item, no_entries, entry, from_list, from_pairs, IsSpelled, AreSpelled, AreEntries, AreBehind, append_assoc, pos, eqb-true, and_parts, items_at, then_at, in_map, low_as, nowhere, append-nil, flat_map, Parts, Leads, items_goes, items_format, format_shrinks, behind_format, own, int, greatest, leads_entry, given_at, entry_at, next_entry_at, value_text, entry_text, last_of, last_split, LowWithin, MayFollow, IsOpen, Open, open_text, entries_led, then_format}
 use Rattle.df_value_text.proofs.PathLaws.{joined_items}
 use Rattle.df_value_text.proofs.NameLaws.{name_apart, IsName, name_goes, name_format, AfterName, is_less, NearName, higher_format, greatest_fits, below_greatest}
 use Rattle.df_value_text.proofs.NumberLaws.{number_apart}
@@ -244,7 +244,7 @@ module _ (F : Plain → Type 0) (zero : F (int (pos 0))) (inner : List ℕ → R
       → Format (λ front rest. Near front rest ⊎ LowEntry N front rest) entry_text (λ e. N e.0 × F e.1) entry_goes (then_at name (given_at inner))
   named_format {N} {name} Near fx =
       then_format (λ front rest low. inl low) (λ x front rest fits low. inr (x, low.0, fits, ap (λ (u : List ℕ). x ++ u) low.1, low.2)) fx given_format
-      (int (pos 0)) zero (ends_of_second given_format (λ x p rest fits fits_p ends. name_apart x 61 refl))
+      (int (pos 0)) zero (λ x p rest fits fits_p ends. name_apart x 61 refl)
 
   pub entry_format : Format LowInMap entry_text (EntryFits F) entry_goes (entry_at inner)
   entry_format = low_as first (named_format nowhere (name_format nowhere))
@@ -258,7 +258,7 @@ module _ (F : Plain → Type 0) (zero : F (int (pos 0))) (inner : List ℕ → R
 
   pub entries_parts : Parts NearEntry leads_entry 44 entry_text (EntryFits F) (EntryAfter F) entry_goes (λ prev. next_entry_at inner prev.0)
   entries_parts = record {
-    item = λ prev fits. next_format prev;
+    item = λ prev cs fits h. next_format prev;
     shrinks = λ prev. format_shrinks (NearEntry prev) entry_text (EntryAfter F prev) entry_goes (next_entry_at inner prev.0) (next_format prev);
     fits = λ prev e fits after. (after.0.0, after.1);
     only = λ prev c cs h. eqb-true c 44 (and_parts (eqb c 44) (is_lt (name_cmp prev.0 greatest)) h).0;
@@ -278,4 +278,4 @@ pub entries_format : (n : ℕ) (inner : List ℕ → Read ℕ Plain) → Format 
     (items_at leads_entry (entry_at inner) (λ prev. next_entry_at inner prev.0))
 entries_format n inner f =
     let zero : LevelFits n (int (pos 0)) = (omega arith, omega arith) in
-    items_format (entries_parts (LevelFits n) zero inner f) (entries_lead n) (entry_at inner) (entry_format (LevelFits n) zero inner f)
+    items_format (entries_parts (LevelFits n) zero inner f) (entries_lead n) (λ e fits. fits) (entry_at inner) (entry_format (LevelFits n) zero inner f)

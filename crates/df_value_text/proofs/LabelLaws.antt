@@ -1,5 +1,5 @@
 -- Labels and privileges are read as they are spelled.
-use Rattle.df_value_text.proofs.Names.{either_by, byte_refuses, last_ends_at, ◌≡◌, ℕ, Bool, true, false, eqb, List, [], ◌∷◌, ◌++◌, Option, Some, None, refl, sym, ap, subst, append_assoc, ◌⊎◌, inl, inr, is_ascii_digit, eqb-true, then_at, closed_at, maybe_spell, CanGoOn, Ends, Format, never, ends_never, then_second_format, then_goes, text_format, own, IsText, closed_format, MaybeFits, maybe_goes, maybe_format, Of, led, viewed, fitting, Privilege, Right, Plus, Minus, PlusAuth, MinusAuth, tags_text, label_text, privilege_text, IsTagSet, IsLabel, IsPrivilege, IsLowTag, tags_at, leads_tag, label_at, auth_at, plus_of, right_at, privilege_at, then_spell, ThenFits, right_text, label_of, minus_of, privilege_of}
+use Rattle.df_value_text.proofs.Names.{either_by, byte_refuses, last_ends_at, ◌≡◌, ℕ, Bool, true, false, eqb, List, [], ◌∷◌, ◌++◌, Option, Some, None, refl, sym, ap, subst, ◌∙◌, append_assoc, ◌⊎◌, inl, inr, is_ascii_digit, eqb-true, then_at, closed_at, maybe_spell, CanGoOn, Ends, Format, never, ends_never, then_second_format, then_goes, text_format, own, IsText, closed_format, MaybeFits, maybe_goes, maybe_format, Of, led, viewed, fitting, Privilege, Right, Plus, Minus, PlusAuth, MinusAuth, tags_text, label_text, privilege_text, IsTagSet, IsLabel, IsPrivilege, IsLowTag, tags_at, leads_tag, label_at, auth_at, plus_of, right_at, privilege_at, then_spell, ThenFits, right_text, label_of, minus_of, privilege_of, as_at, behind_at}
 use Rattle.df_value_text.proofs.TagLaws.{nowhere, nowhere_is_local, tag_ends_at, tag_goes, tag_format}
 use Rattle.df_value_text.proofs.TagSetLaws.{tags_goes, tags_format, low_is_local}
 
@@ -51,27 +51,30 @@ right_goes Minus c = begins_auth c
 right_goes PlusAuth c = false
 right_goes MinusAuth c = false
 
+-- a sign, and `auth` or nothing behind it
+signed_format : (sign : ℕ) (make : Option (List ℕ) → Right) → right_text (make None) ≡ sign ∷ []
+    → ((word : List ℕ) → right_text (make (Some word)) ≡ sign ∷ auth)
+    → ((word : Option (List ℕ)) (c : ℕ) → right_goes (make word) c ≡ maybe_goes begins_auth never word c)
+    → Format nowhere right_text (Of make IsAuth) right_goes (behind_at (sign ∷ []) (as_at make auth_at))
+signed_format sign make bare full alike = led (sign ∷ []) make (nowhere_is_local (sign ∷ [])) None tt auth_format spelled (λ word c h. alike word c)
+  where
+    spelled : (word : Option (List ℕ)) → IsAuth word → right_text (make word) ≡ sign ∷ maybe_spell own word
+    spelled None h = bare
+    spelled (Some word) h = full word ∙ ap (λ (u : List ℕ). sign ∷ u) (sym h)
+
 abbrev IsPlus : Right → Type 0
 IsPlus r = Of plus_of IsAuth r
 
 abbrev IsMinus : Right → Type 0
 IsMinus r = Of minus_of IsAuth r
 
-plus_spelled : (word : Option (List ℕ)) → IsAuth word → right_text (plus_of word) ≡ 43 ∷ maybe_spell own word
-plus_spelled None h = refl
-plus_spelled (Some word) h = ap (λ (u : List ℕ). 43 ∷ u) (sym h)
+plus_goes : (word : Option (List ℕ)) (c : ℕ) → right_goes (plus_of word) c ≡ maybe_goes begins_auth never word c
+plus_goes None c = refl
+plus_goes (Some word) c = refl
 
-minus_spelled : (word : Option (List ℕ)) → IsAuth word → right_text (minus_of word) ≡ 45 ∷ maybe_spell own word
-minus_spelled None h = refl
-minus_spelled (Some word) h = ap (λ (u : List ℕ). 45 ∷ u) (sym h)
-
-plus_alike : (word : Option (List ℕ)) (c : ℕ) → IsAuth word → right_goes (plus_of word) c ≡ maybe_goes begins_auth never word c
-plus_alike None c h = refl
-plus_alike (Some word) c h = refl
-
-minus_alike : (word : Option (List ℕ)) (c : ℕ) → IsAuth word → right_goes (minus_of word) c ≡ maybe_goes begins_auth never word c
-minus_alike None c h = refl
-minus_alike (Some word) c h = refl
+minus_goes : (word : Option (List ℕ)) (c : ℕ) → right_goes (minus_of word) c ≡ maybe_goes begins_auth never word c
+minus_goes None c = refl
+minus_goes (Some word) c = refl
 
 -- every right is of one kind
 signed : (r : Right) → IsPlus r ⊎ IsMinus r
@@ -86,8 +89,7 @@ IsRight r = Unit {0}
 pub right_format : Format nowhere right_text IsRight right_goes right_at
 right_format =
     fitting (λ r h. tt) (λ r h. signed r) (either_by (λ c. eqb c 43)
-    (led (43 ∷ []) plus_of (nowhere_is_local (43 ∷ [])) None tt auth_format plus_spelled plus_alike)
-    (led (45 ∷ []) minus_of (nowhere_is_local (45 ∷ [])) None tt auth_format minus_spelled minus_alike)
+    (signed_format 43 plus_of refl (λ word. refl) plus_goes) (signed_format 45 minus_of refl (λ word. refl) minus_goes)
     (record { none = refl; first = λ c cs h. rw h refl }) (byte_refuses 43 refl (λ cs. refl)))
 
 -- a tag ends before a sign

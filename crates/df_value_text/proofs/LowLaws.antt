@@ -1,7 +1,9 @@
 -- Where the path of what is open leads to a low name, reading stops there.
-use Rattle.df_value_text.proofs.Names.{value_at, IsSpelled, ◌≡◌, ℕ, Bool, true, List, [], ◌∷◌, ◌++◌, Ok, Err, refl, ap, ◌∙◌, Stop, Read, more_of, items_at, Format, Follow, Parts, more_step, same_split, eqb, length, sym, subst, append_assoc, length-append, arith, inl, inr, flat_map, eqb-true, Bad, Low, err_is, told, longest_read, Plain, from_list, from_pairs, NameStandsLow, in_list, in_map, LowInValue, ended_at, leads_value, leads_entry, entry_at, next_entry_at, nowhere, Open, values_led, entries_led, open_text, LowWithin, MayFollow, IsOpen, AreOpen}
+use Rattle.df_value_text.proofs.Names.{value_at, IsSpelled, ◌≡◌, ℕ, Bool, true, List, [], ◌∷◌, ◌++◌, Ok, Err, refl, ap, ◌∙◌, Stop, Read, more_of, items_at, Format, Follow, Parts, more_step, same_split, eqb, length, sym, subst, append_assoc, length-append, arith, inl, inr, flat_map, eqb-true, Bad, Low, err_is, told, longest_read, Plain, from_list, from_pairs, NameStandsLow, in_list, in_map, LowInValue, ended_at, leads_value, leads_entry, entry_at, next_entry_at, nowhere, Open, values_led, entries_led, open_text, LowWithin, MayFollow, IsOpen, AreOpen, given_at, own}
 use Rattle.df_value_text.proofs.EntryLaws.{Chain, led, led_one, LowInMap, entry_format, EntryFits, EntryAfter, items_nest, entries_nest, list_chain, entries_chain}
-use Rattle.df_value_text.proofs.NameLaws.{name_apart, AfterName, name_whole, higher_format, below_greatest, IsName, name_format}
+use Rattle.df_format.proofs.Items.{item_after}
+use Rattle.df_format.specs.Reading.{then_at}
+use Rattle.df_value_text.proofs.NameLaws.{name_goes, name_apart, AfterName, name_whole, higher_format, below_greatest, name_format}
 use Rattle.df_value_text.proofs.ValueLaws.{items_parts, entry_parts, value_format, value_node, value_empty, zero_fits}
 
 -- ---- items, of which the next stops
@@ -19,7 +21,7 @@ module _ {X : Type 0} {Near : X → List ℕ → List ℕ → Type 0} {leads : X
   more_stopped prev (x ∷ xs) inner stop fits each g =
       let others : List ℕ = 44 ∷ (led spell xs ++ inner) in
       let fits_x = p.fits prev x fits each.0 in
-      let one : next prev (spell x ++ others) ≡ Ok (x, others) = (p.item prev fits).again x others each.0 (p.at_sep x fits_x) in
+      let one : next prev (spell x ++ others) ≡ Ok (x, others) = (item_after p prev x fits each.0).again x others each.0 (p.at_sep x fits_x) in
       let more = more_stopped x xs inner stop fits_x each.1 (λ before last e. g (prev ∷ before) last (ap (λ (u : List X). prev ∷ u) e)) in
       ap (λ (u : List ℕ). more_of leads next prev (44 ∷ u)) (led_one spell x xs inner)
       ∙ more_step leads next p.shrinks prev 44 (spell x ++ others) (p.led prev x others fits each.0) ∙ rw (one, more) refl
@@ -91,13 +93,9 @@ map_stops es text rest chain none some =
 leads_on : (last : List ℕ × Plain) (name inner : List ℕ) → AfterName last.0 name → leads_entry last 44 inner ≡ true
 leads_on last name inner after = below_greatest last.0 name after
 
-entry_stops : (read : List ℕ → Read ℕ Plain) (name text : List ℕ) (stop : Stop ℕ) → IsName name → read text ≡ Err stop
-    → entry_at read (name ++ (61 ∷ text)) ≡ Err stop
-entry_stops read name text stop fits e = rw ((name_format nowhere).again name (61 ∷ text) fits (name_apart name 61 refl), e) refl
-
-next_stops : (read : List ℕ → Read ℕ Plain) (prev name text : List ℕ) (stop : Stop ℕ) → AfterName prev name → read text ≡ Err stop
-    → next_entry_at read prev (name ++ (61 ∷ text)) ≡ Err stop
-next_stops read prev name text stop after e = rw ((higher_format prev).again name (61 ∷ text) after (name_apart name 61 refl), e) refl
+entry_stops : {Near : List ℕ → List ℕ → Type 0} {Fits : List ℕ → Type 0} {first : List ℕ → Read ℕ (List ℕ)} → Format Near own Fits name_goes first
+    → (name text : List ℕ) (stop : Stop ℕ) → Fits name → value_at text ≡ Err stop → then_at first (given_at value_at) (name ++ (61 ∷ text)) ≡ Err stop
+entry_stops f name text stop fits e = rw (f.again name (61 ∷ text) fits (name_apart name 61 refl), e) refl
 
 low_stops : (read : List ℕ → Read ℕ Plain) (prev rest : List ℕ) → NameStandsLow prev rest → next_entry_at read prev rest ≡ Err (Low rest)
 low_stops read prev rest s = rw (longest_read name_whole rest s.name s.more s.longest, s.low) refl
@@ -118,10 +116,10 @@ module _ (es : List (List ℕ × Plain)) (name : List ℕ) (may : MayFollow es n
   given_stops text rest e =
       ap (λ (u : List ℕ). value_at (40 ∷ u)) (append_assoc (entries_led es) (name ++ 61 ∷ []) text
       ∙ ap (λ (u : List ℕ). entries_led es ++ u) (append_assoc name (61 ∷ []) text)) ∙ map_stops es (name ++ (61 ∷ text)) rest front
-      (λ none. entry_stops value_at name text (Low rest)
+      (λ none. entry_stops (name_format nowhere) name text (Low rest)
       (subst (λ (u : List (List ℕ × Plain)). Chain (EntryFits IsSpelled) (EntryAfter IsSpelled) (u ++ (name, may.0) ∷ [])) none chain).0.0 e)
       (λ before last is h. let a = after before last is in
-      (leads_on last name (name ++ (61 ∷ text)) a, next_stops value_at last.0 name text (Low rest) a e))
+      (leads_on last name (name ++ (61 ∷ text)) a, entry_stops (higher_format last.0) name text (Low rest) a e))
 
 -- one list or map around
 open_stops : (o : Open) → IsOpen o → (text rest : List ℕ) → value_at text ≡ Err (Low rest) → value_at (open_text o ++ text) ≡ Err (Low rest)

@@ -26,7 +26,7 @@ digit_first n more fits =
 
 numbers_parts : Parts (λ prev. nowhere) leads_number 46 decimal IsShort (λ prev. IsShort) (number_goes top) (λ prev. short_at)
 numbers_parts = record {
-  item = λ prev fits. short_format nowhere;
+  item = λ prev cs fits h. short_format nowhere;
   shrinks = short_shrinks;
   fits = λ prev x fits after. after;
   only = λ prev c cs h. grind (arith, nat_tests);
@@ -71,7 +71,8 @@ other_byte w read c bytes h = rw h refl
 pub long_again : (tag rest : List ℕ) → IsTag tag → LongEnds tag rest → longest_at (tag_text tag ++ rest) ≡ Ok (tag, rest)
 long_again [] rest fits ends = absurd fits
 long_again (n ∷ ns) rest fits ends =
-    let read = items_again numbers_parts nowhere short_at (short_format nowhere) (n, ns) rest (omega (arith, fits.0), follow n ns fits.1) ends in
+    let first = short_format nowhere in
+    let read = items_again numbers_parts (λ n fits. fits) nowhere short_at first (n, ns) rest (omega (arith, fits.0), follow n ns fits.1) ends in
     let same : path_text (n ∷ ns) ++ rest ≡ items_spell 46 decimal (n, ns) ++ rest = ap (λ (u : List ℕ). u ++ rest) (joined_items 46 decimal n ns) in
     behind_byte 35 numbers_at (path_text (n ∷ ns) ++ rest) ∙ ap numbers_at same ∙ rw read refl
 
@@ -93,7 +94,7 @@ digit_reads (c ∷ cs) stop d e =
 numbers_told : (bytes : List ℕ) → Told (λ x. LongFound (35 ∷ bytes) x.0 x.1) (λ stop. short_at bytes ≡ Err stop) (numbers_at bytes)
 numbers_told bytes =
     told_bind _ _ _ _ (items_at leads_number short_at (λ prev. short_at) bytes) (λ x. Ok (listed x.0, x.1))
-    (items_told numbers_parts (λ stop. short_at bytes ≡ Err stop) (λ prev tokens stop. ⊥) (record {
+    (items_told numbers_parts (λ n fits. fits) (λ stop. short_at bytes ≡ Err stop) (λ prev tokens stop. ⊥) (record {
       one = λ prev c cs stop fits h e. digit_reads cs stop (and_parts (eqb c 46) (begins_digit cs) h).1 e;
       more = λ prev c cs x left stop fits h f no. no;
     }) (short_format nowhere) bytes (λ stop e. e) (λ x left stop f no. absurd no)) (λ x f. record {

@@ -44,7 +44,7 @@ next_shrinks prev bytes tag rest e =
 
 pub tags_parts : Parts NearTag leads_tag 44 tag_text IsTag AfterTag tag_goes next_at
 tags_parts = record {
-  item = next_format;
+  item = λ prev cs fits h. next_format prev fits;
   shrinks = next_shrinks;
   fits = λ prev tag fits after. after.0;
   only = λ prev c cs h. eqb-true c 44 h;
@@ -118,6 +118,6 @@ tags_some c h = record {
 
 pub tags_format : Format IsLowTag tags_text IsTagSet tags_goes tags_at
 tags_format =
-    viewed optional (maybe_format begins_tag (items_format tags_parts tags_lead tag_at (tag_format IsLowTag low_is_local))
+    viewed optional (maybe_format begins_tag (items_format tags_parts tags_lead (λ tag fits. fits) tag_at (tag_format IsLowTag low_is_local))
     (λ x fits. record { first = 35; others = path_text x.0 ++ more_spell 44 tag_text x.1; is = refl; test = refl }) tags_some)
     (record { to = tags_to; from = tags_from; spelled = tags_spelled; alike = tags_alike })

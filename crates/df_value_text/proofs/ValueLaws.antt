@@ -76,7 +76,7 @@ items_lead n = record {
 pub items_parts : (F : Plain → Type 0) (inner : List ℕ → Read ℕ Plain) → Format LowWithin value_text F value_goes inner
     → Parts (λ prev. LowWithin) leads_value 44 value_text F (λ prev. F) value_goes (λ prev. inner)
 items_parts F inner f = record {
-  item = λ prev fits. f;
+  item = λ prev cs fits h. f;
   shrinks = λ prev. format_shrinks LowWithin value_text F value_goes inner f;
   fits = λ prev p fits after. after;
   only = λ prev c cs h. eqb-true c 44 h;
@@ -92,7 +92,8 @@ module _ (n : ℕ) (inner : List ℕ → Read ℕ Plain) (f : Format LowWithin v
       (ended_format value_text (LevelFits n) (λ prev. LevelFits n) 93
       (record { none = rw (refuses.none) refl; first = λ c cs h. rw (refuses.first c cs h) refl })
       (λ ps fits. last_ends_at leads_value value_goes 93 (λ p. value_apart p 93 refl) ps.0 ps.1)
-      (items_format (items_parts (LevelFits n) inner f) (items_lead n) inner (low_as (λ front rest low. low_open (in_list []) front rest tt low) f)))
+      (items_format (items_parts (LevelFits n) inner f) (items_lead n) (λ p fits. fits) inner
+      (low_as (λ front rest low. low_open (in_list []) front rest tt low) f)))
       (λ ps h. ap (λ (u : List ℕ). 91 ∷ (u ++ 93 ∷ [])) (items_text-joined ps)) (λ ps c h. refl)
 
   map_format : Format LowWithin value_text (IsMapOf n) value_goes (behind_at (40 ∷ []) (map_at inner))

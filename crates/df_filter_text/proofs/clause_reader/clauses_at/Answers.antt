@@ -1,5 +1,5 @@
 use Rattle.df_filter_text.proofs.Names.{length, sym, ap, ◌∙◌, arith, [], ◌∷◌, ◌++◌, inl, inr, length_push}
-use Rattle.std.proofs.lemmas.Result.{err_from_is_err_and}
+use Rattle.df_format.proofs.Laws.{failed_is}
 use Rattle.df_value_text.proofs.Loops.{fails_by}
 use Rattle.df_filter_text.proofs.ClauseSteps.{clauses_begun, clause_read, clause_failed, clauses_done}
 use Rattle.df_filter_text.proofs.clause_reader.clauses_at.Goals.{then-more-test+else-byte_stands, else-more-test}
@@ -16,8 +16,7 @@ more-init c =
 pub returns-in_err-clause : goal.returns-in_err-clause
 returns-in_err-clause c =
     let inv = c.more.invariant in
-    let p = err_from_is_err_and c.from_residual-in_err-clause.result c.from_residual-in_err-clause.ensures.1 in
-    rw (p.1, p.2) (fails_by c.in_err-clause.field-0.0 c.args.bytes.now _ _
+    rw (failed_is _ c.from_residual-in_err-clause.ensures.1) (fails_by c.in_err-clause.field-0.0 c.args.bytes.now _ _
     (clause_failed inv.2 (omega (arith, c.len.ensures, inv.1, c.more-test.true)) (sym c.byte_stands.ensures ∙ c.if-byte_stands.true)) c.in_err-clause.ensures)
 
 pub more-preserved : goal.more-preserved

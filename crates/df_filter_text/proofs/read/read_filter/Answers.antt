@@ -1,6 +1,6 @@
 use Rattle.df_filter_text.proofs.Names.{List, drop, length-drop, sym, ap, arith, length, ◌∙◌, Clause, begins_with}
 use Rattle.std.proofs.lemmas.Bool.{true≢false}
-use Rattle.std.proofs.lemmas.Result.{err_from_is_err_and}
+use Rattle.df_format.proofs.Laws.{failed_is}
 use Rattle.df_filter_text.proofs.Whole.{some_bytes, nothing_left, failed_only, failed_many, failed_refused, whole_is, fifth_stands, has_fifth, read_fits, read_is, bad_behind, none_whole}
 use Rattle.df_filter_text.proofs.read.read_filter.Goals as goal
 
@@ -9,19 +9,16 @@ returns-then-is_empty-clause-only c filter fits is = absurd (none_whole c.args.b
 
 pub returns-in_err-filter-clause-only : goal.returns-in_err-filter-clause-only
 returns-in_err-filter-clause-only c =
-    let p = err_from_is_err_and c.from_residual.result c.from_residual.ensures.1 in
-    rw (p.1, p.2) (failed_only c.args.bytes.now c.in_err-filter.field-0.0 c.in_err-filter.ensures)
+    rw (failed_is _ c.from_residual.ensures.1) (failed_only c.args.bytes.now c.in_err-filter.field-0.0 c.in_err-filter.ensures)
 
 pub returns-in_err-filter-clause-many : goal.returns-in_err-filter-clause-many
 returns-in_err-filter-clause-many c =
-    let p = err_from_is_err_and c.from_residual.result c.from_residual.ensures.1 in
-    rw (p.1, p.2) (failed_many c.args.bytes.now c.in_err-filter.field-0.0 c.in_err-filter.ensures (List Clause))
+    rw (failed_is _ c.from_residual.ensures.1) (failed_many c.args.bytes.now c.in_err-filter.field-0.0 c.in_err-filter.ensures (List Clause))
 
 pub returns-in_err-filter-clause-refused : goal.returns-in_err-filter-clause-refused
 returns-in_err-filter-clause-refused c =
-    let p = err_from_is_err_and c.from_residual.result c.from_residual.ensures.1 in
-    rw (p.1, p.2) (failed_refused c.args.bytes.now c.in_err-filter.field-0.0 (some_bytes c.args.bytes.now (sym c.is_empty.ensures ∙ c.if-is_empty.false))
-    c.in_err-filter.ensures)
+    rw (failed_is _ c.from_residual.ensures.1) (failed_refused c.args.bytes.now c.in_err-filter.field-0.0 (some_bytes c.args.bytes.now (sym c.is_empty.ensures
+    ∙ c.if-is_empty.false)) c.in_err-filter.ensures)
 
 pub returns-then-byte_stands-clause-only : goal.returns-then-byte_stands-clause-only
 returns-then-byte_stands-clause-only c filter fits is =

@@ -1,4 +1,4 @@
-use Rattle.df_value_text.proofs.Names.{◌≡◌, ℤ, Ok, ap, drop, pos, refl, sym, ◌+◌, ◌∙◌, arith, err_from_is_err_and, as_at, number_at, minus, positive_at}
+use Rattle.df_value_text.proofs.Names.{◌≡◌, ℤ, Ok, ap, drop, pos, refl, sym, ◌+◌, ◌∙◌, arith, failed_is, as_at, number_at, minus, positive_at}
 use Rattle.std.proofs.lemmas.Int.{to_z-of_z}
 use mir.Syntax.{w64}
 use Rattle.df_value_text.proofs.Loops.{either_behind, fails_by}
@@ -9,10 +9,10 @@ pub returns-in_err-distance : goal.returns-in_err-distance
 returns-in_err-distance c =
     let below = either_behind 45 (as_at minus (positive_at 9223372036854775808)) (as_at pos (number_at 9223372036854775807)) c.args.bytes.now c.args.at
     (sym c.byte_stands.ensures ∙ c.if-byte_stands.true) in
-    let p = err_from_is_err_and c.from_residual.result c.from_residual.ensures.1 in
+    let failed = failed_is _ c.from_residual.ensures.1 in
     record {
-      exact = rw (p.1, p.2) (fails_by c.in_err-distance.field-0.0 c.args.bytes.now _ _ (λ stop e. below ∙ rw e refl) c.in_err-distance.ensures.exact);
-      onward = rw (p.1) tt;
+      exact = rw failed (fails_by c.in_err-distance.field-0.0 c.args.bytes.now _ _ (λ stop e. below ∙ rw e refl) c.in_err-distance.ensures.exact);
+      onward = rw failed tt;
     }
 
 pub returns-then-byte_stands : goal.returns-then-byte_stands

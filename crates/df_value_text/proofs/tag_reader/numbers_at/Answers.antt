@@ -1,4 +1,4 @@
-use Rattle.df_value_text.proofs.Names.{◌≡◌, ◌<◌, [], ◌∷◌, length, drop, ap, sym, ◌∙◌, arith, rules, err_from_is_err_and, length_push, short_at, leads_number}
+use Rattle.df_value_text.proofs.Names.{◌≡◌, ◌<◌, [], ◌∷◌, length, drop, ap, sym, ◌∙◌, arith, rules, failed_is, length_push, short_at, leads_number}
 use Rattle.df_value_text.proofs.Loops.{fails_by, begun, left_on, left_stops, left_done}
 use Rattle.df_value_text.proofs.PathLaws.{short_shrinks}
 use Rattle.df_value_text.proofs.TagSteps.{number_led, no_number}
@@ -19,9 +19,8 @@ loop-numbers-init c =
 pub returns-in_err-number-clause-exact : goal.returns-in_err-number-clause-exact
 returns-in_err-number-clause-exact c =
     let inv = c.loop-numbers.invariant in
-    let p = err_from_is_err_and c.from_residual-in_err-number.result c.from_residual-in_err-number.ensures.1 in
-    rw (p.1, p.2) (fails_by c.in_err-number.field-0.0 c.args.bytes.now _ _ (left_stops inv.1 short_shrinks (number_led inv.0 c.args.bytes.now
-    c.loop-numbers.place (sym c.leads_number.ensures ∙ c.loop-numbers-test.true))) c.in_err-number.ensures.exact)
+    rw (failed_is _ c.from_residual-in_err-number.ensures.1) (fails_by c.in_err-number.field-0.0 c.args.bytes.now _ _ (left_stops inv.1 short_shrinks
+    (number_led inv.0 c.args.bytes.now c.loop-numbers.place (sym c.leads_number.ensures ∙ c.loop-numbers-test.true))) c.in_err-number.ensures.exact)
 
 pub loop-numbers-preserved : goal.loop-numbers-preserved
 loop-numbers-preserved c =

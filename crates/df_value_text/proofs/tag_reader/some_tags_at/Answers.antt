@@ -1,4 +1,4 @@
-use Rattle.df_value_text.proofs.Names.{◌≡◌, ◌+◌, List, ℕ, [], ◌∷◌, Err, length, drop, sym, ap, ◌∙◌, arith, rules, err_from_is_err_and, length_push, Stop, tag_at, next_at, leads_tag}
+use Rattle.df_value_text.proofs.Names.{◌≡◌, ◌+◌, List, ℕ, [], ◌∷◌, Err, length, drop, sym, ap, ◌∙◌, arith, rules, failed_is, length_push, Stop, tag_at, next_at, leads_tag}
 use Rattle.df_value_text.proofs.Loops.{fails_by, begun, left_on, left_stops, left_done, comma_led, no_comma}
 use Rattle.df_value_text.proofs.TagSetLaws.{next_shrinks}
 use Rattle.df_value_text.proofs.TagSteps.{last_is}
@@ -23,10 +23,10 @@ returns-in_err-tag c =
     ∙ last_is c.tags.tags.items inv.0 inv.1 _ _ (omega (arith, c.len.ensures, inv.5, ap length inv.2, length_push inv.0 inv.1)) inv.2 in
     let here = drop (c.tags.place + 1) c.args.bytes.now in
     let led = comma_led inv.1 c.args.bytes.now c.tags.place (sym c.byte_stands.ensures ∙ c.tags-test.true) in
-    let p = err_from_is_err_and c.from_residual-in_err-tag.result c.from_residual-in_err-tag.ensures.1 in
     let stops = λ (stop : Stop ℕ) (e : next_at c.index.result.now here ≡ Err stop).
     left_stops inv.3 next_shrinks led stop (ap (λ (t : List ℕ). next_at t here) (sym same) ∙ e) in
-    record { exact = rw (p.1, p.2) (fails_by c.in_err-tag.field-0.0 c.args.bytes.now _ _ stops c.in_err-tag.ensures.exact) }
+    let failed = failed_is _ c.from_residual-in_err-tag.ensures.1 in
+    record { exact = rw failed (fails_by c.in_err-tag.field-0.0 c.args.bytes.now _ _ stops c.in_err-tag.ensures.exact) }
 
 pub tags-preserved : goal.tags-preserved
 tags-preserved c =

@@ -1,13 +1,13 @@
-use Rattle.df_value_text.proofs.Names.{drop, sym, ◌∙◌, err_from_is_err_and}
+use Rattle.df_value_text.proofs.Names.{drop, sym, ◌∙◌, failed_is}
 use Rattle.df_value_text.proofs.Loops.{fails_by}
 use Rattle.df_value_text.proofs.TagSteps.{set_read, some_tags}
 use Rattle.df_value_text.proofs.tag_reader.tags_at.Goals as goal
 
 pub returns-in_err-tags : goal.returns-in_err-tags
 returns-in_err-tags c =
-    let p = err_from_is_err_and c.from_residual.result c.from_residual.ensures.1 in
     let some = some_tags (drop c.args.at c.args.bytes.now) (sym c.byte_stands.ensures ∙ c.if-not-byte_stands.false) in
-    record { exact = rw (p.1, p.2) (fails_by c.in_err-tags.field-0.0 c.args.bytes.now _ _ (λ stop e. some ∙ e) c.in_err-tags.ensures.exact) }
+    let failed = failed_is _ c.from_residual.ensures.1 in
+    record { exact = rw failed (fails_by c.in_err-tags.field-0.0 c.args.bytes.now _ _ (λ stop e. some ∙ e) c.in_err-tags.ensures.exact) }
 
 pub between-requires-clause-order : goal.between-requires-clause-order
 between-requires-clause-order c = (set_read c.args.bytes.now c.args.at c.in_ok-tags.place c.in_ok-tags.tags.items c.requires c.in_ok-tags.ensures.exact.0

@@ -1,4 +1,4 @@
-use Rattle.df_value_text.proofs.Names.{Pairs, ℕ, ◌+◌, List, [], ◌∷◌, ◌++◌, drop, Ok, refl, sym, ap, ◌∙◌, arith, err_from_is_err_and, Plain, items, entries, from_list, from_pairs, named, plain}
+use Rattle.df_value_text.proofs.Names.{Pairs, ℕ, ◌+◌, List, [], ◌∷◌, ◌++◌, drop, Ok, refl, sym, ap, ◌∙◌, arith, failed_is, Plain, items, entries, from_list, from_pairs, named, plain}
 use Rattle.df_value_text.specs.ReadValue.{leads_value, list_of, leads_entry, entry_at, next_entry_at, map_of, value_at}
 use Rattle.df_value_text.proofs.Loops.{fails_by, begun, left_on, left_stops, left_done, comma_led, no_comma}
 use Rattle.df_value_text.proofs.ValueSteps.{pushed, put_behind, up_to_one, up_to_more, begins_within, opened_list, opened_map, leaf_same, a_list, a_map, none_made, first_stops, inside_stops, closing_stops, inside_reads, entry_led, entry_last}
@@ -33,8 +33,7 @@ list_at-returns-then-byte_stands-clause-exact t c =
 
 pub list_at-returns-in_err-first-clause-exact : goal.list_at-returns-in_err-first-clause-exact
 list_at-returns-in_err-first-clause-exact t c =
-    let p = err_from_is_err_and c.from_residual.result c.from_residual.ensures.1 in
-    rw (p.1, p.2) (fails_by c.in_err-first.field-0.0 c.args.bytes.now _ _ (first_stops a_list (drop c.args.at c.args.bytes.now)
+    rw (failed_is _ c.from_residual.ensures.1) (fails_by c.in_err-first.field-0.0 c.args.bytes.now _ _ (first_stops a_list (drop c.args.at c.args.bytes.now)
     (sym c.byte_stands.ensures ∙ c.if-byte_stands.false)) c.in_err-first.ensures.exact)
 
 pub list_at-values-init : goal.list_at-values-init
@@ -53,9 +52,8 @@ pub list_at-returns-in_err-value-clause-exact : goal.list_at-returns-in_err-valu
 list_at-returns-in_err-value-clause-exact t c =
     let inv = c.values.invariant in
     let led = comma_led inv.0 c.args.bytes.now c.values.place (sym c.byte_stands-in-values.ensures ∙ c.values-test.true) in
-    let p = err_from_is_err_and c.from_residual-in_err-value.result c.from_residual-in_err-value.ensures.1 in
-    rw (p.1, p.2) (fails_by c.in_err-value.field-0.0 c.args.bytes.now _ _ (λ stop e. inside_stops a_list (drop c.args.at c.args.bytes.now)
-    (sym c.byte_stands.ensures ∙ c.if-byte_stands.false) stop (left_stops inv.3 (λ prev. value_shrinks) led stop e))
+    rw (failed_is _ c.from_residual-in_err-value.ensures.1) (fails_by c.in_err-value.field-0.0 c.args.bytes.now _ _ (λ stop e. inside_stops a_list (drop
+    c.args.at c.args.bytes.now) (sym c.byte_stands.ensures ∙ c.if-byte_stands.false) stop (left_stops inv.3 (λ prev. value_shrinks) led stop e))
     c.in_err-value.ensures.exact)
 
 pub list_at-values-preserved : goal.list_at-values-preserved
@@ -76,9 +74,8 @@ pub list_at-returns-in_err-end-clause-exact : goal.list_at-returns-in_err-end-cl
 list_at-returns-in_err-end-clause-exact t c =
     let inv = c.values.invariant in
     let done = left_done inv.3 (no_comma (drop c.values.place c.args.bytes.now) (sym c.byte_stands-in-values.ensures ∙ c.values-test.false)) in
-    let p = err_from_is_err_and c.from_residual-in_err-end.result c.from_residual-in_err-end.ensures.1 in
-    rw (p.1, p.2) (fails_by c.in_err-end.field-0.0 c.args.bytes.now _ _ (closing_stops a_list (drop c.args.at c.args.bytes.now)
-    (drop c.values.place c.args.bytes.now) inv.1 (sym c.byte_stands.ensures ∙ c.if-byte_stands.false) done) c.in_err-end.ensures.exact)
+    rw (failed_is _ c.from_residual-in_err-end.ensures.1) (fails_by c.in_err-end.field-0.0 c.args.bytes.now _ _ (closing_stops a_list (drop c.args.at
+    c.args.bytes.now) (drop c.values.place c.args.bytes.now) inv.1 (sym c.byte_stands.ensures ∙ c.if-byte_stands.false) done) c.in_err-end.ensures.exact)
 
 pub list_at-returns-clause-exact : goal.list_at-returns-clause-exact
 list_at-returns-clause-exact t c =
@@ -102,8 +99,7 @@ map_at-returns-then-byte_stands-clause-exact t c =
 
 pub map_at-returns-in_err-first-clause-exact : goal.map_at-returns-in_err-first-clause-exact
 map_at-returns-in_err-first-clause-exact t c =
-    let p = err_from_is_err_and c.from_residual.result c.from_residual.ensures.1 in
-    rw (p.1, p.2) (fails_by c.in_err-first.field-0.0 c.args.bytes.now _ _ (first_stops a_map (drop c.args.at c.args.bytes.now)
+    rw (failed_is _ c.from_residual.ensures.1) (fails_by c.in_err-first.field-0.0 c.args.bytes.now _ _ (first_stops a_map (drop c.args.at c.args.bytes.now)
     (sym c.byte_stands.ensures ∙ c.if-byte_stands.false)) c.in_err-first.ensures.exact)
 
 pub map_at-entries-init : goal.map_at-entries-init
@@ -123,9 +119,8 @@ pub map_at-returns-in_err-entry-clause-exact : goal.map_at-returns-in_err-entry-
 map_at-returns-in_err-entry-clause-exact t c =
     let inv = c.entries.invariant in
     let led = entry_led c.entries.last inv.0 c.args.bytes.now c.entries.place (sym c.leads_entry.ensures ∙ c.entries-test.true) in
-    let p = err_from_is_err_and c.from_residual-in_err-entry.result c.from_residual-in_err-entry.ensures.1 in
-    rw (p.1, p.2) (fails_by c.in_err-entry.field-0.0 c.args.bytes.now _ _ (λ stop e. inside_stops a_map (drop c.args.at c.args.bytes.now)
-    (sym c.byte_stands.ensures ∙ c.if-byte_stands.false) stop (left_stops inv.3 entry_parts.shrinks led stop e))
+    rw (failed_is _ c.from_residual-in_err-entry.ensures.1) (fails_by c.in_err-entry.field-0.0 c.args.bytes.now _ _ (λ stop e. inside_stops a_map (drop
+    c.args.at c.args.bytes.now) (sym c.byte_stands.ensures ∙ c.if-byte_stands.false) stop (left_stops inv.3 entry_parts.shrinks led stop e))
     c.in_err-entry.ensures.exact)
 
 pub map_at-entries-preserved : goal.map_at-entries-preserved
@@ -150,9 +145,8 @@ map_at-returns-in_err-end-clause-exact t c =
     let inv = c.entries.invariant in
     let done = left_done inv.3 (entry_last c.entries.last inv.0 (drop c.entries.place c.args.bytes.now)
     (sym c.leads_entry.ensures ∙ c.entries-test.false)) in
-    let p = err_from_is_err_and c.from_residual-in_err-end.result c.from_residual-in_err-end.ensures.1 in
-    rw (p.1, p.2) (fails_by c.in_err-end.field-0.0 c.args.bytes.now _ _ (closing_stops a_map (drop c.args.at c.args.bytes.now)
-    (drop c.entries.place c.args.bytes.now) inv.1 (sym c.byte_stands.ensures ∙ c.if-byte_stands.false) done) c.in_err-end.ensures.exact)
+    rw (failed_is _ c.from_residual-in_err-end.ensures.1) (fails_by c.in_err-end.field-0.0 c.args.bytes.now _ _ (closing_stops a_map (drop c.args.at
+    c.args.bytes.now) (drop c.entries.place c.args.bytes.now) inv.1 (sym c.byte_stands.ensures ∙ c.if-byte_stands.false) done) c.in_err-end.ensures.exact)
 
 pub map_at-returns-clause-exact : goal.map_at-returns-clause-exact
 map_at-returns-clause-exact t c =

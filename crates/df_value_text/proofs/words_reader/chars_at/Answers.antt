@@ -1,4 +1,4 @@
-use Rattle.df_value_text.proofs.Names.{drop, sym, ◌∙◌, arith, err_from_is_err_and, chars_at}
+use Rattle.df_value_text.proofs.Names.{drop, sym, ◌∙◌, arith, failed_is, chars_at}
 use Rattle.df_value_text.proofs.Loops.{fails_by, front_done}
 use Rattle.df_value_text.proofs.WordsSteps.{char_read, char_broken, chars_none}
 use Rattle.df_value_text.proofs.words_reader.chars_at.Goals as goal
@@ -6,8 +6,7 @@ use Rattle.df_value_text.proofs.words_reader.chars_at.Goals as goal
 pub returns-in_err-behind-clause-exact : goal.returns-in_err-behind-clause-exact
 returns-in_err-behind-clause-exact c =
     let here = drop c.loop-text.place c.args.bytes.now in
-    let p = err_from_is_err_and c.from_residual-in_err-behind.result c.from_residual-in_err-behind.ensures.1 in
-    rw (p.1, p.2) (fails_by c.in_err-behind.field-0.0 c.args.bytes.now _ _
+    rw (failed_is _ c.from_residual-in_err-behind.ensures.1) (fails_by c.in_err-behind.field-0.0 c.args.bytes.now _ _
     (λ stop e. char_broken here c.loop-text.text.items stop _ (sym c.char_stands.ensures ∙ c.loop-text-test.true) c.loop-text.invariant.rest e)
     c.in_err-behind.ensures.exact)
 
