@@ -25,8 +25,8 @@ pub note_whole : WholeLine note_line (λ label. (64 ∷ []) ++ word (label_text 
 note_whole = word_whole label_finds label_word (64 ∷ [])
 
 event_finds : Finds event_text IsEvent event_at
-event_finds = finds_as event_of (finds_then unit_finds (finds_behind (33 ∷ []) short_finds)) event_text IsEvent
-    (λ x f. (append_assoc (unit_text x.0) (codes "!") (decimal x.1), f))
+event_finds =
+    finds_as event_of (finds_then unit_finds (finds_behind (33 ∷ []) short_finds)) (λ x f. (append_assoc (unit_text x.0) (codes "!") (decimal x.1), f))
 
 pub event_whole : (mark : List ℕ) → WholeLine (event_line mark) (λ event. mark ++ word (event_text event)) IsEvent (behind_at mark (word_at event_at))
 event_whole mark = word_whole event_finds event_word mark
@@ -35,7 +35,7 @@ abbrev pub spot_words : Spot → List ℕ
 spot_words spot = (45 ∷ []) ++ (word (label_text spot.label) ++ word spot.name)
 
 spot_finds : Finds (λ (s : Spot). word (label_text s.label) ++ word s.name) IsSpot deleted_at
-spot_finds = finds_as spot_of named_finds (λ (s : Spot). word (label_text s.label) ++ word s.name) IsSpot (λ x f. (refl, (f.1, f.0)))
+spot_finds = finds_as spot_of named_finds (λ x f. (refl, (f.1, f.0)))
 
 spot_back : (spot : Spot) → IsSpot spot → deleted_at (word (label_text spot.label) ++ word spot.name) ≡ Ok (spot, [])
 spot_back spot f =

@@ -1,10 +1,11 @@
 -- What the reader of calls answers.
-use Rattle.df_journal_text.proofs.Names.{◌≡◌, ℕ, ◌≤◌, List, ◌++◌, length, drop, Result, Ok, Err, codes, decimal, refl, sym, ap, subst, ◌∙◌, inl, Stop, Read, then_at, text_at, not_both, ok_is, text_again, text_found, Label, Call, AddPart, IsSpelled, IsValue, label_text, label_at, name_at, short_at, value_at, value_text, Fails, EndsWord, Fault, value_format, IsCall, IsLargeCall, IsLargeWord, word, add_of, added_at, call_at, plain_kinds, spot_at, keyed, kinds_at, word_at, EndsCall, IsStopped, IsUnspelled, Tells, behind_add, call_text, line_fault, LineFault, Plain}
+use Rattle.df_journal_text.proofs.Names.{◌≡◌, ℕ, ◌≤◌, List, ◌++◌, length, drop, Result, Ok, Err, codes, decimal, refl, sym, ap, subst, ◌∙◌, inl, Stop, Read, ◌>>=◌, text_at, not_both, ok_is, text_again, text_found, Label, Call, AddPart, IsSpelled, IsValue, label_text, label_at, name_at, short_at, value_at, value_text, Fails, EndsWord, Fault, value_format, IsCall, IsLargeCall, IsLargeWord, word, add_of, added_at, call_at, plain_kinds, spot_at, keyed, kinds_at, word_at, EndsCall, IsStopped, IsUnspelled, Tells, behind_add, call_text, line_fault, LineFault, Plain}
 use Rattle.df_journal_text.specs.declared.line_fault.LineFault.TheVariants as fault
+use Rattle.df_format.proofs.Laws.{Told}
 use Rattle.df_journal_text.proofs.Appends.{four_apart, three_apart}
 use Rattle.df_journal_text.proofs.CallBacks.{call_back}
 use Rattle.df_journal_text.proofs.CallFounds.{plain_find, spot_finds}
-use Rattle.df_journal_text.proofs.Founds.{Finds, as_found, finds_word, kinds_found, then_found}
+use Rattle.df_journal_text.proofs.Founds.{Finds, finds_word, kinds_find}
 use Rattle.df_journal_text.proofs.Stopped.{on_fault}
 use Rattle.df_journal_text.proofs.ValueTells.{value_apart, value_word_text}
 use Rattle.df_journal_text.proofs.WordBacks.{label_word, name_word, short_word}
@@ -37,13 +38,28 @@ abbrev IsNoCall : List ℕ → Type 0
 IsNoCall bytes = IsUnspelled call_text IsCall EndsCall bytes
 
 -- what is read of an added part, one behind the other
-added_read : (bytes : List ℕ) (call : Call) (rest : List ℕ) → added_at bytes ≡ Ok (call, rest)
-    → (spot : ℕ × (Label × List ℕ)) × (value : Plain) × (mid : List ℕ) × (spot_at bytes ≡ Ok (spot, mid)) × (word_at value_at mid ≡ Ok (value, rest))
-    × (add_of (spot, value) ≡ call)
-added_read bytes call rest e =
-    let a = as_found add_of (then_at spot_at (word_at value_at)) bytes call rest e in
-    let t = then_found spot_at (word_at value_at) bytes a.0.0 a.0.1 rest a.1 in
-    (a.0.0, a.0.1, t.0, t.1, t.2, a.2)
+abbrev IsAdded : List ℕ → Call × List ℕ → Type 0
+IsAdded bytes c = (spot : ℕ × (Label × List ℕ)) × (value : Plain) × (mid : List ℕ) × (spot_at bytes ≡ Ok (spot, mid))
+    × (word_at value_at mid ≡ Ok (value, c.1)) × (add_of (spot, value) ≡ c.0)
+
+abbrev with_value : ℕ × (Label × List ℕ) → Plain × List ℕ → Read ℕ ((ℕ × (Label × List ℕ)) × Plain)
+with_value spot v = Ok ((spot, v.0), v.1)
+
+abbrev added : ((ℕ × (Label × List ℕ)) × Plain) × List ℕ → Read ℕ Call
+added z = Ok (add_of z.0, z.1)
+
+added_read : (bytes : List ℕ) (call : Call) (rest : List ℕ) → added_at bytes ≡ Ok (call, rest) → IsAdded bytes (call, rest)
+added_read bytes call rest e = subst (Told (IsAdded bytes) (λ stop. Unit {0})) e (first (spot_at bytes) refl)
+  where
+    second : (spot : ℕ × (Label × List ℕ)) (mid : List ℕ) (r : Read ℕ Plain) → spot_at bytes ≡ Ok (spot, mid) → word_at value_at mid ≡ r
+        → Told (IsAdded bytes) (λ stop. Unit {0}) ((r >>= with_value spot) >>= added)
+    second spot mid (Ok v) a b = (spot, v.0, mid, a, b, refl)
+    second spot mid (Err s) a b = tt
+
+    first : (r : Read ℕ (ℕ × (Label × List ℕ))) → spot_at bytes ≡ r
+        → Told (IsAdded bytes) (λ stop. Unit {0}) ((r >>= λ x. word_at value_at x.1 >>= with_value x.0) >>= added)
+    first (Ok x) a = second x.0 x.1 (word_at value_at x.1) a refl
+    first (Err s) a = tt
 
 -- where no handle, label and name stand
 no_spot : (bytes : List ℕ) (stop : Stop ℕ) → spot_at bytes ≡ Err stop → IsNoCall (behind_add bytes) × ¬ IsLargeCall (behind_add bytes)
@@ -152,5 +168,6 @@ plain_fails bytes at e s h =
 
 pub plain_tells : (bytes : List ℕ) (at : ℕ) (call : Call) (end : ℕ) → IsStopped (text_at (word (codes "add")) (drop at bytes)) → end ≤ length bytes
     → kinds_at plain_kinds (drop at bytes) ≡ Ok (call, drop end bytes) → Tells call_text IsCall EndsCall IsLargeCall call_at bytes at (Ok (call, end))
-plain_tells bytes at call end s within e = let k = kinds_found call_text IsCall plain_kinds plain_find (drop at bytes) call (drop end bytes)
-    e in (within, k.1, k.0, no_add (drop at bytes) s ∙ e)
+plain_tells bytes at call end s within e =
+    let k = (kinds_find call_text IsCall plain_kinds plain_find).found (drop at bytes) call (drop end bytes) e in
+    (within, k.1, k.0, no_add (drop at bytes) s ∙ e)

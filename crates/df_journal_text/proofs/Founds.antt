@@ -1,6 +1,8 @@
 -- What reading gives is spelled so, and fits.
-use Rattle.df_journal_text.proofs.Names.{◌≡◌, ℕ, suc, zero, ◌<◌, ◌^◌, true, eqb, Bool, Option, Some, None, List, [], ◌∷◌, ◌++◌, length, map, Ok, Err, decimal, refl, sym, ap, subst, ◌∙◌, arith, append_assoc, append-nil, inl, inr, AllByRecursion, flat_map, All-from_recursion, Bad, Low, Read, ◌>>=◌, as_at, then_at, maybe_at, text_at, behind_at, closed_at, while_at, bind_ok, chosen, ok_is, not_both, text_found, is_name, Privilege, IsLabel, IsPrivilege, IsTag, IsTagSet, label_text, path_text, privilege_text, tag_text, label_at, privilege_at, name_at, numbers_at, short_at, tag_at, label_format, privilege_format, nowhere, nowhere_is_local, filter_text, IsFilter, filter_at, ArePrivileges, IsUnit, spaced, word, unit_text, braced_at, instance_at, unit_at, unit_of, ascend, ascending, bare_at, begins_pair, each_privilege_at, keyed, kinds_at, privileges_at, word_at}
+use Rattle.df_journal_text.proofs.Names.{◌≡◌, ℕ, suc, zero, ◌<◌, ◌^◌, true, eqb, Bool, Option, Some, None, List, [], ◌∷◌, ◌++◌, length, map, Ok, Err, Result, Stop, decimal, refl, sym, ap, subst, ◌∙◌, arith, append_assoc, append-nil, AllByRecursion, flat_map, All-from_recursion, Low, Read, ◌>>=◌, as_at, then_at, maybe_at, text_at, behind_at, closed_at, while_at, all_at, text_found, is_name, Privilege, IsLabel, IsPrivilege, IsTag, IsTagSet, label_text, path_text, privilege_text, tag_text, label_at, privilege_at, name_at, numbers_at, short_at, tag_at, label_format, privilege_format, nowhere, nowhere_is_local, filter_text, IsFilter, filter_at, ArePrivileges, IsUnit, spaced, word, unit_text, braced_at, instance_at, unit_at, unit_of, ascend, ascending, bare_at, begins_pair, keyed, kinds_at, privileges_at, word_at}
 use Rattle.df_format.proofs.Choices.{MaybeFits}
+use Rattle.df_format.proofs.Laws.{Told, cond_told, self_told, told_bind, told_on}
+use Rattle.df_format.proofs.Texts.{text_format}
 use Rattle.df_value_text.proofs.NameLaws.{name_format}
 use Rattle.df_value_text.proofs.TagSetLaws.{tags_format}
 use Rattle.df_filter_text.proofs.FilterLaws.{filter_format}
@@ -10,70 +12,59 @@ use Rattle.df_format.specs.Format.{Format}
 use Rattle.df_format.specs.Spelling.{maybe_spell}
 use Rattle.df_value_text.proofs.TagLaws.{behind_byte, long_found, short_format, tag_format}
 
+-- with these bytes before it, what reading gives is spelled so, and fits
+pub record Behind {X : Type 0} (front : List ℕ) (spell : X → List ℕ) (Fits : X → Type 0) (read : List ℕ → Read ℕ X) : Type 0 where
+  pub found : (bytes : List ℕ) (x : X) (rest : List ℕ) → read bytes ≡ Ok (x, rest) → (front ++ bytes ≡ spell x ++ rest) × Fits x
+
 -- what reading gives stands in front, and fits
-pub record Finds {X : Type 0} (spell : X → List ℕ) (Fits : X → Type 0) (read : List ℕ → Read ℕ X) : Type 0 where
-  pub found : (bytes : List ℕ) (x : X) (rest : List ℕ) → read bytes ≡ Ok (x, rest) → (bytes ≡ spell x ++ rest) × Fits x
+abbrev pub Finds : {X : Type 0} → (X → List ℕ) → (X → Type 0) → (List ℕ → Read ℕ X) → Type 0
+Finds spell Fits read = Behind [] spell Fits read
 
--- ---- steps
+-- what was read
+abbrev Tells : {X : Type 0} → (X → List ℕ) → (X → Type 0) → List ℕ → Read ℕ X → Type 0
+Tells spell Fits bytes r = Told (λ x. (bytes ≡ spell x.0 ++ x.1) × Fits x.0) (λ stop. Unit {0}) r
 
-pub as_found : {X Y : Type 0} (make : X → Y) (read : List ℕ → Read ℕ X) (bytes : List ℕ) (y : Y) (rest : List ℕ) → as_at make read bytes ≡ Ok (y, rest)
-    → (x : X) × (read bytes ≡ Ok (x, rest)) × (make x ≡ y)
-as_found {X} {Y} make read bytes y rest e =
-    let b = bind_ok (read bytes) (λ x. Ok (make x.0, x.1)) (y, rest) e in
-    let p = ok_is (make b.0.0, b.0.1) (y, rest) b.2 in
-    (b.0.0, b.1 ∙ ap (λ (q : Y × List ℕ). Ok (b.0.0, q.1)) p, ap (λ (q : Y × List ℕ). q.0) p)
+finds_by : {X : Type 0} {front : List ℕ} {spell : X → List ℕ} {Fits : X → Type 0} {read : List ℕ → Read ℕ X}
+    → ((bytes : List ℕ) → Tells spell Fits (front ++ bytes) (read bytes)) → Behind front spell Fits read
+finds_by {front = front} {spell} {Fits} {read} all =
+    record { found = λ bytes x rest e. subst (Tells spell Fits (front ++ bytes)) e (all bytes) }
 
-pub then_found : {X Y : Type 0} (rx : List ℕ → Read ℕ X) (ry : List ℕ → Read ℕ Y) (bytes : List ℕ) (x : X) (y : Y) (rest : List ℕ)
-    → then_at rx ry bytes ≡ Ok ((x, y), rest)
-    → (mid : List ℕ) × (rx bytes ≡ Ok (x, mid)) × (ry mid ≡ Ok (y, rest))
-then_found {X} {Y} rx ry bytes x y rest e =
-    let a = bind_ok (rx bytes) (λ x. ry x.1 >>= λ y. Ok ((x.0, y.0), y.1)) ((x, y), rest) e in
-    let b = bind_ok (ry a.0.1) (λ y. Ok ((a.0.0, y.0), y.1)) ((x, y), rest) a.2 in
-    let p = ok_is ((a.0.0, b.0.0), b.0.1) ((x, y), rest) b.2 in
-    (a.0.1, a.1 ∙ ap (λ (q : (X × Y) × List ℕ). Ok (q.0.0, a.0.1)) p, b.1 ∙ ap (λ (q : (X × Y) × List ℕ). Ok (q.0.1, q.1)) p)
+-- what follows
+find_next : {X B : Type 0} {spell : X → List ℕ} {Fits : X → Type 0} {read : List ℕ → Read ℕ X} (f : Finds spell Fits read) (P : B → Type 0) (bytes : List ℕ)
+    (next : X × List ℕ → Result B (Stop ℕ))
+    → ((x : X) (rest : List ℕ) → bytes ≡ spell x ++ rest → Fits x → Told P (λ stop. Unit {0}) (next (x, rest)))
+    → Told P (λ stop. Unit {0}) (read bytes >>= next)
+find_next {read = read} f P bytes next on =
+    told_bind _ _ P _ (read bytes) next (self_told (read bytes)) (λ x e. let k = f.found bytes x.0 x.1 e in on x.0 x.1 k.0 k.1) (λ stop e. tt)
 
 -- what is read is made of what another reads
-pub finds_as : {X Y : Type 0} {sx : X → List ℕ} {FX : X → Type 0} {read : List ℕ → Read ℕ X} (make : X → Y) (f : Finds sx FX read) (sy : Y → List ℕ) (FY : Y
-    → Type 0) → ((x : X) → FX x → (sy (make x) ≡ sx x) × FY (make x)) → Finds sy FY (as_at make read)
-finds_as {X} {Y} {sx} {FX} {read} make f sy FY to = record {
-  found = λ bytes y rest e.
-      let a = as_found make read bytes y rest e in
-      let k = f.found bytes a.0 rest a.1 in
-      let t = to a.0 k.1 in
-      subst (λ (z : Y). (bytes ≡ sy z ++ rest) × FY z) a.2 (k.0 ∙ ap (λ (u : List ℕ). u ++ rest) (sym t.0), t.1);
-}
+pub finds_as : {X Y : Type 0} {front : List ℕ} {spell : Y → List ℕ} {Fits : Y → Type 0} {sx : X → List ℕ} {FX : X → Type 0} {read : List ℕ → Read ℕ X}
+    (make : X → Y) → Finds sx FX read → ((x : X) → FX x → (spell (make x) ≡ front ++ sx x) × Fits (make x)) → Behind front spell Fits (as_at make read)
+finds_as {front = front} {sx = sx} make f to = finds_by (λ bytes. find_next f _ bytes (λ x. Ok (make x.0, x.1)) (λ x rest parts fits. let t = to x fits in
+    (ap (λ (u : List ℕ). front ++ u) parts ∙ sym (append_assoc front (sx x) rest) ∙ ap (λ (u : List ℕ). u ++ rest) (sym t.0), t.1)))
 
 pub finds_then : {X Y : Type 0} {sx : X → List ℕ} {FX : X → Type 0} {rx : List ℕ → Read ℕ X} {sy : Y → List ℕ} {FY : Y → Type 0} {ry : List ℕ → Read ℕ Y}
     → Finds sx FX rx → Finds sy FY ry → Finds (λ (p : X × Y). sx p.0 ++ sy p.1) (λ (p : X × Y). FX p.0 × FY p.1) (then_at rx ry)
-finds_then {X} {Y} {sx} {FX} {rx} {sy} {FY} {ry} f g = record {
-  found = λ bytes p rest e.
-      let t = then_found rx ry bytes p.0 p.1 rest e in
-      let a = f.found bytes p.0 t.0 t.1 in
-      let b = g.found t.0 p.1 rest t.2 in
-      (a.0 ∙ ap (λ (u : List ℕ). sx p.0 ++ u) b.0 ∙ sym (append_assoc (sx p.0) (sy p.1) rest), (a.1, b.1));
-}
+finds_then {sx = sx} {sy = sy} {ry = ry} f g = finds_by (λ bytes. find_next f _ bytes (λ x. ry x.1 >>= λ y. Ok ((x.0, y.0), y.1)) (λ x mid first fx.
+    find_next g _ mid (λ y. Ok ((x, y.0), y.1)) (λ y rest second fy.
+    (first ∙ ap (λ (u : List ℕ). sx x ++ u) second ∙ sym (append_assoc (sx x) (sy y) rest), (fx, fy)))))
+
+-- what is read by the laws of a format
+formed : {X : Type 0} {IsLow : List ℕ → List ℕ → Type 0} {spell : X → List ℕ} {Fits : X → Type 0} {goes : X → ℕ → Bool} {read : List ℕ → Read ℕ X}
+    → Format IsLow spell Fits goes read → Finds spell Fits read
+formed format = record { found = λ bytes x rest e. let f = format.found bytes x rest e in (f.parts, f.fits) }
 
 pub finds_behind : {X : Type 0} {spell : X → List ℕ} {Fits : X → Type 0} {read : List ℕ → Read ℕ X} (ws : List ℕ) → Finds spell Fits read
     → Finds (λ (x : X). ws ++ spell x) Fits (behind_at ws read)
-finds_behind {X} {spell} {Fits} {read} ws f = record {
-  found = λ bytes x rest e.
-      let b = bind_ok (text_at ws bytes) (λ h. read h.1) (x, rest) e in
-      let k = f.found b.0.1 x rest b.2 in
-      ((text_found ws bytes b.0.0 b.0.1 b.1).1 ∙ ap (λ (u : List ℕ). ws ++ u) k.0 ∙ sym (append_assoc ws (spell x) rest), k.1);
-}
+finds_behind {spell = spell} {read = read} ws f = finds_by (λ bytes. find_next (formed (text_format nowhere ws)) _ bytes (λ h. read h.1) (λ w mid first is.
+    told_on _ _ _ _ (read mid) (self_told (read mid)) (λ x e. let k = f.found mid x.0 x.1 e in
+    (first ∙ ap (λ (v : List ℕ). v ++ mid) is ∙ ap (λ (u : List ℕ). ws ++ u) k.0 ∙ sym (append_assoc ws (spell x.0) x.1), k.1)) (λ stop e. tt)))
 
 pub finds_closed : {X : Type 0} {spell : X → List ℕ} {Fits : X → Type 0} {read : List ℕ → Read ℕ X} (ws : List ℕ) → Finds spell Fits read
     → Finds (λ (x : X). spell x ++ ws) Fits (closed_at ws read)
-finds_closed {X} {spell} {Fits} {read} ws f = record {
-  found = λ bytes x rest e.
-      let a = bind_ok (read bytes) (λ x. text_at ws x.1 >>= λ h. Ok (x.0, h.1)) (x, rest) e in
-      let b = bind_ok (text_at ws a.0.1) (λ h. Ok (a.0.0, h.1)) (x, rest) a.2 in
-      let p = ok_is (a.0.0, b.0.1) (x, rest) b.2 in
-      let t = (text_found ws a.0.1 b.0.0 b.0.1 b.1).1 in
-      let k = f.found bytes a.0.0 a.0.1 a.1 in
-      subst (λ (q : X × List ℕ). (bytes ≡ (spell q.0 ++ ws) ++ q.1) × Fits q.0) p
-      (k.0 ∙ ap (λ (u : List ℕ). spell a.0.0 ++ u) t ∙ sym (append_assoc (spell a.0.0) ws b.0.1), k.1);
-}
+finds_closed {spell = spell} ws f = finds_by (λ bytes. find_next f _ bytes (λ x. text_at ws x.1 >>= λ h. Ok (x.0, h.1)) (λ x mid first fits.
+    find_next (formed (text_format nowhere ws)) _ mid (λ h. Ok (x, h.1)) (λ w rest second is.
+    (first ∙ ap (λ (u : List ℕ). spell x ++ u) (second ∙ ap (λ (v : List ℕ). v ++ rest) is) ∙ sym (append_assoc (spell x) ws rest), fits))))
 
 pub finds_word : {X : Type 0} {spell : X → List ℕ} {Fits : X → Type 0} {read : List ℕ → Read ℕ X} → Finds spell Fits read
     → Finds (λ (x : X). word (spell x)) Fits (word_at read)
@@ -82,74 +73,47 @@ finds_word f = finds_behind (32 ∷ []) f
 -- something or nothing
 finds_maybe : {X : Type 0} {spell : X → List ℕ} {Fits : X → Type 0} {read : List ℕ → Read ℕ X} (begins : ℕ → Bool) → Finds spell Fits read
     → Finds (maybe_spell spell) (MaybeFits Fits) (maybe_at begins read)
-finds_maybe {X} {spell} {Fits} {read} begins f = record { found = by }
+finds_maybe {X} {spell} {Fits} {read} begins f = finds_by by
   where
-    by : (bytes : List ℕ) (o : Option X) (rest : List ℕ) → maybe_at begins read bytes ≡ Ok (o, rest) → (bytes ≡ maybe_spell spell o ++ rest) × MaybeFits Fits o
-    by [] o rest e = subst (λ (q : Option X × List ℕ). ([] ≡ maybe_spell spell q.0 ++ q.1) × MaybeFits Fits q.0) (ok_is (None, []) (o, rest) e) (refl, tt)
-    by (c ∷ cs) o rest e =
-        let Told : Option X × List ℕ → Type 0 = λ q. (c ∷ cs ≡ maybe_spell spell q.0 ++ q.1) × MaybeFits Fits q.0 in
-        elim (chosen (begins c) (read (c ∷ cs) >>= λ x. Ok (Some x.0, x.1)) (Ok (None, c ∷ cs)) (Ok (o, rest)) e) [
-          | inl h ↦
-              let b = bind_ok (read (c ∷ cs)) (λ x. Ok (Some x.0, x.1)) (o, rest) h.1 in
-              subst Told (ok_is (Some b.0.0, b.0.1) (o, rest) b.2) (f.found (c ∷ cs) b.0.0 b.0.1 b.1)
-          | inr h ↦ subst Told (ok_is (None, c ∷ cs) (o, rest) h.1) (refl, tt)
-        ]
+    by : (bytes : List ℕ) → Tells (maybe_spell spell) (MaybeFits Fits) bytes (maybe_at begins read bytes)
+    by [] = (refl, tt)
+    by (c ∷ cs) = cond_told _ _ (begins c) (read (c ∷ cs) >>= λ x. Ok (Some x.0, x.1)) (Ok (None, c ∷ cs))
+        (λ h. find_next f _ (c ∷ cs) (λ x. Ok (Some x.0, x.1)) (λ x rest parts fits. (parts, fits))) (λ h. (refl, tt))
 
 -- ---- keywords
 
--- what is read behind this keyword is spelled with it
-pub record KindFinds {Y : Type 0} (spell : Y → List ℕ) (Fits : Y → Type 0) (keyword : List ℕ) (read : List ℕ → Read ℕ Y) : Type 0 where
-  pub found : (bytes : List ℕ) (y : Y) (rest : List ℕ) → read bytes ≡ Ok (y, rest) → (word keyword ++ bytes ≡ spell y ++ rest) × Fits y
-
+-- what is read behind each of these keywords is spelled with it
 abbrev pub AllFind : {Y : Type 0} → (Y → List ℕ) → (Y → Type 0) → List (List ℕ × (List ℕ → Read ℕ Y)) → Type 0
 AllFind spell Fits [] = Unit {0}
-AllFind spell Fits (kind ∷ kinds) = KindFinds spell Fits kind.0 kind.1 × AllFind spell Fits kinds
+AllFind spell Fits (kind ∷ kinds) = Behind (word kind.0) spell Fits kind.1 × AllFind spell Fits kinds
 
 -- what holds of one kind, and what holds of the others
 infixr 4 ◌⊕◌
 pub ◌⊕◌ : {A B : Type 0} → A → B → A × B
 a ⊕ b = (a, b)
 
-pub kinds_found : {Y : Type 0} (spell : Y → List ℕ) (Fits : Y → Type 0) (kinds : List (List ℕ × (List ℕ → Read ℕ Y))) → AllFind spell Fits kinds
-    → (bytes : List ℕ) (y : Y) (rest : List ℕ)
-    → kinds_at kinds bytes ≡ Ok (y, rest) → (bytes ≡ spell y ++ rest) × Fits y
-kinds_found spell Fits [] h bytes y rest e = not_both (y, rest) (Bad bytes) (sym e)
-kinds_found {Y} spell Fits (kind ∷ kinds) h bytes y rest e = by (text_at (word kind.0) bytes) refl e (kinds_found spell Fits kinds h.1 bytes y rest)
+pub kinds_find : {Y : Type 0} (spell : Y → List ℕ) (Fits : Y → Type 0) (kinds : List (List ℕ × (List ℕ → Read ℕ Y))) → AllFind spell Fits kinds
+    → Finds spell Fits (kinds_at kinds)
+kinds_find {Y} spell Fits kinds all = finds_by (λ bytes. each bytes kinds all)
   where
-    by : (r : Read ℕ (List ℕ)) → text_at (word kind.0) bytes ≡ r → keyed r kind.1 (kinds_at kinds bytes) ≡ Ok (y, rest)
-        → (kinds_at kinds bytes ≡ Ok (y, rest) → (bytes ≡ spell y ++ rest) × Fits y) → (bytes ≡ spell y ++ rest) × Fits y
-    by (Ok t) is e f = let b = h.0.found t.1 y rest e in ((text_found (word kind.0) bytes t.0 t.1 is).1 ∙ b.0, b.1)
-    by (Err s) is e f = f e
-
-pub kind_finds : {X Y : Type 0} {spell : Y → List ℕ} {Fits : Y → Type 0} {keyword : List ℕ} {sx : X → List ℕ} {FX : X → Type 0} {read : List ℕ
-    → Read ℕ X} (make : X → Y) → Finds sx FX read
-    → ((x : X) → FX x → (spell (make x) ≡ word keyword ++ sx x) × Fits (make x)) → KindFinds spell Fits keyword (λ (bytes : List ℕ). as_at make read bytes)
-kind_finds {X} {Y} {spell} {Fits} {keyword} {sx} {FX} {read} make f to = record {
-  found = λ bytes y rest e.
-      let a = as_found make read bytes y rest e in
-      let k = f.found bytes a.0 rest a.1 in
-      let t = to a.0 k.1 in
-      subst (λ (z : Y). (word keyword ++ bytes ≡ spell z ++ rest) × Fits z) a.2
-      (ap (λ (u : List ℕ). word keyword ++ u) k.0 ∙ sym (append_assoc (word keyword) (sx a.0) rest) ∙ ap (λ (u : List ℕ). u ++ rest) (sym t.0), t.1);
-}
+    each : (bytes : List ℕ) (kinds : List (List ℕ × (List ℕ → Read ℕ Y))) → AllFind spell Fits kinds → Tells spell Fits bytes (kinds_at kinds bytes)
+    each bytes [] h = tt
+    each bytes (kind ∷ kinds) h = by (text_at (word kind.0) bytes) refl (each bytes kinds h.1)
+      where
+        by : (r : Read ℕ (List ℕ)) → text_at (word kind.0) bytes ≡ r → Tells spell Fits bytes (kinds_at kinds bytes)
+            → Tells spell Fits bytes (keyed r kind.1 (kinds_at kinds bytes))
+        by (Ok t) is others = told_on _ _ _ _ (kind.1 t.1) (self_told (kind.1 t.1)) (λ x e.
+            let k = h.0.found t.1 x.0 x.1 e in ((text_found (word kind.0) bytes t.0 t.1 is).1 ∙ k.0, k.1)) (λ stop e. tt)
+        by (Err s) is others = others
 
 pub bare_finds : {Y : Type 0} {spell : Y → List ℕ} {Fits : Y → Type 0} {keyword : List ℕ} (y0 : Y) → word keyword ≡ spell y0 → Fits y0
-    → KindFinds spell Fits keyword (bare_at y0)
-bare_finds {Y} {spell} {Fits} {keyword} y0 is fits = record {
-  found = λ bytes y rest e.
-      subst (λ (q : Y × List ℕ). (word keyword ++ bytes ≡ spell q.0 ++ q.1) × Fits q.0) (ok_is (y0, bytes) (y, rest) e)
-      (ap (λ (u : List ℕ). u ++ bytes) is, fits);
-}
+    → Behind (word keyword) spell Fits (bare_at y0)
+bare_finds y0 is fits = finds_by (λ bytes. (ap (λ (u : List ℕ). u ++ bytes) is, fits))
 
 -- ---- literals
 
 pub short_finds : Finds decimal (λ (n : ℕ). n < 2 ^ 32) short_at
 short_finds = record { found = λ bytes n rest e. let f = (short_format nowhere).found bytes n rest e in (f.parts, omega (arith, f.fits)) }
-
--- what is read by the laws of a format
-formed : {X : Type 0} {IsLow : List ℕ → List ℕ → Type 0} {spell : X → List ℕ} {Fits : X → Type 0} {goes : X → ℕ → Bool} {read : List ℕ → Read ℕ X}
-    → Format IsLow spell Fits goes read → Finds spell Fits read
-formed format = record { found = λ bytes x rest e. let f = format.found bytes x rest e in (f.parts, f.fits) }
 
 pub tag_finds : Finds tag_text IsTag tag_at
 tag_finds = formed (tag_format nowhere nowhere_is_local)
@@ -171,35 +135,25 @@ braced_finds = finds_behind (123 ∷ []) (finds_closed (125 ∷ []) (formed tags
 
 -- ---- several
 
-while_found : {X : Type 0} {spell : X → List ℕ} {Fits : X → Type 0} {read : List ℕ → Read ℕ X} (stands : List ℕ
-    → Bool) (f : Finds spell Fits read) (n : ℕ) (bytes : List ℕ) (xs : List X) (rest : List ℕ) → while_at stands read n bytes ≡ Ok (xs, rest)
-    → (bytes ≡ flat_map spell xs ++ rest) × AllByRecursion Fits xs
-while_found {X} {spell} {Fits} {read} stands f zero bytes xs rest e = subst
-    (λ (q : List X × List ℕ). (bytes ≡ flat_map spell q.0 ++ q.1) × AllByRecursion Fits q.0) (ok_is ([], bytes) (xs, rest) e) (refl, tt)
-while_found {X} {spell} {Fits} {read} stands f (suc n) bytes xs rest e =
-    elim (chosen (stands bytes) (read bytes >>= λ x. while_at stands read n x.1 >>= λ xs. Ok (x.0 ∷ xs.0, xs.1)) (Ok ([], bytes)) (Ok (xs, rest)) e) [
-      | inl h ↦
-          let a = bind_ok (read bytes) (λ x. while_at stands read n x.1 >>= λ xs. Ok (x.0 ∷ xs.0, xs.1)) (xs, rest) h.1 in
-          let b = bind_ok (while_at stands read n a.0.1) (λ xs. Ok (a.0.0 ∷ xs.0, xs.1)) (xs, rest) a.2 in
-          let one = f.found bytes a.0.0 a.0.1 a.1 in
-          let others = while_found stands f n a.0.1 b.0.0 b.0.1 b.1 in
-          subst (λ (q : List X × List ℕ). (bytes ≡ flat_map spell q.0 ++ q.1) × AllByRecursion Fits q.0) (ok_is (a.0.0 ∷ b.0.0, b.0.1) (xs, rest) b.2)
-          (one.0 ∙ ap (λ (u : List ℕ). spell a.0.0 ++ u) others.0 ∙ sym (append_assoc (spell a.0.0) (flat_map spell b.0.0) b.0.1), (one.1, others.1))
-      | inr h ↦ subst (λ (q : List X × List ℕ). (bytes ≡ flat_map spell q.0 ++ q.1) × AllByRecursion Fits q.0) (ok_is ([], bytes) (xs, rest) h.1) (refl, tt)
-    ]
+while_tells : {X : Type 0} {spell : X → List ℕ} {Fits : X → Type 0} {read : List ℕ → Read ℕ X} (stands : List ℕ → Bool) (f : Finds spell Fits read) (n : ℕ)
+    (bytes : List ℕ) → Tells (flat_map spell) (AllByRecursion Fits) bytes (while_at stands read n bytes)
+while_tells stands f zero bytes = (refl, tt)
+while_tells {X} {spell} {read = read} stands f (suc n) bytes =
+    cond_told _ _ (stands bytes) (read bytes >>= λ x. while_at stands read n x.1 >>= λ xs. Ok (x.0 ∷ xs.0, xs.1)) (Ok ([], bytes)) (λ h.
+    find_next f _ bytes (λ x. while_at stands read n x.1 >>= λ xs. Ok (x.0 ∷ xs.0, xs.1)) (λ x mid first fits.
+    told_bind _ _ _ _ (while_at stands read n mid) (λ xs. Ok (x ∷ xs.0, xs.1)) (while_tells stands f n mid) (λ xs k.
+    (first ∙ ap (λ (u : List ℕ). spell x ++ u) k.0 ∙ sym (append_assoc (spell x) (flat_map spell xs.0) xs.1), (fits, k.1))) (λ stop u. u))) (λ h. (refl, tt))
+
+finds_each : {X : Type 0} {spell : X → List ℕ} {Fits : X → Type 0} {read : List ℕ → Read ℕ X} (stands : List ℕ → Bool) → Finds spell Fits read
+    → Finds (flat_map spell) (AllByRecursion Fits) (all_at stands read)
+finds_each stands f = finds_by (λ bytes. while_tells stands f (length bytes) bytes)
 
 pub privileges_finds : Finds (λ (ps : List Privilege). spaced (map privilege_text ps)) ArePrivileges privileges_at
-privileges_finds = record {
-  found = λ bytes ps rest e.
-      let a = bind_ok (each_privilege_at bytes) (ascending bytes) (ps, rest) e in
-      elim (chosen (ascend a.0.0) (Ok a.0) (Err (Low bytes)) (Ok (ps, rest)) a.2) [
-        | inl h ↦
-            let w = while_found (begins_pair 32 35) (finds_word privilege_finds) (length bytes) bytes a.0.0 a.0.1 a.1 in
-            subst (λ (q : List Privilege × List ℕ). (bytes ≡ spaced (map privilege_text q.0) ++ q.1) × ArePrivileges q.0) (ok_is a.0 (ps, rest) h.1)
-            (w.0 ∙ ap (λ (u : List ℕ). u ++ a.0.1) (sym (spaced-privileges a.0.0)), (All-from_recursion IsPrivilege a.0.0 w.1, ascending_of a.0.0 h.0))
-        | inr h ↦ not_both (ps, rest) (Low bytes) (sym h.1)
-      ];
-}
+privileges_finds = finds_by (λ bytes. find_next (finds_each (begins_pair 32 35) (finds_word privilege_finds)) _ bytes (ascending bytes) (λ ps rest parts fits.
+    cond_told _ _ (ascend ps) (Ok (ps, rest)) (Err (Low bytes)) (λ h. (
+      parts ∙ ap (λ (u : List ℕ). u ++ rest) (sym (spaced-privileges ps)),
+      (All-from_recursion IsPrivilege ps fits, ascending_of ps h),
+    )) (λ h. tt)))
 
 -- ---- units
 
@@ -226,4 +180,4 @@ unit_is (path, None) f = (sym (append-nil (path_text path)), f.0)
 unit_is (path, Some i) f = (simp append_assoc, (f.0, f.1.0, f.1.1))
 
 pub unit_finds : Finds unit_text IsUnit unit_at
-unit_finds = finds_as unit_of (finds_then numbers_finds (finds_maybe (λ c. eqb c 47) instance_finds)) unit_text IsUnit unit_is
+unit_finds = finds_as unit_of (finds_then numbers_finds (finds_maybe (λ c. eqb c 47) instance_finds)) unit_is

@@ -3,13 +3,13 @@ pub use Rattle.df_filter_text.specs.Filter.{filter_text}
 pub use Rattle.df_filter_text.specs.Fits.{IsFilter}
 pub use Rattle.df_filter_text.specs.ReadFilter.{filter_at}
 pub use Rattle.df_format.proofs.Backs.{Back, all_back}
-pub use Rattle.df_format.proofs.Laws.{bind_ok, chosen, not_both, ok_is, told}
+pub use Rattle.df_format.proofs.Laws.{failed_is, bind_ok, not_both, ok_is, told}
 pub use Rattle.df_format.proofs.Several.{Several, all_none, all_step, all_stop}
 pub use Rattle.df_format.proofs.Texts.{text_again, text_found}
 pub use Rattle.df_format.proofs.Tokens.{nowhere, nowhere_is_local}
 pub use Rattle.df_format.specs.Reading.{Bad, Low, Read, Stop, all_at, as_at, behind_at, closed_at, maybe_at, text_at, then_at, while_at, with_front, ◌>>=◌}
 pub use Rattle.df_frozen.specs.Name.{is_name}
-pub use Rattle.df_frozen.specs.Plain.{Plain, entries, int, items, node_count, words}
+pub use Rattle.df_frozen.specs.Plain.{Plain}
 pub use Rattle.df_journal_text.specs.Call.{act_text, call_words, half_text}
 pub use Rattle.df_journal_text.specs.Entry.{call_line, edit_text, effect_text, entry_text, given_text, note_text, noted_text, part_line, read_line, reads_text, spot_line}
 pub use Rattle.df_journal_text.specs.Fits.{ArePrivileges, IsAnswer, IsBare, IsCall, IsCalled, IsCommit, IsEdit, IsEffectOf, IsEntry, IsEvent, IsJournal, IsNoteOf, IsNoted, IsPart, IsPartRead, IsReply, IsRoot, IsSpot, IsUnit}
@@ -63,13 +63,12 @@ pub use Rattle.df_value_text.specs.Value.{value_text}
 pub use Rattle.df_value_text.specs.code.Answer.{Fails, Gives, IsFound, IsRead, IsSyntaxAt}
 pub use Rattle.df_value_text.specs.code.WordEnd.{EndsWord}
 pub use Rattle.df_value_text.specs.declared.refused.Fault.{Fault}
-pub use Rattle.std.proofs.Common.{Bool, Err, List, None, Ok, Option, Result, Some, [], ap, append-nil, append_assoc, arith, codes, decimal, drop, eq-eqb, eqb, false, get_or, inl, inr, length, length-append, length-drop, map, refl, subst, suc, sym, take, true, vec_len, zero, ℕ, ◌%◌, ◌++◌, ◌+◌, ◌-◌, ◌/◌, ◌<◌, ◌^◌, ◌||◌, ◌∙◌, ◌∷◌, ◌≡◌, ◌≢◌, ◌≤◌}
+pub use Rattle.std.proofs.Common.{Bool, Err, List, None, Ok, Option, Result, Some, [], ap, append-nil, append_assoc, arith, codes, decimal, drop, eq-eqb, eqb, false, get_or, inl, inr, length, length-append, length-drop, map, refl, subst, suc, sym, take, true, vec_len, zero, ℕ, ◌++◌, ◌+◌, ◌-◌, ◌<◌, ◌^◌, ◌||◌, ◌∙◌, ◌∷◌, ◌≡◌, ◌≢◌, ◌≤◌}
 pub use Rattle.std.proofs.lemmas.Bool.{and_parts, eqb-true, false≢true, true≢false}
-pub use Rattle.std.proofs.lemmas.Fmt.{decimal_digit, decimal_step}
+pub use Rattle.std.proofs.lemmas.Fmt.{decimal_digit}
 pub use Rattle.std.proofs.lemmas.List.{append_cancel_right, drop-drop, drop_all, take-append-le, take_all, take_more}
 pub use Rattle.std.proofs.lemmas.List.Concat.{flat_map-append}
 pub use Rattle.std.proofs.lemmas.List.Elements.{All-from_recursion, recursion_from_All}
-pub use Rattle.std.proofs.lemmas.Result.{err_from_is_err_and}
 pub use Rattle.std.specs.Char.{is_ascii_digit}
 pub use Rattle.std.specs.List.{All, AllByRecursion, flat_map, starts_with}
 pub use Rattle.std.specs.Ordering.{is_lt}

@@ -1,5 +1,5 @@
 -- Calls where they stand, as their readers find them.
-use Rattle.df_script_text.proofs.Names.{◌≡◌, ℕ, ◌-◌, ◌≤◌, List, [], ◌∷◌, ◌++◌, length, take, drop, Ok, sym, refl, ap, subst, ◌∙◌, append_assoc, Call, UnitName, Root, IsCall, IsUnit, unit_text, unit_at, call_text, kinds_found, short_finds, unit_finds, IsCallAt, call_line, ScriptLine}
+use Rattle.df_script_text.proofs.Names.{◌≡◌, ℕ, ◌-◌, ◌≤◌, List, [], ◌∷◌, ◌++◌, length, take, drop, Ok, sym, refl, ap, subst, ◌∙◌, append_assoc, Call, UnitName, Root, IsCall, IsUnit, unit_text, unit_at, call_text, kinds_find, short_finds, unit_finds, IsCallAt, call_line, ScriptLine}
 use Rattle.df_journal_text.proofs.Between.{between, onward}
 use Rattle.df_journal_text.proofs.CallFounds.{plain_find}
 use Rattle.df_value_text.specs.ReadTag.{short_at}
@@ -24,7 +24,7 @@ root_stands bytes at behind root e = let found = short_finds.found (drop at byte
 
 -- a call without a value
 pub plain_stands : (bytes : List ℕ) (at end : ℕ) (call : Call) → kinds_at plain_kinds (drop at bytes) ≡ Ok (call, drop end bytes) → CallStands bytes at end call
-plain_stands bytes at end call e = kinds_found call_text IsCall plain_kinds plain_find (drop at bytes) call (drop end bytes) e
+plain_stands bytes at end call e = (kinds_find call_text IsCall plain_kinds plain_find).found (drop at bytes) call (drop end bytes) e
 
 -- a unit's name and its call, one behind the other
 module _ (bytes : List ℕ) (at behind end : ℕ) (line : ScriptLine) (inside : at ≤ length bytes) (within : end ≤ length bytes)

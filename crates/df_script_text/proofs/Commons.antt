@@ -1,5 +1,5 @@
 -- Lines of roots' calls, as their readers find them.
-use Rattle.df_script_text.proofs.Names.{◌≡◌, ℕ, ◌+◌, ◌<◌, ◌≤◌, List, [], ◌∷◌, ◌++◌, length, drop, Ok, sym, ap, subst, ◌∙◌, arith, length-append, text_at, ended, RootStart, Call, IsCallAt, HasReadUpTo, ScriptLine, root_call}
+use Rattle.df_script_text.proofs.Names.{◌≡◌, ℕ, ◌<◌, ◌≤◌, List, [], ◌∷◌, ◌++◌, length, drop, Ok, sym, ap, subst, ◌∙◌, arith, length-append, text_at, ended, RootStart, Call, IsCallAt, HasReadUpTo, ScriptLine, root_call}
 use Rattle.std.proofs.lemmas.List.{length-drop}
 use Rattle.df_format.proofs.Texts.{text_found}
 use Rattle.df_script_text.specs.code.Common.{IsRootCallAt}

@@ -1,10 +1,10 @@
 -- The names that most proofs here cite, passed on from one place. Declares nothing.
-pub use Rattle.df_format.proofs.Laws.{ok_is, told}
+pub use Rattle.df_format.proofs.Laws.{failed_is, ok_is, told}
 pub use Rattle.df_format.specs.Reading.{Read, as_at, behind_at, text_at, then_at}
 pub use Rattle.df_frozen.specs.Name.{is_letter, is_name, is_name_byte}
 pub use Rattle.df_journal_text.proofs.CallBacks.{call_back}
 pub use Rattle.df_journal_text.proofs.Frames.{unended}
-pub use Rattle.df_journal_text.proofs.Founds.{Finds, finds_as, finds_behind, finds_then, finds_word, kinds_found, label_finds, privileges_finds, short_finds, unit_finds}
+pub use Rattle.df_journal_text.proofs.Founds.{Finds, finds_as, finds_behind, finds_then, finds_word, kinds_find, label_finds, privileges_finds, short_finds, unit_finds}
 pub use Rattle.df_journal_text.proofs.NameBacks.{unit_word}
 pub use Rattle.df_journal_text.proofs.WordBacks.{braced, ends_spaced, label_word, line-rest, privileges_back, word_back}
 pub use Rattle.df_journal_text.specs.Call.{act_text, call_words, half_text}
@@ -45,6 +45,6 @@ pub use Rattle.std.proofs.lemmas.List.{append_cancel_left, flat_map_more}
 pub use Rattle.std.proofs.lemmas.List.Concat.{flat_map-append}
 pub use Rattle.std.proofs.lemmas.List.Elements.{All-append, All-cons, All-head, All-nil, All-push, All-tail, All-weaker, recursion_from_All}
 pub use Rattle.std.proofs.lemmas.List.Folds.{list_all-append}
-pub use Rattle.std.proofs.lemmas.Result.{IfErr-weaker, IfOk-weaker, err_from_is_err_and}
+pub use Rattle.std.proofs.lemmas.Result.{IfErr-weaker, IfOk-weaker}
 pub use Rattle.std.specs.Fmt.{signed_decimal}
 pub use Rattle.std.specs.List.{All, AllByRecursion, flat_map, join_with_byte, list_all}

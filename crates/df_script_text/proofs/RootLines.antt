@@ -14,7 +14,7 @@ abbrev behind_number_at : List ℕ → Read ℕ RootStart
 behind_number_at bytes = as_at root_of (then_at (word_at label_at) privileges_at) bytes
 
 behind_finds : Finds behind_number IsRoot behind_number_at
-behind_finds = finds_as root_of (finds_then (finds_word label_finds) privileges_finds) behind_number IsRoot (λ x f. (refl, f))
+behind_finds = finds_as root_of (finds_then (finds_word label_finds) privileges_finds) (λ x f. (refl, f))
 
 behind_read : (root : RootStart) → IsRoot root → behind_number_at (behind_number root) ≡ Ok (root, [])
 behind_read root f =

@@ -1,5 +1,5 @@
 -- What was read of a script up to a place, and why reading stops there.
-use Rattle.std.specs.Prelude.{◌≡◌, ℕ, ◌+◌, ◌<◌, ◌≤◌, ◌^◌, List, ◌∷◌, ◌++◌, length, drop, codes, Option, Some, None, ⊤, ◌⊎◌}
+use Rattle.std.specs.Prelude.{◌≡◌, ℕ, ◌+◌, ◌<◌, ◌≤◌, ◌^◌, List, ◌++◌, length, drop, codes, Option, Some, None, ⊤, ◌⊎◌}
 use Rattle.std.specs.List.{All}
 use Rattle.df_lines.specs.Lines.{ended, lines_text}
 use Rattle.df_lines.specs.code.Faults.{TellsLine}

@@ -1,24 +1,22 @@
-use Rattle.df_journal_text.proofs.Names.{◌∙◌, sym, ap, PartRead, ended, err_from_is_err_and}
+use Rattle.df_journal_text.proofs.Names.{◌∙◌, sym, ap, PartRead, ended, failed_is}
 use Rattle.df_journal_text.proofs.Frames.{front_failed, middle_failed, tail_failed, tail_read}
 use Rattle.df_journal_text.proofs.LineTells.{shown_frame, shown_parts, shown_text}
 use Rattle.df_journal_text.proofs.line_reader.read_shown_line.Goals as goal
 
 pub returns-in_err-label : goal.returns-in_err-label
 returns-in_err-label c =
-    let p = err_from_is_err_and c.from_residual.result c.from_residual.ensures.1 in
-    rw (p.1, p.2) (front_failed shown_frame c.args.line.now shown_parts c.in_err-label.field-0.0 c.in_err-label.ensures)
+    rw (failed_is _ c.from_residual.ensures.1) (front_failed shown_frame c.args.line.now shown_parts c.in_err-label.field-0.0 c.in_err-label.ensures)
 
 pub returns-in_err-value : goal.returns-in_err-value
 returns-in_err-value c =
-    let p = err_from_is_err_and c.from_residual-in_err-value.result c.from_residual-in_err-value.ensures.1 in
-    rw (p.1, p.2) (middle_failed shown_frame c.args.line.now shown_parts c.in_ok-label.label c.in_ok-label.behind c.in_ok-label.ensures.1
-    c.in_err-value.field-0.0 c.in_err-value.ensures)
+    rw (failed_is _ c.from_residual-in_err-value.ensures.1) (middle_failed shown_frame c.args.line.now shown_parts c.in_ok-label.label c.in_ok-label.behind
+    c.in_ok-label.ensures.1 c.in_err-value.field-0.0 c.in_err-value.ensures)
 
 pub returns-in_err-privileges : goal.returns-in_err-privileges
 returns-in_err-privileges c =
-    let p = err_from_is_err_and c.from_residual-in_err-privileges.result c.from_residual-in_err-privileges.ensures.1 in
-    rw (p.1, p.2) (tail_failed shown_frame c.args.line.now shown_parts c.in_ok-label.label c.in_ok-label.behind c.in_ok-label.ensures.1 c.in_ok-value.value
-    c.in_ok-value.after c.in_ok-value.ensures c.privileges_at.result c.privileges_at.ensures c.in_err-privileges.field-0.0 c.in_err-privileges.ensures)
+    rw (failed_is _ c.from_residual-in_err-privileges.ensures.1) (tail_failed shown_frame c.args.line.now shown_parts c.in_ok-label.label c.in_ok-label.behind
+    c.in_ok-label.ensures.1 c.in_ok-value.value c.in_ok-value.after c.in_ok-value.ensures c.privileges_at.result c.privileges_at.ensures
+    c.in_err-privileges.field-0.0 c.in_err-privileges.ensures)
 
 pub returns : goal.returns
 returns c =

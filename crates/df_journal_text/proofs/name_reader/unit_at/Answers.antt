@@ -1,4 +1,4 @@
-use Rattle.df_journal_text.proofs.Names.{drop, sym, ◌∙◌, err_from_is_err_and, fails_by}
+use Rattle.df_journal_text.proofs.Names.{drop, sym, ◌∙◌, failed_is, fails_by}
 use Rattle.df_journal_text.proofs.Units.{instance_read, instance_stops, root_read}
 use Rattle.df_journal_text.proofs.name_reader.unit_at.Goals as goal
 
@@ -11,8 +11,7 @@ returns-then-not-byte_stands c = (
 
 pub returns-in_err-sub : goal.returns-in_err-sub
 returns-in_err-sub c =
-    let p = err_from_is_err_and c.from_residual-in_err-sub.result c.from_residual-in_err-sub.ensures.1 in
-    rw (p.1, p.2) (fails_by c.in_err-sub.field-0.0 c.args.bytes.now _ _
+    rw (failed_is _ c.from_residual-in_err-sub.ensures.1) (fails_by c.in_err-sub.field-0.0 c.args.bytes.now _ _
     (instance_stops (drop c.args.at c.args.bytes.now) c.in_ok-owner.owner (drop c.in_ok-owner.place c.args.bytes.now) c.in_ok-owner.ensures.1
     (sym c.byte_stands.ensures ∙ c.if-not-byte_stands.false)) c.in_err-sub.ensures)
 

@@ -1,10 +1,9 @@
-use Rattle.df_script_text.proofs.Names.{List, ℕ, sym, subst, ◌∙◌, err_from_is_err_and, NamesBadLine, HasRead, IsScriptText, IsTooLargeIn, ScriptLine}
+use Rattle.df_script_text.proofs.Names.{List, ℕ, sym, subst, ◌∙◌, failed_is, NamesBadLine, HasRead, IsScriptText, IsTooLargeIn, ScriptLine}
 use Rattle.df_script_text.proofs.file.lines_of.Goals as goal
 
 pub returns-in_err-read-clause-refused : goal.returns-in_err-read-clause-refused
 returns-in_err-read-clause-refused c =
-    let p = err_from_is_err_and c.from_residual.result c.from_residual.ensures.1 in
-    rw (p.1, p.2)
+    rw (failed_is _ c.from_residual.ensures.1)
     (λ roots h. subst (λ (bytes : List ℕ). NamesBadLine IsScriptText IsTooLargeIn bytes c.in_err-read.field-0.0) c.lines.invariant.0
     (c.in_err-read.ensures.refused roots c.lines.lines.items (c.lines.invariant.1 roots h)))
 

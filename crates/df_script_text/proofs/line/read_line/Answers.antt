@@ -1,4 +1,4 @@
-use Rattle.df_script_text.proofs.Names.{◌∙◌, sym, ap, Ok, refl, err_from_is_err_and}
+use Rattle.df_script_text.proofs.Names.{◌∙◌, sym, ap, Ok, refl, failed_is}
 use Rattle.df_journal_text.specs.code.Judging.{ended}
 use Rattle.df_journal_text.specs.declared.line_fault.LineFault.TheVariants as fault
 use Rattle.df_journal_text.proofs.Frames.{front_failed, middle_failed, tail_failed, tail_read}
@@ -7,12 +7,11 @@ use Rattle.df_script_text.proofs.line.read_line.Goals as goal
 
 pub returns-in_err-actor : goal.returns-in_err-actor
 returns-in_err-actor c =
-    let p = err_from_is_err_and c.from_residual.result c.from_residual.ensures.1 in rw (p.1, p.2) (front_failed made _ made_parts _ c.in_err-actor.ensures)
+    rw (failed_is _ c.from_residual.ensures.1) (front_failed made _ made_parts _ c.in_err-actor.ensures)
 
 pub returns-in_err-call : goal.returns-in_err-call
 returns-in_err-call c =
-    let p = err_from_is_err_and c.from_residual-in_err-call.result c.from_residual-in_err-call.ensures.1 in
-    rw (p.1, p.2) (middle_failed made _ made_parts _ _ c.in_ok-actor.ensures.1 _ c.in_err-call.ensures)
+    rw (failed_is _ c.from_residual-in_err-call.ensures.1) (middle_failed made _ made_parts _ _ c.in_ok-actor.ensures.1 _ c.in_err-call.ensures)
 
 pub returns-then-end-line : goal.returns-then-end-line
 returns-then-end-line c =

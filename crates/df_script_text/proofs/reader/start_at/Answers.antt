@@ -1,10 +1,10 @@
-use Rattle.df_script_text.proofs.Names.{IfErr-weaker, IfOk-weaker, err_from_is_err_and}
+use Rattle.df_script_text.proofs.Names.{IfErr-weaker, IfOk-weaker, failed_is}
 use Rattle.df_script_text.proofs.Stops.{first_stop, roots_stop, start_read}
 use Rattle.df_script_text.proofs.reader.start_at.Goals as goal
 
 pub returns-in_err-roots-clause-stops : goal.returns-in_err-roots-clause-stops
 returns-in_err-roots-clause-stops c =
-    let p = err_from_is_err_and c.from_residual.result c.from_residual.ensures.1 in rw (p.1, p.2) (first_stop _ _ c.in_err-roots.ensures.stops)
+    rw (failed_is _ c.from_residual.ensures.1) (first_stop _ _ c.in_err-roots.ensures.stops)
 
 pub returns-clause-read : goal.returns-clause-read
 returns-clause-read c = IfOk-weaker _ _ _ (λ s. start_read _ _ _ _ c.in_ok-roots.ensures.read) c.roots_at.ensures.read
