@@ -64,6 +64,14 @@ impl Entries {
         }
     }
 
+    /// The map of entries whose names stand in order.
+    pub fn from_ascending(entries: Vec<(Name, Value)>) -> Entries
+        requires { IsAscending (names entries.items) }
+        ensures { result ≡ map named entries.items }
+    {
+        Entries { entries }
+    }
+
     /// The entries, each name before those after it.
     pub fn as_slice(&self) -> &[(Name, Value)]
         ensures value { map named result.now ≡ self.now }
@@ -155,13 +163,6 @@ impl Entries {
             count = count.saturating_add(entry.0.as_bytes().len() as u64);
         }
         count
-    }
-
-    pub(crate) fn from_ascending(entries: Vec<(Name, Value)>) -> Entries
-        requires { IsAscending (names entries.items) }
-        ensures { result ≡ map named entries.items }
-    {
-        Entries { entries }
     }
 
     // Puts a value in the place of another, which it gives.
