@@ -24,6 +24,12 @@ weight_few _ c = omega arith
 opens_more : (c : ℕ) (cs : List ℕ) → open_count cs ≤ open_count (c ∷ cs)
 opens_more c cs = elim (brackets_on c) as (λ b. open_count cs ≤ cond b (suc (open_count cs)) (open_count cs)) [ true ↦ omega arith | false ↦ omega arith ]
 
+pub opens_at_most : (bytes : List ℕ) → open_count bytes ≤ length bytes
+opens_at_most [] = omega arith
+opens_at_most (c ∷ cs) =
+    let rest = opens_at_most cs in
+    elim (brackets_on c) as (λ b. cond b (suc (open_count cs)) (open_count cs) ≤ suc (length cs)) [ true ↦ omega (arith, rest) | false ↦ omega (arith, rest) ]
+
 opens_one : (c : ℕ) (cs : List ℕ) → brackets_on c ≡ true → open_count (c ∷ cs) ≡ suc (open_count cs)
 opens_one c cs h = rw h refl
 

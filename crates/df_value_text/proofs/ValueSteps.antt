@@ -1,10 +1,11 @@
 -- The reader of values, step by step.
-use Rattle.df_value_text.proofs.Names.{value_at, Pairs, ◌≡◌, ℕ, List, [], ◌∷◌, ◌++◌, Some, refl, sym, ap, ◌∙◌, nat_list_cmp_total, Less, Greater, name_cmp, Plain, items, item, entry, from_list, from_pairs, ◌+◌, ◌≤◌, Bool, true, false, ◌&&◌, length, drop, Ok, Err, arith, and_parts, Stop, Bad, Read, as_at, text_at, closed_at, items_at, begins_with, listed, either_at, behind_at, ended_at, entry_at, next_entry_at, leads_value, list_at, list_of, greatest, is_lt, leads_entry, map_at, map_of, leaf_at, ordering_reverse, ◌==◌}
-use Rattle.df_frozen.specs.Place.{push_item, put_entry, push_at}
+use Rattle.df_value_text.proofs.Names.{value_at, ◌≡◌, ℕ, List, [], ◌∷◌, ◌++◌, Some, refl, sym, ap, ◌∙◌, nat_list_cmp_total, Less, name_cmp, Plain, items, item, from_list, ◌+◌, ◌≤◌, Bool, true, false, ◌&&◌, length, drop, Ok, Err, arith, and_parts, Stop, Bad, Read, as_at, text_at, closed_at, items_at, begins_with, listed, either_at, behind_at, ended_at, entry_at, next_entry_at, leads_value, list_at, list_of, greatest, is_lt, leads_entry, map_at, map_of, leaf_at, ◌==◌}
+use Rattle.df_frozen.specs.Entries.{IsAscending, IsBelow}
+use Rattle.df_frozen.specs.Place.{push_item, push_at}
 use Rattle.df_value_text.proofs.ValueLaws.{value_empty, value_node}
 use Rattle.df_value_text.proofs.Loops.{LedTo, drop_first, behind_it, either_behind}
 
--- ---- one more value in a list, and one more entry in a map
+-- ---- one more value in a list, and one more name of a map
 
 push_last : (ps : List Plain) (p : Plain) → push_item p (from_list ps) ≡ from_list (ps ++ p ∷ [])
 push_last [] p = refl
@@ -18,36 +19,32 @@ pushed ps p old new is e =
     sym same ∙ ap items (push_last ps p)
 
 -- each of the names is below this one
-abbrev AreBelow : List (List ℕ × Plain) → List ℕ → Type 0
+abbrev AreBelow : List (List ℕ) → List ℕ → Type 0
 AreBelow [] name = Unit {0}
-AreBelow (e ∷ es) name = (name_cmp e.0 name ≡ Less) × AreBelow es name
+AreBelow (n ∷ ns) name = (name_cmp n name ≡ Less) × AreBelow ns name
 
--- each of the names is below what is above this one
-abbrev pub AreUpTo : List (List ℕ × Plain) → List ℕ → Type 0
-AreUpTo es last = (name : List ℕ) → name_cmp last name ≡ Less → AreBelow es name
+-- the names ascend, and each is below what is above this one
+abbrev pub AreUpTo : List (List ℕ) → List ℕ → Type 0
+AreUpTo ns last = IsAscending ns × ((name : List ℕ) → name_cmp last name ≡ Less → AreBelow ns name)
 
-over : (a b : List ℕ) → name_cmp a b ≡ Less → name_cmp b a ≡ Greater
-over a b e = nat_list_cmp_total.antisymm b a ∙ ap ordering_reverse e
+pub up_to_one : (name : List ℕ) → AreUpTo (name ∷ []) name
+up_to_one name = ((tt, tt), λ other less. (less, tt))
 
-put_last : (es : List (List ℕ × Plain)) (name : List ℕ) (p : Plain) → AreBelow es name → put_entry name p (from_pairs es) ≡ from_pairs (es ++ (name, p) ∷ [])
-put_last [] name p h = refl
-put_last (e ∷ es) name p h = rw (over e.0 name h.0) (ap (entry e.0 e.1) (put_last es name p h.1))
-
--- the map with the entry behind the others
-pub put_behind : {old new : Pairs} (es : List (List ℕ × Plain)) (name : List ℕ) (p : Plain) → AreBelow es name → old ≡ from_pairs es
-    → new ≡ put_entry name p old → new ≡ from_pairs (es ++ (name, p) ∷ [])
-put_behind es name p below is e = e ∙ ap (put_entry name p) is ∙ put_last es name p below
-
-pub up_to_one : (name : List ℕ) (p : Plain) → AreUpTo ((name, p) ∷ []) name
-up_to_one name p = λ other less. (less, tt)
-
-pub up_to_more : (es : List (List ℕ × Plain)) (last name : List ℕ) (p : Plain) → AreUpTo es last → name_cmp last name ≡ Less
-    → AreUpTo (es ++ (name, p) ∷ []) name
-up_to_more es last name p up less = λ other above. behind es other (up other (nat_list_cmp_total.trans last name other less above)) above
+pub up_to_more : (ns : List (List ℕ)) (last name : List ℕ) → AreUpTo ns last → name_cmp last name ≡ Less → AreUpTo (ns ++ name ∷ []) name
+up_to_more ns last name up less =
+    (ascend ns up.0 (up.1 name less), λ other above. behind ns other (up.1 other (nat_list_cmp_total.trans last name other less above)) above)
   where
-    behind : (es : List (List ℕ × Plain)) (other : List ℕ) → AreBelow es other → name_cmp name other ≡ Less → AreBelow (es ++ (name, p) ∷ []) other
+    before : (n : List ℕ) (ns : List (List ℕ)) → IsBelow n ns → name_cmp n name ≡ Less → IsBelow n (ns ++ name ∷ [])
+    before n [] b l = (l, tt)
+    before n (m ∷ ns) b l = (b.0, before n ns b.1 l)
+
+    ascend : (ns : List (List ℕ)) → IsAscending ns → AreBelow ns name → IsAscending (ns ++ name ∷ [])
+    ascend [] s h = (tt, tt)
+    ascend (n ∷ ns) s h = (before n ns s.0 h.0, ascend ns s.1 h.1)
+
+    behind : (ns : List (List ℕ)) (other : List ℕ) → AreBelow ns other → name_cmp name other ≡ Less → AreBelow (ns ++ name ∷ []) other
     behind [] other h above = (above, tt)
-    behind (e ∷ es) other h above = (h.0, behind es other h.1 above)
+    behind (n ∷ ns) other h above = (h.0, behind ns other h.1 above)
 
 -- ---- the kinds of values
 

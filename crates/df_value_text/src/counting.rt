@@ -99,12 +99,20 @@ fn open_count(text: &[u8]) -> usize
     count
 }
 
+/// Whether fewer brackets open in the text than may nest; there are no more than it has bytes.
+#[tactic(auto, using(crate::proofs::CountingSteps::opens_at_most))]
+fn opens_few(text: &[u8]) -> bool
+    ensures { result ≡ true → open_count text.now < 32 }
+{
+    (text.len() as u64) < MOST_DEPTH || (open_count(text) as u64) < MOST_DEPTH
+}
+
 /// Whether the text is so short, and opens so few brackets, that no count is passed in it.
 #[tactic(auto, using(crate::proofs::CountingSteps::never_small))]
 pub(crate) fn is_small(text: &[u8]) -> bool
     ensures { result ≡ true → NeverOver text.now }
 {
-    text.len() as u64 <= MOST_NODES && (open_count(text) as u64) < MOST_DEPTH
+    text.len() as u64 <= MOST_NODES && opens_few(text)
 }
 
 /// The place of the first byte, from the place on, by which a count of freezing is passed; none

@@ -1,9 +1,8 @@
 //! Reading values that nest.
-ghost use Rattle.std.specs.Prelude.{◌≡◌, ◌≤◌, ◌<◌, ◌&&◌, [], Some, length, drop, IfOk, IfErr, OnOk};
+ghost use Rattle.std.specs.Prelude.{◌≡◌, ◌≤◌, ◌<◌, ◌&&◌, [], ◌∷◌, ◌++◌, Some, length, drop, IfOk, IfErr, OnOk};
 ghost use Rattle.std.specs.Ordering.{is_lt};
 ghost use Rattle.df_frozen.specs.Name.{name_cmp};
-ghost use Rattle.df_frozen.specs.Place.{push_at, put_entry};
-ghost use Rattle.df_frozen.specs.Plain.{from_pairs};
+ghost use Rattle.df_frozen.specs.Place.{push_at};
 ghost use Rattle.df_frozen.specs.Value.{named, plain};
 ghost use Rattle.df_value_text.specs.code.Answer.{Gives};
 ghost use Rattle.df_value_text.specs.Number.{begins_with};
@@ -16,6 +15,7 @@ use crate::name_reader::name_at;
 use crate::number_reader::{byte_at, byte_stands, whole_at};
 use crate::words_reader::words_at;
 use df_frozen::{Entries, Items, LONGEST_NAME, Name, Value};
+use df_memory::NoMemory;
 use std::alloc::Global;
 
 /// No name is above it.
@@ -85,22 +85,22 @@ fn map_at(alloc: Global, bytes: &[u8], at: usize) -> Result<(Value, usize), Faul
     ensures exact { Gives plain bytes.now result (map_at value_at (drop at bytes.now)) }
     ensures onward { IfOk result (λ r. at < r.1) }
 {
-    let mut map = Entries::new(alloc);
     if byte_stands(bytes, at, b')') {
-        return Ok((Value::Map(map), at + 1));
+        return Ok((Value::Map(Entries::new(alloc)), at + 1));
     }
     let (first, start) = entry_at(alloc, bytes, at)?;
     let mut last = first.0;
-    put(&mut map, first)?;
+    let mut entries = Vec::new(alloc);
+    push_entry(&mut entries, first)?;
     let mut place = start;
     'entries: while leads_entry(bytes, place, &last) {
         let (entry, after) = next_entry_at(alloc, bytes, place + 1, &last)?;
         last = entry.0;
-        put(&mut map, entry)?;
+        push_entry(&mut entries, entry)?;
         place = after;
     }
     let (_, end) = byte_at(bytes, place, b')')?;
-    Ok((Value::Map(map), end))
+    Ok((Value::Map(Entries::from_ascending(entries)), end))
 }
 
 /// The entry at the place, and the place behind it.
@@ -157,12 +157,13 @@ fn higher_at(bytes: &[u8], at: usize, last: &Name) -> Result<(Name, usize), Faul
     Ok((name, end))
 }
 
-/// Whether some name is above this one.
+/// Whether some name is above this one. One byte tells it of nearly all.
 #[tactic(auto, unfolding(crate::specs::ReadValue::greatest))]
 fn is_below_greatest(name: &Name) -> bool
     ensures { result ≡ is_lt (name_cmp name.now greatest) }
 {
-    name.as_bytes().cmp(&GREATEST.as_slice()).is_lt()
+    let bytes = name.as_bytes();
+    bytes[0] < b'z' || bytes.cmp(&GREATEST.as_slice()).is_lt()
 }
 
 /// Whether a comma stands at the place, behind which an entry may stand.
@@ -186,14 +187,11 @@ fn push(list: &mut Value, value: Value) -> Result<(), Fault>
     }
 }
 
-/// Puts the entry into the map.
-fn put(map: &mut Entries, entry: (Name, Value)) -> Result<(), Fault>
-    ensures put { OnOk result (from_pairs map.new
-        ≡ put_entry entry.0 (plain entry.1) (from_pairs map.old)) }
-    ensures cause { IfErr result (λ e. e ≡ fault.NoMemory) }
+/// Appends the entry.
+#[inline(never)]
+fn push_entry(entries: &mut Vec<(Name, Value)>, entry: (Name, Value)) -> Result<(), NoMemory>
+    ensures { OnOk result (entries.new.items ≡ entries.old.items ++ entry ∷ []) }
 {
-    match map.put(entry.0, entry.1) {
-        Ok(()) => Ok(()),
-        Err(_) => Err(Fault::NoMemory),
-    }
+    entries.push(entry)?;
+    Ok(())
 }

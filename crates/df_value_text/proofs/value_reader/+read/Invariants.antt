@@ -1,4 +1,6 @@
-use Rattle.df_value_text.proofs.Names.{◌≡◌, ℕ, ◌+◌, ◌-◌, ◌*◌, ◌<◌, ◌≤◌, List, length, drop, Plain, items, from_list, from_pairs, plain}
+use Rattle.df_value_text.proofs.Names.{◌≡◌, ◌+◌, ◌-◌, ◌*◌, ◌<◌, ◌≤◌, List, length, drop, Plain, items, from_list, named, plain}
+use Rattle.std.proofs.Common.{map}
+use Rattle.df_frozen.specs.Entries.{names}
 use Rattle.df_value_text.specs.ReadValue.{leads_value, leads_entry, next_entry_at, value_at}
 use Rattle.df_value_text.proofs.Loops.{Left}
 use Rattle.df_value_text.proofs.ValueSteps.{AreUpTo, a_list, a_map, all_in}
@@ -33,13 +35,11 @@ invariant-list_at-values l = (last : Plain)
 abbrev pub decreases-list_at-values : goal.decreases-list_at-values
 decreases-list_at-values l = length l.bytes - l.place
 
--- the same of entries, whose names go up to the last one
+-- the same of entries, whose names ascend to the last one
 abbrev pub invariant-map_at-entries : goal.invariant-map_at-entries
 invariant-map_at-entries l = (last : Plain)
-    × (all : List (List ℕ × Plain))
-    × (from_pairs l.map ≡ from_pairs all)
-    × Left leads_entry (λ prev. next_entry_at value_at prev.0) (all_in a_map (drop l.at l.bytes)) all (l.last, last) l.bytes l.place
-    × AreUpTo all l.last
+    × Left leads_entry (λ prev. next_entry_at value_at prev.0) (all_in a_map (drop l.at l.bytes)) (map named l.entries.items) (l.last, last) l.bytes l.place
+    × AreUpTo (names l.entries.items) l.last
     × (l.place ≤ length l.bytes)
     × (l.at < l.place)
 
