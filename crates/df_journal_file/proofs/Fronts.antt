@@ -1,5 +1,5 @@
 -- Texts that begin alike, what their first bytes tell, and where entries end.
-use Rattle.df_journal_file.proofs.Names.{EndsFile, IsCallFront, IsPartFront, IsShownFront, IsValueFront, more_first, unit_first, word, unit_text, begins_pair, Label, EndsLine, IsLine, Avoids-text, UnitName, label_text, begins_with, begins_digit, Bool, List, [], ap, append-nil, arith, codes, decimal, drop, eqb, false, inl, inr, length, length-append, length-drop, refl, subst, sym, true, ℕ, ◌&&◌, ◌++◌, ◌<◌, ◌∙◌, ◌∷◌, ◌≡◌, ◌≤◌, nat_tests, drop_all, All-cons, All-nil, is_ascii_digit}
+use Rattle.df_journal_file.proofs.Names.{EndsFile, IsCallFront, IsPartFront, IsShownFront, IsValueFront, more_first, unit_first, word, unit_text, begins_pair, Label, EndsLine, IsLine, Avoids-text, UnitName, label_text, begins_with, begins_digit, Bool, List, [], ap, arith, codes, decimal, eqb, false, inl, inr, length, length-append, refl, subst, sym, true, ℕ, ◌&&◌, ◌++◌, ◌<◌, ◌∙◌, ◌∷◌, ◌≡◌, nat_tests, All-cons, All-nil, is_ascii_digit}
 use Rattle.df_format.proofs.Laws.{told}
 use Rattle.df_lines.proofs.Rows.{Like, line_same}
 use Rattle.std.proofs.lemmas.Bool.{eqb-true}
@@ -135,18 +135,6 @@ line_ends t line rest is e = (λ same. inr (rest, e ∙ ap (λ (l : List ℕ). l
     cut : EndsFile t → line ≡ codes "---"
     cut (inl none) = absurd (let n = length-append line (10 ∷ rest) in omega (arith, n, ap length (sym e ∙ none)))
     cut (inr more) = (line_same line (codes "---") (10 ∷ rest) (10 ∷ more.0) is (Avoids-text (codes "---") refl) refl refl (sym e ∙ more.1)).0
-
--- where there is no line feed, it is one where no byte is left
-pub open_ends : (bytes : List ℕ) (place : ℕ) → place ≤ length bytes → IsLine (drop place bytes)
-    → (place ≡ length bytes → EndsFile (drop place bytes)) × (EndsFile (drop place bytes) → place ≡ length bytes)
-open_ends bytes place inside line = (λ all. inl (drop_all place bytes (omega (arith, all))), λ ends. cut ends)
-  where
-    cut : EndsFile (drop place bytes) → place ≡ length bytes
-    cut (inl none) = omega (arith, inside, ap length none, length-drop place bytes)
-    cut (inr more) =
-        let end = append-nil (drop place bytes) ∙ more.1 in
-        absurd (let both = line_same (drop place bytes) (codes "---") [] (10 ∷ more.0) line (Avoids-text (codes "---") refl) tt refl end in
-        let no : [] ≡ 10 ∷ more.0 = both.1 in cc)
 
 -- what begins like an end is one
 pub same_end : (u t : List ℕ) → Like IsValueFront u t → EndsFile u → EndsFile t

@@ -1,5 +1,5 @@
 -- What is spelled from one place to another, and lines at a place.
-use Rattle.df_journal_file.proofs.Names.{◌≡◌, ℕ, ◌≤◌, List, [], ◌∷◌, ◌++◌, length, drop, Option, Some, None, Result, Ok, Err, refl, sym, ap, subst, ◌∙◌, arith, append_assoc, append-nil, flat_map, flat_map-append, All-push, StopsAt, ArePassed, IsHere, IsLineHere, IsSpelled, StopsLine, TellsAt, finished, IsLine, EndsLine}
+use Rattle.df_journal_file.proofs.Names.{◌≡◌, ℕ, ◌≤◌, List, [], ◌∷◌, ◌++◌, length, drop, Option, Some, None, Result, Ok, Err, refl, sym, ap, subst, ◌∙◌, arith, append_assoc, append-nil, flat_map, flat_map-append, All-push, ArePassed, IsHere, IsLineHere, StopsLine, TellsAt, finished, IsLine, EndsLine}
 use Rattle.df_script_text.specs.code.Stops.{fault_of}
 use Rattle.df_journal_text.specs.code.Judging.{TellsLine, ended}
 use Rattle.df_journal_text.specs.declared.line_fault.LineFault.{LineFault}

@@ -30,13 +30,6 @@ pub enum Journal {
     Second { start: Start, noted: Vec<Noted> },
 }
 
-/// Whether the line is this one.
-fn is_line(line: &[u8], wanted: &[u8]) -> bool
-    ensures { IsTrue result ↔ line.now ≡ wanted.now }
-{
-    line == wanted
-}
-
 /// Whether the first line is that of the second version, and the place behind it.
 pub fn version_at(bytes: &[u8]) -> Result<(bool, usize), FileFault>
     ensures read { IfOk result (λ r. IsFirstAt (first_of r.0) bytes.now r.1) }
@@ -59,10 +52,10 @@ pub fn is_end(bytes: &[u8], place: usize) -> bool
     requires { place ≤ length bytes.now }
     ensures { IsTrue result ↔ EndsFile (drop place bytes.now) }
 {
-    match line_at(bytes, place) {
-        Some((line, _)) => is_line(line, b"---"),
-        None => place == bytes.len(),
+    if place == bytes.len() {
+        return true;
     }
+    bytes[place..].starts_with(b"---\n")
 }
 
 /// Whether this version is wanted.
