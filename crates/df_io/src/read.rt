@@ -8,8 +8,8 @@ use std::alloc::Global;
 /// The most bytes that a file may have.
 pub const LONGEST_FILE: usize = 67_108_864;
 
-/// How many bytes are asked for at once.
-pub(crate) const PIECE: usize = 65_536;
+/// How many bytes are asked for at once: so few that they are still at hand when they are appended.
+pub(crate) const PIECE: usize = 4_000;
 
 /// Why a file was not read.
 #[derive(Clone, Copy, Debug, PartialEq, Eq)]

@@ -10,7 +10,7 @@ use std::test::Fail;
 use std::{fs, io};
 
 /// How many bytes a file is read by.
-const PIECE: usize = 65_536;
+const PIECE: usize = 4_000;
 
 /// Bytes of which no two pieces are alike.
 fn text(alloc: Global, len: usize) -> Result<Vec<u8>, NoMemory> {
