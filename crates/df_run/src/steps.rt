@@ -18,8 +18,8 @@ use df_start::Start;
 use df_steps::{append_common, append_root, append_step};
 use std::alloc::Global;
 
-// A journal has mostly two to five times as many bytes as its script.
-const JOURNAL_TIMES: usize = 4;
+// A journal has mostly two to six times as many bytes as its script.
+const JOURNAL_TIMES: usize = 6;
 
 /// The text of a journal, and the tables behind it.
 #[derive(Drop)]
