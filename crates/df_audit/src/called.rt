@@ -1,6 +1,6 @@
 //! Entries of calls, in a journal with notes. Only the unit and the call are read. The call is
 //! made, and its entry's lines are spelled. Where these are the next lines, the entry is right.
-ghost use Rattle.std.specs.Prelude.{◌≡◌, ◌≤◌, ◌++◌, ℕ, true, false, List, IfOk, None, OnOk, drop, length, option_copied, take};
+ghost use Rattle.std.specs.Prelude.{◌≡◌, ◌≤◌, ◌++◌, ℕ, true, false, List, IfOk, None, OnOk, Some, drop, length, option_copied, option_map, take};
 ghost use Rattle.std.specs.List.{flat_map};
 ghost use Rattle.df_machine.specs.Journal.{State};
 ghost use Rattle.df_machine.specs.Tables.{AgreesWith, place_in};
@@ -57,18 +57,22 @@ fn received_is_spelled(received: &Received)
     }
 }
 
-/// What a label shows of the commit of an effect, where there is a label.
+/// What a label shows of the commit of an effect.
+#[inline(never)]
 fn shown_by(
     alloc: Global,
-    label: Option<&Label>,
+    label: &Label,
     effect: &Effect,
-) -> Result<Option<Commit>, NoMemory>
-    ensures { IfOk result (λ shown. shown
-        ≡ shown_by (option_copied label.entry) (commit_in effect.now)) }
+) -> Result<Option<Box<Commit>>, NoMemory>
+    ensures { IfOk result (λ shown. option_map (λ b. b.value) shown
+        ≡ shown_by (Some label.now) (commit_in effect.now)) }
 {
-    match (label, effect) {
-        (Some(label), Effect::Commit(commit)) => shown_of(alloc, label, commit),
-        _ => Ok(None),
+    let Effect::Commit(commit) = effect else {
+        return Ok(None);
+    };
+    match shown_of(alloc, label, commit)? {
+        Some(shown) => Ok(Some(Box::new(alloc, shown)?)),
+        None => Ok(None),
     }
 }
 
@@ -78,13 +82,14 @@ struct Shown<'a> {
     alloc: Global,
     /// None where nothing is to be kept.
     label: Option<&'a Label>,
-    commit: Option<Commit>,
+    commit: Option<Box<Commit>>,
 }
 
 impl Shown<'_> {
     /// The call made no commit.
     fn hear_none(&mut self)
-        ensures { self.new.commit ≡ shown_by (option_copied self.old.label) None }
+        ensures { option_map (λ b. b.value) self.new.commit
+            ≡ shown_by (option_copied self.old.label) None }
     {
         if self.commit.is_some() {
             self.commit = None;
@@ -95,12 +100,18 @@ impl Shown<'_> {
 impl Hears for Shown<'_> {
     ghost use Rattle.df_audit.specs.code.Calling.{Keeps};
 
-    ghost heard = { λ old new answer. Keeps (option_copied old.label) new.commit answer };
+    ghost use Rattle.std.specs.Prelude.{option_map};
+
+    ghost heard = { λ old new answer. Keeps (option_copied old.label)
+        (option_map (λ b. b.value) new.commit) answer };
 
     fn hear(&mut self, reply: &Reply, effect: &Effect) -> Result<(), NoMemory> {
         reply_is_spelled(reply);
         effect_is_spelled(effect);
-        self.commit = shown_by(self.alloc, self.label, effect)?;
+        match self.label {
+            Some(label) => self.commit = shown_by(self.alloc, label, effect)?,
+            None => self.hear_none(),
+        }
         Ok(())
     }
 
@@ -144,7 +155,7 @@ fn append_read(
     requires state { (core : State) × AgreesWith core behind.old.tables }
     requires seated { (actor : UnitName) × (place ≡ place_in behind.old.tables actor) }
     ensures { OnOk result (EntersNoted place words.now (read_call call.entry)
-        (Keeps (option_copied to.old.label) to.new.commit) behind.old.tables behind.new.tables
+        (Keeps (option_copied to.old.label) (option_map (λ b. b.value) to.new.commit)) behind.old.tables behind.new.tables
         text.old.items text.new.items) }
 {
     let NotedTables { tables, notes } = behind;
@@ -176,12 +187,12 @@ fn label_left<'a>(wanted: &Wanted<'a>, stays: bool) -> Option<&'a Label>
 }
 
 /// Appends what is shown of a commit, as an emitted entry.
-fn append_shown(shown: Option<Commit>, to: &mut Vec<u8>) -> Result<(), NoMemory>
+fn append_shown(shown: Option<Box<Commit>>, to: &mut Vec<u8>) -> Result<(), NoMemory>
     ensures { OnOk result (to.new.items ≡ to.old.items
-        ++ flat_map noted_text (emitted_noted shown)) }
+        ++ flat_map noted_text (emitted_noted (option_map (λ b. b.value) shown))) }
 {
     match shown {
-        Some(commit) => write_entry(&Entry::Emitted(commit), to),
+        Some(commit) => write_entry(&Entry::Emitted(Box::into_inner(commit)), to),
         None => Ok(()),
     }
 }
@@ -190,13 +201,13 @@ fn append_shown(shown: Option<Commit>, to: &mut Vec<u8>) -> Result<(), NoMemory>
 /// or what is shown of its commit.
 fn leave(
     stays: bool,
-    shown: Option<Commit>,
+    shown: Option<Box<Commit>>,
     before: usize,
     text: &mut Vec<u8>,
 ) -> Result<(), NoMemory>
     ensures whole { OnOk result (stays ≡ true → text.new.items ≡ text.old.items) }
     ensures left { OnOk result (stays ≡ false → text.new.items ≡ take before text.old.items
-        ++ flat_map noted_text (emitted_noted shown)) }
+        ++ flat_map noted_text (emitted_noted (option_map (λ b. b.value) shown))) }
 {
     if stays {
         return Ok(());

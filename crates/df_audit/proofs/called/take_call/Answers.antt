@@ -1,4 +1,5 @@
 use Rattle.df_audit.proofs.Names.{ℕ, IfSome, ap, arith, drop, length, length-append, refl, subst, ◌∙◌, Label, Option, State, past_of, read_call, stays_in}
+use Rattle.std.specs.Option.{option_map}
 use Rattle.df_value_text.specs.Fits.{IsLabel}
 use Rattle.df_audit.proofs.Calls.{appends_call, call_fits, takes_call}
 use Rattle.df_audit.proofs.called.take_call.Goals as goal
@@ -25,12 +26,12 @@ overflow_add-made c =
     let made = c.in_ok-append_read.ensures core actor so.come.made read.seated read.spelled in
     let noted = subst (λ (n : Option Label). IfSome n IsLabel) (c.contamination-contamination.ensures core actor so.come.made read.seated)
     c.contamination_is_spelled.ensures in
-    let appends = appends_call core actor (read_call c.args.call) _ c.append_read.new.to.commit c.append_read.new.behind.tables c.args.made.now.text.items
+    let appends = appends_call core actor (read_call c.args.call) _ (option_map (λ b. b.value) c.append_read.new.to.commit) c.append_read.new.behind.tables c.args.made.now.text.items
     c.append_read.new.text.items read.fits noted made in
     let lines = c.lines_from.ensures ∙ ap (drop c.len-before.result) c.as_slice.ensures.value in
     let fits = call_fits c.args.wanted.now c.requires.heard.0 c.requires.heard.1 c.requires.heard.2 c.args.cursor.now c.pass.new.self c.args.behind.now.tables
     c.append_read.new.behind.tables c.args.made.now.count c.args.made.now.text.items c.append_read.new.text.items c.lines_from.result.now
-    c.len-before.result actor (read_call c.args.call) _ c.append_read.new.to.commit so appends (omega arith) lines c.requires.heard.6
+    c.len-before.result actor (read_call c.args.call) _ (option_map (λ b. b.value) c.append_read.new.to.commit) so appends (omega arith) lines c.requires.heard.6
     (c.if-not-pass.ensures.passed refl) (c.if-not-pass.ensures.further refl) c.if-not-pass.ensures.bytes c.if-not-pass.ensures.version in
     omega (arith, fits)
 
@@ -40,11 +41,11 @@ returns c = λ roots bytes read actor so heard has.
     let made = c.in_ok-append_read.ensures core actor so.come.made heard.seated heard.spelled in
     let told = c.contamination-contamination.ensures core actor so.come.made heard.seated in
     let noted = subst (λ (n : Option Label). IfSome n IsLabel) told c.contamination_is_spelled.ensures in
-    let appends = appends_call core actor (read_call c.args.call) _ c.append_read.new.to.commit c.append_read.new.behind.tables c.args.made.now.text.items
+    let appends = appends_call core actor (read_call c.args.call) _ (option_map (λ b. b.value) c.append_read.new.to.commit) c.append_read.new.behind.tables c.args.made.now.text.items
     c.append_read.new.text.items heard.fits noted made in
     let lines = c.lines_from.ensures ∙ ap (drop c.len-before.result) c.as_slice.ensures.value in
     takes_call c.args.wanted.now roots bytes read c.args.cursor.now c.pass.new.self c.args.behind.now.tables c.append_read.new.behind.tables
     c.args.made.now.count c.args.made.now.text.items c.append_read.new.text.items c.lines_from.result.now c.len-before.result actor (read_call c.args.call)
-    _ c.append_read.new.to.commit so appends (omega arith) lines has (c.if-not-pass.ensures.passed refl) (c.if-not-pass.ensures.further refl)
+    _ (option_map (λ b. b.value) c.append_read.new.to.commit) so appends (omega arith) lines has (c.if-not-pass.ensures.passed refl) (c.if-not-pass.ensures.further refl)
     c.if-not-pass.ensures.bytes c.if-not-pass.ensures.version c.leave.new.text.items c.stays-stays.result
     (c.stays-stays.ensures ∙ ap (stays_in c.args.wanted.now) told) c.label_left.ensures c.in_ok-leave.ensures.whole c.in_ok-leave.ensures.left
