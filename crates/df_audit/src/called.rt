@@ -59,11 +59,7 @@ fn received_is_spelled(received: &Received)
 
 /// What a label shows of the commit of an effect.
 #[inline(never)]
-fn shown_by(
-    alloc: Global,
-    label: &Label,
-    effect: &Effect,
-) -> Result<Option<Box<Commit>>, NoMemory>
+fn shown_by(alloc: Global, label: &Label, effect: &Effect) -> Result<Option<Box<Commit>>, NoMemory>
     ensures { IfOk result (λ shown. option_map (λ b. b.value) shown
         ≡ shown_by (Some label.now) (commit_in effect.now)) }
 {
@@ -99,7 +95,6 @@ impl Shown<'_> {
 
 impl Hears for Shown<'_> {
     ghost use Rattle.df_audit.specs.code.Calling.{Keeps};
-
     ghost use Rattle.std.specs.Prelude.{option_map};
 
     ghost heard = { λ old new answer. Keeps (option_copied old.label)
@@ -192,7 +187,12 @@ fn append_shown(shown: Option<Box<Commit>>, to: &mut Vec<u8>) -> Result<(), NoMe
         ++ flat_map noted_text (emitted_noted (option_map (λ b. b.value) shown))) }
 {
     match shown {
-        Some(commit) => write_entry(&Entry::Emitted(Box::into_inner(commit)), to),
+        Some(commit) => {
+            let emitted = Entry::Emitted(Box::into_inner(commit));
+            let written = write_entry(&emitted, to);
+            drop(emitted);
+            written
+        }
         None => Ok(()),
     }
 }

@@ -78,7 +78,9 @@ fn checked_first(alloc: Global, start: &Start, entries: &[Entry]) -> Result<Audi
         Verdict::Valid => right(alloc, entries.len()),
         Verdict::Wrong { place, expected } => {
             let kept = &entries[place as usize];
-            wrong(alloc, place, kept, &None, &expected, &None)
+            let told = wrong(alloc, place, kept, &None, &expected, &None);
+            drop(expected);
+            told
         }
     }
 }
@@ -91,14 +93,16 @@ fn checked_second(alloc: Global, start: &Start, notes: &[Noted]) -> Result<Audit
         NotedVerdict::Valid => right(alloc, notes.len()),
         NotedVerdict::Wrong { place, expected } => {
             let kept = &notes[place as usize];
-            wrong(
+            let told = wrong(
                 alloc,
                 place,
                 &kept.entry,
                 &kept.contamination,
                 &expected.entry,
                 &expected.contamination,
-            )
+            );
+            drop(expected);
+            told
         }
     }
 }

@@ -132,7 +132,9 @@ fn append_answered<H: Hears>(
         tables.old tables.new text.old.items text.new.items) }
 {
     let answer = tables.step_other(place, call)?;
-    append_heard(words, &answer.reply, &answer.effect, note, text, to)
+    let appended = append_heard(words, &answer.reply, &answer.effect, note, text, to);
+    drop(answer);
+    appended
 }
 
 /// Makes a common call of the unit at a place in the way of any other, and appends its entry with

@@ -67,15 +67,19 @@ pub fn right_text(
     let text = front(alloc, &start, wanted)?;
     let mut made = Made { count: 0, text };
     drop(start);
-    let is_right = go_over(&mut cursor, &mut behind, wanted, &mut made)?;
-    drop(cursor);
-    let NotedTables { tables, notes } = behind;
-    drop(notes);
-    if is_right {
-        Ok(Some((made, tables)))
-    } else {
-        drop(made);
-        Ok(None)
+    match go_over(&mut cursor, &mut behind, wanted, &mut made) {
+        Ok(true) => {
+            drop((cursor, behind.notes));
+            Ok(Some((made, behind.tables)))
+        }
+        Ok(false) => {
+            drop((cursor, behind, made));
+            Ok(None)
+        }
+        Err(refused) => {
+            drop((cursor, behind, made));
+            Err(refused)
+        }
     }
 }
 

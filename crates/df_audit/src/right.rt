@@ -126,9 +126,16 @@ pub fn right_notes(alloc: Global, journal: Journal) -> Result<Noting, NoMemory>
 fn first_notes(alloc: Global, start: Start, entries: Vec<Entry>) -> Result<Noting, NoMemory>
     ensures { IfOk result (IsNotedOfFirst start entries.items) }
 {
-    match judge_and_note(alloc, &start, entries)? {
-        Judged::Right { notes } => Ok(Noting::Noted { start, notes }),
-        Judged::Wrong { place, .. } => Ok(Noting::Wrong { place }),
+    match judge_and_note(alloc, &start, entries) {
+        Ok(Judged::Right { notes }) => Ok(Noting::Noted { start, notes }),
+        Ok(Judged::Wrong { place, expected }) => {
+            drop((start, expected));
+            Ok(Noting::Wrong { place })
+        }
+        Err(refused) => {
+            drop(start);
+            Err(refused)
+        }
     }
 }
 
@@ -136,9 +143,16 @@ fn first_notes(alloc: Global, start: Start, entries: Vec<Entry>) -> Result<Notin
 fn second_notes(alloc: Global, start: Start, notes: Vec<Noted>) -> Result<Noting, NoMemory>
     ensures { IfOk result (IsNotedOfSecond start notes.items) }
 {
-    match check_noted(alloc, &start, notes.as_slice())? {
-        NotedVerdict::Valid => Ok(Noting::Noted { start, notes }),
-        NotedVerdict::Wrong { place, .. } => Ok(Noting::Wrong { place }),
+    match check_noted(alloc, &start, notes.as_slice()) {
+        Ok(NotedVerdict::Valid) => Ok(Noting::Noted { start, notes }),
+        Ok(NotedVerdict::Wrong { place, expected }) => {
+            drop((start, notes, expected));
+            Ok(Noting::Wrong { place })
+        }
+        Err(refused) => {
+            drop((start, notes));
+            Err(refused)
+        }
     }
 }
 

@@ -5,7 +5,7 @@ use Rattle.df_audit.proofs.made.append_answered.Goals as goal
 pub returns : goal.returns
 returns g c =
     let answer = c.in_ok-answer.answer in
-    let told = c.append_heard in
+    let told = c.append_heard-appended in
     on_ok_weaker told.result
     (λ heard core actor agrees seated words.
     makes_call core actor c.args.call.now c.args.note.now (g.H.Hears.heard c.args.to.now told.new.to) c.step_other.new.self c.args.text.now.items
