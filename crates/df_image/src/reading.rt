@@ -86,8 +86,15 @@ pub fn entry_of(alloc: Global, bytes: &[u8]) -> Result<Option<Entry>, NoMemory>
     let Some(entry) = last_of(alloc, bytes)? else {
         return Ok(None);
     };
-    if is_text(&entry_text(alloc, &entry)?, bytes) {
-        return Ok(Some(entry));
+    match entry_text(alloc, &entry) {
+        Ok(text) if is_text(&text, bytes) => Ok(Some(entry)),
+        Ok(_) => {
+            drop(entry);
+            Ok(None)
+        }
+        Err(refused) => {
+            drop(entry);
+            Err(refused)
+        }
     }
-    Ok(None)
 }
