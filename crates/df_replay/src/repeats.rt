@@ -6,7 +6,7 @@ ghost use Rattle.df_replay.specs.Replay.{Compares, ComparesTo, replayed};
 ghost use Rattle.df_unit.specs.declared.entry.Entry.TheVariants.{Done};
 ghost use Rattle.df_unit.specs.declared.name.UnitName.{UnitName};
 
-use crate::copy_call;
+use crate::entry::done;
 use df_label::Label;
 use df_local::Answer;
 use df_machine::Tables;
@@ -98,17 +98,19 @@ fn compare_answer(
         contamination (Done actor.now call.now reply.now effect.now)) }
 {
     if answer.reply.same(reply) && answer.effect.same(effect) {
+        drop(answer);
         return Ok(Compared::Same { contamination });
     }
-    let entry = Entry::Done {
-        actor: actor.copy()?,
-        call: copy_call(call)?,
-        reply: answer.reply,
-        effect: answer.effect,
-    };
-    let expected = Noted {
-        entry,
-        contamination,
-    };
-    Ok(Compared::Other { expected })
+    match done(actor, call, answer) {
+        Ok(entry) => Ok(Compared::Other {
+            expected: Noted {
+                entry,
+                contamination,
+            },
+        }),
+        Err(refused) => {
+            drop(contamination);
+            Err(refused)
+        }
+    }
 }

@@ -59,8 +59,14 @@ fn repeat_call(core: &mut Core, actor: &UnitName, call: &Call) -> Result<(), NoM
 {
     let call = copy_call(call)?;
     match core.step(actor, call) {
-        Ok(_) => Ok(()),
-        Err(_) => Err(NoMemory),
+        Ok(answer) => {
+            drop(answer);
+            Ok(())
+        }
+        Err(refused) => {
+            drop(refused);
+            Err(NoMemory)
+        }
     }
 }
 
