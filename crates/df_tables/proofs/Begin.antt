@@ -1,5 +1,5 @@
 -- In the beginning the tables agree with the empty journal.
-use Rattle.df_tables.proofs.Names.{◌≡◌, ℕ, zero, suc, ◌+◌, ◌==◌, List, [], ◌∷◌, Option, Some, None, Bool, true, false, ◌&&◌, if◌then◌else◌, map, slice_get, refl, ap, sym, subst, ◌∙◌, arith, eq-eqb, nat_eq, All, All-cons, All-nil, Pair, Label, Privilege, deliveries, was_handed, own, rows, roots, root_of, same, UnitName, Root, Managed, EventName, Agrees, IsSeat, is_marked, subscribed_at, event_place, IsCalm, find, first_row, place_of, rows_from, Unit}
+use Rattle.df_tables.proofs.Names.{◌≡◌, ℕ, zero, suc, ◌+◌, ◌==◌, List, [], ◌∷◌, Option, Some, None, Bool, true, false, if◌then◌else◌, map, slice_get, refl, ap, sym, subst, ◌∙◌, arith, eq-eqb, nat_eq, All, All-cons, All-nil, Pair, Label, Privilege, deliveries, was_handed, own, rows, roots, root_of, same, UnitName, Root, Managed, EventName, Agrees, IsSeat, is_marked, subscribed_at, event_place, IsCalm, find, first_row, place_of, rows_from, Unit, and-true, and-false, ne_eqb}
 
 abbrev Starts : Type 0
 Starts = List (Label × List Privilege)
@@ -11,34 +11,25 @@ managed_none o n t k (r ∷ rs) = managed_none o n t (k + 1) rs
 -- a root's path has one number
 long_none : (j m : ℕ) (path : List ℕ) (k : ℕ) (rs : Starts) → find (Root (j ∷ m ∷ path)) (rows_from k rs) ≡ None
 long_none j m path k [] = refl
-long_none j m path k (r ∷ rs) = by (nat_eq k j) (find (Root (j ∷ m ∷ path)) (rows_from (k + 1) rs)) (long_none j m path (k + 1) rs)
-  where
-    by : (b : Bool) (p : Option Unit) → p ≡ None → (if b && false then Some (first_row k r) else p) ≡ None
-    by true p h = h
-    by false p h = h
+long_none j m path k (r ∷ rs) =
+    ap (λ (b : Bool). if b then Some (first_row k r) else find (Root (j ∷ m ∷ path)) (rows_from (k + 1) rs)) (and-false (nat_eq k j))
+    ∙ long_none j m path (k + 1) rs
 
 empty_none : (k : ℕ) (rs : Starts) → find (Root []) (rows_from k rs) ≡ None
 empty_none k [] = refl
 empty_none k (r ∷ rs) = empty_none (k + 1) rs
-
-other : (k m : ℕ) → (k == k + suc m) ≡ false
-other k m = grind arith
-
-one : (b : Bool) → (b && true) ≡ b
-one true = refl
-one false = refl
 
 root_seat : (m k j : ℕ) (rs : Starts) → j ≡ k + m → IsSeat (Root (j ∷ [])) (slice_get (map root_of rs) m) [] (find (Root (j ∷ [])) (rows_from k rs))
 root_seat zero k j [] e = refl
 root_seat (suc m) k j [] e = refl
 root_seat zero k j (r ∷ rs) e =
     let h : (k == j) ≡ true = eq-eqb k j (omega arith) in
-    let test : same (first_row k r).local.unit (Root (j ∷ [])) ≡ true = one (k == j) ∙ h in
+    let test : same (first_row k r).local.unit (Root (j ∷ [])) ≡ true = and-true (k == j) ∙ h in
     subst (λ (b : Bool). IsSeat (Root (j ∷ [])) (Some (root_of r)) [] (if b then Some (first_row k r) else find (Root (j ∷ [])) (rows_from (k + 1) rs))) (sym test)
     (record { unit = ap (λ (n : ℕ). Root (n ∷ [])) (omega arith); own = refl; left = refl; taken = omega arith })
 root_seat (suc m) k j (r ∷ rs) e =
-    let h : (k == j) ≡ false = subst (λ x. (k == x) ≡ false) (sym e) (other k m) in
-    let test : same (first_row k r).local.unit (Root (j ∷ [])) ≡ false = one (k == j) ∙ h in
+    let h : (k == j) ≡ false = ne_eqb k j (λ z. omega (arith, e, z)) in
+    let test : same (first_row k r).local.unit (Root (j ∷ [])) ≡ false = and-true (k == j) ∙ h in
     subst (λ (b : Bool). IsSeat (Root (j ∷ [])) (slice_get (map root_of rs) m) [] (if b then Some (first_row k r) else find (Root (j ∷ [])) (rows_from (k + 1) rs))) (sym test)
     (root_seat m (k + 1) j rs (omega arith))
 

@@ -1,5 +1,5 @@
 -- Tables that fit each other still do after a change of a row.
-use Rattle.df_tables.proofs.Names.{◌≡◌, inl, inr, ℕ, zero, suc, ◌+◌, ◌≤◌, ◌<◌, ◌==◌, ◌&&◌, ◌||◌, Bool, true, false, if◌then◌else◌, List, [], ◌∷◌, ◌++◌, length, map, get_or, set, Option, Some, None, refl, ap, sym, subst, ◌∙◌, arith, All, length-append, eqb-true, append-nil, get_or_default, length-map, All-head, All-push, All-tail, Clause, Pair, has_pair, Subscription, Label, Part, rows, Call, Commit, Given, Effect, EventName, UnitName, Reply, AreApart, FilterIndex, IsWhole, all_new, enrols, if_new, rows_in, IsBoard, IsHandedBoard, IsMovedBoard, IsOpenedBoard, IsReady, IsShutBoard, receivers_of, IsOpened, blank, IsCalm, IsNews, modify, news_at, shut_row, with_news, AreLabels, inputs, LineState, moved_at, moved_row, names_of, place_of, taken, Board, Ready, EventRow, Unit}
+use Rattle.df_tables.proofs.Names.{◌≡◌, inl, inr, ℕ, zero, suc, ◌+◌, ◌≤◌, ◌<◌, ◌==◌, ◌&&◌, ◌||◌, Bool, true, false, if◌then◌else◌, List, [], ◌∷◌, ◌++◌, length, map, get_or, set, Option, Some, None, refl, ap, sym, subst, ◌∙◌, arith, All, length-append, append-nil, get_or_default, length-map, All-head, All-push, All-tail, Clause, Pair, has_pair, Subscription, Label, Part, rows, Call, Commit, Given, Effect, EventName, UnitName, Reply, AreApart, FilterIndex, IsWhole, all_new, enrols, if_new, rows_in, IsBoard, IsHandedBoard, IsMovedBoard, IsOpenedBoard, IsReady, IsShutBoard, receivers_of, IsOpened, blank, IsCalm, IsNews, modify, news_at, shut_row, with_news, AreLabels, inputs, LineState, moved_at, moved_row, names_of, place_of, taken, Board, Ready, EventRow, Unit, and-false, ne_eqb, or_from, and_left}
 use Rattle.df_index.specs.IndexState as index
 use Rattle.df_tables.proofs.Each.{at_modify, length-modify, set_modify}
 use Rattle.df_tables.proofs.Handed.{at_map}
@@ -21,11 +21,9 @@ calm-modify : (f : Unit → Unit) → ((u : Unit) → IsCalm u → IsCalm (f u))
 calm-modify f still k us calm i d within =
     let e = length-modify k f us in
     let j : i < length us = omega (arith, e, within) in
-    subst IsCalm (sym (at_modify k f us i d j)) (by (k == i) (get_or us i d) (calm i d j))
-  where
-    by : (b : Bool) (u : Unit) → IsCalm u → IsCalm (if b then f u else u)
-    by true u h = still u h
-    by false u h = h
+    let u = get_or us i d in
+    let h = calm i d j in
+    subst IsCalm (sym (at_modify k f us i d j)) (elim (k == i) as (λ b. IsCalm (if b then f u else u)) [ true ↦ still u h | false ↦ h ])
 
 pub whole_modified : (us : List Unit) (evs : List EventRow) (x : FilterIndex) (k : ℕ) (f : Unit → Unit) → ((u : Unit) → (f u).local.unit ≡ u.local.unit) → ((u : Unit) → IsCalm u → IsCalm (f u)) → IsWhole us evs x → IsWhole (modify k f us) evs x
 whole_modified us evs x k f named still whole = record {
@@ -108,14 +106,10 @@ receivers_within commit b ready whole is i d within =
 -- who has no row is no receiver
 none_far : (ps : List Pair) (m : ℕ) (p : Pair) → All (λ (q : Pair). q.0 < m) ps → m ≤ p.0 → has_pair ps p ≡ false
 none_far [] m p all far = refl
-none_far (q ∷ qs) m p all far = by (q.0 == p.0) refl (none_far qs m p (All-tail (λ (r : Pair). r.0 < m) q qs all) far)
-  where
-    by : (b : Bool) → (q.0 == p.0) ≡ b → has_pair qs p ≡ false → ((b && (q.1 == p.1)) || has_pair qs p) ≡ false
-    by true e rest =
-        let near = All-head (λ (r : Pair). r.0 < m) q qs all in
-        let same = eqb-true q.0 p.0 e in
-        absurd (omega (arith, near, same, far))
-    by false e rest = rest
+none_far (q ∷ qs) m p all far =
+    let near = All-head (λ (r : Pair). r.0 < m) q qs all in
+    or_from _ _ (and_left _ (q.1 == p.1) (ne_eqb q.0 p.0 (λ e. omega (arith, near, e, far))))
+    (none_far qs m p (All-tail (λ (r : Pair). r.0 < m) q qs all) far)
 
 -- so it is marked as handed nothing, where it was before
 pub far_unbooked : (ps : List Pair) (m j : ℕ) (handed handed' : List (List Pair)) → All (λ (p : Pair). p.0 < m) ps → ((e : ℕ) (p : Pair) → index.was_handed handed' e p ≡ (index.was_handed handed e p || ((e == j) && has_pair ps p))) → ((e : ℕ) (p : Pair) → m ≤ p.0 → index.was_handed handed e p ≡ false) →
@@ -124,11 +118,7 @@ far_unbooked ps m j handed handed' within booked before e p far =
     booked e p
     ∙ ap (λ (b : Bool). b || ((e == j) && has_pair ps p)) (before e p far)
     ∙ ap (λ (b : Bool). (e == j) && b) (none_far ps m p within far)
-    ∙ neither (e == j)
-  where
-    neither : (b : Bool) → (b && false) ≡ false
-    neither true = refl
-    neither false = refl
+    ∙ and-false (e == j)
 
 -- what is handed to each row, by its unit's place
 abbrev news_by : EventName → List Part → List Pair → Unit → Option ℕ → List Given
@@ -137,13 +127,6 @@ news_by event after ps u (Some k) = news_at event after u.local.own.input ps k
 
 own_news : (event : EventName) (after : List Part) (ps : List Pair) (us : List Unit) → AreApart us → IsNews (λ u. news_by event after ps u (place_of u.local.unit us)) event after ps us
 own_news event after ps us apart q d within = ap (news_by event after ps (get_or us q d)) (apart q d within)
-
-less_apart : (e j : ℕ) → j < e → (e == j) ≡ false
-less_apart e j h = by (e == j) refl
-  where
-    by : (b : Bool) → (e == j) ≡ b → b ≡ false
-    by false g = refl
-    by true g = let same = eqb-true e j g in absurd (omega (arith, h, same))
 
 -- the tables fit each other where the rows are of the same units, who read at the same labels, and nothing is staged
 pub board_steady : (old new : Board) → IsBoard old → names_of new.rows.items ≡ names_of old.rows.items → All IsCalm new.rows.items → inputs new.rows.items ≡ inputs old.rows.items → new.roll.seats ≡ old.roll.seats → new.events ≡ old.events → new.index ≡ old.index → new.labels.items ≡ old.labels.items → new.stale ≡ old.stale →
@@ -230,7 +213,7 @@ board_booked old new ps j board within there rows roll labels stale enrolled han
           let long : length old.events ≤ e = omega (arith, size, h) in
           handed e p
           ∙ ap (λ (b : Bool). b || ((e == j) && has_pair ps p)) (board.whole.fresh e p long)
-          ∙ ap (λ (b : Bool). b && has_pair ps p) (less_apart e j (omega (arith, there, long)));
+          ∙ ap (λ (b : Bool). b && has_pair ps p) (ne_eqb e j (λ z. omega (arith, there, long, z)));
       seated = far_unbooked ps (length us) j old.index.handed new.index.handed within handed board.whole.seated;
     } in record {
       whole = subst (λ (l : List Unit). IsWhole l new.events new.index) (sym rows) whole;

@@ -1,5 +1,5 @@
 -- The tables tell of one more entry, once they are as the code makes them.
-use Rattle.df_tables.proofs.Names.{◌≡◌, ℕ, zero, suc, ◌≤◌, ◌<◌, Bool, All, List, [], ◌∷◌, ◌++◌, get_or, length, Option, Some, None, refl, ap, sym, subst, ◌∙◌, arith, option_or, append-nil, slice_get-get_or, Clause, Pair, Subscription, AreNumbered, kept_in, ManagedSubscription, Label, Privilege, Part, commit_in, answer, fixed_by, own, own_plain, Rules, rows, roots, row_taking_laws, same, OwnState, subscribes, Call, Instantiate, Subscribe, SubscribeManaged, Commit, Given, Effect, Entry, Done, EventName, UnitName, Root, Reply, Sub, same_name-exact, Agrees, AreWithin, FilterIndex, IsSeat, IsWhole, ManagedState, enrols, is_marked, subscribed_at, IsBooked, IsKept, IsMovedBoard, IsOpenedBoard, IsRenewed, TellsOf, answer_from, answer_on, managed_by, managed_of, place_on, row_by, row_on, event_place, IsAnsweredAt, IsNews, modify, news_at, IsAnswered, child_by, managed_sub_by, find, moved_at, moved_row, place_of, Board, EventRow, Unit}
+use Rattle.df_tables.proofs.Names.{◌≡◌, ℕ, zero, suc, ◌≤◌, ◌<◌, Bool, All, List, [], ◌∷◌, ◌++◌, get_or, length, Option, Some, None, refl, ap, sym, subst, ◌∙◌, arith, option_or, append-nil, slice_get-get_or, Clause, Pair, Subscription, AreNumbered, kept_in, ManagedSubscription, Label, Privilege, Part, commit_in, answer, fixed_by, own, own_plain, Rules, rows, roots, row_taking_laws, same, OwnState, subscribes, Call, Instantiate, Subscribe, SubscribeManaged, Commit, Given, Effect, Entry, Done, EventName, UnitName, Root, Reply, Sub, same_name-exact, Agrees, AreWithin, FilterIndex, IsSeat, IsWhole, ManagedState, enrols, is_marked, subscribed_at, IsBooked, IsKept, IsMovedBoard, IsOpenedBoard, IsRenewed, TellsOf, answer_from, answer_on, managed_by, managed_of, place_on, row_by, row_on, event_place, IsAnsweredAt, IsNews, modify, news_at, IsAnswered, child_by, managed_sub_by, find, moved_at, moved_row, place_of, Board, EventRow, Unit, or_none}
 use Rattle.df_instances.specs.Marks as marks
 use Rattle.df_unit.specs.declared.reply.Reply.TheVariants.{Unit as Made}
 use Rattle.df_tables.specs.Moves.{made_by}
@@ -166,10 +166,6 @@ pub plain_else : (f : Effect) → ((k : Commit) → f ≡ Effect.Commit k → �
 plain_else Effect.Nothing never = refl
 plain_else (Effect.Commit k) never = absurd (never k refl)
 plain_else (Effect.Given d) never = refl
-
-or_none : {A : Type 0} (o : Option A) → option_or o None ≡ o
-or_none None = refl
-or_none (Some x) = refl
 
 -- an entry that makes no record leaves all of them
 pub unrecorded : (starts : Starts) (past : List Entry) (old new : Board) → new.managed ≡ old.managed → (a : UnitName) (c : Call) (r : Reply) (f : Effect) → managed_sub_by c r ≡ None → (o : List ℕ) (n : ℕ) → (managed_of new).kept o n ≡ option_or ((managed_of old).kept o n) (fixed_by rows (Done a c r f) o n (own_plain rows (roots starts) past o))

@@ -4,6 +4,7 @@ use Rattle.std.specs.Prelude.{◌==◌}
 use Rattle.std.specs.List.Sorted.{IsStrictlySortedBy}
 use Rattle.df_label.proofs.SetFacts.{IsExactOrder, same_elements}
 use Rattle.df_tables.proofs.Brought.{none_pass}
+use Rattle.df_tables.proofs.Seats.{both_ways}
 
 abbrev Sub : Type 0
 Sub = ℕ × List Clause
@@ -12,11 +13,13 @@ Sub = ℕ × List Clause
 
 contains_chosen : {X : Type 0} (f : X → ℕ) (u : X → Bool) (xs : List X) (n : ℕ) → contains_by nat_cmp (map f (filter u xs)) n ≡ list_any (λ x. u x && (f x == n)) xs
 contains_chosen f u [] n = refl
-contains_chosen f u (x ∷ xs) n = by (u x) (contains_chosen f u xs n)
-  where
-    by : (b : Bool) → contains_by nat_cmp (map f (filter u xs)) n ≡ list_any (λ x. u x && (f x == n)) xs → contains_by nat_cmp (map f (if b then x ∷ filter u xs else filter u xs)) n ≡ ((b && (f x == n)) || list_any (λ x. u x && (f x == n)) xs)
-    by true ih = ap (λ (c : Bool). c || contains_by nat_cmp (map f (filter u xs)) n) (sym (unsigned_ties (f x) n)) ∙ ap (λ (c : Bool). (f x == n) || c) ih
-    by false ih = ih
+contains_chosen f u (x ∷ xs) n =
+    let ys = filter u xs in
+    let ih = contains_chosen f u xs n in
+    elim (u x) as (λ b. contains_by nat_cmp (map f (if b then x ∷ ys else ys)) n ≡ ((b && (f x == n)) || list_any (λ x. u x && (f x == n)) xs)) [
+      | true ↦ ap (λ (c : Bool). c || contains_by nat_cmp (map f ys) n) (sym (unsigned_ties (f x) n)) ∙ ap (λ (c : Bool). (f x == n) || c) ih
+      | false ↦ ih
+    ]
 
 then_less : (o more : Ordering) → is_eq o ≡ true → ordering_then o more ≡ Less → more ≡ Less
 then_less Less more e h = absurd (let z : ⊥ = cc in z)
@@ -76,12 +79,6 @@ pair_found ps (k, n) h =
     let y = eqb-true a.1.1 n both.1 in
     let same : a.1 ≡ (let p : Pair = (k, n) in p) = ap (λ (z : ℕ). let p : Pair = (z, a.1.1) in p) x ∙ ap (λ (z : ℕ). let p : Pair = (k, z) in p) y in
     subst (Contains ps) same (a.0, a.2, a.3)
-
-pub both_ways : (a b : Bool) → (a ≡ true → b ≡ true) → (b ≡ true → a ≡ true) → a ≡ b
-both_ways true true f g = refl
-both_ways true false f g = sym (f refl)
-both_ways false true f g = g refl
-both_ways false false f g = refl
 
 any_subscribed : (k : ℕ) (t : Sub → Bool) (enrolled : List (Subscription (List Clause))) → list_any t (subscriptions_at k enrolled) ≡ list_any (λ s. (s.unit == k) && t (s.sub, s.filter)) enrolled
 any_subscribed k t [] = refl

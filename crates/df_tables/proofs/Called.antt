@@ -1,5 +1,5 @@
 -- What a commit brings to instances: to one that exists, by its row, and to one that it makes.
-use Rattle.df_tables.proofs.Names.{◌≡◌, ℕ, zero, suc, ◌<◌, ◌==◌, Bool, true, false, not, ◌&&◌, if◌then◌else◌, List, [], ◌∷◌, ◌++◌, get_or, length, map, Option, Some, None, refl, ap, sym, subst, ◌∙◌, arith, Contains, get_or_default, map-append, Clause, Pair, IsReceiver, Subscription, Label, Privilege, apply, cut, Spot, Part, contents, deliveries_instance, instance_news, was_handed, Legal, born, fixed, is_given, own_instance, rows, roots, readable_at, Fixed, OwnState, Commit, Given, Entry, EventName, Managed, FilterIndex, IsSeat, subscriptions_at, instance_row, given_to, news_at, pairs_of, Unit}
+use Rattle.df_tables.proofs.Names.{◌≡◌, ℕ, zero, suc, ◌<◌, ◌==◌, Bool, true, false, not, ◌&&◌, if◌then◌else◌, List, [], ◌∷◌, ◌++◌, get_or, length, Option, Some, None, refl, ap, sym, subst, ◌∙◌, arith, Contains, get_or_default, map-append, Clause, Pair, IsReceiver, Subscription, Label, Privilege, apply, cut, Spot, Part, contents, deliveries_instance, instance_news, was_handed, Legal, born, fixed, is_given, own_instance, rows, roots, readable_at, Fixed, OwnState, Commit, Given, Entry, EventName, Managed, FilterIndex, IsSeat, subscriptions_at, instance_row, given_to, news_at, pairs_of, Unit, filter-append}
 use Rattle.std.specs.Prelude.{◌↔◌}
 use Rattle.df_index.specs.Filter.{matches}
 use Rattle.df_rules.proofs.Instances.{keeps_to_its_name}
@@ -56,16 +56,8 @@ module _ (starts : List (Label × List Privilege)) (past : List Entry) (k : Comm
 
 -- receivers of both kinds
 
-pub pairs_of-append : (q : ℕ) (ps qs : List Pair) → pairs_of q (ps ++ qs) ≡ pairs_of q ps ++ pairs_of q qs
-pairs_of-append q [] qs = refl
-pairs_of-append q (p ∷ ps) qs = by (p.0 == q) (pairs_of-append q ps qs)
-  where
-    by : (b : Bool) → pairs_of q (ps ++ qs) ≡ pairs_of q ps ++ pairs_of q qs → (if b then p ∷ pairs_of q (ps ++ qs) else pairs_of q (ps ++ qs)) ≡ (if b then p ∷ pairs_of q ps else pairs_of q ps) ++ pairs_of q qs
-    by true ih = ap (λ (l : List Pair). p ∷ l) ih
-    by false ih = ih
-
 pub news_at-append : (event : EventName) (after : List Part) (at : Label) (ps qs : List Pair) (q : ℕ) → news_at event after at (ps ++ qs) q ≡ news_at event after at ps q ++ news_at event after at qs q
-news_at-append event after at ps qs q = ap (map (given_to event after at)) (pairs_of-append q ps qs) ∙ map-append (given_to event after at) (pairs_of q ps) (pairs_of q qs)
+news_at-append event after at ps qs q = simp (filter-append, map-append)
 
 -- who subscribed to nothing isn't among the receivers of plain units
 

@@ -1,5 +1,5 @@
 -- Which instances the tables call, by their names.
-use Rattle.df_tables.proofs.Names.{◌≡◌, ℕ, ◌≤◌, ◌<◌, ◌==◌, ◌||◌, Bool, true, false, if◌then◌else◌, List, [], ◌∷◌, ◌++◌, Option, Some, None, get_or, length, nat_eq, option_map, slice_get, All, refl, ap, sym, subst, ◌∙◌, arith, eq-eqb, is_none, pointwise, flat_map, list_any, position_or_len, option_or, nat_cmp, ordering_then, Ordering, Less, Equal, and_from, and_parts, both_ways, eqb-true, false_from_ne_true, ne_eqb, append-nil, All-append, All-cons, All-from_recursion, All-head, All-nil, All-tail, find_at, list_any_none, bytes_eq-Decides, Pair, instance_cmp, AreNumbered, has_name, is_named_at, is_of, kept_in, Instance, ManagedSubscription, record_of, Part, readable_at, same, Fixed, EventName, UnitName, Managed, Root, same_name-exact, same_name_decides, instance_row, birth_of, births_by, pair_at, pair_of, pairs_by, given_to, pairs_of, place_of, Unit}
+use Rattle.df_tables.proofs.Names.{◌≡◌, ℕ, ◌≤◌, ◌<◌, ◌==◌, ◌||◌, Bool, true, false, if◌then◌else◌, List, [], ◌∷◌, ◌++◌, Option, Some, None, get_or, length, nat_eq, option_map, slice_get, All, refl, ap, sym, subst, ◌∙◌, arith, eq-eqb, is_none, pointwise, flat_map, list_any, position_or_len, option_or, nat_cmp, ordering_then, Ordering, Less, Equal, and_from, and_parts, both_ways, eqb-true, false_from_ne_true, ne_eqb, append-nil, All-append, All-cons, All-from_recursion, All-head, All-nil, All-tail, find_at, list_any_none, bytes_eq-Decides, Pair, instance_cmp, AreNumbered, has_name, is_named_at, is_of, kept_in, Instance, ManagedSubscription, record_of, Part, readable_at, same, Fixed, EventName, UnitName, Managed, Root, same_name-exact, same_name_decides, instance_row, birth_of, births_by, pair_at, pair_of, pairs_by, given_to, pairs_of, place_of, Unit, filter-append}
 use Rattle.std.specs.List.{find}
 use Rattle.std.specs.List.Sorted.{IsStrictlySortedBy}
 use Rattle.std.proofs.lemmas.Cmp.{nat_cmp_total, tied_itself}
@@ -8,7 +8,6 @@ use Rattle.df_instances.proofs.Named.{none_passes}
 use Rattle.df_label.specs.TagSet.{tag_set_cmp}
 use Rattle.df_label.proofs.TagSetFacts.{tag_set_cmp_exact}
 use Rattle.df_tables.specs.Table.{find as row_of}
-use Rattle.df_tables.proofs.Called.{pairs_of-append}
 use Rattle.df_tables.proofs.Fresh.{AreDistinct, AreOthers, AreUnplaced}
 use Rattle.df_tables.proofs.Newborn.{find-append}
 use Rattle.df_tables.proofs.Opened.{within}
@@ -44,7 +43,7 @@ one_of {X} {Y} c test f y (x ∷ xs) up once is = by (one_of c test f y xs up.1 
 
 pairs_of-flat : {X : Type 0} (q : ℕ) (g : X → List Pair) (xs : List X) → pairs_of q (flat_map g xs) ≡ flat_map (λ x. pairs_of q (g x)) xs
 pairs_of-flat q g [] = refl
-pairs_of-flat q g (x ∷ xs) = pairs_of-append q (g x) (flat_map g xs) ∙ ap (λ (l : List Pair). pairs_of q (g x) ++ l) (pairs_of-flat q g xs)
+pairs_of-flat q g (x ∷ xs) = filter-append (λ p. p.0 == q) (g x) (flat_map g xs) ∙ ap (λ (l : List Pair). pairs_of q (g x) ++ l) (pairs_of-flat q g xs)
 
 -- each pair is of a row
 
@@ -167,7 +166,7 @@ module _ (managed : List ManagedSubscription) (numbered : AreNumbered managed) w
     pub pairs_far : (xs : List Instance) (q : ℕ) → length us ≤ q → pairs_of q (pairs_by us managed handed j xs) ≡ []
     pairs_far [] q far = refl
     pairs_far (x ∷ xs) q far =
-        pairs_of-append q (pair_of us handed j (slice_get managed x.place) x.s) (pairs_by us managed handed j xs)
+        filter-append (λ p. p.0 == q) (pair_of us handed j (slice_get managed x.place) x.s) (pairs_by us managed handed j xs)
         ∙ ap (λ (l : List Pair). l ++ pairs_of q (pairs_by us managed handed j xs)) (by (slice_get managed x.place))
         ∙ pairs_far xs q far
       where

@@ -1,5 +1,5 @@
 -- An entry that makes a child: the tables tell of it, once they have its row.
-use Rattle.df_tables.proofs.Names.{◌≡◌, ℕ, suc, ◌-◌, ◌≤◌, ◌==◌, Bool, true, false, if◌then◌else◌, List, [], ◌∷◌, ◌++◌, get_or, length, take, Option, Some, None, refl, ap, sym, subst, ◌∙◌, arith, eq-eqb, length-append, is_none, option_and_then, eqb-true, append-nil, take-append_seam, get_or-append_seam, maker_of, number_of, Clause, Subscription, Label, Privilege, deliveries, fixed, own, own_plain, rows, roots, row_taking_laws, child, same, OwnState, reply, Call, Instantiate, Effect, Entry, Done, UnitName, Root, Managed, Reply, same_name-exact, same_name_decides, Agrees, FilterIndex, IsSeat, IsWhole, child_row, if_new, IsBooked, IsChildBoard, managed_of, IsAnsweredAt, modify, IsAnswered, child_by, find, moved_at, moved_row, place_of, Board, EventRow, Unit}
+use Rattle.df_tables.proofs.Names.{◌≡◌, ℕ, suc, ◌-◌, ◌≤◌, ◌==◌, Bool, true, false, if◌then◌else◌, List, [], ◌∷◌, ◌++◌, get_or, length, take, Option, Some, None, refl, ap, sym, subst, ◌∙◌, arith, eq-eqb, length-append, is_none, option_and_then, eqb-true, append-nil, take-append_seam, get_or-append_seam, maker_of, number_of, Clause, Subscription, Label, Privilege, deliveries, fixed, own, own_plain, rows, roots, row_taking_laws, child, same, OwnState, reply, Call, Instantiate, Effect, Entry, Done, UnitName, Root, Managed, Reply, same_name-exact, same_name_decides, Agrees, FilterIndex, IsSeat, IsWhole, child_row, if_new, IsBooked, IsChildBoard, managed_of, IsAnsweredAt, modify, IsAnswered, child_by, find, moved_at, moved_row, place_of, Board, EventRow, Unit, born_none}
 use Rattle.df_instances.specs.Marks as marks
 use Rattle.df_tables.proofs.Boards.{modify-moved}
 use Rattle.df_tables.proofs.Booked.{child_at, child_some, found, no_fewer, place_in, right, told_more, unrecorded}
@@ -7,7 +7,7 @@ use Rattle.df_tables.proofs.Newborn.{modify-append}
 use Rattle.df_tables.proofs.Order.{names-moved, same_length}
 use Rattle.df_tables.proofs.Places.{at_some}
 use Rattle.df_tables.proofs.Seats.{enrols_none, present}
-use Rattle.df_tables.proofs.Steps.{agrees_plain, born_by, quiet_birth}
+use Rattle.df_tables.proofs.Steps.{agrees_plain, born_by}
 use Rattle.df_tables.proofs.Tells.{row_at}
 
 -- a path is its maker's with its own number behind it
@@ -121,7 +121,8 @@ module _ (starts : List (Label × List Privilege)) (past : List Entry) (us : Lis
   pub births : (m : UnitName) → own rows (roots starts) past m ≡ None → IsSeat m (born_by rows (roots starts) past making m) [] (find m (if_new newborn us))
   births (Root path) none = born path none
   births (Managed o k t) none =
-      subst (λ (b : Option OwnState). IsSeat (Managed o k t) b [] (find (Managed o k t) (if_new newborn us))) (sym (quiet_birth rows (roots starts) past (fixed rows (roots starts) past o k) t))
+      subst (λ (b : Option OwnState). IsSeat (Managed o k t) b [] (find (Managed o k t) (if_new newborn us)))
+      (sym (born_none rows (fixed rows (roots starts) past o k) t past))
       (subst (λ (x : Option Unit). IsSeat (Managed o k t) None [] x) (sym (no_row (Managed o k t) refl)) refl)
 
 -- after an entry that makes a child

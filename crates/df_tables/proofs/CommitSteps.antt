@@ -1,5 +1,5 @@
 -- The tables after one more entry that has a commit.
-use Rattle.df_tables.proofs.Names.{◌≡◌, ℕ, ◌+◌, ◌≤◌, ◌<◌, ◌==◌, ◌&&◌, ◌||◌, List, [], ◌∷◌, ◌++◌, Option, Some, None, Bool, true, false, not, if◌then◌else◌, length, map, option_map, refl, ap, sym, subst, ◌∙◌, arith, All, option_to_list, option_and_then, option_or, append-nil, list_any-append, Clause, Pair, has_pair, Label, apply, Part, commit_of, committed, contents, deliveries, was_handed, TakingLaws, IsRight, answer, answer_of, born, fixed, fixed_by, own, own_plain, stepped, Rules, subscribed_by, subscriptions, same, same_event, OwnState, is_nil, Call, Commit, Given, Effect, Entry, Done, Emitted, EventName, UnitName, Root, Managed, Reply, same_name-exact, same_event_decides, Agrees, FilterIndex, IsSeat, MakesNoManaged, ManagedState, is_marked, is_told, subscribed_at, event_place, news_at, with_news, find, names_of, parts_of, place_of, moved_at, moved_row, EventRow, Unit}
+use Rattle.df_tables.proofs.Names.{◌≡◌, ℕ, ◌+◌, ◌≤◌, ◌<◌, ◌==◌, ◌&&◌, ◌||◌, List, [], ◌∷◌, ◌++◌, Option, Some, None, Bool, true, false, not, if◌then◌else◌, length, map, option_map, refl, ap, sym, subst, ◌∙◌, arith, All, option_to_list, option_and_then, option_or, append-nil, list_any-append, Clause, Pair, has_pair, Label, apply, Part, commit_of, committed, contents, deliveries, was_handed, TakingLaws, IsRight, answer, answer_of, born, fixed, fixed_by, own, own_plain, stepped, Rules, subscribed_by, subscriptions, same, same_event, OwnState, is_nil, Call, Commit, Given, Effect, Entry, Done, Emitted, EventName, UnitName, Root, Managed, Reply, same_name-exact, same_event_decides, Agrees, FilterIndex, IsSeat, MakesNoManaged, ManagedState, is_marked, is_told, subscribed_at, event_place, news_at, with_news, find, names_of, parts_of, place_of, moved_at, moved_row, EventRow, Unit, or-false, or_none}
 use Rattle.df_index.specs.IndexState as index
 use Rattle.df_tables.proofs.Finds.{find-map, find-moved}
 use Rattle.df_tables.proofs.Newborn.{find-append, marked_born, place_by-append, subscribed_born}
@@ -7,7 +7,7 @@ use Rattle.df_tables.proofs.Order.{names-map, names-moved}
 use Rattle.df_tables.proofs.Places.{at_none}
 use Rattle.df_tables.proofs.Rows.{row_news, row_commit}
 use Rattle.df_tables.proofs.Seats.{absent, handed_news, not_there, same_place}
-use Rattle.df_tables.proofs.Steps.{after_entry, born_by, delivered_at, fixes_none, instance_told, news_of, none_news, or_none, own_at, places_behind, seat_along}
+use Rattle.df_tables.proofs.Steps.{after_entry, born_by, delivered_at, fixes_none, instance_told, news_of, none_news, own_at, places_behind, seat_along}
 
 -- the commit that is made, its event's place, its parts after it, and its receivers
 pub record IsMade (R : Rules) (s : List OwnState) (past : List Entry) (us bs : List Unit) (evs evs' : List EventRow) (x x' : FilterIndex) (m m' : ManagedState) (k : Commit) (j : ℕ) (after : List Part) (ps : List Pair) (called : ℕ → Bool) (given : Unit → List Given) : Type 0 where
@@ -47,10 +47,6 @@ module _ (R : Rules) (s : List OwnState) (laws : TakingLaws R s) where
   seat_given given n (Some st) born ds news None q is births seat = absurd seat
   seat_given given n (Some st) born ds news (Some u) q is births seat = row_news given n st ds news u (is u seat.unit) seat
 
-  or_false : (b : Bool) → (b || false) ≡ b
-  or_false true = refl
-  or_false false = refl
-
   module _ (past : List Entry) (us bs : List Unit) (evs evs' : List EventRow) (x x' : FilterIndex) (m m' : ManagedState) (k : Commit) (j : ℕ) (after : List Part) (ps : List Pair) (called : ℕ → Bool) (given : Unit → List Given)
       (agree : Agrees R s past us evs x m) (made : IsMade R s past us bs evs evs' x x' m m' k j after ps called given) where
     -- marks of plain units after a commit
@@ -69,12 +65,12 @@ module _ (R : Rules) (s : List OwnState) (laws : TakingLaws R s) where
         by : (p : Option ℕ) → place_of (Root path) us ≡ p → (e : Option ℕ) → event_place ev evs ≡ e → is_marked x'.handed p e i ≡ (before || after_it)
         by None h e g =
             ap (λ (p : Option ℕ). is_marked x.handed p (event_place ev evs) i) (sym h) ∙ agree.marked path ev i
-            ∙ sym (or_false before) ∙ ap (λ (ds : List Given). before || was_handed ds ev i) (sym (none_news R s past path (Some k) (absent R s past us (Root path) agree.seats h)))
+            ∙ sym (or-false before) ∙ ap (λ (ds : List Given). before || was_handed ds ev i) (sym (none_news R s past path (Some k) (absent R s past us (Root path) agree.seats h)))
         by (Some q) h None g =
             let brought = made.brought path q h in
             let old : false ≡ before = ap (λ (p : Option ℕ). is_marked x.handed p None i) (sym h) ∙ ap (λ (e : Option ℕ). is_marked x.handed (place_of (Root path) us) e i) (sym g) ∙ agree.marked path ev i in
             let other : same_event k.event ev ≡ false = not_there evs k.event ev j made.place g in
-            old ∙ sym (or_false before) ∙ ap (λ (b : Bool). before || b)
+            old ∙ sym (or-false before) ∙ ap (λ (b : Bool). before || b)
             (sym (ap (λ (ds : List Given). was_handed ds ev i) brought.1 ∙ handed_news k.event after brought.0 ps q ev i ∙ ap (λ (b : Bool). b && has_pair ps (q, i)) other))
         by (Some q) h (Some l) g =
             let brought = made.brought path q h in
@@ -143,7 +139,7 @@ module _ (R : Rules) (s : List OwnState) (laws : TakingLaws R s) where
           by (Some q) h None g =
               let old : false ≡ before = ap (λ (e : Option ℕ). is_told m.told e (place_of who us)) (sym g) ∙ agree.told o n t ev in
               let other : same_event k.event ev ≡ false = not_there evs k.event ev j made.place g in
-              old ∙ sym (or_false before) ∙ ap (λ (b : Bool). before || b)
+              old ∙ sym (or-false before) ∙ ap (λ (b : Bool). before || b)
               (sym (instance_told R s past o n t k ev ∙ ap (λ (b : Bool). b && not (is_nil (news_of R s past who (Some k)))) other))
           by (Some q) h (Some i) g =
               made.told i q

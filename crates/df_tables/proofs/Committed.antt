@@ -1,5 +1,5 @@
 -- After a commit that is handed to receivers of both kinds the tables tell of it.
-use Rattle.df_tables.proofs.Names.{◌≡◌, ◌↔◌, ℕ, ◌+◌, ◌≤◌, ◌<◌, ◌==◌, ◌&&◌, ◌||◌, All, Bool, true, false, not, if◌then◌else◌, List, [], ◌∷◌, ◌++◌, get_or, length, map, slice_get, Option, Some, None, refl, ap, sym, subst, ◌∙◌, arith, Contains, IsStrictlySortedBy, ne_eqb, slice_get-get_or, Pair, has_pair, pair_cmp, IsReceiver, AreChosen, instance_cmp, has_place, AreNumbered, Instance, ManagedSubscription, maker_of, number_of, Label, Privilege, apply, Part, matches, commit_of, contents, deliveries, answer, born, fixed, made_by, own, own_plain, rows, roots, row_taking_laws, same, same_event, OwnState, is_nil, subscribes, Call, Commit, Given, Effect, Entry, Done, Emitted, EventName, UnitName, Managed, Root, Reply, Agrees, AreApart, AreWithin, FilterIndex, IsSeat, MakesNoManaged, MakesNoUnit, managed_by, births_by, pairs_by, places_by, places_from, event_place, IsNews, news_at, with_news, inputs, find, moved_at, moved_row, parts_of, place_of, EventRow, Unit}
+use Rattle.df_tables.proofs.Names.{◌≡◌, ◌↔◌, ℕ, ◌+◌, ◌≤◌, ◌<◌, ◌==◌, ◌&&◌, ◌||◌, All, Bool, false, not, if◌then◌else◌, List, [], ◌∷◌, ◌++◌, get_or, length, map, slice_get, Option, Some, None, refl, ap, sym, subst, ◌∙◌, arith, Contains, IsStrictlySortedBy, ne_eqb, slice_get-get_or, Pair, has_pair, pair_cmp, IsReceiver, AreChosen, instance_cmp, has_place, AreNumbered, Instance, ManagedSubscription, maker_of, number_of, Label, Privilege, apply, Part, matches, commit_of, contents, deliveries, answer, born, fixed, made_by, own, own_plain, rows, roots, row_taking_laws, same, same_event, OwnState, is_nil, subscribes, Call, Commit, Given, Effect, Entry, Done, Emitted, EventName, UnitName, Managed, Root, Reply, Agrees, AreApart, AreWithin, FilterIndex, IsSeat, MakesNoManaged, MakesNoUnit, managed_by, births_by, pairs_by, places_by, places_from, event_place, IsNews, news_at, with_news, inputs, find, moved_at, moved_row, parts_of, place_of, EventRow, Unit, and-false}
 use Rattle.df_index.specs.IndexState as index
 use Rattle.df_instances.specs.Marks as marks
 use Rattle.df_tables.proofs.Booked.{place_in}
@@ -134,9 +134,5 @@ module _ (starts : List (Label × List Privilege)) (past : List Entry) (us : Lis
           (places_both (length us) q qs bs
           ∙ ap (λ (l : List Pair). not (is_nil l) || has_place (places_from (length us) bs) q) (pairs_far managed numbered us handed j xs q (omega (arith, rows_are, h)))
           ∙ places_past q (length us) bs (omega (arith, rows_are, h)))
-          ∙ neither (e == j);
+          ∙ and-false (e == j);
     }
-      where
-        neither : (b : Bool) → (b && false) ≡ false
-        neither true = refl
-        neither false = refl

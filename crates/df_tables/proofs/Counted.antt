@@ -1,13 +1,9 @@
 -- An entry that makes a managed subscription: what it keeps, and its number.
-use Rattle.df_tables.proofs.Names.{◌≡◌, ℕ, ◌≤◌, ◌==◌, ◌&&◌, Bool, true, false, if◌then◌else◌, List, [], ◌∷◌, ◌++◌, Option, Some, None, nat_eq, option_map, refl, ap, sym, subst, ◌∙◌, arith, nat_le, pointwise, option_and_then, option_or, ne_eqb, bytes_eq-Decides, Clause, AreNumbered, is_of, kept_in, ManagedSubscription, maker_of, record_of, deliveries, Legal, answer, answer_of, left, fixed, fixed_by, made_by, own_plain, root_at, rows, fixed_of, fixes, same, Fixed, OwnState, after, is_instance, reply, Call, SubscribeManaged, Given, Effect, Entry, Done, Emitted, UnitName, Root, Reply, Sub, same_name-exact}
+use Rattle.df_tables.proofs.Names.{◌≡◌, ℕ, ◌≤◌, ◌==◌, ◌&&◌, Bool, true, false, if◌then◌else◌, List, [], ◌∷◌, ◌++◌, Option, Some, None, nat_eq, option_map, refl, ap, sym, subst, ◌∙◌, arith, nat_le, pointwise, option_and_then, option_or, ne_eqb, bytes_eq-Decides, Clause, AreNumbered, is_of, kept_in, ManagedSubscription, maker_of, record_of, deliveries, Legal, answer, answer_of, left, fixed, fixed_by, made_by, own_plain, root_at, rows, fixed_of, fixes, same, Fixed, OwnState, after, is_instance, reply, Call, SubscribeManaged, Given, Effect, Entry, Done, Emitted, UnitName, Root, Reply, Sub, same_name-exact, or_none}
 use Rattle.df_instances.proofs.Numbered.{AreNumbered-push, kept_in-push}
 use Rattle.df_rules.proofs.Growth.{grown_after}
 use Rattle.df_unit.specs.Limits.{most_subs}
 use Rattle.df_tables.proofs.Subscribing.{next_number}
-
-or_none : {A : Type 0} (o : Option A) → option_or o None ≡ o
-or_none None = refl
-or_none (Some x) = refl
 
 -- who isn't there made no managed subscription, and who is made none with a number to come
 abbrev Counted : Option OwnState → ℕ → Option Fixed → Type 0

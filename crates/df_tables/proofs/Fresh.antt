@@ -1,5 +1,5 @@
 -- Rows that come to exist together: each unless its unit has one.
-use Rattle.df_tables.proofs.Names.{◌≡◌, ℕ, ◌+◌, Bool, true, false, if◌then◌else◌, List, [], ◌∷◌, ◌++◌, Option, Some, None, option_map, length, refl, ap, sym, ◌∙◌, ⊤, is_none, option_or, append-nil, same, UnitName, same_name-exact, same_name_decides, all_new, names_of, place_of, Unit}
+use Rattle.df_tables.proofs.Names.{◌≡◌, ℕ, ◌+◌, Bool, true, false, if◌then◌else◌, List, [], ◌∷◌, ◌++◌, Option, Some, None, option_map, length, ap, sym, ◌∙◌, ⊤, is_none, option_or, append-nil, same, UnitName, same_name-exact, same_name_decides, all_new, names_of, place_of, Unit, false_from_ne_true}
 use Rattle.std.proofs.lemmas.List.{append_assoc}
 use Rattle.df_tables.proofs.Newborn.{place_by-append}
 use Rattle.df_tables.proofs.Seats.{place_of-names}
@@ -20,13 +20,7 @@ AreUnplaced us [] = ⊤
 AreUnplaced us (b ∷ bs) = (place_of b.local.unit us ≡ None) × AreUnplaced us bs
 
 same_back : (a b : UnitName) → same a b ≡ false → same b a ≡ false
-same_back a b e = by (same b a) refl
-  where
-    by : (c : Bool) → same b a ≡ c → c ≡ false
-    by false g = refl
-    by true g =
-        let is : same a b ≡ true = (same_name_decides a b).1 (sym (same_name-exact b a g)) in
-        absurd (let z : false ≡ true = sym e ∙ is in (let v : ⊥ = cc in v))
+same_back a b e = false_from_ne_true (same b a) (λ g. let is : same a b ≡ true = (same_name_decides a b).1 (sym (same_name-exact b a g)) in cc)
 
 -- with one more row none of the others has one
 unplaced_more : (us : List Unit) (b : Unit) (bs : List Unit) → AreOthers b.local.unit bs → AreUnplaced us bs → AreUnplaced (us ++ b ∷ []) bs

@@ -19,14 +19,13 @@ staged_turned ev after (p ∷ ps) k u = by (p.0 == k) (λ v. staged_turned ev af
 -- a row that is settled stays as it is
 settled_again : (ps : List Pair) (k : ℕ) (u : Unit) → u.line.staged ≡ [] → turned settled_row ps k u ≡ u
 settled_again [] k u e = refl
-settled_again (p ∷ ps) k u e = by (p.0 == k) (settled_again ps k u e)
+settled_again (p ∷ ps) k u e =
+    let ih = settled_again ps k u e in
+    elim (p.0 == k) as (λ b. turned settled_row ps k (if b then settled_row p u else u) ≡ u)
+    [ true ↦ ap (turned settled_row ps k) same ∙ ih | false ↦ ih ]
   where
     same : settled_row p u ≡ u
     same = ap (λ (l : LineState). let x : Unit = record u { line = l } in x) (rw e (ap (λ (l : List Given). let y : LineState = record { left = l; staged = [] } in y) (append-nil u.line.left)))
-
-    by : (b : Bool) → turned settled_row ps k u ≡ u → turned settled_row ps k (if b then settled_row p u else u) ≡ u
-    by true ih = ap (turned settled_row ps k) same ∙ ih
-    by false ih = ih
 
 settled_turned : (ps : List Pair) (k : ℕ) (u : Unit) → (pairs_of k ps ≡ [] → u.line.staged ≡ []) → turned settled_row ps k u ≡ record u { line = settled u.line }
 settled_turned [] k u h = sym (ap (λ (l : LineState). let x : Unit = record u { line = l } in x) (rw (h refl) (ap (λ (l : List Given). let y : LineState = record { left = l; staged = [] } in y) (append-nil u.line.left))))
@@ -85,11 +84,10 @@ none_before : (ps : List Pair) (i k : ℕ) → pairs_of k ps ≡ [] → pairs_of
 none_before [] zero k h = refl
 none_before [] (suc i) k h = refl
 none_before (p ∷ ps) zero k h = refl
-none_before (p ∷ ps) (suc i) k h = by (p.0 == k) h (λ q. none_before ps i k q)
-  where
-    by : (b : Bool) → (if b then p ∷ pairs_of k ps else pairs_of k ps) ≡ [] → (pairs_of k ps ≡ [] → pairs_of k (take i ps) ≡ []) → (if b then p ∷ pairs_of k (take i ps) else pairs_of k (take i ps)) ≡ []
-    by true q rest = absurd (let z : ⊥ = cc in z)
-    by false q rest = rest q
+none_before (p ∷ ps) (suc i) k h =
+    let qs = pairs_of k (take i ps) in
+    elim (p.0 == k) as (λ b. (if b then p ∷ pairs_of k ps else pairs_of k ps) ≡ [] → (if b then p ∷ qs else qs) ≡ [])
+    [ true ↦ λ q. absurd (let z : ⊥ = cc in z) | false ↦ none_before ps i k ] h
 
 -- what was staged at some of the receivers is let go at all of them
 pub half_staged : (ev : EventName) (after : List Part) (ps qs : List Pair) (us : List Unit) → ((k : ℕ) → pairs_of k ps ≡ [] → pairs_of k qs ≡ []) → each quiet_row ps (each (staged_row ev after) qs us) ≡ each quiet_row ps us
@@ -110,14 +108,10 @@ half_way ev after ps i us = half_staged ev after ps (take i ps) us (λ k h. none
 
 quiet_turned : (ps : List Pair) (k : ℕ) (u : Unit) → u.line.staged ≡ [] → turned quiet_row ps k u ≡ u
 quiet_turned [] k u e = refl
-quiet_turned (p ∷ ps) k u e = by (p.0 == k) (quiet_turned ps k u e)
-  where
-    same : quiet_row p u ≡ u
-    same = ap (λ (l : List Given). let x : Unit = record u { line = record u.line { staged = l } } in x) (sym e)
-
-    by : (b : Bool) → turned quiet_row ps k u ≡ u → turned quiet_row ps k (if b then quiet_row p u else u) ≡ u
-    by true ih = ap (turned quiet_row ps k) same ∙ ih
-    by false ih = ih
+quiet_turned (p ∷ ps) k u e =
+    let ih = quiet_turned ps k u e in
+    let same : quiet_row p u ≡ u = ap (λ (l : List Given). let x : Unit = record u { line = record u.line { staged = l } } in x) (sym e) in
+    elim (p.0 == k) as (λ b. turned quiet_row ps k (if b then quiet_row p u else u) ≡ u) [ true ↦ ap (turned quiet_row ps k) same ∙ ih | false ↦ ih ]
 
 -- where nothing was staged nothing is let go
 pub calm_stays : (ps : List Pair) (us : List Unit) → All IsCalm us → each quiet_row ps us ≡ us

@@ -1,5 +1,5 @@
 -- The instances that the tables call are those to which the journal hands the event.
-use Rattle.df_tables.proofs.Names.{◌≡◌, ℕ, ◌+◌, ◌<◌, ◌&&◌, ◌||◌, Bool, true, false, not, if◌then◌else◌, List, [], ◌∷◌, ◌++◌, Option, Some, None, length, option_map, refl, ap, sym, subst, ◌∙◌, list_any, IsStrictlySortedBy, option_or, Pair, AreChosen, instance_cmp, has_place, AreNumbered, has_name, Instance, ManagedSubscription, Label, Privilege, apply, cut, Part, contents, deliveries_instance, instance_news, was_handed, fixed, is_given, own, rows, roots, readable_at, same, Fixed, is_nil, Commit, Given, Entry, UnitName, Managed, Root, Agrees, FilterIndex, is_told, all_new, instance_row, managed_by, births_by, pairs_by, places_by, places_from, event_place, given_to, pairs_of, names_of, place_of, EventRow, Unit}
+use Rattle.df_tables.proofs.Names.{◌≡◌, ℕ, ◌+◌, ◌<◌, ◌&&◌, ◌||◌, Bool, true, false, not, if◌then◌else◌, List, [], ◌∷◌, ◌++◌, Option, Some, None, length, option_map, refl, ap, sym, subst, ◌∙◌, list_any, IsStrictlySortedBy, option_or, Pair, AreChosen, instance_cmp, has_place, AreNumbered, has_name, Instance, ManagedSubscription, Label, Privilege, apply, cut, Part, contents, deliveries_instance, instance_news, was_handed, fixed, is_given, own, rows, roots, readable_at, same, Fixed, is_nil, Commit, Given, Entry, UnitName, Managed, Root, Agrees, FilterIndex, is_told, all_new, instance_row, managed_by, births_by, pairs_by, places_by, places_from, event_place, given_to, pairs_of, names_of, place_of, EventRow, Unit, or-false, or-true}
 use Rattle.df_instances.specs.Marks as marks
 use Rattle.df_instances.proofs.Named.{chosen_by_name}
 use Rattle.df_tables.specs.Table.{find as row_of}
@@ -20,17 +20,14 @@ module _ (starts : List (Label × List Privilege)) (past : List Entry) (us : Lis
   pub called_are : (n : UnitName) (q : ℕ) → place_of n us ≡ Some q → pairs_of q (pairs_by us managed handed j xs) ≡ called_pairs (roots starts) past k n q
   called_are n q place = pairs_are managed numbered us handed j xs up n q place ∙ by n place
     where
-      neither : (b : Bool) → (if b then [] else []) ≡ (let l : List Pair = [] in l)
-      neither true = refl
-      neither false = refl
-
       joined : (g h : Bool) (l : List Pair) → (if g then (if h then [] else l) else []) ≡ (if (g && not h) then l else [])
       joined true true l = refl
       joined true false l = refl
       joined false h l = refl
 
       by : (n : UnitName) → place_of n us ≡ Some q → (if has_name managed xs n then fresh_pair managed numbered us handed j n q else []) ≡ called_pairs (roots starts) past k n q
-      by (Root path) place = neither (has_name managed xs (Root path))
+      by (Root path) place =
+          elim (has_name managed xs (Root path)) as (λ b. (if b then [] else []) ≡ (let l : List Pair = [] in l)) [ true ↦ refl | false ↦ refl ]
       by (Managed o i t) place =
           let given : has_name managed xs (Managed o i t) ≡ is_given (fixed rows (roots starts) past o i) t past (Some k) =
           chosen_by_name managed numbered past k xs are o i t ∙ ap (λ (fx : Option Fixed). is_given fx t past (Some k)) (agree.kept o i) in
@@ -43,11 +40,9 @@ module _ (starts : List (Label × List Privilege)) (past : List Entry) (us : Lis
   module _ (after : List Part) (is : after ≡ apply k.edit (contents past k.event)) where
     -- no plain unit is born
     pub born_plain : (path : List ℕ) → place_of (Root path) us ≡ None → row_of (Root path) (births_by us managed k.event after xs) ≡ None
-    born_plain path none = born_row managed numbered us k.event after xs (Root path) none ∙ nobody (list_any (named managed numbered (Root path)) xs)
-      where
-        nobody : (b : Bool) → (if b then None else None) ≡ (let o : Option Unit = None in o)
-        nobody true = refl
-        nobody false = refl
+    born_plain path none = born_row managed numbered us k.event after xs (Root path) none
+        ∙ (elim (list_any (named managed numbered (Root path)) xs) as (λ b. (if b then None else None) ≡ (let o : Option Unit = None in o))
+        [ true ↦ refl | false ↦ refl ])
 
     -- an instance that has no row is born where the commit calls it
     pub born_called : (o : List ℕ) (i : ℕ) (t : List (List ℕ)) → place_of (Managed o i t) us ≡ None → row_of (Managed o i t) (births_by us managed k.event after xs) ≡ row_if starts past k after is o i t (fixed rows (roots starts) past o i)
@@ -96,20 +91,12 @@ module _ (starts : List (Label × List Privilege)) (past : List Entry) (us : Lis
         one p true d = refl
         one p false d = refl
 
-        or_false : (b : Bool) → (b || false) ≡ b
-        or_false true = refl
-        or_false false = refl
-
-        or_true : (b : Bool) → (b || true) ≡ true
-        or_true true = refl
-        or_true false = refl
-
         here : (p : ℕ) → place_of n us ≡ Some p → (not (is_nil (pairs_of p (pairs_by us managed handed j xs))) || has_place (places_from (length us) bs) p) ≡ not (is_nil (news_of rows (roots starts) past n (Some k)))
         here p e =
             let there = present rows (roots starts) past us n agree.seats p e in
             let near : p < length us = within (λ (u : Unit). same u.local.unit n) us p e in
             ap (λ (b : Bool). not (is_nil (pairs_of p (pairs_by us managed handed j xs))) || b) (places_before p (length us) bs near)
-            ∙ or_false (not (is_nil (pairs_of p (pairs_by us managed handed j xs))))
+            ∙ or-false (not (is_nil (pairs_of p (pairs_by us managed handed j xs))))
             ∙ ap (λ (l : List Pair). not (is_nil l)) (called_are n p e)
             ∙ one p G (given_to k.event after there.0.input (p, i))
             ∙ sym (ap (λ (l : List Given). not (is_nil l)) (called_news starts past k after is o i t agree.legal there.0 p there.1))
@@ -137,6 +124,6 @@ module _ (starts : List (Label × List Privilege)) (past : List Entry) (us : Lis
             let row = found n bs b g in
             let born = sym (born_called o i t e) ∙ row.1 in
             ap (λ (c : Bool). not (is_nil (pairs_of q (pairs_by us managed handed j xs))) || c) (ap (has_place (places_from (length us) bs)) (sym z) ∙ places_behind (length us) b bs (within (λ (u : Unit). same u.local.unit n) bs b g))
-            ∙ or_true (not (is_nil (pairs_of q (pairs_by us managed handed j xs))))
+            ∙ or-true (not (is_nil (pairs_of q (pairs_by us managed handed j xs))))
             ∙ sym (first fx row.0 (births o i t gone) born)
         by None e None g h = absurd (let z : ⊥ = cc in z)

@@ -1,5 +1,5 @@
 -- Keys, and one more place, by its key.
-use Rattle.df_tables.proofs.Names.{◌≡◌, ℕ, Bool, true, false, if◌then◌else◌, [], ◌∷◌, set, Option, Some, None, refl, ap, sym, ◌∙◌, subst, eqb-true, and_parts, same_Some, both_tied, unsigned_ties, Vec, option_or, nat_cmp, same, same_event, unit_cmp, unit_cmp_ties, EventName, UnitName, Root, Managed, same_name-exact, Others, Near, Strays, key_by, key_of, numbers_cmp, root_number, same_key, slot, slot_in, root_event, Key}
+use Rattle.df_tables.proofs.Names.{◌≡◌, ℕ, Bool, true, false, if◌then◌else◌, [], ◌∷◌, set, Option, Some, None, refl, ap, sym, ◌∙◌, subst, eqb-true, and_parts, same_Some, both_tied, unsigned_ties, Vec, option_or, nat_cmp, same, same_event, unit_cmp, unit_cmp_ties, EventName, UnitName, Root, Managed, same_name-exact, Others, Near, Strays, key_by, key_of, numbers_cmp, root_number, same_key, slot, slot_in, root_event, Key, and-true, and-false, and_right, false_from_ne_true}
 use Rattle.std.specs.BTreeMap as tree
 use Rattle.std.specs.Prelude.{◌==◌, ◌&&◌, slice_get}
 use Rattle.df_tables.specs.EventPlaces.{place_by}
@@ -26,23 +26,16 @@ tie : (n m : ℕ) (u v : UnitName) → ((n == m) && same u v) ≡ same_key (key_
 tie n m u v = by (root_number u) refl (root_number v) refl
   where
     swap : (b c : Bool) → (b && (c && true)) ≡ (c && b)
-    swap true true = refl
-    swap true false = refl
-    swap false true = refl
-    swap false false = refl
-
-    never : (b c : Bool) → (c ≡ true → ⊥) → (b && c) ≡ false
-    never true true differ = absurd (differ refl)
-    never true false differ = refl
-    never false c differ = refl
+    swap true c = and-true c ∙ sym (and-true c)
+    swap false c = sym (and-false c)
 
     apart : (o p : Option ℕ) → root_number u ≡ o → root_number v ≡ p → (o ≡ p → ⊥) → same u v ≡ true → ⊥
     apart o p f g differ is = differ (sym f ∙ ap root_number (same_name-exact u v is) ∙ g)
 
     by : (o : Option ℕ) → root_number u ≡ o → (p : Option ℕ) → root_number v ≡ p → ((n == m) && same u v) ≡ same_key (key_by o n u) (key_by p m v)
     by None f None g = both_tied _ _ (nat_cmp n m) (unit_cmp u v) (unsigned_ties n m) (unit_cmp_ties u v)
-    by None f (Some s) g = never (n == m) (same u v) (apart None (Some s) f g (λ e. absurd (cc)))
-    by (Some r) f None g = never (n == m) (same u v) (apart (Some r) None f g (λ e. absurd (cc)))
+    by None f (Some s) g = and_right (n == m) _ (false_from_ne_true (same u v) (apart None (Some s) f g (λ e. absurd (cc))))
+    by (Some r) f None g = and_right (n == m) _ (false_from_ne_true (same u v) (apart (Some r) None f g (λ e. absurd (cc))))
     by (Some r) f (Some s) g =
         ap (λ (w : UnitName). (n == m) && same w v) (root_is u r f)
         ∙ ap (λ (w : UnitName). (n == m) && same (Root (r ∷ [])) w) (root_is v s g)

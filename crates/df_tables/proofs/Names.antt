@@ -24,6 +24,7 @@ pub use Rattle.df_part.specs.declared.edit.Spot.{Spot}
 pub use Rattle.df_part.specs.declared.part.Part.{Part}
 pub use Rattle.df_roll.specs.Roll.{RollState, names_in, seat_of}
 pub use Rattle.df_roll.specs.declared.seat.Seat.{Seat}
+pub use Rattle.df_rules.proofs.Agreement.{born_none, or_none}
 pub use Rattle.df_rules.proofs.TakingRows.{row_taking_laws}
 pub use Rattle.df_rules.specs.Choices.{matches}
 pub use Rattle.df_rules.specs.Commits.{commit_in, commit_of, committed, contents}
@@ -72,10 +73,11 @@ pub use Rattle.df_unit.specs.declared.name.UnitName.TheVariants.{Managed, Root}
 pub use Rattle.df_unit.specs.declared.reply.Reply.{Reply}
 pub use Rattle.df_unit.specs.declared.reply.Reply.TheVariants.{Sub}
 pub use Rattle.std.proofs.Common.{All, Bool, Err, IfOk, List, None, Ok, OnErr, Option, Result, Some, [], add-one, ap, append_assoc, arith, drop, eq-eqb, false, get_or, if◌then◌else◌, inl, inr, is_some, length, length-append, map, nat_eq, not, option_map, refl, set, slice_get, subst, suc, sym, take, true, zero, ℕ, ◌&&◌, ◌++◌, ◌+◌, ◌-◌, ◌<◌, ◌==◌, ◌||◌, ◌↔◌, ◌∙◌, ◌∷◌, ◌≡◌, ◌≤◌}
+pub use Rattle.std.proofs.Math.Bool.{and-false, and-true, not-not, or-false, or-true}
 pub use Rattle.std.proofs.Math.Seq.{drop-nil, get_or-append_seam, take-append_seam}
-pub use Rattle.std.proofs.lemmas.Bool.{and_from, and_parts, both_ways, eqb-false, eqb-true, false_from_ne_true, le-ltb, lt-ltb, ltb-false, ne_eqb}
+pub use Rattle.std.proofs.lemmas.Bool.{and_from, and_left, and_parts, and_right, both_ways, eqb-false, eqb-true, false_from_ne_true, le-ltb, lt-ltb, ltb-false, ne_eqb, or_from, or_right}
 pub use Rattle.std.proofs.lemmas.List.{append-nil, at_drop_all, drop-append-le, drop_all, flat_map_more, get_or-map, get_or_append_left, get_or_default, get_or_past, length-map, length-set, map-append, same_lists, set-append_left, set-get_or, take_all, take_more, with_items_is}
-pub use Rattle.std.proofs.lemmas.List.Elements.{All-append, All-cons, All-from_recursion, All-head, All-nil, All-push, All-tail}
+pub use Rattle.std.proofs.lemmas.List.Elements.{All-append, All-cons, All-from_recursion, All-head, All-nil, All-push, All-tail, filter-append}
 pub use Rattle.std.proofs.lemmas.List.Folds.{Any-from_list_any, find_at, list_any-append, list_any_at, list_any_none}
 pub use Rattle.std.proofs.lemmas.Option.{get_or_from_slice_get, same_Some, slice_get-get_or, slice_get-map, slice_get_past, slice_get_read, slice_get_within}
 pub use Rattle.std.proofs.lemmas.Result.{IfOk-weaker, on_err_weaker, on_ok_weaker}

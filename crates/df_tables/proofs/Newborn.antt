@@ -1,5 +1,5 @@
 -- The tables with one more row.
-use Rattle.df_tables.proofs.Names.{◌≡◌, ℕ, zero, suc, ◌+◌, ◌≤◌, ◌<◌, ◌==◌, Bool, true, false, if◌then◌else◌, List, [], ◌∷◌, ◌++◌, length, get_or, set, Option, Some, None, option_map, refl, ap, sym, subst, ◌∙◌, arith, All, length-append, is_none, option_or, append-nil, get_or_append_left, length-set, map-append, set-append_left, get_or-append_seam, eqb-true, eqb-false, All-head, All-push, All-tail, Clause, Pair, Subscription, Label, same, UnitName, same_name-exact, same_name_decides, seat_of, Seat, AreApart, FilterIndex, IsWhole, ManagedState, is_marked, is_told, subscribed_at, subscriptions_at, if_new, IsBoard, IsRollOf, place_by, IsCalm, modify, AreLabels, inputs, find, place_of, Board, EventRow, Unit}
+use Rattle.df_tables.proofs.Names.{◌≡◌, ℕ, zero, suc, ◌+◌, ◌≤◌, ◌<◌, ◌==◌, Bool, true, false, if◌then◌else◌, List, [], ◌∷◌, ◌++◌, length, get_or, set, Option, Some, None, option_map, refl, ap, sym, subst, ◌∙◌, arith, All, length-append, is_none, option_or, append-nil, get_or_append_left, length-set, map-append, set-append_left, get_or-append_seam, eqb-true, eqb-false, All-head, All-push, All-tail, Clause, Pair, Subscription, Label, same, UnitName, same_name-exact, same_name_decides, seat_of, Seat, AreApart, FilterIndex, IsWhole, ManagedState, is_marked, is_told, subscribed_at, subscriptions_at, if_new, IsBoard, IsRollOf, place_by, IsCalm, modify, AreLabels, inputs, find, place_of, Board, EventRow, Unit, ne_eqb}
 use Rattle.df_index.specs.IndexState as index
 use Rattle.df_tables.proofs.Opened.{end_none, end_some}
 
@@ -21,11 +21,9 @@ place_by-append p (x ∷ xs) ys = ap (λ (o : Option ℕ). if p x then Some 0 el
 
 pub find-append : (n : UnitName) (us bs : List Unit) → find n (us ++ bs) ≡ option_or (find n us) (find n bs)
 find-append n [] bs = refl
-find-append n (u ∷ us) bs = by (same u.local.unit n) (find-append n us bs)
-  where
-    by : (b : Bool) → find n (us ++ bs) ≡ option_or (find n us) (find n bs) → (if b then Some u else find n (us ++ bs)) ≡ option_or (if b then Some u else find n us) (find n bs)
-    by true ih = refl
-    by false ih = ih
+find-append n (u ∷ us) bs =
+    elim (same u.local.unit n) as (λ b. (if b then Some u else find n (us ++ bs)) ≡ option_or (if b then Some u else find n us) (find n bs))
+    [ true ↦ refl | false ↦ find-append n us bs ]
 
 pub modify-append : {X : Type 0} (f : X → X) (k : ℕ) (xs ys : List X) → k < length xs → modify k f (xs ++ ys) ≡ modify k f xs ++ ys
 modify-append f k [] ys h = absurd (omega arith)
@@ -39,14 +37,11 @@ IsOf m s = s.unit < m
 
 beyond : (m j : ℕ) (xs : List (Subscription (List Clause))) → All (IsOf m) xs → m ≤ j → subscriptions_at j xs ≡ []
 beyond m j [] all h = refl
-beyond m j (x ∷ xs) all h = by (x.unit == j) refl (beyond m j xs (All-tail (IsOf m) x xs all) h)
-  where
-    by : (b : Bool) → (x.unit == j) ≡ b → subscriptions_at j xs ≡ [] → (if b then (x.sub, x.filter) ∷ subscriptions_at j xs else subscriptions_at j xs) ≡ []
-    by true e rest =
-        let below = All-head (IsOf m) x xs all in
-        let same = eqb-true x.unit j e in
-        absurd (omega (arith, below, same, h))
-    by false e rest = rest
+beyond m j (x ∷ xs) all h =
+    let below = All-head (IsOf m) x xs all in
+    let rest = subscriptions_at j xs in
+    ap (λ (b : Bool). if b then (x.sub, x.filter) ∷ rest else rest) (ne_eqb x.unit j (λ e. omega (arith, below, e, h)))
+    ∙ beyond m j xs (All-tail (IsOf m) x xs all) h
 
 -- subscriptions of who had a row stay, and who has one now had none
 pub subscribed_born : (m : ℕ) (p q : Option ℕ) (xs : List (Subscription (List Clause))) → All (IsOf m) xs → subscribed_at (option_or p (option_map (λ k. m + k) q)) xs ≡ subscribed_at p xs
@@ -91,16 +86,11 @@ apart_born us u apart none k d h = by (k == length us) refl
         ∙ ap Some (sym is)
     by false e =
         let n = length-append us (u ∷ []) in
-        let other : k < length us = by_size n in
+        let never = eqb-false k (length us) e in
+        let other : k < length us = omega (arith, h, n, never) in
         let row : get_or (us ++ u ∷ []) k d ≡ get_or us k d = get_or_append_left us (u ∷ []) d k other in
         ap (λ (v : Unit). place_of v.local.unit (us ++ u ∷ [])) row
         ∙ end_some (λ (v : Unit). same v.local.unit (get_or us k d).local.unit) us (u ∷ []) k (apart k d other)
-      where
-        by_size : length (us ++ u ∷ []) ≡ length us + length (u ∷ []) → k < length us
-        by_size n = let never = eqb-false k (length us) e in let z : length (us ++ u ∷ []) ≡ length us + 1 = n in by_two never z
-          where
-            by_two : (k ≡ length us → ⊥) → length (us ++ u ∷ []) ≡ length us + 1 → k < length us
-            by_two never z = omega (arith, h, z, never)
 
 whole_added : (us : List Unit) (evs : List EventRow) (x : FilterIndex) (u : Unit) → IsCalm u → place_of u.local.unit us ≡ None → IsWhole us evs x → IsWhole (us ++ u ∷ []) evs x
 whole_added us evs x u calm none whole = record {
@@ -128,9 +118,6 @@ roll_born seats more us u roll is n =
     new : (b : Bool) → (if b then Some (length us) else None) ≡ option_map (λ k. length us + k) (if b then Some 0 else option_map suc None)
     new true = ap Some (omega arith)
     new false = refl
-
-    none : (o : Option ℕ) → option_or o None ≡ option_or o None
-    none o = refl
 
     had : (k : ℕ) → place_of u.local.unit us ≡ Some k → (b : Bool) → same u.local.unit n ≡ b → option_or (place_of n us) (if b then Some (length us) else None) ≡ option_or (place_of n us) None
     had k e true f =

@@ -1,17 +1,16 @@
 -- The units to which a commit is handed are those of its receivers' rows and those that come by it.
-use Rattle.df_tables.proofs.Names.{◌≡◌, ◌↔◌, ℕ, ◌==◌, ◌||◌, Bool, true, false, not, if◌then◌else◌, List, [], ◌∷◌, ◌++◌, get_or, length, map, slice_get, Option, Some, None, refl, ap, sym, subst, ◌∙◌, arith, eq-eqb, ◌&&◌, nat_lt, option_to_list, Contains, list_any, IsStrictlySortedBy, eqb-true, le-ltb, lt-ltb, ne_eqb, append-nil, list_any-append, get_or_from_slice_get, slice_get-get_or, slice_get_within, Pair, pair_cmp, IsReceiver, AreChosen, instance_cmp, AreNumbered, Instance, ManagedSubscription, Label, Privilege, apply, Part, matches, contents, deliveries, deliveries_instance, instance_news, was_handed, fixed, is_given, rows, roots, same, Fixed, OwnState, is_nil, Commit, Given, Entry, Emitted, UnitName, Managed, Root, same_name-exact, Agrees, AreApart, FilterIndex, rows_in, AreReceivers, IsBoard, IsOpenedBoard, IsReady, is_brought, managed_by, receivers_of, births_by, name_at, names_at, pairs_by, event_place, given_to, pairs_of, inputs, find, names_of, parts_of, place_of, Board, Ready, EventRow, Unit}
+use Rattle.df_tables.proofs.Names.{◌≡◌, ◌↔◌, ℕ, ◌==◌, ◌||◌, Bool, true, false, not, if◌then◌else◌, List, [], ◌∷◌, ◌++◌, get_or, length, map, slice_get, Option, Some, None, refl, ap, sym, subst, ◌∙◌, arith, eq-eqb, ◌&&◌, nat_lt, option_to_list, Contains, list_any, IsStrictlySortedBy, eqb-true, le-ltb, lt-ltb, ne_eqb, append-nil, list_any-append, get_or_from_slice_get, slice_get-get_or, slice_get_within, Pair, pair_cmp, IsReceiver, AreChosen, instance_cmp, AreNumbered, Instance, ManagedSubscription, Label, Privilege, apply, Part, matches, contents, deliveries, deliveries_instance, instance_news, was_handed, fixed, is_given, rows, roots, same, Fixed, OwnState, is_nil, Commit, Given, Entry, Emitted, UnitName, Managed, Root, same_name-exact, Agrees, AreApart, FilterIndex, rows_in, AreReceivers, IsBoard, IsOpenedBoard, IsReady, is_brought, managed_by, receivers_of, births_by, name_at, names_at, pairs_by, event_place, given_to, pairs_of, inputs, find, names_of, parts_of, place_of, Board, Ready, EventRow, Unit, or-false, not-not, or_from, false_from_ne_true}
 use Rattle.std.specs.Prelude.{is_some}
 use Rattle.std.proofs.lemmas.List.{length-append}
 use Rattle.df_tables.proofs.Boards.{whole_opened}
 use Rattle.df_tables.proofs.Booked.{brought, kept_opened, place_in}
-use Rattle.df_tables.proofs.Brings.{both_ways}
 use Rattle.df_tables.proofs.Brought.{none_pass}
 use Rattle.df_tables.proofs.Calls.{births_unplaced}
 use Rattle.df_tables.proofs.Called.{row_if}
 use Rattle.df_tables.proofs.Committed.{news_called, undelivered}
 use Rattle.df_tables.proofs.Fresh.{AreUnplaced}
 use Rattle.df_tables.proofs.Instances.{born_called, born_plain}
-use Rattle.df_tables.proofs.Seats.{absent, passes_at}
+use Rattle.df_tables.proofs.Seats.{absent, passes_at, both_ways}
 use Rattle.df_tables.proofs.Steps.{delivered_at, news_of, none_news}
 
 -- a list with more behind it is longer
@@ -22,10 +21,6 @@ longer xs (y ∷ ys) = let size = length-append xs (y ∷ ys) in lt-ltb (length 
 mapped_nil : {A B : Type 0} (f : A → B) (xs : List A) → is_nil (map f xs) ≡ is_nil xs
 mapped_nil f [] = refl
 mapped_nil f (x ∷ xs) = refl
-
-twice : (b : Bool) → not (not b) ≡ b
-twice true = refl
-twice false = refl
 
 -- the names of rows at places, and of rows that come
 module _ (us : List Unit) (apart : AreApart us) (n : UnitName) where
@@ -51,12 +46,8 @@ module _ (us : List Unit) (apart : AreApart us) (n : UnitName) where
           elsewhere e (v ∷ vs) is =
               let z : None ≡ Some (get_or us q v) = sym none ∙ ap (slice_get us) e ∙ slice_get-get_or us q v (place_in n us q place) in
               (let w : ⊥ = cc in w)
-      go (Some u) at = or_none (is_it u.local.unit) ∙ both_ways (is_it u.local.unit) (p == q) forth back
+      go (Some u) at = or-false (is_it u.local.unit) ∙ both_ways (is_it u.local.unit) (p == q) forth back
         where
-          or_none : (b : Bool) → (b || false) ≡ b
-          or_none true = refl
-          or_none false = refl
-
           forth : is_it u.local.unit ≡ true → (p == q) ≡ true
           forth is = let z : Some p ≡ Some q = sym (placed p u at is) ∙ place in eq-eqb p q (let y : p ≡ q = cc in y)
 
@@ -78,11 +69,8 @@ module _ (us : List Unit) (apart : AreApart us) (n : UnitName) where
     where
       go : (o : Option Unit) → slice_get us p ≡ o → list_any is_it (names_of (option_to_list o)) ≡ false
       go None at = refl
-      go (Some u) at = by (is_it u.local.unit) refl
-        where
-          by : (b : Bool) → is_it u.local.unit ≡ b → (b || false) ≡ false
-          by false e = refl
-          by true e = absurd (let z : None ≡ Some p = sym none ∙ placed p u at e in (let w : ⊥ = cc in w))
+      go (Some u) at =
+          or_from _ _ (false_from_ne_true (is_it u.local.unit) (λ e. let z : None ≡ Some p = sym none ∙ placed p u at e in (let w : ⊥ = cc in w))) refl
 
   any_unplaced : place_of n us ≡ None → (ps : List Pair) → list_any is_it (names_at us ps) ≡ false
   any_unplaced none [] = refl
@@ -93,21 +81,18 @@ module _ (us : List Unit) (apart : AreApart us) (n : UnitName) where
 
   any_found : (bs : List Unit) → list_any is_it (names_of bs) ≡ is_some (find n bs)
   any_found [] = refl
-  any_found (b ∷ bs) = by (is_it b.local.unit) (any_found bs)
-    where
-      by : (c : Bool) → list_any is_it (names_of bs) ≡ is_some (find n bs) → (c || list_any is_it (names_of bs)) ≡ is_some (if c then Some b else find n bs)
-      by true rest = refl
-      by false rest = rest
+  any_found (b ∷ bs) =
+      elim (is_it b.local.unit) as (λ c. (c || list_any is_it (names_of bs)) ≡ is_some (if c then Some b else find n bs))
+      [ true ↦ refl | false ↦ any_found bs ]
 
   none_come : (q : ℕ) → place_of n us ≡ Some q → (bs : List Unit) → AreUnplaced us bs → list_any is_it (names_of bs) ≡ false
   none_come q place [] none = refl
-  none_come q place (b ∷ bs) none = by (is_it b.local.unit) refl (none_come q place bs none.1)
+  none_come q place (b ∷ bs) none = or_from (is_it b.local.unit) _ (false_from_ne_true _ other) (none_come q place bs none.1)
     where
-      by : (c : Bool) → is_it b.local.unit ≡ c → list_any is_it (names_of bs) ≡ false → (c || list_any is_it (names_of bs)) ≡ false
-      by false e rest = rest
-      by true e rest =
+      other : is_it b.local.unit ≡ true → ⊥
+      other e =
           let gone : place_of n us ≡ None = subst (λ (m : UnitName). place_of m us ≡ None) (same_name-exact b.local.unit n e) none.0 in
-          absurd (let z : None ≡ Some q = sym gone ∙ place in (let w : ⊥ = cc in w))
+          let z : None ≡ Some q = sym gone ∙ place in cc
 
 module _ (starts : List (Label × List Privilege)) (past : List Entry) (us : List Unit) (evs : List EventRow) (x : FilterIndex) (managed : List ManagedSubscription) (handed : List (List ℕ))
     (agree : Agrees rows (roots starts) past us evs x (managed_by managed handed)) (numbered : AreNumbered managed) (apart : AreApart us)
@@ -135,7 +120,7 @@ module _ (starts : List (Label × List Privilege)) (past : List Entry) (us : Lis
   at_place n q place =
       let news = brought brings k.event after (ps ++ qs) us
       (news_called starts past us evs x managed handed agree numbered apart k j after there is ps labels inputs_are sorted due xs up are) n q place in
-      sym (twice (list_any (λ p. p.0 == q) (ps ++ qs)))
+      sym (not-not (list_any (λ p. p.0 == q) (ps ++ qs)))
       ∙ ap not (none_pass (λ (p : Pair). p.0 == q) (ps ++ qs) ∙ sym (mapped_nil (given_to k.event after news.0) (pairs_of q (ps ++ qs))))
       ∙ ap (λ (l : List Given). not (is_nil l)) (sym news.1)
 
@@ -171,14 +156,10 @@ module _ (starts : List (Label × List Privilege)) (past : List Entry) (us : Lis
       ∙ sym (ap (λ (ds : List Given). nat_lt (length (deliveries rows s past n)) (length ds)) (delivered_at rows s past (Emitted k) n)
       ∙ longer (deliveries rows s past n) (brings n))
     where
-      or_none : (b : Bool) → (b || false) ≡ b
-      or_none true = refl
-      or_none false = refl
-
       by : (o : Option ℕ) → place_of n us ≡ o → (list_any (λ m. same m n) (names_at us (ps ++ qs)) || list_any (λ m. same m n) (names_of bs)) ≡ not (is_nil (brings n))
       by (Some q) place =
           ap (λ (b : Bool). list_any (λ m. same m n) (names_at us (ps ++ qs)) || b) (none_come us apart n q place bs (births_unplaced managed numbered us k.event after xs))
-          ∙ or_none (list_any (λ m. same m n) (names_at us (ps ++ qs)))
+          ∙ or-false (list_any (λ m. same m n) (names_at us (ps ++ qs)))
           ∙ any_placed us apart n q place (ps ++ qs)
           ∙ at_place n q place
       by None none =

@@ -1,5 +1,5 @@
 -- Where units and events stand in the tables, and what stands there.
-use Rattle.df_tables.proofs.Names.{◌≡◌, ℕ, suc, ◌==◌, ◌&&◌, ◌||◌, Bool, true, false, if◌then◌else◌, List, [], ◌∷◌, ◌++◌, get_or, map, Option, Some, None, option_map, refl, ap, sym, subst, ◌∙◌, arith, eqb-true, Clause, Pair, has_pair, Subscription, Label, Part, deliveries, was_handed, own, Rules, same, same_event, OwnState, Entry, EventName, UnitName, same_name-exact, same_event_decides, IsSeat, enrols, subscriptions_at, event_place, place_by, given_to, news_at, pairs_of, find, names_of, place_of, EventRow, Unit}
+use Rattle.df_tables.proofs.Names.{◌≡◌, ℕ, suc, ◌==◌, ◌&&◌, ◌||◌, Bool, true, false, if◌then◌else◌, List, [], ◌∷◌, ◌++◌, get_or, map, Option, Some, None, option_map, refl, ap, sym, subst, ◌∙◌, eqb-true, Clause, Pair, has_pair, Subscription, Label, Part, deliveries, was_handed, own, Rules, same, same_event, OwnState, Entry, EventName, UnitName, same_name-exact, same_event_decides, IsSeat, enrols, subscriptions_at, event_place, place_by, given_to, news_at, pairs_of, find, names_of, place_of, EventRow, Unit, false_from_ne_true, eq-eqb, and-false}
 use Rattle.df_tables.proofs.Places.{at_none, at_some}
 
 -- what stands at the place passes the test
@@ -23,47 +23,39 @@ place_of-names n us us' e = by_names us' ∙ ap (place_by (λ (m : UnitName). sa
 -- two units have two places
 pub apart : (us : List Unit) (a n : UnitName) (j k : ℕ) → place_of a us ≡ Some j → place_of n us ≡ Some k → same a n ≡ false → (j == k) ≡ false
 apart [] a n j k e h g = absurd (cc)
-apart (u ∷ us) a n j k e h g = by (j == k) refl
+apart (u ∷ us) a n j k e h g = false_from_ne_true (j == k) differ
   where
-    by : (b : Bool) → (j == k) ≡ b → b ≡ false
-    by false f = refl
-    by true f =
+    differ : (j == k) ≡ true → ⊥
+    differ f =
         let one = same_name-exact (get_or (u ∷ us) k u).local.unit a (subst (λ (i : ℕ). same (get_or (u ∷ us) i u).local.unit a ≡ true) (eqb-true j k f) (passes_at (λ v. same v.local.unit a) (u ∷ us) j u e)) in
         let two = passes_at (λ v. same v.local.unit n) (u ∷ us) k u h in
-        let three : same a n ≡ true = subst (λ (m : UnitName). same m n ≡ true) one two in
-        sym three ∙ g
+        let three : same a n ≡ true = subst (λ (m : UnitName). same m n ≡ true) one two in cc
 
 -- an event with no row is another than one that has one
 pub not_there : (rs : List EventRow) (event ev : EventName) (j : ℕ) → event_place event rs ≡ Some j → event_place ev rs ≡ None → same_event event ev ≡ false
-not_there rs event ev j h g = by (same_event event ev) refl
-  where
-    by : (b : Bool) → same_event event ev ≡ b → b ≡ false
-    by false f = refl
-    by true f =
-        let z : event_place ev rs ≡ Some j = subst (λ (e : EventName). event_place e rs ≡ Some j) ((same_event_decides event ev).0 f) h in
-        absurd (let w : ⊥ = cc in w)
+not_there rs event ev j h g = false_from_ne_true (same_event event ev) (λ f.
+    let z : event_place ev rs ≡ Some j = subst (λ (e : EventName). event_place e rs ≡ Some j) ((same_event_decides event ev).0 f) h in cc)
 
 -- two events have one place exactly where they are one
+pub both_ways : (a b : Bool) → (a ≡ true → b ≡ true) → (b ≡ true → a ≡ true) → a ≡ b
+both_ways true b f g = sym (f refl)
+both_ways false b f g = sym (false_from_ne_true b (λ e. let z : false ≡ true = g e in cc))
+
 pub same_place : (rs : List EventRow) (event ev : EventName) (j i : ℕ) → event_place event rs ≡ Some j → event_place ev rs ≡ Some i → (i == j) ≡ same_event event ev
 same_place [] event ev j i h g = absurd (cc)
-same_place (r ∷ rs) event ev j i h g = both (i == j) (same_event event ev) refl refl
+same_place (r ∷ rs) event ev j i h g = both_ways (i == j) (same_event event ev) forth back
   where
-    both : (b c : Bool) → (i == j) ≡ b → same_event event ev ≡ c → b ≡ c
-    both true true e f = refl
-    both false false e f = refl
-    both true false e f =
+    forth : (i == j) ≡ true → same_event event ev ≡ true
+    forth e =
         let here = passes_at (λ q. same_event q.event event) (r ∷ rs) j r h in
         let there = subst (λ (k : ℕ). same_event (get_or (r ∷ rs) k r).event ev ≡ true) (eqb-true i j e) (passes_at (λ q. same_event q.event ev) (r ∷ rs) i r g) in
-        let is : event ≡ ev = sym ((same_event_decides (get_or (r ∷ rs) j r).event event).0 here) ∙ (same_event_decides (get_or (r ∷ rs) j r).event ev).0 there in
-        sym ((same_event_decides event ev).1 is) ∙ f
-    both false true e f =
-        let is : event ≡ ev = (same_event_decides event ev).0 f in
-        let z : Some i ≡ Some j = sym g ∙ ap (λ (x : EventName). event_place x (r ∷ rs)) (sym is) ∙ h in
-        let w : i ≡ j = cc in
-        sym e ∙ subst (λ (k : ℕ). (i == k) ≡ true) w (eqb_self i)
-      where
-        eqb_self : (n : ℕ) → (n == n) ≡ true
-        eqb_self n = grind arith
+        let row = get_or (r ∷ rs) j r in
+        (same_event_decides event ev).1 (sym ((same_event_decides row.event event).0 here) ∙ (same_event_decides row.event ev).0 there)
+
+    back : same_event event ev ≡ true → (i == j) ≡ true
+    back f =
+        let z : Some i ≡ Some j = sym g ∙ ap (λ (x : EventName). event_place x (r ∷ rs)) (sym ((same_event_decides event ev).0 f)) ∙ h in
+        eq-eqb i j (let w : i ≡ j = cc in w)
 
 module _ (R : Rules) (s : List OwnState) (past : List Entry) (us : List Unit) (n : UnitName) (seats : (m : UnitName) → IsSeat m (own R s past m) (deliveries R s past m) (find m us)) where
   -- who has no place isn't there
@@ -89,11 +81,11 @@ module _ (R : Rules) (s : List OwnState) (past : List Entry) (us : List Unit) (n
 -- subscriptions of a unit, behind one another
 pub subscriptions_at-append : (k : ℕ) (xs ys : List (Subscription (List Clause))) → subscriptions_at k (xs ++ ys) ≡ subscriptions_at k xs ++ subscriptions_at k ys
 subscriptions_at-append k [] ys = refl
-subscriptions_at-append k (x ∷ xs) ys = by (x.unit == k) (subscriptions_at-append k xs ys)
-  where
-    by : (b : Bool) → subscriptions_at k (xs ++ ys) ≡ subscriptions_at k xs ++ subscriptions_at k ys → (if b then (x.sub, x.filter) ∷ subscriptions_at k (xs ++ ys) else subscriptions_at k (xs ++ ys)) ≡ (if b then (x.sub, x.filter) ∷ subscriptions_at k xs else subscriptions_at k xs) ++ subscriptions_at k ys
-    by true ih = ap (λ (l : List (ℕ × List Clause)). (x.sub, x.filter) ∷ l) ih
-    by false ih = ih
+subscriptions_at-append k (x ∷ xs) ys =
+    let l = subscriptions_at k xs in
+    ap (λ (m : List (ℕ × List Clause)). if x.unit == k then (x.sub, x.filter) ∷ m else m) (subscriptions_at-append k xs ys)
+    ∙ (elim (x.unit == k) as (λ b. (if b then (x.sub, x.filter) ∷ (l ++ subscriptions_at k ys) else l ++ subscriptions_at k ys)
+    ≡ (if b then (x.sub, x.filter) ∷ l else l) ++ subscriptions_at k ys) [ true ↦ refl | false ↦ refl ])
 
 pub enrols_none : (p : Option ℕ) → enrols p None ≡ []
 enrols_none None = refl
@@ -101,11 +93,7 @@ enrols_none (Some k) = refl
 
 -- what the receivers at a place are handed is marked so
 pub handed_news : (event : EventName) (after : List Part) (at : Label) (ps : List Pair) (q : ℕ) (ev : EventName) (m : ℕ) → was_handed (news_at event after at ps q) ev m ≡ (same_event event ev && has_pair ps (q, m))
-handed_news event after at [] q ev m = by (same_event event ev)
-  where
-    by : (b : Bool) → false ≡ (b && false)
-    by true = refl
-    by false = refl
+handed_news event after at [] q ev m = sym (and-false (same_event event ev))
 handed_news event after at (p ∷ ps) q ev m = step (p.0 == q) ∙ join (p.0 == q) (same_event event ev) (p.1 == m) (was_handed (news_at event after at ps q) ev m) (has_pair ps (q, m)) (handed_news event after at ps q ev m)
   where
     step : (b : Bool) → was_handed (map (given_to event after at) (if b then p ∷ pairs_of q ps else pairs_of q ps)) ev m ≡ (if b then (same_event event ev && (p.1 == m)) || was_handed (news_at event after at ps q) ev m else was_handed (news_at event after at ps q) ev m)

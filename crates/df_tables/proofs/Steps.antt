@@ -1,5 +1,5 @@
 -- The tables after one more entry.
-use Rattle.df_tables.proofs.Names.{◌≡◌, inl, inr, ℕ, ◌+◌, ◌≤◌, ◌<◌, ◌==◌, ◌&&◌, ◌||◌, List, [], ◌∷◌, ◌++◌, Option, Some, None, Bool, true, false, not, if◌then◌else◌, length, map, option_map, refl, ap, sym, subst, ◌∙◌, arith, All, eq-eqb, option_to_list, option_and_then, option_or, append-nil, Clause, Pair, maker_of, number_of, apply, cut, commit_in, commit_of, committed, contents, deliveries, deliveries_instance, deliveries_plain, instance_news, plain_news, was_handed, TakingLaws, answer, answer_of, born, fixed, fixed_by, is_given, made_by, own, own_plain, stepped, Rules, subscriptions, same, same_event, readable_at, Fixed, OwnState, is_nil, Call, Commit, Given, Effect, Entry, Done, EventName, UnitName, Root, Managed, Reply, same_name-exact, same_event_decides, Agrees, FilterIndex, IsSeat, MakesNoManaged, MakesNoUnit, ManagedState, enrols, is_marked, is_told, subscribed_at, subscriptions_at, IsOpened, event_place, find, names_of, place_of, moved_at, moved_row, EventRow, Unit}
+use Rattle.df_tables.proofs.Names.{◌≡◌, inl, inr, ℕ, ◌+◌, ◌≤◌, ◌<◌, ◌==◌, ◌&&◌, List, [], ◌∷◌, ◌++◌, Option, Some, None, Bool, true, false, not, if◌then◌else◌, length, map, option_map, refl, ap, sym, subst, ◌∙◌, arith, All, eq-eqb, option_to_list, option_and_then, option_or, append-nil, Clause, Pair, maker_of, number_of, apply, cut, commit_in, commit_of, committed, contents, deliveries, deliveries_instance, deliveries_plain, instance_news, plain_news, was_handed, TakingLaws, answer, answer_of, born, fixed, fixed_by, is_given, made_by, own, own_plain, stepped, Rules, subscriptions, same, same_event, readable_at, Fixed, OwnState, is_nil, Call, Commit, Given, Effect, Entry, Done, EventName, UnitName, Root, Managed, Reply, same_name-exact, same_event_decides, Agrees, FilterIndex, IsSeat, MakesNoManaged, MakesNoUnit, ManagedState, enrols, is_marked, is_told, subscribed_at, subscriptions_at, IsOpened, event_place, find, names_of, place_of, moved_at, moved_row, EventRow, Unit, or_none, born_none, or-false, and-false}
 use Rattle.df_index.specs.IndexState as index
 use Rattle.df_tables.proofs.Finds.{find-moved}
 use Rattle.df_tables.proofs.Newborn.{find-append, marked_born, place_by-append, subscribed_born, told_born, told_same}
@@ -7,10 +7,6 @@ use Rattle.df_tables.proofs.Opened.{opened_parts, place_more}
 use Rattle.df_tables.proofs.Order.{names-map, names-moved, same_length}
 use Rattle.df_tables.proofs.Rows.{row_plain}
 use Rattle.df_tables.proofs.Seats.{absent, apart, place_of-names, present, subscriptions_at-append}
-
-pub or_none : {A : Type 0} (o : Option A) → option_or o None ≡ o
-or_none None = refl
-or_none (Some x) = refl
 
 -- the state of a unit after an entry of the unit a, or of another
 abbrev pub after_entry : Rules → UnitName → Bool → Call → Reply → Effect → Option OwnState → Option OwnState
@@ -87,16 +83,7 @@ module _ (R : Rules) (s : List OwnState) where
   -- an entry that makes no unit and commits nothing makes none
   pub no_births : (past : List Entry) (a : UnitName) (c : Call) (r : Reply) (f : Effect) → MakesNoUnit R c r → commit_in f ≡ None → (n : UnitName) → born_by R s past (Done a c r f) n ≡ None
   no_births past a c r f none quiet (Root path) = makes_none c r none (same a (Root (maker_of path))) (number_of path) (own_plain R s past (maker_of path))
-  no_births past a c r f none quiet (Managed o k t) = ap (born R (fixed R s past o k) t past) quiet ∙ by (fixed R s past o k)
-    where
-      by : (fx : Option Fixed) → born R fx t past None ≡ None
-      by None = refl
-      by (Some fx) = refl
-
-  -- without a commit no instance is born
-  pub quiet_birth : (past : List Entry) (fx : Option Fixed) (t : List (List ℕ)) → born R fx t past None ≡ None
-  quiet_birth past None t = refl
-  quiet_birth past (Some fx) t = refl
+  no_births past a c r f none quiet (Managed o k t) = ap (born R (fixed R s past o k) t past) quiet ∙ born_none R (fixed R s past o k) t past
 
   -- a plain unit that doesn't exist is brought nothing
   pub none_news : (past : List Entry) (path : List ℕ) (oc : Option Commit) → own_plain R s past path ≡ None → news_of R s past (Root path) oc ≡ []
@@ -111,21 +98,12 @@ module _ (R : Rules) (s : List OwnState) where
       ds : List Given
       ds = deliveries_instance R s past o n t
 
-      nothing : (b : Bool) → false ≡ (b && false)
-      nothing true = refl
-      nothing false = refl
-
-      one : (b c : Bool) → c ≡ true → ((b && c) || false) ≡ (b && true)
-      one true true e = refl
-      one true false e = absurd (let z : ⊥ = cc in z)
-      one false c e = refl
-
       go : (d : Given) (b : Bool) → d.event ≡ k.event → d.sub ≡ n → was_handed (if b then d ∷ [] else []) ev n ≡ (same_event k.event ev && not (is_nil (if b then d ∷ [] else [])))
-      go d true e f = ap (λ (z : EventName). (same_event z ev && (d.sub == n)) || false) e ∙ one (same_event k.event ev) (d.sub == n) (eq-eqb d.sub n f)
-      go d false e f = nothing (same_event k.event ev)
+      go d true e f = or-false _ ∙ (let t = eq-eqb d.sub n f in cc)
+      go d false e f = sym (and-false (same_event k.event ev))
 
       by : (fx : Option Fixed) → was_handed (instance_news fx n t ds past (Some k)) ev n ≡ (same_event k.event ev && not (is_nil (instance_news fx n t ds past (Some k))))
-      by None = nothing (same_event k.event ev)
+      by None = sym (and-false (same_event k.event ev))
       by (Some fx) = go (record { event = k.event; sub = n; parts = cut (readable_at fx t) (apply k.edit (contents past k.event)) }) (is_given (Some fx) t past (Some k) && not (was_handed ds k.event n)) refl refl
 
 -- the places of units, when others have come behind them
