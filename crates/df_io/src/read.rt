@@ -11,6 +11,9 @@ pub const LONGEST_FILE: usize = 67_108_864;
 /// How many bytes are asked for at once: so few that they are still at hand when they are appended.
 pub(crate) const PIECE: usize = 4_000;
 
+// So many bytes there is room for at first: from this size on memory grows where it lies.
+const ROOM: usize = 262_144;
+
 /// Why a file was not read.
 #[derive(Clone, Copy, Debug, PartialEq, Eq)]
 pub enum NotRead {
@@ -29,7 +32,9 @@ pub fn read_file<F: Shelf>(alloc: Global, shelf: &mut F, name: &str) -> Result<V
     ensures never_falls { F.faults shelf.old ≤ F.faults shelf.new }
     ensures same { (n : List ℕ) → F.bytes shelf.new n ≡ F.bytes shelf.old n }
 {
-    let mut bytes: Vec<u8> = Vec::new(alloc);
+    let Ok(mut bytes) = Vec::with_capacity(alloc, ROOM) else {
+        return Err(NotRead::NoMemory);
+    };
     let mut piece = [0u8; PIECE];
     loop {
         let Ok(count) = shelf.read_piece(name, bytes.len() as u64, &mut piece) else {
