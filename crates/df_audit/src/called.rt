@@ -181,18 +181,25 @@ fn label_left<'a>(wanted: &Wanted<'a>, stays: bool) -> Option<&'a Label>
     }
 }
 
+/// Appends a commit, as an emitted entry.
+#[inline(never)]
+fn append_emitted(commit: Commit, to: &mut Vec<u8>) -> Result<(), NoMemory>
+    ensures { OnOk result (to.new.items ≡ to.old.items
+        ++ flat_map noted_text (emitted_noted (Some commit))) }
+{
+    let emitted = Entry::Emitted(commit);
+    let written = write_entry(&emitted, to);
+    drop(emitted);
+    written
+}
+
 /// Appends what is shown of a commit, as an emitted entry.
 fn append_shown(shown: Option<Box<Commit>>, to: &mut Vec<u8>) -> Result<(), NoMemory>
     ensures { OnOk result (to.new.items ≡ to.old.items
         ++ flat_map noted_text (emitted_noted (option_map (λ b. b.value) shown))) }
 {
     match shown {
-        Some(commit) => {
-            let emitted = Entry::Emitted(Box::into_inner(commit));
-            let written = write_entry(&emitted, to);
-            drop(emitted);
-            written
-        }
+        Some(commit) => append_emitted(Box::into_inner(commit), to),
         None => Ok(()),
     }
 }

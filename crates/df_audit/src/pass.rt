@@ -64,7 +64,7 @@ pub fn right_text(
     let tables = Tables::begin(alloc, &start)?;
     let notes = Notes::new(alloc);
     let mut behind = NotedTables { tables, notes };
-    let text = front(alloc, &start, wanted)?;
+    let text = front(alloc, &start, wanted, bytes.len())?;
     let mut made = Made { count: 0, text };
     drop(start);
     match go_over(&mut cursor, &mut behind, wanted, &mut made) {
@@ -237,16 +237,23 @@ fn begin(alloc: Global, bytes: &[u8]) -> Result<Option<(Start, JournalCursor<'_>
     }
 }
 
-/// What stands in front of the text that is wanted.
-fn front(alloc: Global, start: &Start, wanted: &Wanted<'_>) -> Result<Vec<u8>, NoMemory>
+/// What stands in front of the text that is wanted, with room for as many bytes as the journal has.
+fn front(
+    alloc: Global,
+    start: &Start,
+    wanted: &Wanted<'_>,
+    room: usize,
+) -> Result<Vec<u8>, NoMemory>
     ensures { IfOk result (λ text. text.items ≡ front_of wanted.now start.now) }
 {
-    let mut text = Vec::new(alloc);
     match wanted {
-        Wanted::Count => {}
-        Wanted::Notes | Wanted::Purge(_) => write_head(start, &mut text)?,
+        Wanted::Count => Ok(Vec::new(alloc)),
+        Wanted::Notes | Wanted::Purge(_) => {
+            let mut text = Vec::with_capacity(alloc, room)?;
+            write_head(start, &mut text)?;
+            Ok(text)
+        }
     }
-    Ok(text)
 }
 
 /// The next entry, taken in by the tables, where it is the one that the rules give.
